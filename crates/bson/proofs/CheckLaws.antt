@@ -1,0 +1,159 @@
+-- Checking element after element, as a loop does that keeps only how far it has come.
+use Rattle.std.proofs.Common.{◌≡◌, ℕ, ◌+◌, ◌-◌, ◌^◌, ◌<◌, ◌≤◌, false, List, [], ◌∷◌, ◌++◌, length, take, Result, Ok, Err, refl, sym, ap, subst, ◌∙◌, append_assoc, arith}
+use Rattle.std.specs.Str.{bytes_eq}
+use Rattle.std.proofs.lemmas.List.{length-append, take_at, nil_from_length}
+use Rattle.bson.specs.declared.fault.BsonFault.{BsonFault}
+use Rattle.bson.specs.declared.fault.BsonFault.TheVariants as faults
+use Rattle.bson.specs.declared.kind.Kind.TheVariants as kinds
+use Rattle.bson.specs.Tree.{Tree, Pairs, no_pairs, pair, append, Items, no_items, item, append_items}
+use Rattle.bson.specs.Lawful.{IsBytes, IsPairs, Lacks, pairs_levels}
+use Rattle.bson.specs.Edits.{IsPairs-append, pairs_levels-append}
+use Rattle.bson.specs.Spelling.{element, type_byte, tree_bytes, pairs_bytes}
+use Rattle.bson.specs.Sizing.{pairs_bytes-none, pairs_bytes-one, pairs_bytes-append}
+use Rattle.bson.specs.Reading.{Read, stands_in, element_by, item_by, content_at, pairs_in, items_in, value_at}
+use Rattle.bson.specs.Raw.{tree_names, pairs_spelled, Elements, rest_of, outcome_of}
+use Rattle.bson.proofs.FrameLaws.{or_false}
+use Rattle.bson.proofs.TreeLaws.{IsBytes-rest, ne-bytes_eq, element_takes, value_reads}
+use Rattle.bson.proofs.ReadLoops.{PairsSoFar, pairs_start, pairs_step, pairs_stop, pairs_done, ItemsSoFar, items_start, items_step, items_stop, items_done, item_shorter, value_at_document, value_at_array}
+use Rattle.bson.proofs.RawLaws.{pairs_spelled-is}
+
+-- ---- what is left says what was read
+
+pub rest_ok : {Y : Type 0} (read : Read Y) (rest : List ℕ) → rest_of read ≡ Ok rest → (t : Y) × (read ≡ Ok (t, rest))
+rest_ok {Y} (Ok x) rest e = let same : x.1 ≡ rest = cc in (x.0, ap (λ (r : List ℕ). let y : Read Y = Ok (x.0, r) in y) same)
+rest_ok (Err f) rest e = absurd cc
+
+pub rest_err : {Y : Type 0} (read : Read Y) (f : BsonFault) → rest_of read ≡ Err f → read ≡ Err f
+rest_err (Ok x) f e = absurd cc
+rest_err (Err g) f e = let same : g ≡ f = cc in ap (λ (h : BsonFault). Err h) same
+
+pub outcome_ok : {Y : Type 0} (r : Result Y BsonFault) (u : Unit {0}) → outcome_of r ≡ Ok u → (y : Y) × (r ≡ Ok y)
+outcome_ok (Ok y) u e = (y, refl)
+outcome_ok (Err f) u e = absurd cc
+
+pub outcome_err : {Y : Type 0} (r : Result Y BsonFault) (f : BsonFault) → outcome_of r ≡ Err f → r ≡ Err f
+outcome_err (Ok y) f e = absurd cc
+outcome_err (Err g) f e = let same : g ≡ f = cc in ap (λ (h : BsonFault). Err h) same
+
+-- ---- one more level
+
+pub document_refused : (f : BsonFault) (more : ℕ) (bytes : List ℕ) (content : List ℕ × List ℕ) → 0 < more → content_at bytes ≡ Ok content → outcome_of (pairs_in (value_at (more - 1)) content.0) ≡ Err f
+    → rest_of (value_at more kinds.Document bytes) ≡ Err f
+document_refused f more bytes content h c e = ap rest_of (value_at_document more bytes h) ∙ rw (c, outcome_err (pairs_in (value_at (more - 1)) content.0) f e) refl
+
+pub document_passed : (more : ℕ) (bytes : List ℕ) (content : List ℕ × List ℕ) (u : Unit {0}) → 0 < more → content_at bytes ≡ Ok content → outcome_of (pairs_in (value_at (more - 1)) content.0) ≡ Ok u
+    → rest_of (value_at more kinds.Document bytes) ≡ Ok content.1
+document_passed more bytes content u h c e =
+    let found = outcome_ok (pairs_in (value_at (more - 1)) content.0) u e in
+    ap rest_of (value_at_document more bytes h) ∙ rw (c, found.1) refl
+
+pub array_refused : (f : BsonFault) (more : ℕ) (bytes : List ℕ) (content : List ℕ × List ℕ) → 0 < more → content_at bytes ≡ Ok content → outcome_of (items_in (value_at (more - 1)) content.0) ≡ Err f
+    → rest_of (value_at more kinds.Array bytes) ≡ Err f
+array_refused f more bytes content h c e = ap rest_of (value_at_array more bytes h) ∙ rw (c, outcome_err (items_in (value_at (more - 1)) content.0) f e) refl
+
+pub array_passed : (more : ℕ) (bytes : List ℕ) (content : List ℕ × List ℕ) (u : Unit {0}) → 0 < more → content_at bytes ≡ Ok content → outcome_of (items_in (value_at (more - 1)) content.0) ≡ Ok u
+    → rest_of (value_at more kinds.Array bytes) ≡ Ok content.1
+array_passed more bytes content u h c e =
+    let found = outcome_ok (items_in (value_at (more - 1)) content.0) u e in
+    ap rest_of (value_at_array more bytes h) ∙ rw (c, found.1) refl
+
+-- ---- documents
+
+tree_names-append : (ps : Pairs) (name : List ℕ) (t : Tree) → tree_names (append ps (pair name t no_pairs)) ≡ tree_names ps ++ name ∷ []
+tree_names-append no_pairs name t = refl
+tree_names-append (pair other u ps) name t = ap (λ (ns : List (List ℕ)). other ∷ ns) (tree_names-append ps name t)
+
+Lacks-from_names : (ps : Pairs) (name : List ℕ) → stands_in (tree_names ps) name ≡ false → Lacks ps name
+Lacks-from_names no_pairs name e = tt
+Lacks-from_names (pair other t ps) name e =
+    let parts = or_false (bytes_eq name other) (stands_in (tree_names ps) name) e in
+    (ne-bytes_eq name other parts.0, Lacks-from_names ps name parts.1)
+
+-- the elements up to the rest were checked
+pub record CheckedPairs (more : ℕ) (content rest : List ℕ) : Type 0 where
+  pub front : Pairs
+  pub so_far : PairsSoFar more front (tree_names front) rest (pairs_in (value_at more) content)
+  pub parts : content ≡ pairs_bytes front ++ rest
+  pub lawful : IsPairs front
+  pub depth : pairs_levels front ≤ more
+
+pub pairs_unchecked : (more : ℕ) (content : List ℕ) → IsBytes content → CheckedPairs more content content
+pairs_unchecked more content fits =
+    record { front = no_pairs; so_far = pairs_start more content fits; parts = ap (λ (x : List ℕ). x ++ content) (sym pairs_bytes-none); lawful = tt; depth = omega arith }
+
+pub rest_within : (more : ℕ) (content rest : List ℕ) → CheckedPairs more content rest → length rest ≤ length content
+rest_within more content rest k = omega (arith, ap length k.parts, length-append (pairs_bytes k.front) rest)
+
+-- what stands before the rest
+pub before_rest : (more : ℕ) (content rest earlier : List ℕ) (at : ℕ) (k : CheckedPairs more content rest) → at ≡ length content - length rest → earlier ≡ take at content → more ≤ 99 → length content < 2 ^ 31 → Elements earlier k.front
+before_rest more content rest earlier at k e is le short =
+    let size : length (pairs_bytes k.front) ≡ at = omega (arith, e, ap length k.parts, length-append (pairs_bytes k.front) rest) in
+    let same : earlier ≡ pairs_bytes k.front = is ∙ ap (take at) k.parts ∙ take_at (pairs_bytes k.front) rest at size in
+    record { lawful = k.lawful; depth = omega (arith, k.depth, le); spelled = same; short = omega (arith, ap length same, ap length k.parts, length-append (pairs_bytes k.front) rest, short) }
+
+module _ (more : ℕ) (content rest earlier : List ℕ) (type : ℕ) (bytes : List ℕ) (k : CheckedPairs more content rest) (front : rest ≡ type ∷ bytes) (before : Elements earlier k.front) where
+  at_front : PairsSoFar more k.front (tree_names k.front) (type ∷ bytes) (pairs_in (value_at more) content)
+  at_front = subst (λ (r : List ℕ). PairsSoFar more k.front (tree_names k.front) r (pairs_in (value_at more) content)) front k.so_far
+
+  same_read : element_by (value_at more) (stands_in (tree_names (pairs_spelled earlier))) faults.Repeated type bytes ≡ element_by (value_at more) (stands_in (tree_names k.front)) faults.Repeated type bytes
+  same_read = ap (λ (ps : Pairs). element_by (value_at more) (stands_in (tree_names ps)) faults.Repeated type bytes) (pairs_spelled-is earlier k.front before)
+
+  pub pair_checked : (after : List ℕ) → rest_of (element_by (value_at more) (stands_in (tree_names (pairs_spelled earlier))) faults.Repeated type bytes) ≡ Ok after → CheckedPairs more content after × (length after < length rest)
+  pair_checked after e =
+      let found = rest_ok (element_by (value_at more) (stands_in (tree_names k.front)) faults.Repeated type bytes) after (ap rest_of (sym same_read) ∙ e) in
+      let name = found.0.0 in
+      let t = found.0.1 in
+      let r = element_takes (value_at more) more (value_reads more) (stands_in (tree_names k.front)) faults.Repeated type bytes ((name, t), after) (IsBytes-rest type bytes at_front.fits) found.1 in
+      let next = pairs_step more k.front (tree_names k.front) type bytes (pairs_in (value_at more) content) name t after at_front found.1 in
+      let grown = append k.front (pair name t no_pairs) in
+      let spelled : pairs_bytes grown ≡ pairs_bytes k.front ++ element (type_byte t) name (tree_bytes t) = pairs_bytes-append k.front (pair name t no_pairs) ∙ ap (λ (x : List ℕ). pairs_bytes k.front ++ x) (pairs_bytes-one name t) in
+      let size = ap length (front ∙ r.0.takes.parts) in (
+        record {
+          front = grown;
+          so_far = subst (λ (names : List (List ℕ)). PairsSoFar more grown names after (pairs_in (value_at more) content)) (sym (tree_names-append k.front name t)) next;
+          parts =
+              k.parts ∙ ap (λ (x : List ℕ). pairs_bytes k.front ++ x) (front ∙ r.0.takes.parts) ∙ sym (append_assoc (pairs_bytes k.front) (element (type_byte t) name (tree_bytes t)) after) ∙ ap (λ (x : List ℕ). x ++ after) (sym spelled);
+          lawful = IsPairs-append k.front name t k.lawful r.0.is_name r.0.lawful (Lacks-from_names k.front name r.1);
+          depth = omega (arith, pairs_levels-append k.front (pair name t no_pairs), k.depth, r.0.depth);
+        },
+        omega (arith, size, length-append (element (type_byte t) name (tree_bytes t)) after),
+      )
+
+  pub pair_refused : (f : BsonFault) → rest_of (element_by (value_at more) (stands_in (tree_names (pairs_spelled earlier))) faults.Repeated type bytes) ≡ Err f → outcome_of (pairs_in (value_at more) content) ≡ Err f
+  pair_refused f e =
+      let failed = rest_err (element_by (value_at more) (stands_in (tree_names k.front)) faults.Repeated type bytes) f (ap rest_of (sym same_read) ∙ e) in
+      ap outcome_of (pairs_stop f more k.front (tree_names k.front) type bytes (pairs_in (value_at more) content) at_front failed)
+
+pub pairs_passed : (more : ℕ) (content rest : List ℕ) → CheckedPairs more content rest → length rest ≡ 0 → outcome_of (pairs_in (value_at more) content) ≡ Ok tt
+pairs_passed more content rest k none =
+    ap outcome_of (pairs_done more k.front (tree_names k.front) (pairs_in (value_at more) content) (subst (λ (r : List ℕ). PairsSoFar more k.front (tree_names k.front) r (pairs_in (value_at more) content)) (nil_from_length rest none) k.so_far))
+
+-- ---- arrays
+
+pub record CheckedItems (more : ℕ) (content rest : List ℕ) (i : ℕ) : Type 0 where
+  pub front : Items
+  pub so_far : ItemsSoFar more front i rest (items_in (value_at more) content)
+  pub counted : i + length rest ≤ length content
+
+pub items_unchecked : (more : ℕ) (content : List ℕ) → IsBytes content → CheckedItems more content content 0
+items_unchecked more content fits = record { front = no_items; so_far = items_start more content fits; counted = omega arith }
+
+module _ (more : ℕ) (content rest : List ℕ) (i type : ℕ) (bytes : List ℕ) (k : CheckedItems more content rest i) (front : rest ≡ type ∷ bytes) where
+  items_front : ItemsSoFar more k.front i (type ∷ bytes) (items_in (value_at more) content)
+  items_front = subst (λ (r : List ℕ). ItemsSoFar more k.front i r (items_in (value_at more) content)) front k.so_far
+
+  pub item_checked : (after : List ℕ) → rest_of (item_by (value_at more) i type bytes) ≡ Ok after → CheckedItems more content after (i + 1) × (length after < length rest)
+  item_checked after e =
+      let found = rest_ok (item_by (value_at more) i type bytes) after e in
+      let lt = item_shorter more i type bytes found.0 after (IsBytes-rest type bytes items_front.fits) found.1 in
+      let size = ap length front in (
+        record { front = append_items k.front (item found.0 no_items); so_far = items_step more k.front i type bytes (items_in (value_at more) content) found.0 after items_front found.1; counted = omega (arith, k.counted, lt, size) },
+        omega (arith, lt, size),
+      )
+
+  pub item_refused : (f : BsonFault) → rest_of (item_by (value_at more) i type bytes) ≡ Err f → outcome_of (items_in (value_at more) content) ≡ Err f
+  item_refused f e = ap outcome_of (items_stop f more k.front i type bytes (items_in (value_at more) content) items_front (rest_err (item_by (value_at more) i type bytes) f e))
+
+pub items_passed : (more : ℕ) (content rest : List ℕ) (i : ℕ) → CheckedItems more content rest i → length rest ≡ 0 → outcome_of (items_in (value_at more) content) ≡ Ok tt
+items_passed more content rest i k none =
+    ap outcome_of (items_done more k.front i (items_in (value_at more) content) (subst (λ (r : List ℕ). ItemsSoFar more k.front i r (items_in (value_at more) content)) (nil_from_length rest none) k.so_far))

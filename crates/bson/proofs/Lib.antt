@@ -1,0 +1,11 @@
+pub mod NameLaws
+pub mod FrameLaws
+pub mod ScalarLaws
+pub mod TreeLaws
+pub mod ReadLoops
+pub mod Fronts
+pub mod WriteLoops
+pub mod FaultLaws
+pub mod RawLaws
+pub mod CheckLaws
+pub mod BuildLaws

@@ -1,0 +1,457 @@
+-- The two laws: what is read is spelled so, and what is spelled so is read.
+use Rattle.std.proofs.Common.{◌≡◌, ◌≢◌, ◌⊎◌, ℕ, zero, suc, ◌+◌, ◌-◌, ◌%◌, ◌^◌, ◌<◌, ◌≤◌, Bool, true, false, not, ltb, List, [], ◌∷◌, ◌++◌, length, take, drop, Result, Ok, Err, refl, sym, ap, subst, ◌∙◌, append_assoc, arith, inl, inr}
+use Rattle.std.specs.Prelude.{IfOk, IfErr}
+use Rattle.std.specs.Str.{bytes_eq}
+use Rattle.std.specs.List.{list_any}
+use Rattle.std.specs.Fmt.{decimal}
+use Rattle.std.specs.Int.{w32, to_le_bytes, from_le_bytes}
+use Rattle.bson.specs.declared.TheConstants.{MESSAGE_LIMIT}
+use Rattle.std.proofs.lemmas.List.{length-append, length-take, take_at, take-append-drop}
+use Rattle.std.proofs.lemmas.Bool.{ltb-false, le-ltb}
+use Rattle.std.proofs.lemmas.List.Folds.{list_any-append}
+use Rattle.std.proofs.lemmas.Str.{IsUtf8-from_ascii}
+use Rattle.std.proofs.lemmas.Fmt.{IsAscii-decimal, decimal_by_steps}
+use Rattle.std.proofs.lemmas.Slice.Eq.{bytes_eq-Decides}
+use Rattle.bson.specs.declared.fault.BsonFault.{BsonFault}
+use Rattle.bson.specs.declared.fault.BsonFault.TheVariants as faults
+use Rattle.bson.specs.declared.kind.Kind.{Kind}
+use Rattle.bson.specs.declared.kind.Kind.TheVariants as kinds
+use Rattle.bson.specs.Tree.{Scalar, text, binary, object_id, boolean, date, null, int32, timestamp, int64, min_key, max_key, Tree, scalar, document, array, Pairs, no_pairs, pair, Items, no_items, item}
+use Rattle.bson.specs.Kinds.{kind_byte, scalar_kind, kind}
+use Rattle.bson.specs.Lawful.{IsBytes, levels, pairs_levels, items_levels, NoZero, IsName, Lacks, IsScalar, IsTree, IsPairs, IsItems}
+use Rattle.bson.specs.Spelling.{Spells, HasNoDocument, scalar_bytes, framed, type_byte, element, tree_bytes, pairs_bytes, items_bytes}
+use Rattle.bson.specs.Reading.{◌>>=◌, Read, Gives, FirstFault, unless, element_by, item_by, stands_in, is_no_index, kind_of, name_at, leaf, scalar_at, content_at, pairs_by, items_by, pairs_in, items_in, value_at, is_below, ended_at, length_at, document_at}
+use Rattle.bson.proofs.FrameLaws.{or_false, is_below-false, not_below, bind_ok, unless_ok, done, ok_is, Takes, Takes-then, content_takes, content_again, name_takes, name_again, kind_again, kind_takes, front32, wide32, ended_takes, ended_again}
+use Rattle.bson.proofs.ScalarLaws.{scalar_takes, scalar_again}
+
+-- a value that was read
+pub record IsRead (more : ℕ) (k : Kind) (bytes : List ℕ) (t : Tree) (rest : List ℕ) : Type 0 where
+  pub takes : Takes bytes (tree_bytes t) rest
+  pub lawful : IsTree t
+  pub depth : levels t ≤ more
+  pub same_kind : kind t ≡ k
+
+-- what reads values as they are spelled
+pub record Reads (read : Kind → List ℕ → Read Tree) (more : ℕ) : Type 0 where
+  pub takes : (k : Kind) (bytes : List ℕ) (x : Tree × List ℕ) → IsBytes bytes → read k bytes ≡ Ok x → IsRead more k bytes x.0 x.1
+  pub again : (t : Tree) (rest : List ℕ) → IsTree t → levels t ≤ more → length (tree_bytes t) < 2 ^ 31 → read (kind t) (tree_bytes t ++ rest) ≡ Ok (t, rest)
+
+-- no pair has one of these names
+abbrev pub AreNew : Pairs → List (List ℕ) → Type 0
+AreNew no_pairs earlier = Unit {0}
+AreNew (pair name t ps) earlier = (list_any (bytes_eq name) earlier ≡ false) × AreNew ps earlier
+
+pub bytes_eq-ne : (xs ys : List ℕ) → xs ≢ ys → bytes_eq xs ys ≡ false
+bytes_eq-ne xs ys h = elim (cases_bool (bytes_eq xs ys)) [ inl same ↦ absurd (h ((bytes_eq-Decides xs ys).0 same)) | inr other ↦ other ]
+  where
+    cases_bool : (b : Bool) → (b ≡ true) ⊎ (b ≡ false)
+    cases_bool true = inl refl
+    cases_bool false = inr refl
+
+pub ne-bytes_eq : (xs ys : List ℕ) → bytes_eq xs ys ≡ false → xs ≢ ys
+ne-bytes_eq xs ys e same = let f = (bytes_eq-Decides xs ys).1 same in absurd cc
+
+-- new after one more name: new before, and that name is not there
+AreNew-push : (ps : Pairs) (earlier : List (List ℕ)) (name : List ℕ) → AreNew ps (earlier ++ name ∷ []) → AreNew ps earlier × Lacks ps name
+AreNew-push no_pairs earlier name h = (tt, tt)
+AreNew-push (pair other t ps) earlier name h =
+    let parts = or_false (list_any (bytes_eq other) earlier) (list_any (bytes_eq other) (name ∷ [])) (sym (list_any-append (bytes_eq other) earlier (name ∷ [])) ∙ h.0) in
+    let last = or_false (bytes_eq other name) false parts.1 in
+    let more = AreNew-push ps earlier name h.1 in
+    ((parts.0, more.0), (λ e. ne-bytes_eq other name last.0 (sym e), more.1))
+
+AreNew-with : (ps : Pairs) (earlier : List (List ℕ)) (name : List ℕ) → AreNew ps earlier → Lacks ps name → AreNew ps (earlier ++ name ∷ [])
+AreNew-with no_pairs earlier name h l = tt
+AreNew-with (pair other t ps) earlier name h l =
+    let e : bytes_eq other name ≡ false = bytes_eq-ne other name (λ same. l.0 (sym same)) in
+    (rw (list_any-append, h.0, e) refl, AreNew-with ps earlier name h.1 l.1)
+
+-- an element, and the bytes after it
+regroup_element : (type : ℕ) (name value rest : List ℕ) → element type name value ++ rest ≡ type ∷ (name ++ 0 ∷ (value ++ rest))
+regroup_element type name value rest = ap (λ (t : List ℕ). type ∷ t) (append_assoc name (0 ∷ value) rest)
+
+element_parts : (type t : ℕ) (bytes name b v c os : List ℕ) → type ≡ t → bytes ≡ (name ++ 0 ∷ []) ++ b → b ≡ v ++ c → c ≡ os → type ∷ bytes ≡ element t name v ++ os
+element_parts type t bytes name b v c os e1 e2 e3 e4 =
+    let left : (name ++ 0 ∷ []) ++ (v ++ os) ≡ name ++ 0 ∷ (v ++ os) = append_assoc name (0 ∷ []) (v ++ os) in
+    let right : (name ++ 0 ∷ v) ++ os ≡ name ++ 0 ∷ (v ++ os) = append_assoc name (0 ∷ v) os in
+    let inner : b ≡ v ++ os = e3 ∙ ap (λ (x : List ℕ). v ++ x) e4 in
+    let all : bytes ≡ (name ++ 0 ∷ v) ++ os = e2 ∙ ap (λ (x : List ℕ). (name ++ 0 ∷ []) ++ x) inner ∙ left ∙ sym right in
+    λ i. e1 i ∷ all i
+
+kind_at : (t : Tree) → kind_of (type_byte t) ≡ Ok (kind t)
+kind_at t = kind_again (kind t)
+
+type_is : (type : ℕ) (k : Kind) (t : Tree) → kind_of type ≡ Ok k → kind t ≡ k → type ≡ type_byte t
+type_is type k t e same = kind_takes type k e ∙ ap kind_byte (sym same)
+
+pub IsBytes-rest : (b : ℕ) (bytes : List ℕ) → IsBytes (b ∷ bytes) → IsBytes bytes
+IsBytes-rest b bytes h i = h (suc i)
+
+-- an element that was read
+pub record ElementRead (more : ℕ) (type : ℕ) (bytes : List ℕ) (name : List ℕ) (t : Tree) (rest : List ℕ) : Type 0 where
+  pub takes : Takes (type ∷ bytes) (element (type_byte t) name (tree_bytes t)) rest
+  pub is_name : IsName name
+  pub lawful : IsTree t
+  pub depth : levels t ≤ more
+
+pub element_takes : (read : Kind → List ℕ → Read Tree) (more : ℕ) → Reads read more → (wrong : List ℕ → Bool) (fault : BsonFault) (type : ℕ) (bytes : List ℕ) (x : (List ℕ × Tree) × List ℕ)
+    → IsBytes bytes → element_by read wrong fault type bytes ≡ Ok x → ElementRead more type bytes x.0.0 x.0.1 x.1 × (wrong x.0.0 ≡ false)
+unfolding element_by
+element_takes read more reads wrong fault type bytes x fits e =
+    let f2 = λ (k : Kind). λ (name : List ℕ × List ℕ). unless (wrong name.0) fault (read k name.1) >>= λ value. Ok ((name.0, value.0), value.1) in
+    let a = bind_ok (kind_of type) (λ k. name_at bytes >>= f2 k) x e in
+    let k = a.0 in
+    let b = bind_ok (name_at bytes) (f2 k) x a.2 in
+    let name = b.0 in
+    let c = bind_ok (unless (wrong name.0) fault (read k name.1)) (λ value. Ok ((name.0, value.0), value.1)) x b.2 in
+    let value = c.0 in
+    let d = unless_ok (wrong name.0) fault (read k name.1) value c.1 in
+    let n = name_takes bytes name fits b.1 in
+    let v = reads.takes k name.1 value n.0.rest_fits d.1 in
+    let made : (List ℕ × Tree) × List ℕ = ((name.0, value.0), value.1) in
+    subst (λ (y : (List ℕ × Tree) × List ℕ). ElementRead more type bytes y.0.0 y.0.1 y.1 × (wrong y.0.0 ≡ false)) (ok_is made x c.2) (
+      record {
+        takes = record { parts = element_parts type (type_byte value.0) bytes name.0 name.1 (tree_bytes value.0) value.1 value.1 (type_is type k value.0 a.1 v.same_kind) n.0.parts v.takes.parts refl; rest_fits = v.takes.rest_fits };
+        is_name = n.1;
+        lawful = v.lawful;
+        depth = v.depth;
+      },
+      d.0,
+    )
+
+-- An element that is spelled is read. Its type byte stands before.
+pub element_again : (read : Kind → List ℕ → Read Tree) (more : ℕ) → Reads read more → (wrong : List ℕ → Bool) (fault : BsonFault) (name : List ℕ) (t : Tree) (rest : List ℕ)
+    → IsName name → IsTree t → levels t ≤ more → length (tree_bytes t) < 2 ^ 31 → wrong name ≡ false
+    → element_by read wrong fault (type_byte t) (name ++ 0 ∷ (tree_bytes t ++ rest)) ≡ Ok ((name, t), rest)
+unfolding element_by
+element_again read more reads wrong fault name t rest is_name lawful depth short right =
+    rw (kind_at t, name_again name (tree_bytes t ++ rest) is_name, right, reads.again t rest lawful depth short) refl
+
+pub record AreRead (more : ℕ) (earlier : List (List ℕ)) (bytes : List ℕ) (ps : Pairs) : Type 0 where
+  pub spelled : bytes ≡ pairs_bytes ps
+  pub lawful : IsPairs ps
+  pub depth : pairs_levels ps ≤ more
+  pub new : AreNew ps earlier
+
+pub pairs_take : (read : Kind → List ℕ → Read Tree) (more : ℕ) → Reads read more → (most : ℕ) (earlier : List (List ℕ)) (bytes : List ℕ) (ps : Pairs) → IsBytes bytes
+    → pairs_by read most earlier bytes ≡ Ok ps → AreRead more earlier bytes ps
+unfolding pairs_by pairs_bytes
+pairs_take read more reads zero earlier [] ps fits e = subst (λ (qs : Pairs). AreRead more earlier [] qs) (ok_is no_pairs ps e) (record { spelled = refl; lawful = tt; depth = omega arith; new = tt })
+pairs_take read more reads (suc most) earlier [] ps fits e = subst (λ (qs : Pairs). AreRead more earlier [] qs) (ok_is no_pairs ps e) (record { spelled = refl; lawful = tt; depth = omega arith; new = tt })
+pairs_take read more reads zero earlier (type ∷ bytes) ps fits e = absurd cc
+pairs_take read more reads (suc most) earlier (type ∷ bytes) ps fits e =
+    let a = bind_ok (element_by read (stands_in earlier) faults.Repeated type bytes) (λ first. pairs_by read most (earlier ++ first.0.0 ∷ []) first.1 >>= λ others. Ok (pair first.0.0 first.0.1 others)) ps e in
+    let name = a.0.0.0 in
+    let t = a.0.0.1 in
+    let b = bind_ok (pairs_by read most (earlier ++ name ∷ []) a.0.1) (λ others. Ok (pair name t others)) ps a.2 in
+    let others = b.0 in
+    let first = element_takes read more reads (stands_in earlier) faults.Repeated type bytes a.0 (IsBytes-rest type bytes fits) a.1 in
+    let o = pairs_take read more reads most (earlier ++ name ∷ []) a.0.1 others first.0.takes.rest_fits b.1 in
+    let new = AreNew-push others earlier name o.new in
+    subst (λ (qs : Pairs). AreRead more earlier (type ∷ bytes) qs) (ok_is (pair name t others) ps b.2) (record {
+      spelled = first.0.takes.parts ∙ ap (λ (x : List ℕ). element (type_byte t) name (tree_bytes t) ++ x) o.spelled;
+      lawful = (first.0.is_name, first.0.lawful, new.1, o.lawful);
+      depth = omega (arith, first.0.depth, o.depth);
+      new = (first.1, new.0);
+    })
+
+pub pairs_again : (read : Kind → List ℕ → Read Tree) (more : ℕ) → Reads read more → (most : ℕ) (earlier : List (List ℕ)) (ps : Pairs) → IsPairs ps → pairs_levels ps ≤ more
+    → AreNew ps earlier → length (pairs_bytes ps) ≤ most → length (pairs_bytes ps) < 2 ^ 31 → pairs_by read most earlier (pairs_bytes ps) ≡ Ok ps
+unfolding pairs_by pairs_bytes
+pairs_again read more reads zero earlier no_pairs lawful depth new fits short = refl
+pairs_again read more reads (suc most) earlier no_pairs lawful depth new fits short = refl
+pairs_again read more reads zero earlier (pair name t ps) lawful depth new fits short = absurd (omega arith)
+pairs_again read more reads (suc most) earlier (pair name t ps) lawful depth new fits short =
+    let len = length-append (name ++ 0 ∷ tree_bytes t) (pairs_bytes ps) in
+    let len2 = length-append name (0 ∷ tree_bytes t) in
+    let others = pairs_again read more reads most (earlier ++ name ∷ []) ps lawful.3 (omega arith) (AreNew-with ps earlier name new.1 lawful.2) (omega (arith, len, len2)) (omega (arith, len, len2)) in
+    let first = element_again read more reads (stands_in earlier) faults.Repeated name t (pairs_bytes ps) lawful.0 lawful.1 (omega arith) (omega (arith, len, len2)) new.0 in
+    ap (pairs_by read (suc most) earlier) (regroup_element (type_byte t) name (tree_bytes t) (pairs_bytes ps)) ∙ rw (first, others) refl
+
+-- ---- arrays
+
+pub record ItemsRead (more i : ℕ) (bytes : List ℕ) (ts : Items) : Type 0 where
+  pub spelled : bytes ≡ items_bytes i ts
+  pub lawful : IsItems ts
+  pub depth : items_levels ts ≤ more
+
+not_false : (b : Bool) → not b ≡ false → b ≡ true
+not_false true e = refl
+not_false false e = absurd cc
+
+pub item_takes : (read : Kind → List ℕ → Read Tree) (more : ℕ) → Reads read more → (i type : ℕ) (bytes : List ℕ) (x : Tree × List ℕ)
+    → IsBytes bytes → item_by read i type bytes ≡ Ok x → ElementRead more type bytes (decimal i) x.0 x.1
+unfolding item_by
+item_takes read more reads i type bytes x fits e =
+    let a = bind_ok (element_by read (is_no_index i) faults.ArrayName type bytes) (λ first. Ok (first.0.1, first.1)) x e in
+    let first = element_takes read more reads (is_no_index i) faults.ArrayName type bytes a.0 fits a.1 in
+    let named : a.0.0.0 ≡ decimal i = (bytes_eq-Decides a.0.0.0 (decimal i)).0 (not_false (bytes_eq a.0.0.0 (decimal i)) first.1) in
+    let made : Tree × List ℕ = (a.0.0.1, a.0.1) in
+    subst (λ (y : Tree × List ℕ). ElementRead more type bytes (decimal i) y.0 y.1) (ok_is made x a.2)
+    (subst (λ (n : List ℕ). ElementRead more type bytes n a.0.0.1 a.0.1) named first.0)
+
+pub items_take : (read : Kind → List ℕ → Read Tree) (more : ℕ) → Reads read more → (most i : ℕ) (bytes : List ℕ) (ts : Items) → IsBytes bytes
+    → items_by read most i bytes ≡ Ok ts → ItemsRead more i bytes ts
+unfolding items_by items_bytes
+items_take read more reads zero i [] ts fits e = subst (λ (us : Items). ItemsRead more i [] us) (ok_is no_items ts e) (record { spelled = refl; lawful = tt; depth = omega arith })
+items_take read more reads (suc most) i [] ts fits e = subst (λ (us : Items). ItemsRead more i [] us) (ok_is no_items ts e) (record { spelled = refl; lawful = tt; depth = omega arith })
+items_take read more reads zero i (type ∷ bytes) ts fits e = absurd cc
+items_take read more reads (suc most) i (type ∷ bytes) ts fits e =
+    let a = bind_ok (item_by read i type bytes) (λ first. items_by read most (i + 1) first.1 >>= λ others. Ok (item first.0 others)) ts e in
+    let t = a.0.0 in
+    let b = bind_ok (items_by read most (i + 1) a.0.1) (λ others. Ok (item t others)) ts a.2 in
+    let others = b.0 in
+    let first = item_takes read more reads i type bytes a.0 (IsBytes-rest type bytes fits) a.1 in
+    let o = items_take read more reads most (i + 1) a.0.1 others first.takes.rest_fits b.1 in
+    subst (λ (us : Items). ItemsRead more i (type ∷ bytes) us) (ok_is (item t others) ts b.2) (record {
+      spelled = first.takes.parts ∙ ap (λ (x : List ℕ). element (type_byte t) (decimal i) (tree_bytes t) ++ x) o.spelled;
+      lawful = (first.lawful, o.lawful);
+      depth = omega (arith, first.depth, o.depth);
+    })
+
+NoZero-push : (bytes : List ℕ) (b : ℕ) → NoZero bytes → NoZero (bytes ++ (48 + b) ∷ [])
+NoZero-push [] b h = (λ e. absurd (omega arith), tt)
+NoZero-push (c ∷ cs) b h = (h.0, NoZero-push cs b h.1)
+
+-- The name of an item has no zero.
+NoZero-decimal : (n : ℕ) → n < 2 ^ 64 → NoZero (decimal n)
+NoZero-decimal n h = decimal_by_steps (λ _ ds. NoZero ds) (λ m lt. (λ e. absurd (omega arith), tt)) (λ m ds le so_far. NoZero-push ds (m % 10) so_far) n h
+
+IsName-decimal : (n : ℕ) → n < 2 ^ 64 → IsName (decimal n)
+IsName-decimal n h = record { is_text = IsUtf8-from_ascii (decimal n) (IsAscii-decimal n h); no_zero = NoZero-decimal n h }
+
+pub items_again : (read : Kind → List ℕ → Read Tree) (more : ℕ) → Reads read more → (most i : ℕ) (ts : Items) → IsItems ts → items_levels ts ≤ more
+    → length (items_bytes i ts) ≤ most → i + length (items_bytes i ts) < 2 ^ 31 → items_by read most i (items_bytes i ts) ≡ Ok ts
+unfolding items_by items_bytes item_by
+items_again read more reads zero i no_items lawful depth fits short = refl
+items_again read more reads (suc most) i no_items lawful depth fits short = refl
+items_again read more reads zero i (item t ts) lawful depth fits short = absurd (omega arith)
+items_again read more reads (suc most) i (item t ts) lawful depth fits short =
+    let len = length-append (decimal i ++ 0 ∷ tree_bytes t) (items_bytes (i + 1) ts) in
+    let len2 = length-append (decimal i) (0 ∷ tree_bytes t) in
+    let others = items_again read more reads most (i + 1) ts lawful.1 (omega arith) (omega (arith, len, len2)) (omega (arith, len, len2)) in
+    let right : is_no_index i (decimal i) ≡ false = ap not ((bytes_eq-Decides (decimal i) (decimal i)).1 refl) in
+    let first = element_again read more reads (is_no_index i) faults.ArrayName (decimal i) t (items_bytes (i + 1) ts) (IsName-decimal i (omega arith)) lawful.0 (omega arith) (omega (arith, len, len2)) right in
+    ap (items_by read (suc most) i) (regroup_element (type_byte t) (decimal i) (tree_bytes t) (items_bytes (i + 1) ts)) ∙ rw (first, others) refl
+
+-- ---- values at each level
+
+leaf_is_read : (more : ℕ) (k : Kind) (bytes : List ℕ) (x : Tree × List ℕ) → IsBytes bytes → leaf (scalar_at k bytes) ≡ Ok x → IsRead more k bytes x.0 x.1
+unfolding tree_bytes
+leaf_is_read more k bytes x fits e =
+    let a = bind_ok (scalar_at k bytes) (λ s. Ok (scalar s.0, s.1)) x e in
+    let t = scalar_takes k bytes a.0 fits a.1 in
+    let made : Tree × List ℕ = (scalar a.0.0, a.0.1) in
+    subst (λ (y : Tree × List ℕ). IsRead more k bytes y.0 y.1) (ok_is made x a.2) (record { takes = t.takes; lawful = t.lawful; depth = omega arith; same_kind = t.same_kind })
+
+document_is_read : (more : ℕ) → Reads (value_at more) more → (bytes : List ℕ) (x : Tree × List ℕ) → IsBytes bytes
+    → (content_at bytes >>= λ content. pairs_in (value_at more) content.0 >>= λ ps. Ok (document ps, content.1)) ≡ Ok x → IsRead (suc more) kinds.Document bytes x.0 x.1
+unfolding tree_bytes
+document_is_read more reads bytes x fits e =
+    let a = bind_ok (content_at bytes) (λ content. pairs_in (value_at more) content.0 >>= λ ps. Ok (document ps, content.1)) x e in
+    let content = a.0 in
+    let b = bind_ok (pairs_in (value_at more) content.0) (λ ps. Ok (document ps, content.1)) x a.2 in
+    let ps = b.0 in
+    let frame = content_takes bytes content fits a.1 in
+    let r = pairs_take (value_at more) more reads (length content.0) [] content.0 ps frame.1 b.1 in
+    let made : Tree × List ℕ = (document ps, content.1) in
+    subst (λ (y : Tree × List ℕ). IsRead (suc more) kinds.Document bytes y.0 y.1) (ok_is made x b.2)
+    (record { takes = subst (λ (c : List ℕ). Takes bytes (framed c) content.1) r.spelled frame.0; lawful = r.lawful; depth = omega (arith, r.depth); same_kind = refl })
+
+array_is_read : (more : ℕ) → Reads (value_at more) more → (bytes : List ℕ) (x : Tree × List ℕ) → IsBytes bytes
+    → (content_at bytes >>= λ content. items_in (value_at more) content.0 >>= λ ts. Ok (array ts, content.1)) ≡ Ok x → IsRead (suc more) kinds.Array bytes x.0 x.1
+unfolding tree_bytes
+array_is_read more reads bytes x fits e =
+    let a = bind_ok (content_at bytes) (λ content. items_in (value_at more) content.0 >>= λ ts. Ok (array ts, content.1)) x e in
+    let content = a.0 in
+    let b = bind_ok (items_in (value_at more) content.0) (λ ts. Ok (array ts, content.1)) x a.2 in
+    let ts = b.0 in
+    let frame = content_takes bytes content fits a.1 in
+    let r = items_take (value_at more) more reads (length content.0) 0 content.0 ts frame.1 b.1 in
+    let made : Tree × List ℕ = (array ts, content.1) in
+    subst (λ (y : Tree × List ℕ). IsRead (suc more) kinds.Array bytes y.0 y.1) (ok_is made x b.2)
+    (record { takes = subst (λ (c : List ℕ). Takes bytes (framed c) content.1) r.spelled frame.0; lawful = r.lawful; depth = omega (arith, r.depth); same_kind = refl })
+
+pub AreNew-none : (ps : Pairs) → AreNew ps []
+AreNew-none no_pairs = tt
+AreNew-none (pair name t ps) = (refl, AreNew-none ps)
+
+framed_length : (content : List ℕ) → length (framed content) ≡ length content + 5
+framed_length content = omega (arith, length-append content (0 ∷ []))
+
+-- what is read of a kind other than documents and arrays
+pub value_at_leaf : (more : ℕ) (s : Scalar) (bytes : List ℕ) → value_at more (scalar_kind s) bytes ≡ leaf (scalar_at (scalar_kind s) bytes)
+unfolding value_at
+value_at_leaf zero (text s) bytes = refl
+value_at_leaf (suc more) (text s) bytes = refl
+value_at_leaf zero (binary subtype content) bytes = refl
+value_at_leaf (suc more) (binary subtype content) bytes = refl
+value_at_leaf zero (object_id id) bytes = refl
+value_at_leaf (suc more) (object_id id) bytes = refl
+value_at_leaf zero (boolean b) bytes = refl
+value_at_leaf (suc more) (boolean b) bytes = refl
+value_at_leaf zero (date z) bytes = refl
+value_at_leaf (suc more) (date z) bytes = refl
+value_at_leaf zero null bytes = refl
+value_at_leaf (suc more) null bytes = refl
+value_at_leaf zero (int32 z) bytes = refl
+value_at_leaf (suc more) (int32 z) bytes = refl
+value_at_leaf zero (timestamp n) bytes = refl
+value_at_leaf (suc more) (timestamp n) bytes = refl
+value_at_leaf zero (int64 z) bytes = refl
+value_at_leaf (suc more) (int64 z) bytes = refl
+value_at_leaf zero min_key bytes = refl
+value_at_leaf (suc more) min_key bytes = refl
+value_at_leaf zero max_key bytes = refl
+value_at_leaf (suc more) max_key bytes = refl
+
+leaf_again : (more : ℕ) (s : Scalar) (rest : List ℕ) → IsScalar s → length (scalar_bytes s) < 2 ^ 31 → value_at more (kind (scalar s)) (scalar_bytes s ++ rest) ≡ Ok (scalar s, rest)
+leaf_again more s rest lawful short = value_at_leaf more s (scalar_bytes s ++ rest) ∙ ap leaf (scalar_again s rest lawful short)
+
+value_takes_zero : (k : Kind) (bytes : List ℕ) (x : Tree × List ℕ) → IsBytes bytes → value_at 0 k bytes ≡ Ok x → IsRead 0 k bytes x.0 x.1
+unfolding value_at
+value_takes_zero kinds.String bytes x fits e = leaf_is_read 0 kinds.String bytes x fits e
+value_takes_zero kinds.Document bytes x fits e = absurd cc
+value_takes_zero kinds.Array bytes x fits e = absurd cc
+value_takes_zero kinds.Binary bytes x fits e = leaf_is_read 0 kinds.Binary bytes x fits e
+value_takes_zero kinds.ObjectId bytes x fits e = leaf_is_read 0 kinds.ObjectId bytes x fits e
+value_takes_zero kinds.Bool bytes x fits e = leaf_is_read 0 kinds.Bool bytes x fits e
+value_takes_zero kinds.Date bytes x fits e = leaf_is_read 0 kinds.Date bytes x fits e
+value_takes_zero kinds.Null bytes x fits e = leaf_is_read 0 kinds.Null bytes x fits e
+value_takes_zero kinds.Int32 bytes x fits e = leaf_is_read 0 kinds.Int32 bytes x fits e
+value_takes_zero kinds.Timestamp bytes x fits e = leaf_is_read 0 kinds.Timestamp bytes x fits e
+value_takes_zero kinds.Int64 bytes x fits e = leaf_is_read 0 kinds.Int64 bytes x fits e
+value_takes_zero kinds.MinKey bytes x fits e = leaf_is_read 0 kinds.MinKey bytes x fits e
+value_takes_zero kinds.MaxKey bytes x fits e = leaf_is_read 0 kinds.MaxKey bytes x fits e
+
+value_takes_more : (more : ℕ) → Reads (value_at more) more → (k : Kind) (bytes : List ℕ) (x : Tree × List ℕ) → IsBytes bytes → value_at (suc more) k bytes ≡ Ok x → IsRead (suc more) k bytes x.0 x.1
+unfolding value_at
+value_takes_more more reads kinds.String bytes x fits e = leaf_is_read (suc more) kinds.String bytes x fits e
+value_takes_more more reads kinds.Document bytes x fits e = document_is_read more reads bytes x fits e
+value_takes_more more reads kinds.Array bytes x fits e = array_is_read more reads bytes x fits e
+value_takes_more more reads kinds.Binary bytes x fits e = leaf_is_read (suc more) kinds.Binary bytes x fits e
+value_takes_more more reads kinds.ObjectId bytes x fits e = leaf_is_read (suc more) kinds.ObjectId bytes x fits e
+value_takes_more more reads kinds.Bool bytes x fits e = leaf_is_read (suc more) kinds.Bool bytes x fits e
+value_takes_more more reads kinds.Date bytes x fits e = leaf_is_read (suc more) kinds.Date bytes x fits e
+value_takes_more more reads kinds.Null bytes x fits e = leaf_is_read (suc more) kinds.Null bytes x fits e
+value_takes_more more reads kinds.Int32 bytes x fits e = leaf_is_read (suc more) kinds.Int32 bytes x fits e
+value_takes_more more reads kinds.Timestamp bytes x fits e = leaf_is_read (suc more) kinds.Timestamp bytes x fits e
+value_takes_more more reads kinds.Int64 bytes x fits e = leaf_is_read (suc more) kinds.Int64 bytes x fits e
+value_takes_more more reads kinds.MinKey bytes x fits e = leaf_is_read (suc more) kinds.MinKey bytes x fits e
+value_takes_more more reads kinds.MaxKey bytes x fits e = leaf_is_read (suc more) kinds.MaxKey bytes x fits e
+
+value_again_zero : (t : Tree) (rest : List ℕ) → IsTree t → levels t ≤ 0 → length (tree_bytes t) < 2 ^ 31 → value_at 0 (kind t) (tree_bytes t ++ rest) ≡ Ok (t, rest)
+unfolding tree_bytes
+value_again_zero (scalar s) rest lawful depth short = leaf_again 0 s rest lawful short
+value_again_zero (document ps) rest lawful depth short = absurd (omega arith)
+value_again_zero (array ts) rest lawful depth short = absurd (omega arith)
+
+value_again_more : (more : ℕ) → Reads (value_at more) more → (t : Tree) (rest : List ℕ) → IsTree t → levels t ≤ suc more → length (tree_bytes t) < 2 ^ 31
+    → value_at (suc more) (kind t) (tree_bytes t ++ rest) ≡ Ok (t, rest)
+unfolding tree_bytes value_at
+value_again_more more reads (scalar s) rest lawful depth short = leaf_again (suc more) s rest lawful short
+value_again_more more reads (document ps) rest lawful depth short =
+    let size = framed_length (pairs_bytes ps) in
+    let inner = pairs_again (value_at more) more reads (length (pairs_bytes ps)) [] ps lawful (omega arith) (AreNew-none ps) (omega arith) (omega (arith, size)) in
+    rw (content_again (pairs_bytes ps) rest (omega (arith, size)), inner) refl
+value_again_more more reads (array ts) rest lawful depth short =
+    let size = framed_length (items_bytes 0 ts) in
+    let inner = items_again (value_at more) more reads (length (items_bytes 0 ts)) 0 ts lawful (omega arith) (omega arith) (omega (arith, size)) in
+    rw (content_again (items_bytes 0 ts) rest (omega (arith, size)), inner) refl
+
+pub value_reads : (more : ℕ) → Reads (value_at more) more
+value_reads zero = record { takes = value_takes_zero; again = value_again_zero }
+value_reads (suc more) = record { takes = value_takes_more more (value_reads more); again = value_again_more more (value_reads more) }
+
+-- ---- the document at the front of the input
+
+-- the length at the front of a document
+pub record HasLength (bytes : List ℕ) (n : ℕ) : Type 0 where
+  pub takes : Takes bytes (to_le_bytes w32 n) (drop 4 bytes)
+  pub low : 5 ≤ n
+  pub high : n ≤ MESSAGE_LIMIT
+  pub whole : n ≤ length bytes
+
+pub length_takes : (bytes : List ℕ) (n : ℕ) → IsBytes bytes → length_at bytes ≡ Ok n → HasLength bytes n
+unfolding length_at
+length_takes bytes n fits e =
+    let m = from_le_bytes w32 (take 4 bytes) in
+    let a = unless_ok (ltb (length bytes) 4) faults.Truncated (unless (is_below 5 m) faults.Length (unless (ltb MESSAGE_LIMIT m) faults.TooLarge (unless (ltb (length bytes) m) faults.Truncated (Ok m)))) n e in
+    let b = unless_ok (is_below 5 m) faults.Length (unless (ltb MESSAGE_LIMIT m) faults.TooLarge (unless (ltb (length bytes) m) faults.Truncated (Ok m))) n a.1 in
+    let c = unless_ok (ltb MESSAGE_LIMIT m) faults.TooLarge (unless (ltb (length bytes) m) faults.Truncated (Ok m)) n b.1 in
+    let d = unless_ok (ltb (length bytes) m) faults.Truncated (Ok m) n c.1 in
+    let low = is_below-false 5 m b.0 in
+    subst (λ (k : ℕ). HasLength bytes k) (ok_is m n d.1)
+    (record { takes = front32 bytes fits (ltb-false _ _ a.0); low = low.0; high = ltb-false _ _ c.0; whole = ltb-false _ _ d.0 })
+
+pub document_takes : (bytes : List ℕ) (x : Pairs × ℕ) → IsBytes bytes → document_at bytes ≡ Ok x → (x.1 ≤ length bytes) × Spells (take x.1 bytes) x.0
+unfolding document_at
+document_takes bytes x fits e =
+    let f2 = λ (len : ℕ). λ (content : List ℕ × List ℕ). pairs_in (value_at 99) content.0 >>= λ ps. Ok (ps, len) in
+    let a = bind_ok (length_at bytes) (λ len. ended_at faults.Length (len - 5) (drop 4 bytes) >>= f2 len) x e in
+    let len = a.0 in
+    let b = bind_ok (ended_at faults.Length (len - 5) (drop 4 bytes)) (f2 len) x a.2 in
+    let content = b.0 in
+    let c = bind_ok (pairs_in (value_at 99) content.0) (λ ps. Ok (ps, len)) x b.2 in
+    let ps = c.0 in
+    let l = length_takes bytes len fits a.1 in
+    let f = ended_takes faults.Length (len - 5) (drop 4 bytes) content l.takes.rest_fits b.1 in
+    let r = pairs_take (value_at 99) 99 (value_reads 99) (length content.0) [] content.0 ps f.1 c.1 in
+    let size : len ≡ length content.0 + 5 = omega (arith, f.2, l.low) in
+    let both = Takes-then bytes (to_le_bytes w32 len) (drop 4 bytes) (content.0 ++ 0 ∷ []) content.1 l.takes f.0 in
+    let framed-is : Takes bytes (framed content.0) content.1 = subst (λ (k : ℕ). Takes bytes (to_le_bytes w32 k ++ (content.0 ++ 0 ∷ [])) content.1) size both in
+    let front : take len bytes ≡ framed content.0 = ap (take len) framed-is.parts ∙ take_at (framed content.0) content.1 len (omega (arith, framed_length content.0)) in
+    subst (λ (y : Pairs × ℕ). (y.1 ≤ length bytes) × Spells (take y.1 bytes) y.0) (ok_is (ps, len) x c.2)
+    (l.whole, record { lawful = record { lawful = r.lawful; depth = r.depth }; spelled = front ∙ ap framed r.spelled; size = omega (arith, length-take len bytes, l.high) })
+
+pub document_again : (bytes : List ℕ) (ps : Pairs) (rest : List ℕ) → Spells bytes ps → document_at (bytes ++ rest) ≡ Ok (ps, length bytes)
+unfolding document_at length_at
+document_again bytes ps rest s =
+    let content = pairs_bytes ps in
+    let n = length content + 5 in
+    let size : length bytes ≡ n = ap length s.spelled ∙ framed_length content in
+    let regrouped : bytes ++ rest ≡ to_le_bytes w32 n ++ (content ++ 0 ∷ rest) = ap (λ (t : List ℕ). t ++ rest) s.spelled ∙ ap (λ (t : List ℕ). to_le_bytes w32 n ++ t) (append_assoc content (0 ∷ []) rest) in
+    let all = length-append content (0 ∷ rest) in
+    let high : n ≤ MESSAGE_LIMIT = omega (arith, s.size) in
+    let back = wide32.again n (omega (arith, high)) in
+    let long : ltb (length (to_le_bytes w32 n ++ (content ++ 0 ∷ rest))) 4 ≡ false = le-ltb _ _ (omega arith) in
+    let large : ltb MESSAGE_LIMIT n ≡ false = le-ltb _ _ high in
+    let whole : ltb (length (to_le_bytes w32 n ++ (content ++ 0 ∷ rest))) n ≡ false = le-ltb _ _ (omega (arith, all)) in
+    let inner = pairs_again (value_at 99) 99 (value_reads 99) (length content) [] ps s.lawful.lawful s.lawful.depth (AreNew-none ps) (omega arith) (omega (arith, high)) in
+    ap document_at regrouped ∙ rw (long, back, not_below 5 n (omega arith) (omega (arith, high)), large, whole, ended_again faults.Length (n - 5) content rest (omega arith), inner, size) refl
+
+-- ---- what decode promises
+
+pub is_found : (bytes : List ℕ) (r : Result (Pairs × ℕ) BsonFault) → IsBytes bytes → Gives (λ x. x) r (document_at bytes) → IfOk r (λ x. (x.1 ≤ length bytes) × Spells (take x.1 bytes) x.0)
+is_found bytes (Ok x) fits given = document_takes bytes x fits given
+is_found bytes (Err e) fits given = tt
+
+pub is_only : (bytes front rest : List ℕ) (ps : Pairs) (r : Result (Pairs × ℕ) BsonFault) → Gives (λ x. x) r (document_at bytes) → Spells front ps → bytes ≡ front ++ rest → Gives (λ x. x) r (Ok (ps, length front))
+is_only bytes front rest ps r given s e = subst (λ (read : Result (Pairs × ℕ) BsonFault). Gives (λ x. x) r read) (ap document_at e ∙ document_again front ps rest s) given
+
+pub is_fault : (bytes : List ℕ) (r : Result (Pairs × ℕ) BsonFault) → Gives (λ x. x) r (document_at bytes) → IfErr r (λ e. e ≢ faults.Memory → FirstFault bytes e × HasNoDocument bytes)
+is_fault bytes (Ok x) given = tt
+is_fault bytes (Err e) given = λ not_memory. (
+  record { found = given not_memory },
+  λ n ps s.
+      let again = document_again (take n bytes) ps (drop n bytes) s in
+      let whole : document_at bytes ≡ Ok (ps, length (take n bytes)) = ap document_at (sym (take-append-drop n bytes)) ∙ again in
+      let failed = given not_memory in
+      absurd cc,
+)
+
+-- a value has one spelling, and no document's spelling begins another's
+pub one_spelling : (a b x y : List ℕ) (ps qs : Pairs) → Spells a ps → Spells b qs → a ++ x ≡ b ++ y → (ps ≡ qs) × (a ≡ b)
+one_spelling a b x y ps qs s u e =
+    let both : done {A = Pairs × ℕ} (ps, length a) ≡ done (qs, length b) = sym (document_again a ps x s) ∙ ap document_at e ∙ document_again b qs y u in
+    let pair-is : ◌≡◌ {A = Pairs × ℕ} (ps, length a) (qs, length b) = ok_is (ps, length a) (qs, length b) both in
+    let same : ps ≡ qs = ap (λ (p : Pairs × ℕ). p.0) pair-is in
+    (same, s.spelled ∙ ap (λ (p : Pairs). framed (pairs_bytes p)) same ∙ sym u.spelled)
+
+pub one_value : (t u : Tree) (x y : List ℕ) → IsTree t → IsTree u → levels t ≤ 99 → levels u ≤ 99 → length (tree_bytes t) < 2 ^ 31 → length (tree_bytes u) < 2 ^ 31 → kind t ≡ kind u → tree_bytes t ++ x ≡ tree_bytes u ++ y → (t ≡ u) × (x ≡ y)
+one_value t u x y t_lawful u_lawful t_deep u_deep t_short u_short same_kind e =
+    let first = (value_reads 99).again t x t_lawful t_deep t_short in
+    let second = (value_reads 99).again u y u_lawful u_deep u_short in
+    let both : done {A = Tree × List ℕ} (t, x) ≡ done (u, y) = sym first ∙ (λ i. value_at 99 (same_kind i) (e i)) ∙ second in
+    let pair-is : ◌≡◌ {A = Tree × List ℕ} (t, x) (u, y) = ok_is (t, x) (u, y) both in
+    (ap (λ (p : Tree × List ℕ). p.0) pair-is, ap (λ (p : Tree × List ℕ). p.1) pair-is)

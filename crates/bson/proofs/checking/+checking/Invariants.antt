@@ -1,0 +1,30 @@
+use Rattle.std.proofs.Common.{◌+◌, ◌*◌, length}
+use Rattle.bson.proofs.CheckLaws.{CheckedPairs, CheckedItems}
+use Rattle.bson.proofs.checking.+checking.Given as goal
+
+abbrev pub decreases-check_value : goal.decreases-check_value
+decreases-check_value l = 3 * l.more
+
+abbrev pub decreases-check_item : goal.decreases-check_item
+decreases-check_item l = 3 * l.more + 1
+
+abbrev pub decreases-check_pair : goal.decreases-check_pair
+decreases-check_pair l = 3 * l.more + 1
+
+abbrev pub decreases-check_items : goal.decreases-check_items
+decreases-check_items l = 3 * l.more + 2
+
+abbrev pub decreases-check_pairs : goal.decreases-check_pairs
+decreases-check_pairs l = 3 * l.more + 2
+
+abbrev pub invariant-check_pairs-pairs : goal.invariant-check_pairs-pairs
+invariant-check_pairs-pairs l = CheckedPairs l.more l.content l.rest
+
+abbrev pub decreases-check_pairs-pairs : goal.decreases-check_pairs-pairs
+decreases-check_pairs-pairs l = length l.rest
+
+abbrev pub invariant-check_items-items : goal.invariant-check_items-items
+invariant-check_items-items l = CheckedItems l.more l.content l.rest l.i
+
+abbrev pub decreases-check_items-items : goal.decreases-check_items-items
+decreases-check_items-items l = length l.rest

@@ -1,0 +1,28 @@
+use Rattle.std.proofs.Common.{List, ap, subst, ◌∙◌, arith}
+use Rattle.bson.specs.View.{items_of}
+use Rattle.bson.specs.Lawful.{IsArray, items_levels}
+use Rattle.bson.specs.Edits.{without_item, IsArray-without_item}
+use Rattle.bson.specs.declared.value.Value.{Value}
+use Rattle.bson.proofs.BuildLaws.{items_removed_levels, items_within, items_removed, item_there, HoldsArray-edit}
+use Rattle.bson.proofs.value.Array.remove_at.Goals as goal
+
+pub remove-value-requires : goal.remove-value-requires
+remove-value-requires c = omega (arith, items_within c.self.inside.items.items c.args.self.now c.args.at c.self.view_is c.requires, c.self.inside.items.ok.0)
+
+pub invariant_of-self : goal.invariant_of-self
+invariant_of-self c =
+    HoldsArray-edit (items_of c.remove-value.new.self.items) (without_item c.args.self.now c.args.at) c.deepest_after-self-inside.result
+    (items_removed c.self.inside.items.items c.remove-value.new.self.items c.args.self.now c.args.at c.self.view_is c.remove-value.ensures.items)
+    (IsArray-without_item c.args.self.now c.args.at (subst IsArray c.self.view_is c.self.invariant.lawful))
+    (c.deepest_after-self-inside.ensures ∙ ap (λ (xs : List Value). items_levels (items_of xs)) c.deref.ensures.value)
+
+pub returns-clause-item : goal.returns-clause-item
+returns-clause-item c = item_there c.self.inside.items.items c.args.self.now c.args.at c.remove-value.result c.self.view_is (items_within c.self.inside.items.items c.args.self.now c.args.at c.self.view_is c.requires) c.remove-value.ensures.value
+
+pub returns-clause-rest : goal.returns-clause-rest
+returns-clause-rest c = items_removed c.self.inside.items.items c.remove-value.new.self.items c.args.self.now c.args.at c.self.view_is c.remove-value.ensures.items
+
+pub deepest_after-self-inside-requires : goal.deepest_after-self-inside-requires
+deepest_after-self-inside-requires c = λ flat.
+    items_removed_levels c.self.inside.items.items c.remove-value.new.self.items c.deref.result.now c.args.self.now c.args.at c.remove-value.result c.self.inside.levels c.levels.result c.self.view_is
+    (items_within c.self.inside.items.items c.args.self.now c.args.at c.self.view_is c.requires) c.remove-value.ensures.value c.remove-value.ensures.items c.deref.ensures.value c.self.invariant.counted c.levels.ensures.levels flat

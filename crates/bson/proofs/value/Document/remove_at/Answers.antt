@@ -1,0 +1,28 @@
+use Rattle.std.proofs.Common.{List, ap, subst, ◌∙◌, arith}
+use Rattle.bson.specs.View.{pairs_of}
+use Rattle.bson.specs.Lawful.{IsDocument, pairs_levels}
+use Rattle.bson.specs.Edits.{without_pair, IsDocument-without_pair}
+use Rattle.bson.specs.declared.value.Pair.{Pair}
+use Rattle.bson.proofs.BuildLaws.{pairs_removed_levels, pairs_within, pairs_removed, pair_there, HoldsDocument-edit}
+use Rattle.bson.proofs.value.Document.remove_at.Goals as goal
+
+pub remove-pair-requires : goal.remove-pair-requires
+remove-pair-requires c = omega (arith, pairs_within c.self.inside.pairs.items c.args.self.now c.args.at c.self.view_is c.requires, c.self.inside.pairs.ok.0)
+
+pub invariant_of-self : goal.invariant_of-self
+invariant_of-self c =
+    HoldsDocument-edit (pairs_of c.remove-pair.new.self.items) (without_pair c.args.self.now c.args.at) c.deepest_after-self-inside.result
+    (pairs_removed c.self.inside.pairs.items c.remove-pair.new.self.items c.args.self.now c.args.at c.self.view_is c.remove-pair.ensures.items)
+    (IsDocument-without_pair c.args.self.now c.args.at (subst IsDocument c.self.view_is c.self.invariant.lawful))
+    (c.deepest_after-self-inside.ensures ∙ ap (λ (xs : List Pair). pairs_levels (pairs_of xs)) c.deref.ensures.value)
+
+pub returns-clause-pair : goal.returns-clause-pair
+returns-clause-pair c = pair_there c.self.inside.pairs.items c.args.self.now c.args.at c.remove-pair.result c.self.view_is (pairs_within c.self.inside.pairs.items c.args.self.now c.args.at c.self.view_is c.requires) c.remove-pair.ensures.value
+
+pub returns-clause-rest : goal.returns-clause-rest
+returns-clause-rest c = pairs_removed c.self.inside.pairs.items c.remove-pair.new.self.items c.args.self.now c.args.at c.self.view_is c.remove-pair.ensures.items
+
+pub deepest_after-self-inside-requires : goal.deepest_after-self-inside-requires
+deepest_after-self-inside-requires c = λ flat.
+    pairs_removed_levels c.self.inside.pairs.items c.remove-pair.new.self.items c.deref.result.now c.args.self.now c.args.at c.remove-pair.result c.self.inside.levels c.levels.result c.self.view_is
+    (pairs_within c.self.inside.pairs.items c.args.self.now c.args.at c.self.view_is c.requires) c.remove-pair.ensures.value c.remove-pair.ensures.items c.deref.ensures.value c.self.invariant.counted c.levels.ensures.levels flat

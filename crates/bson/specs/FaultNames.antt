@@ -1,0 +1,32 @@
+-- The word of each fault.
+use Rattle.std.specs.Prelude.{ℕ, List, codes}
+use Rattle.bson.specs.declared.fault.BsonFault.{BsonFault}
+use Rattle.bson.specs.declared.fault.BsonFault.TheVariants as faults
+use Rattle.bson.specs.declared.fault.BuildFault.{BuildFault}
+use Rattle.bson.specs.declared.fault.BuildFault.TheVariants as builds
+use Rattle.bson.specs.declared.fault.EncodeFault.{EncodeFault}
+use Rattle.bson.specs.declared.fault.EncodeFault.TheVariants as encodes
+
+abbrev pub bson_fault_name : BsonFault → List ℕ
+bson_fault_name faults.Truncated = codes "Truncated"
+bson_fault_name faults.Length = codes "Length"
+bson_fault_name faults.TypeByte = codes "TypeByte"
+bson_fault_name faults.Text = codes "Text"
+bson_fault_name faults.Name = codes "Name"
+bson_fault_name faults.Repeated = codes "Repeated"
+bson_fault_name faults.ArrayName = codes "ArrayName"
+bson_fault_name faults.Bool = codes "Bool"
+bson_fault_name faults.Subtype = codes "Subtype"
+bson_fault_name faults.Deep = codes "Deep"
+bson_fault_name faults.TooLarge = codes "TooLarge"
+bson_fault_name faults.Memory = codes "Memory"
+
+abbrev pub build_fault_name : BuildFault → List ℕ
+build_fault_name builds.Name = codes "Name"
+build_fault_name builds.Repeated = codes "Repeated"
+build_fault_name builds.Deep = codes "Deep"
+build_fault_name builds.Memory = codes "Memory"
+
+abbrev pub encode_fault_name : EncodeFault → List ℕ
+encode_fault_name encodes.TooLarge = codes "TooLarge"
+encode_fault_name encodes.Memory = codes "Memory"

@@ -1,0 +1,14 @@
+pub mod Tree
+pub mod TreeCode
+pub mod View
+pub mod Sizes
+pub mod Kinds
+pub mod FaultNames
+pub mod Lawful
+pub mod Spelling
+pub mod Reading
+pub mod Raw
+pub mod Writing
+pub mod Lookup
+pub mod Edits
+pub mod Sizing

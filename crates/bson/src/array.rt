@@ -1,0 +1,140 @@
+//! Arrays: building.
+
+ghost use Rattle.std.specs.Prelude.{◌≡◌, ◌==◌, ◌<◌, Some, OnOk, OnErr, IfOk, IfErr, max, ◌≤◌};
+ghost use Rattle.bson.specs.Tree.{no_items, item, append_items};
+ghost use Rattle.bson.specs.Edits.{items_len, item_at, with_item, without_item, ReplaceFault, GrowFault};
+ghost use Rattle.bson.specs.View.{tree, items_of};
+ghost use Rattle.bson.specs.Lawful.{IsArray, items_levels};
+
+use crate::MOST_LEVELS;
+use crate::fault::BuildFault;
+use crate::value::{Array, Value};
+use std::alloc::Global;
+use std::mem;
+
+/// How deep these values nest.
+fn deepest(items: &[Value]) -> u32
+    ensures { result ≡ items_levels (items_of items.now) }
+{
+    let mut levels = 0u32;
+    'items: for item in items {
+        levels = levels.max(item.levels());
+    }
+    levels
+}
+
+/// How deep these nest, after one that nested `old` levels gave way to one of `new` (0 where it only went)
+/// and they nested `levels` before. They are looked at only where the one that went may have been the deepest.
+fn deepest_after(levels: u32, old: u32, new: u32, items: &[Value]) -> u32
+    requires { old ≤ new → max levels new ≡ items_levels (items_of items.now) }
+    ensures { result ≡ items_levels (items_of items.now) }
+{
+    if old <= new {
+        return levels.max(new);
+    }
+    deepest(items)
+}
+
+impl Array {
+    /// The empty array. It takes no memory yet.
+    pub fn new(alloc: Global) -> Array
+        ensures { result ≡ no_items }
+    {
+        Array {
+            items: Vec::new(alloc),
+            levels: 0,
+        }
+    }
+
+    /// How deep the items nest; the array itself is one level more.
+    pub fn levels(&self) -> u32
+        ensures levels { result ≡ items_levels self.now }
+        ensures lawful { IsArray self.now }
+    {
+        self.levels
+    }
+
+    /// The values, in order.
+    pub fn items(&self) -> &[Value]
+        ensures items { items_of result.now ≡ self.now }
+        ensures lawful { IsArray self.now }
+    {
+        &self.items
+    }
+
+    /// How many items there are.
+    pub fn len(&self) -> usize
+        ensures { result ≡ items_len self.now }
+    {
+        self.items.len()
+    }
+
+    /// Whether there is no item.
+    pub fn is_empty(&self) -> bool
+        ensures { result ≡ (items_len self.now == 0) }
+    {
+        self.items.is_empty()
+    }
+
+    /// The items, to be changed and put back by `from_items`.
+    pub fn into_items(self) -> Vec<Value>
+        ensures items { items_of result.items ≡ self }
+        ensures lawful { IsArray self }
+    {
+        self.items
+    }
+
+    /// The array of these items.
+    pub fn from_items(items: Vec<Value>) -> Array
+        requires { IsArray (items_of items.items) }
+        ensures { result ≡ items_of items.items }
+    {
+        let levels = deepest(&items);
+        Array { items, levels }
+    }
+
+    /// Adds an item at the end. An error leaves the array as it was: `Deep` where the item nests more
+    /// than 98 levels, `Memory` where memory ran out.
+    pub fn push(&mut self, value: Value) -> Result<(), BuildFault>
+        ensures ok { OnOk result (self.new ≡ append_items self.old (item (tree value) no_items)) }
+        ensures err { OnErr result (self.new ≡ self.old) }
+        ensures fault { IfErr result (λ e. GrowFault 98 (tree value) e) }
+    {
+        let levels = value.levels();
+        if MOST_LEVELS <= levels + 1 {
+            return Err(BuildFault::Deep);
+        }
+        self.items.push(value)?;
+        self.levels = self.levels.max(levels);
+        Ok(())
+    }
+
+    /// Puts another item in the place of the one there, which is handed back. It takes no memory: `Deep`,
+    /// where the item nests more than 98 levels, is its only error, and leaves the array as it was.
+    pub fn replace_at(&mut self, at: usize, value: Value) -> Result<Value, BuildFault>
+        requires { at < items_len self.old }
+        ensures ok { OnOk result (self.new ≡ with_item self.old at (tree value)) }
+        ensures old { IfOk result (λ v. item_at self.old at ≡ Some (tree v)) }
+        ensures err { OnErr result (self.new ≡ self.old) }
+        ensures fault { IfErr result (λ e. ReplaceFault 98 (tree value) e) }
+    {
+        let new_levels = value.levels();
+        if MOST_LEVELS <= new_levels + 1 {
+            return Err(BuildFault::Deep);
+        }
+        let old = mem::replace(&mut self.items[at], value);
+        self.levels = deepest_after(self.levels, old.levels(), new_levels, &self.items);
+        Ok(old)
+    }
+
+    /// Takes out the item at a place. Those behind it move up.
+    pub fn remove_at(&mut self, at: usize) -> Value
+        requires { at < items_len self.old }
+        ensures item { item_at self.old at ≡ Some (tree result) }
+        ensures rest { self.new ≡ without_item self.old at }
+    {
+        let value = self.items.remove(at);
+        self.levels = deepest_after(self.levels, value.levels(), 0, &self.items);
+        value
+    }
+}

@@ -1,0 +1,142 @@
+//! Whether bytes spell a document, found out without memory. Each function accepts what its namesake in
+//! `reading` accepts, with the same faults.
+
+ghost use Rattle.std.specs.Prelude.{◌≡◌, ◌^◌, ◌<◌, ◌≤◌, length};
+ghost use Rattle.bson.specs.Reading.{GivesExactly, leaf, scalar_at, value_at, element_by, item_by, stands_in, pairs_in, items_in, document_at};
+ghost use Rattle.bson.specs.Raw.{tree_names, pairs_spelled, Elements, rest_of, outcome_of, only_length};
+ghost use Rattle.bson.specs.declared.fault.BsonFault.TheVariants as faults;
+
+use crate::MOST_LEVELS;
+use crate::elements::has_element;
+use crate::fault::BsonFault;
+use crate::frames::{read_content, read_ended, read_fixed, read_name, read_text};
+use crate::kind::Kind;
+use crate::reading::{is_index, read_length};
+use crate::scalars::{read_body, read_bool, read_kind};
+
+/// What is left behind a value of a kind other than documents and arrays.
+#[tactic(auto, unfolding(crate::specs::Reading::scalar_at, crate::specs::Reading::string_at, crate::specs::Reading::object_id_at, crate::specs::Reading::date_at, crate::specs::Reading::int32_at, crate::specs::Reading::timestamp_at, crate::specs::Reading::int64_at))]
+fn check_scalar(kind: Kind, bytes: &[u8]) -> Result<&[u8], BsonFault>
+    ensures { GivesExactly (λ r. r.now) result (rest_of (leaf (scalar_at kind bytes.now))) }
+{
+    match kind {
+        Kind::Document | Kind::Array => Err(BsonFault::TypeByte),
+        Kind::String => Ok(read_text(bytes)?.1),
+        Kind::Binary => match read_body(bytes) {
+            Ok((_, rest)) => Ok(rest),
+            Err(fault) => Err(fault),
+        },
+        Kind::ObjectId => Ok(read_fixed(12, bytes)?.1),
+        Kind::Bool => Ok(read_bool(bytes)?.1),
+        Kind::Int32 => Ok(read_fixed(4, bytes)?.1),
+        Kind::Date | Kind::Timestamp | Kind::Int64 => Ok(read_fixed(8, bytes)?.1),
+        Kind::Null | Kind::MinKey | Kind::MaxKey => Ok(bytes),
+    }
+}
+
+/// What is left behind a value where this many more levels are allowed.
+#[cycle(checking)]
+#[tactic(auto, unfolding(crate::specs::Reading::value_at))]
+fn check_value(more: u32, kind: Kind, bytes: &[u8]) -> Result<&[u8], BsonFault>
+    requires { more ≤ 99 }
+    ensures { GivesExactly (λ r. r.now) result (rest_of (value_at more kind bytes.now)) }
+{
+    match kind {
+        Kind::Document => {
+            if more == 0 {
+                return Err(BsonFault::Deep);
+            }
+            let (content, rest) = read_content(bytes)?;
+            check_pairs(more - 1, content)?;
+            Ok(rest)
+        }
+        Kind::Array => {
+            if more == 0 {
+                return Err(BsonFault::Deep);
+            }
+            let (content, rest) = read_content(bytes)?;
+            check_items(more - 1, content)?;
+            Ok(rest)
+        }
+        _ => check_scalar(kind, bytes),
+    }
+}
+
+/// What is left behind an element of a document, after its type byte.
+#[cycle(checking)]
+#[tactic(auto, unfolding(crate::specs::Reading::element_by))]
+fn check_pair<'a>(
+    more: u32,
+    earlier: &[u8],
+    type_byte: u8,
+    bytes: &'a [u8],
+) -> Result<&'a [u8], BsonFault>
+    requires more { more ≤ 99 }
+    requires earlier { Elements earlier.now (pairs_spelled earlier.now) }
+    ensures { GivesExactly (λ r. r.now) result
+        (rest_of (element_by (value_at more) (stands_in (tree_names (pairs_spelled earlier.now))) faults.Repeated type_byte bytes.now)) }
+{
+    let kind = read_kind(type_byte)?;
+    let (name, rest) = read_name(bytes)?;
+    if has_element(earlier, name) {
+        return Err(BsonFault::Repeated);
+    }
+    check_value(more, kind, rest)
+}
+
+/// What is left behind an element of an array, after its type byte.
+#[cycle(checking)]
+#[tactic(auto, unfolding(crate::specs::Reading::element_by, crate::specs::Reading::item_by))]
+fn check_item(more: u32, i: usize, type_byte: u8, bytes: &[u8]) -> Result<&[u8], BsonFault>
+    requires { more ≤ 99 }
+    ensures { GivesExactly (λ r. r.now) result (rest_of (item_by (value_at more) i type_byte bytes.now)) }
+{
+    let kind = read_kind(type_byte)?;
+    let (name, rest) = read_name(bytes)?;
+    if !is_index(name, i) {
+        return Err(BsonFault::ArrayName);
+    }
+    check_value(more, kind, rest)
+}
+
+/// The elements of a document. Each name is looked for among the elements before it, which takes time in
+/// proportion to the square of their number.
+#[cycle(checking)]
+fn check_pairs(more: u32, content: &[u8]) -> Result<(), BsonFault>
+    requires more { more ≤ 99 }
+    requires short { length content.now < 2 ^ 31 }
+    ensures { GivesExactly (λ u. u) result (outcome_of (pairs_in (value_at more) content.now)) }
+{
+    let mut rest = content;
+    'pairs: while let Some((type_byte, after)) = rest.split_first() {
+        let (earlier, _) = content.split_at(content.len() - rest.len());
+        rest = check_pair(more, earlier, *type_byte, after)?;
+    }
+    Ok(())
+}
+
+#[cycle(checking)]
+fn check_items(more: u32, content: &[u8]) -> Result<(), BsonFault>
+    requires { more ≤ 98 }
+    ensures { GivesExactly (λ u. u) result (outcome_of (items_in (value_at more) content.now)) }
+{
+    let mut i = 0usize;
+    let mut rest = content;
+    'items: while let Some((type_byte, after)) = rest.split_first() {
+        rest = check_item(more, i, *type_byte, after)?;
+        i += 1;
+    }
+    Ok(())
+}
+
+/// The length of the document at the front of the input.
+#[tactic(auto, unfolding(crate::specs::Reading::document_at))]
+pub(crate) fn check_document(bytes: &[u8]) -> Result<usize, BsonFault>
+    ensures { GivesExactly (λ n. n) result (only_length (document_at bytes.now)) }
+{
+    let len = read_length(bytes)?;
+    let (_, rest) = bytes.split_at(4);
+    let (content, _) = read_ended(BsonFault::Length, len - 5, rest)?;
+    check_pairs(MOST_LEVELS - 1, content)?;
+    Ok(len)
+}

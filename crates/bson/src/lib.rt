@@ -1,0 +1,42 @@
+//! Documents of BSON 1.1 (bsonspec.org): values, building, reading and writing.
+//!
+//! `value` has the types and what contracts see of them, `document` and `array` the building, `copying` the
+//! copies; `frames` and `scalars` what stands at the front of bytes, `reading` and `writing` whole documents.
+#![tactic(auto)]
+
+mod array;
+mod binary;
+mod checking;
+mod copying;
+mod document;
+mod elements;
+mod fault;
+mod frames;
+mod kind;
+pub mod laws;
+mod names;
+mod numbers;
+mod object_id;
+mod raw;
+mod reading;
+mod scalars;
+mod sizing;
+mod text;
+mod value;
+mod writing;
+
+pub use binary::{Binary, Bytes, Subtype};
+pub use fault::{BsonFault, BuildFault, EncodeFault, NoMemory};
+pub use kind::Kind;
+pub use object_id::ObjectId;
+pub use raw::{RawDoc, RawValue};
+pub use reading::decode;
+pub use text::Text;
+pub use value::{Array, Document, Pair, Value};
+pub use writing::{encode, encode_onto};
+
+/// The most levels to which documents and arrays nest, the top document among them.
+pub const MOST_LEVELS: u32 = 100;
+
+/// The most bytes that a message may have, and so a document.
+pub const MESSAGE_LIMIT: usize = 1_048_576;

@@ -1,0 +1,91 @@
+//! Names that stood before.
+
+ghost use Rattle.std.specs.Prelude.{◌≡◌, ◌||◌, ◌≤◌, ℕ, List, [], map, OnOk};
+ghost use Rattle.std.specs.Str.{bytes_eq};
+ghost use Rattle.bson.specs.View.{names_of};
+ghost use Rattle.bson.specs.Reading.{stands_in};
+
+use crate::fault::NoMemory;
+use crate::value::Pair;
+use std::alloc::Global;
+use std::collections::BTreeSet;
+use std::marker::Model;
+
+/// Whether a pair has this name.
+pub(crate) fn has_name(pairs: &[Pair], name: &str) -> bool
+    ensures { result ≡ stands_in (names_of pairs.now) name.now }
+{
+    for pair in pairs {
+        if name == pair.name.as_str() {
+            return true;
+        }
+    }
+    false
+}
+
+/// How many names are compared one by one, before a set is made of those that follow.
+const FEW: usize = 24;
+
+/// The names of a document that is read. Looking for one takes as many comparisons as the logarithm of
+/// their number, past the first few.
+#[derive(Drop)]
+pub(crate) struct Names<'a> {
+    few: [&'a str; FEW],
+    // how many of `few` are in use
+    count: usize,
+    later: BTreeSet<&'a str>,
+}
+
+impl<'a> Model for Names<'a> {
+    ghost use Rattle.std.specs.Prelude.{◌≤◌, ◌≡◌, ℕ, List, ◌++◌, map, take, length};
+
+    ghost Value = { List (List ℕ) };
+
+    ghost view = { λ a. map (λ n. n.now) (take a.count a.few) ++ map (λ n. n.now) a.later.keys };
+
+    ghost invariant = { λ a. (a.count ≤ 24) × (length a.few ≡ 24) };
+}
+
+impl<'a> Names<'a> {
+    /// No names.
+    pub(crate) fn new(alloc: Global) -> Names<'a>
+        ensures { result ≡ [] }
+    {
+        Names {
+            few: [""; FEW],
+            count: 0,
+            later: BTreeSet::new(alloc),
+        }
+    }
+
+    /// Whether this name is among them.
+    pub(crate) fn contains(&self, name: &str) -> bool
+        ensures { result ≡ stands_in self.now name.now }
+    {
+        is_among(&self.few[..self.count], name) || self.later.contains(name)
+    }
+
+    /// Takes one more name in.
+    pub(crate) fn insert(&mut self, name: &'a str) -> Result<(), NoMemory>
+        ensures { OnOk result ((other : List ℕ) → stands_in self.new other ≡ (bytes_eq other name.now || stands_in self.old other)) }
+    {
+        if self.count < FEW {
+            self.few[self.count] = name;
+            self.count += 1;
+        } else {
+            self.later.insert(name)?;
+        }
+        Ok(())
+    }
+}
+
+fn is_among(names: &[&str], name: &str) -> bool
+    ensures { result ≡ stands_in (map (λ n. n.now) names.now) name.now }
+{
+    for other in names {
+        if name == *other {
+            return true;
+        }
+    }
+    false
+}

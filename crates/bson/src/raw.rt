@@ -1,0 +1,133 @@
+//! Documents that stay the bytes that spell them.
+
+ghost use Rattle.std.specs.Prelude.{◌≡◌, ◌≢◌, ◌++◌, ℕ, List, Ok, IfOk, IfErr};
+ghost use Rattle.bson.specs.Tree.{Pairs};
+ghost use Rattle.bson.specs.Kinds.{kind};
+ghost use Rattle.bson.specs.View.{tree};
+ghost use Rattle.bson.specs.Lookup.{lookup};
+ghost use Rattle.bson.specs.Spelling.{Spells, HasNoDocument};
+ghost use Rattle.bson.specs.Reading.{document_at, FirstFault};
+ghost use Rattle.bson.specs.Raw.{only_document};
+ghost use Rattle.bson.specs.declared.fault.BsonFault.TheVariants as faults;
+
+use crate::MOST_LEVELS;
+use crate::checking::check_document;
+use crate::elements::split_element;
+use crate::fault::{BsonFault, NoMemory};
+use crate::kind::Kind;
+use crate::reading::read_value;
+use crate::value::Value;
+use std::alloc::{AllocError, Global};
+use std::marker::Model;
+
+/// A document that stays the bytes that spell it, which are lent. Contracts see it as the document.
+#[derive(Debug, Drop)]
+pub struct RawDoc<'a> {
+    bytes: &'a [u8],
+}
+
+impl<'a> Model for RawDoc<'a> {
+    ghost use Rattle.bson.specs.Tree.{Pairs};
+    ghost use Rattle.bson.specs.TreeCode.{coded_pairs};
+
+    ghost Value = { Pairs };
+
+    ghost coded = { coded_pairs };
+
+    ghost use Rattle.bson.specs.Spelling.{Spells};
+    ghost use Rattle.bson.specs.Raw.{document_spelled};
+
+    ghost view = { λ a. document_spelled a.bytes.now };
+
+    ghost invariant = { λ a. Spells a.bytes.now (document_spelled a.bytes.now) };
+}
+
+/// A value of such a document, which stays the bytes that spell it. Contracts see it as the value.
+#[derive(Debug, Drop)]
+pub struct RawValue<'a> {
+    kind: Kind,
+    bytes: &'a [u8],
+}
+
+impl<'a> Model for RawValue<'a> {
+    ghost use Rattle.bson.specs.Tree.{Tree};
+    ghost use Rattle.bson.specs.TreeCode.{coded_tree};
+
+    ghost Value = { Tree };
+
+    ghost coded = { coded_tree };
+
+    ghost use Rattle.bson.specs.Raw.{SpellsValue, value_spelled};
+
+    ghost view = { λ a. value_spelled a.kind a.bytes.now };
+
+    ghost invariant = { λ a. SpellsValue a.kind a.bytes.now (value_spelled a.kind a.bytes.now) };
+}
+
+impl<'a> RawDoc<'a> {
+    /// The document at the front of the input. It accepts exactly what `decode` accepts, with the same
+    /// faults, and takes no memory, so it never answers `Memory`. Without memory it looks for each name
+    /// among the elements before it: its time is in proportion to the bytes for documents of a few dozen
+    /// fields, and grows beyond that with the square of the number of fields of one document.
+    pub fn new(bytes: &'a [u8]) -> Result<RawDoc<'a>, BsonFault>
+        // What the reading definition gives.
+        ensures gives { result ≡ only_document (document_at bytes.now) }
+        // What is spelled so is read, whatever follows it.
+        ensures only { (front rest : List ℕ) (ps : Pairs) → Spells front ps → bytes.now ≡ front ++ rest → result ≡ Ok ps }
+        // A fault is the first from the left, and no front of the input is a document.
+        ensures fault { IfErr result (λ e. FirstFault bytes.now e × HasNoDocument bytes.now) }
+        ensures memory { IfErr result (λ e. e ≢ faults.Memory) }
+    {
+        match check_document(bytes) {
+            Ok(len) => {
+                let (bytes, _) = bytes.split_at(len);
+                Ok(RawDoc { bytes })
+            }
+            Err(fault) => Err(fault),
+        }
+    }
+
+    /// The document's bytes, all of them.
+    pub fn bytes(&self) -> &'a [u8]
+        ensures { Spells result.now self.now }
+    {
+        self.bytes
+    }
+
+    /// The value of a name. It steps over the values before that without a look into them.
+    pub fn get(&self, name: &str) -> Option<RawValue<'a>>
+        ensures { result ≡ lookup self.now name.now }
+    {
+        let (_, rest) = self.bytes.split_at(4);
+        let (mut rest, _) = rest.split_at(rest.len() - 1);
+        'elements: while let Some(element) = split_element(rest) {
+            if name == element.name {
+                return Some(RawValue {
+                    kind: element.kind,
+                    bytes: element.value,
+                });
+            }
+            rest = element.rest;
+        }
+        None
+    }
+}
+
+impl RawValue<'_> {
+    /// Which kind of value it is.
+    pub fn kind(&self) -> Kind
+        ensures { result ≡ kind self.now }
+    {
+        self.kind
+    }
+
+    /// The value, read: what `decode` gives there.
+    pub fn value(&self, alloc: Global) -> Result<Value, NoMemory>
+        ensures { IfOk result (λ v. tree v ≡ self.now) }
+    {
+        match read_value(alloc, MOST_LEVELS - 1, self.kind, self.bytes) {
+            Ok((value, _)) => Ok(value),
+            Err(_) => Err(AllocError),
+        }
+    }
+}

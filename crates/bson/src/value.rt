@@ -1,0 +1,183 @@
+//! Values: what a document holds, and what contracts see of it.
+
+ghost use Rattle.std.specs.Prelude.{◌≡◌, ◌≤◌};
+
+use crate::binary::Binary;
+use crate::kind::Kind;
+use crate::object_id::ObjectId;
+use crate::text::Text;
+use std::marker::Model;
+
+/// A value of BSON 1.1, of the kinds that this crate takes.
+#[cycle(value)]
+#[derive(Debug, Drop)]
+pub enum Value {
+    /// A text in UTF-8, which may hold a zero byte.
+    String(Text),
+    /// A document in the document.
+    Document(Document),
+    /// Values in order.
+    Array(Array),
+    /// Bytes with a subtype.
+    Binary(Binary),
+    /// Twelve bytes that name an object.
+    ObjectId(ObjectId),
+    /// True or false.
+    Bool(bool),
+    /// Milliseconds since 1970, before that negative.
+    Date(i64),
+    /// No value.
+    Null,
+    /// A whole number in four bytes.
+    Int32(i32),
+    /// A time of the database's own, as one number: seconds in its upper half, a count in its lower.
+    Timestamp(u64),
+    /// A whole number in eight bytes.
+    Int64(i64),
+    /// What is below every other value.
+    MinKey,
+    /// What is above every other value.
+    MaxKey,
+}
+
+/// A name with its value.
+#[cycle(value)]
+#[derive(Debug, Drop)]
+pub struct Pair {
+    pub name: Text,
+    pub value: Value,
+}
+
+/// Names with their values, in order: at every level the names are distinct and have no zero byte, and
+/// documents and arrays nest at most 100 levels, the document itself among them.
+#[cycle(value)]
+#[derive(Debug, Drop)]
+pub struct Document {
+    pub(crate) pairs: Vec<Pair>,
+    // how deep the values nest
+    pub(crate) levels: u32,
+}
+
+/// Values in order, nesting at most 99 levels, the array itself among them.
+#[cycle(value)]
+#[derive(Debug, Drop)]
+pub struct Array {
+    pub(crate) items: Vec<Value>,
+    // how deep the values nest
+    pub(crate) levels: u32,
+}
+
+impl Model for Document {
+    ghost use Rattle.bson.specs.Tree.{Pairs, count_pairs};
+    ghost use Rattle.bson.specs.TreeCode.{coded_pairs};
+
+    ghost Value = { Pairs };
+
+    ghost coded = { coded_pairs };
+
+    ghost use Rattle.bson.specs.View.{pairs_of};
+    ghost use Rattle.bson.specs.Lawful.{HoldsDocument};
+
+    ghost view = { λ a. pairs_of a.pairs.items };
+
+    ghost invariant = { λ a. HoldsDocument a.levels (pairs_of a.pairs.items) };
+
+    ghost size = { count_pairs };
+
+    ghost use Rattle.bson.specs.Sizes.{most_le-count_pairs};
+
+    ghost size_decreases = { λ a h. most_le-count_pairs a.pairs.items };
+}
+
+impl Model for Array {
+    ghost use Rattle.bson.specs.Tree.{Items, count_items};
+    ghost use Rattle.bson.specs.TreeCode.{coded_items};
+
+    ghost Value = { Items };
+
+    ghost coded = { coded_items };
+
+    ghost use Rattle.bson.specs.View.{items_of};
+    ghost use Rattle.bson.specs.Lawful.{HoldsArray};
+
+    ghost view = { λ a. items_of a.items.items };
+
+    ghost invariant = { λ a. HoldsArray a.levels (items_of a.items.items) };
+
+    ghost size = { count_items };
+
+    ghost use Rattle.bson.specs.Sizes.{most_le-count_items};
+
+    ghost size_decreases = { λ a h. most_le-count_items a.items.items };
+}
+
+impl Value {
+    ghost use Rattle.bson.specs.Kinds.{kind};
+    ghost use Rattle.bson.specs.View.{tree};
+    ghost use Rattle.bson.specs.Lawful.{IsTree, IsLawfulLeaf, levels};
+
+    /// Which kind of value it is.
+    pub fn kind(&self) -> Kind
+        ensures { result ≡ kind (tree self.now) }
+    {
+        match self {
+            Value::String(_) => Kind::String,
+            Value::Document(_) => Kind::Document,
+            Value::Array(_) => Kind::Array,
+            Value::Binary(_) => Kind::Binary,
+            Value::ObjectId(_) => Kind::ObjectId,
+            Value::Bool(_) => Kind::Bool,
+            Value::Date(_) => Kind::Date,
+            Value::Null => Kind::Null,
+            Value::Int32(_) => Kind::Int32,
+            Value::Timestamp(_) => Kind::Timestamp,
+            Value::Int64(_) => Kind::Int64,
+            Value::MinKey => Kind::MinKey,
+            Value::MaxKey => Kind::MaxKey,
+        }
+    }
+
+    /// How deep the value nests: 0 for what is no document and no array.
+    pub fn levels(&self) -> u32
+        ensures levels { result ≡ levels (tree self.now) }
+        ensures lawful { IsTree (tree self.now) }
+        ensures most { result ≤ 100 }
+    {
+        match self {
+            Value::Document(document) => document.levels() + 1,
+            Value::Array(array) => array.levels() + 1,
+            _ => {
+                self.look();
+                0
+            }
+        }
+    }
+
+    // Reads what holds no other value, by which a proof learns what its type says of it.
+    fn look(&self)
+        ensures { IsLawfulLeaf (tree self.now) }
+    {
+        match self {
+            Value::String(text) => {
+                let _text = text.as_str();
+            }
+            Value::Binary(binary) => {
+                let _subtype = binary.subtype.byte();
+                let _bytes = binary.bytes.as_slice();
+            }
+            Value::ObjectId(id) => {
+                let _bytes = id.bytes();
+            }
+            Value::Int32(number) => {
+                let _number = *number;
+            }
+            Value::Date(number) | Value::Int64(number) => {
+                let _number = *number;
+            }
+            Value::Timestamp(number) => {
+                let _number = *number;
+            }
+            _ => {}
+        }
+    }
+}

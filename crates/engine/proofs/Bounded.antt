@@ -1,0 +1,137 @@
+-- A command that was read has a namespace and documents within their limits.
+use Rattle.std.proofs.Common.{◌≡◌, ℕ, ◌+◌, ◌≤◌, Bool, true, false, List, [], ◌∷◌, ◌++◌, length, Option, Some, None, Result, Ok, Err, refl, ap, subst, arith, length-append}
+use Rattle.std.specs.Prelude.{◌||◌, ◌==◌, nat_lt, if◌then◌else◌, codes, IfOk}
+use Rattle.std.specs.Str.{bytes_eq}
+use Rattle.std.proofs.lemmas.Bool.{ltb-false}
+use Rattle.bson.specs.Tree.{Tree, scalar, document, array, Pairs, no_pairs, pair, Items, no_items, item}
+use Rattle.bson.specs.Edits.{items_len}
+use Rattle.engine.specs.Documents.{◌>>=◌, unless, or_refused}
+use Rattle.engine.specs.Command.{Command, ping, insert, find, Fields, no_fields, text_in, items_in, all_documents, documents_in, common_field, insert_field, find_field, read_fields, is_bad_database, is_bad_collection, namespace_of, read_ping, read_insert, read_find, command_of, IsBounded}
+use Rattle.engine.specs.Outcomes.{Gives}
+use Rattle.engine.specs.declared.refusal.Refusal.{Refusal}
+use Rattle.engine.specs.declared.refusal.Refusal.TheVariants as refusals
+use Rattle.engine.specs.declared.TheConstants.{MOST_STATEMENTS, NAMESPACE_LIMIT}
+
+-- a step that led to a value had one
+pub step_of : {A B : Type 0} (r : Result A Refusal) (f : A → Result B Refusal) (y : B) → (r >>= f) ≡ Ok y → (x : A) × (r ≡ Ok x) × (f x ≡ Ok y)
+step_of (Ok x) f y e = (x, refl, e)
+step_of (Err r) f y e = absurd cc
+
+passed : {X : Type 0} (test : Bool) (refusal : Refusal) (go : Result X Refusal) (y : X) → unless test refusal go ≡ Ok y → (test ≡ false) × (go ≡ Ok y)
+passed true refusal go y e = absurd cc
+passed false refusal go y e = (refl, e)
+
+later_false : (a b : Bool) → (a || b) ≡ false → b ≡ false
+later_false true b e = absurd cc
+later_false false b e = e
+
+-- ---- namespaces
+
+short : (database name namespace : List ℕ) → namespace_of database name ≡ Ok namespace → length namespace ≤ NAMESPACE_LIMIT
+short database name namespace e =
+    let p = passed (is_bad_database database || is_bad_collection name || nat_lt NAMESPACE_LIMIT (length database + 1 + length name)) refusals.InvalidNamespace (Ok (database ++ 46 ∷ name)) namespace e in
+    let few = ltb-false NAMESPACE_LIMIT (length database + 1 + length name) (later_false (is_bad_database database || is_bad_collection name) (nat_lt NAMESPACE_LIMIT (length database + 1 + length name)) p.0) in
+    let same : database ++ 46 ∷ name ≡ namespace = cc in
+    omega (arith, few, length-append database (46 ∷ name), ap length same)
+
+-- ---- documents
+
+as_many : (ts : Items) (ds : List Pairs) → all_documents ts ≡ Ok ds → length ds ≡ items_len ts
+as_many no_items ds e = let none : ds ≡ [] = cc in ap length none
+as_many (item (scalar s) ts) ds e = absurd cc
+as_many (item (array us) ts) ds e = absurd cc
+as_many (item (document ps) ts) ds e =
+    let more : Pairs → List Pairs → Result (List Pairs) Refusal = λ p others. Ok (p ∷ others) in
+    let s = step_of (all_documents ts) (more ps) ds e in
+    let same : ps ∷ s.0 ≡ ds = cc in
+    omega (arith, as_many ts s.0 s.1, ap length same)
+
+few : (t : Tree) (ds : List Pairs) → documents_in t ≡ Ok ds → length ds ≤ MOST_STATEMENTS
+few t ds e =
+    let s = step_of (or_refused (items_in t) refusals.TypeMismatch) (λ ts. unless (nat_lt MOST_STATEMENTS (items_len ts)) refusals.TooMany (unless (items_len ts == 0) refusals.BadValue (all_documents ts))) ds e in
+    let p = passed (nat_lt MOST_STATEMENTS (items_len s.0)) refusals.TooMany (unless (items_len s.0 == 0) refusals.BadValue (all_documents s.0)) ds s.2 in
+    let q = passed (items_len s.0 == 0) refusals.BadValue (all_documents s.0) ds p.1 in
+    omega (arith, as_many s.0 ds q.1, ltb-false MOST_STATEMENTS (items_len s.0) p.0)
+
+abbrev FewAt : Option (List Pairs) → Type 0
+FewAt None = Unit {0}
+FewAt (Some ds) = length ds ≤ MOST_STATEMENTS
+
+few_common : (found next : Fields) (name : List ℕ) (t : Tree) → FewAt found.documents → common_field found name t ≡ Ok next → FewAt next.documents
+few_common found next name t h e = at (bytes_eq name (codes "$db")) (bytes_eq name (codes "comment")) e
+  where
+    keep : (r : Result (List ℕ) Refusal) → (r >>= (λ s. let x : Result Fields Refusal = Ok (record found { database = Some s }) in x)) ≡ Ok next → FewAt next.documents
+    keep (Err f) e = absurd cc
+    keep (Ok s) e = let same : record found { database = Some s } ≡ next = cc in subst (λ (f : Fields). FewAt f.documents) same h
+
+    at : (a b : Bool) → (if a then (or_refused (text_in t) refusals.TypeMismatch >>= (λ s. let x : Result Fields Refusal = Ok (record found { database = Some s }) in x)) else (if b then Ok found else Err refusals.FailedToParse)) ≡ Ok next → FewAt next.documents
+    at true b e = keep (or_refused (text_in t) refusals.TypeMismatch) e
+    at false true e = let same : found ≡ next = cc in subst (λ (f : Fields). FewAt f.documents) same h
+    at false false e = absurd cc
+
+few_field : (found next : Fields) (name : List ℕ) (t : Tree) → FewAt found.documents → insert_field found name t ≡ Ok next → FewAt next.documents
+few_field found next name t h e = at (bytes_eq name (codes "documents")) e
+  where
+    put : (r : Result (List Pairs) Refusal) → documents_in t ≡ r → (r >>= (λ ds. let x : Result Fields Refusal = Ok (record found { documents = Some ds }) in x)) ≡ Ok next → FewAt next.documents
+    put (Err f) is e = absurd cc
+    put (Ok ds) is e = let same : record found { documents = Some ds } ≡ next = cc in subst (λ (f : Fields). FewAt f.documents) same (few t ds is)
+
+    at : (b : Bool) → (if b then (documents_in t >>= (λ ds. let x : Result Fields Refusal = Ok (record found { documents = Some ds }) in x)) else common_field found name t) ≡ Ok next → FewAt next.documents
+    at true e = put (documents_in t) refl e
+    at false e = few_common found next name t h e
+
+few_fields : (ps : Pairs) (found next : Fields) → FewAt found.documents → read_fields insert_field found ps ≡ Ok next → FewAt next.documents
+few_fields no_pairs found next h e = let same : found ≡ next = cc in subst (λ (f : Fields). FewAt f.documents) same h
+few_fields (pair name t ps) found next h e =
+    let s = step_of (insert_field found name t) (λ mid. read_fields insert_field mid ps) next e in
+    few_fields ps s.0 next (few_field found s.0 name t h s.1) s.2
+
+few_there : (o : Option (List Pairs)) (ds : List Pairs) → FewAt o → or_refused o refusals.FailedToParse ≡ Ok ds → length ds ≤ MOST_STATEMENTS
+few_there None ds h e = absurd cc
+few_there (Some es) ds h e = let same : es ≡ ds = cc in subst (λ (xs : List Pairs). length xs ≤ MOST_STATEMENTS) same h
+
+-- ---- commands
+
+pinged : (ps : Pairs) (c : Command) → read_ping ps ≡ Ok c → IsBounded c
+pinged ps c e =
+    let s = step_of (read_fields common_field no_fields ps) (λ found. or_refused found.database refusals.FailedToParse >>= (λ database. unless (is_bad_database database) refusals.InvalidNamespace (Ok ping))) c e in
+    let d = step_of (or_refused s.0.database refusals.FailedToParse) (λ database. unless (is_bad_database database) refusals.InvalidNamespace (Ok ping)) c s.2 in
+    let p = passed (is_bad_database d.0) refusals.InvalidNamespace (Ok ping) c d.2 in
+    let same : ping ≡ c = cc in
+    subst IsBounded same tt
+
+pub inserts : (t : Tree) (ps : Pairs) (c : Command) → read_insert t ps ≡ Ok c → IsBounded c
+inserts t ps c e =
+    let last : List ℕ → List Pairs → Result Command Refusal = λ namespace ds. Ok (insert namespace ds) in
+    let n = step_of (or_refused (text_in t) refusals.TypeMismatch) _ c e in
+    let s = step_of (read_fields insert_field no_fields ps) _ c n.2 in
+    let b = step_of (or_refused s.0.database refusals.FailedToParse) _ c s.2 in
+    let d = step_of (or_refused s.0.documents refusals.FailedToParse) _ c b.2 in
+    let m = step_of (namespace_of b.0 n.0) _ c d.2 in
+    let same : insert m.0 d.0 ≡ c = cc in
+    subst IsBounded same (short b.0 n.0 m.0 m.1, few_there s.0.documents d.0 (few_fields ps no_fields s.0 tt s.1) d.1)
+
+pub finds : (t : Tree) (ps : Pairs) (c : Command) → read_find t ps ≡ Ok c → IsBounded c
+finds t ps c e =
+    let n = step_of (or_refused (text_in t) refusals.TypeMismatch) _ c e in
+    let s = step_of (read_fields find_field no_fields ps) _ c n.2 in
+    let b = step_of (or_refused s.0.database refusals.FailedToParse) _ c s.2 in
+    let m = step_of (namespace_of b.0 n.0) _ c b.2 in
+    let same : find m.0 s.0.batch_size ≡ c = cc in
+    subst IsBounded same (short b.0 n.0 m.0 m.1)
+
+pub bounded : (ps : Pairs) (c : Command) → command_of ps ≡ Ok c → IsBounded c
+unfolding command_of
+bounded no_pairs c e = absurd cc
+bounded (pair name t ps) c e = at (bytes_eq name (codes "ping")) (bytes_eq name (codes "insert")) (bytes_eq name (codes "find")) e
+  where
+    at : (is_ping is_insert is_find : Bool) → (if is_ping then read_ping ps else (if is_insert then read_insert t ps else (if is_find then read_find t ps else Err refusals.CommandNotFound))) ≡ Ok c → IsBounded c
+    at true is_insert is_find e = pinged ps c e
+    at false true is_find e = inserts t ps c e
+    at false false true e = finds t ps c e
+    at false false false e = absurd cc
+
+-- a reader that gives what was planned gives a bounded command
+pub gives-bounded : {X : Type 0} (view : X → Command) (planned : Result Command Refusal) (r : Result X Refusal) → Gives view planned r → ((c : Command) → planned ≡ Ok c → IsBounded c) → IfOk r (λ x. IsBounded (view x))
+gives-bounded view planned (Ok x) h keeps = keeps (view x) h
+gives-bounded view planned (Err e) h keeps = tt

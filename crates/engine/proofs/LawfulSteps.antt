@@ -1,0 +1,257 @@
+-- A lawful world steps to a lawful world, and its replies are within their limit.
+use Rattle.std.proofs.Common.{◌≡◌, ◌⊎◌, inl, inr, ℕ, ℤ, zero, suc, max, ◌+◌, ◌-◌, ◌<◌, ◌≤◌, Bool, true, false, List, [], ◌∷◌, length, get_or, set, insert, take, drop, Option, Some, None, Result, Ok, Err, refl, sym, ap, subst, ◌∙◌, arith}
+use Rattle.std.specs.Prelude.{◌&&◌, ◌||◌, ◌^◌, not, is_some, nat_le, if◌then◌else◌, codes, unwrap_or, All}
+use Rattle.std.specs.Str.{bytes_eq}
+use Rattle.std.specs.Cmp.{IsTotalOrder}
+use Rattle.std.specs.Cmp.Lexicographic.{slice_cmp}
+use Rattle.std.specs.Ordering.{nat_cmp}
+use Rattle.std.specs.declared.cmp.Ordering.{Ordering}
+use Rattle.std.specs.declared.cmp.Ordering.TheVariants as orders
+use Rattle.std.proofs.lemmas.Bool.Decides.{nat_tests}
+use Rattle.std.proofs.lemmas.Cmp.{nat_list_cmp_total}
+use Rattle.std.proofs.lemmas.List.{length-set, take_all}
+use Rattle.std.proofs.lemmas.List.Edits.{length-insert}
+use Rattle.std.proofs.lemmas.List.Elements.{All-cons, All-drop, All-set}
+use Rattle.std.proofs.lemmas.Map.Lookups.{exact_bytes}
+use Rattle.bson.specs.Tree.{Tree, Pairs, pair, no_pairs}
+use Rattle.bson.specs.Spelling.{items_bytes}
+use Rattle.bson.specs.declared.fault.BsonFault.{BsonFault}
+use Rattle.value_order.specs.Order.{compare}
+use Rattle.value_order.specs.Total.{compare_total}
+use Rattle.engine.specs.World.{World, Collection, Cursor, find_collection, documents_or_none, documents_of, put_collection, count_of}
+use Rattle.engine.specs.Documents.{◌>>=◌, unless, or_refused, id_first, key_of, place, checked, insert_one, insert_all}
+use Rattle.engine.specs.Refusals.{int, ok_reply}
+use Rattle.engine.specs.Command.{Command, ping, insert as insert_of, find as find_of, command_of, IsBounded}
+use Rattle.engine.specs.Lawful.{IsStored, IsRising, AreNamedApart, IsKept, IsLawful}
+use Rattle.engine.specs.Places.{IsGap, collection_at, no_collection}
+use Rattle.engine.specs.Progress.{is_full}
+use Rattle.engine.specs.Step.{items_of_documents, batch_of, cursor_reply, open_cursor, run_insert, run_find, run, answered, step}
+use Rattle.engine.specs.View.{IsSendable}
+use Rattle.engine.specs.declared.refusal.Refusal.{Refusal}
+use Rattle.engine.specs.declared.refusal.Refusal.TheVariants as refusals
+use Rattle.engine.specs.declared.TheConstants.{BATCH_LIMIT, STORED_LIMIT, FIRST_BATCH, MOST_CURSORS, MOST_COLLECTIONS, NAMESPACE_LIMIT}
+use Rattle.engine.proofs.Bounded.{step_of, bounded}
+use Rattle.engine.proofs.Checked.{keeps}
+use Rattle.engine.proofs.Ordered.{Rises, flipped, rises_tail, rises_insert, All-inserted, place_gap, place_there, missing, added, replaced}
+use Rattle.engine.proofs.Rewinding.{apart_set}
+use Rattle.engine.proofs.SpelledSizes.{ping-sendable, insert-sendable, refusal-sendable, batch_items, cursor-sendable}
+
+-- ---- each key has a place among others that rise
+
+abbrev Gap : {X K : Type 0} → (K → K → Ordering) → (X → K) → List X → K → Type 0
+Gap R key xs x = (i : ℕ) × IsGap (λ y. R (key y) x) xs i
+
+-- an element of this key stands somewhere
+record There {X K : Type 0} (R : K → K → Ordering) (key : X → K) (xs : List X) (x : K) : Type 0 where
+  place : ℕ
+  within : place < length xs
+  same : (d : X) → R (key (get_or xs place d)) x ≡ orders.Equal
+
+located : {X K : Type 0} {R : K → K → Ordering} (o : IsTotalOrder R) (key : X → K) (xs : List X) (x : K) → Rises R key xs → Gap R key xs x ⊎ There R key xs x
+located o key [] x up = inl (0, record { within = omega arith; before = λ k d low high. absurd (omega arith); after = λ k d low high. absurd (omega arith) })
+located {X} {K} {R} o key (y ∷ ys) x up = at (R (key y) x) refl (located o key ys x (rises_tail R key y ys up))
+  where
+    at : (r : Ordering) → R (key y) x ≡ r → Gap R key ys x ⊎ There R key ys x → Gap R key (y ∷ ys) x ⊎ There R key (y ∷ ys) x
+    at orders.Less e (inl g) = inl (
+      suc g.0,
+      record {
+        within = omega (arith, g.1.within);
+        before = λ k d low high. before k d high;
+        after = λ k d low high. after k d low high;
+      },
+    )
+      where
+        before : (k : ℕ) (d : X) → k < suc g.0 → R (key (get_or (y ∷ ys) k d)) x ≡ orders.Less
+        before zero d high = e
+        before (suc k) d high = g.1.before k d (omega arith) (omega arith)
+
+        after : (k : ℕ) (d : X) → suc g.0 ≤ k → k < length (y ∷ ys) → R (key (get_or (y ∷ ys) k d)) x ≡ orders.Greater
+        after zero d low high = absurd (omega arith)
+        after (suc k) d low high = g.1.after k d (omega arith) (omega arith)
+    at orders.Less e (inr t) = inr (record { place = suc t.place; within = omega (arith, t.within); same = t.same })
+    at orders.Equal e later = inr (record { place = 0; within = omega arith; same = λ d. e })
+    at orders.Greater e later = inl (0, record { within = omega arith; before = λ k d low high. absurd (omega arith); after = λ k d low high. above k d high })
+      where
+        above : (k : ℕ) (d : X) → k < length (y ∷ ys) → R (key (get_or (y ∷ ys) k d)) x ≡ orders.Greater
+        above zero d high = e
+        above (suc k) d high =
+            let less : R x (key (get_or ys k d)) ≡ orders.Less = o.trans x (key y) (key (get_or ys k d)) (flipped o (key y) x orders.Greater e) (up 0 (suc k) d (omega arith) high) in
+            flipped o x (key (get_or ys k d)) orders.Less less
+
+-- ---- documents
+
+abbrev Kept : List Pairs → Type 0
+Kept ds = IsRising ds × All IsStored ds
+
+kept_place : (ds : List Pairs) (new : Pairs) (next : List Pairs) → Kept ds → IsStored new → place (key_of new) new ds ≡ Some next → Kept next
+kept_place ds new next h stored e = at (located compare_total key_of ds (key_of new) h.0)
+  where
+    at : Gap compare key_of ds (key_of new) ⊎ There compare key_of ds (key_of new) → Kept next
+    at (inl g) =
+        let same : insert ds g.0 new ≡ next = let put = place_gap ds g.0 (key_of new) new g.1 in cc in
+        subst Kept same (rises_insert compare_total key_of ds g.0 new h.0 g.1, All-inserted IsStored ds g.0 new g.1.within h.1 stored)
+    at (inr t) = let none = place_there ds t.place (key_of new) new h.0 t.within t.same in absurd cc
+
+kept_one : (ds : List Pairs) (ps : Pairs) (next : List Pairs) → Kept ds → insert_one ds ps ≡ Ok next → Kept next
+unfolding insert_one
+kept_one ds ps next h e =
+    let s = step_of (checked ps) (λ id. or_refused (place id (id_first ps) ds) refusals.DuplicateKey) next e in
+    let k = keeps ps s.0 s.1 in
+    let there : place (key_of (id_first ps)) (id_first ps) ds ≡ Some next = ap (λ (z : Tree). place z (id_first ps) ds) k.key ∙ some (place s.0 (id_first ps) ds) s.2 in
+    kept_place ds (id_first ps) next h k.lawful there
+  where
+    some : (o : Option (List Pairs)) → or_refused o refusals.DuplicateKey ≡ Ok next → o ≡ Some next
+    some None e = absurd cc
+    some (Some xs) e = let same : xs ≡ next = cc in ap (λ (us : List Pairs). Some us) same
+
+kept_all : (ds : List Pairs) (documents : List Pairs) (next : List Pairs) → Kept ds → insert_all ds documents ≡ Ok next → Kept next
+kept_all ds [] next h e = let same : ds ≡ next = cc in subst Kept same h
+kept_all ds (ps ∷ rest) next h e =
+    let s = step_of (insert_one ds ps) (λ mid. insert_all mid rest) next e in
+    kept_all s.0 rest next (kept_one ds ps s.0 h s.1) s.2
+
+-- ---- collections
+
+stored_at : (cs : List Collection) (name : List ℕ) → All IsKept cs → Kept (documents_of cs name)
+stored_at [] name h = (λ i j d lt below. absurd (omega arith), λ k d below. absurd (omega arith))
+stored_at (c ∷ cs) name h = at (bytes_eq name c.name) (stored_at cs name (λ k d below. h (suc k) d (omega arith)))
+  where
+    at : (b : Bool) → Kept (documents_of cs name) → Kept (documents_or_none (if b then Some c else find_collection cs name))
+    at true later = let kept = (h 0 c (omega arith)).lawful in (kept.rising, kept.stored)
+    at false later = later
+
+abbrev ByName : List Collection → Type 0
+ByName cs = Rises (slice_cmp nat_cmp) (λ (c : Collection). c.name) cs
+
+record PutKept (new : Collection) (cs : List Collection) : Type 0 where
+  apart : AreNamedApart (put_collection new cs)
+  kept : All IsKept (put_collection new cs)
+  few : length (put_collection new cs) ≤ MOST_COLLECTIONS
+
+room : (cs : List Collection) (name : List ℕ) → is_full cs name ≡ false → find_collection cs name ≡ None → length cs < MOST_COLLECTIONS
+room cs name e none = at (nat_le MOST_COLLECTIONS (length cs)) refl (ap (λ (o : Option Collection). nat_le MOST_COLLECTIONS (length cs) && not (is_some o)) (sym none) ∙ e)
+  where
+    at : (b : Bool) → nat_le MOST_COLLECTIONS (length cs) ≡ b → (b && true) ≡ false → length cs < MOST_COLLECTIONS
+    at true full e = absurd cc
+    at false few e = grind (arith, nat_tests)
+
+put_kept : (new : Collection) (cs : List Collection) → AreNamedApart cs → All IsKept cs → length cs ≤ MOST_COLLECTIONS → IsKept new → is_full cs new.name ≡ false → PutKept new cs
+put_kept new cs apart kept few one free = at (located nat_list_cmp_total (λ (c : Collection). c.name) cs new.name apart)
+  where
+    at : Gap (slice_cmp nat_cmp) (λ (c : Collection). c.name) cs new.name ⊎ There (slice_cmp nat_cmp) (λ (c : Collection). c.name) cs new.name → PutKept new cs
+    at (inl g) =
+        let put : put_collection new cs ≡ insert cs g.0 new = added cs g.0 new.name new g.1 refl in
+        let less = room cs new.name free (missing cs g.0 new.name g.1) in
+        record {
+          apart = subst AreNamedApart (sym put) (rises_insert nat_list_cmp_total (λ (c : Collection). c.name) cs g.0 new apart g.1);
+          kept = subst (λ (ds : List Collection). All IsKept ds) (sym put) (All-inserted IsKept cs g.0 new g.1.within kept one);
+          few = omega (arith, ap length put, length-insert cs g.0 new g.1.within);
+        }
+    at (inr t) =
+        let put : put_collection new cs ≡ set cs t.place new = replaced cs t.place new.name new apart t.within (t.same no_collection) refl in
+        let same : new.name ≡ (collection_at cs t.place).name = sym (exact_bytes (collection_at cs t.place).name new.name (t.same no_collection)) in
+        record {
+          apart = subst AreNamedApart (sym put) (apart_set cs t.place new t.within same apart);
+          kept = subst (λ (ds : List Collection). All IsKept ds) (sym put) (All-set IsKept cs t.place new one kept);
+          few = omega (arith, ap length put, length-set cs t.place new);
+        }
+
+-- ---- one command
+
+-- what running a command comes to: a lawful world, and a reply within the limit
+abbrev Good : Result (World × Pairs) Refusal → Type 0
+Good r = (x : World × Pairs) → r ≡ Ok x → IsLawful x.0 × IsSendable (ok_reply x.1)
+
+good_one : (w : World) (reply : Pairs) → IsLawful w → IsSendable (ok_reply reply) → Good (Ok (w, reply))
+good_one w reply h s x e = let same : (w, reply) ≡ x = cc in subst (λ (y : World × Pairs). IsLawful y.0 × IsSendable (ok_reply y.1)) same (h, s)
+
+good_insert : (w : World) (name : List ℕ) (documents : List Pairs) → IsLawful w → length name ≤ NAMESPACE_LIMIT → Good (run_insert w name documents)
+unfolding run_insert
+good_insert w name documents h short = at (is_full w.state name) refl
+  where
+    put : (r : Result (List Pairs) Refusal) → is_full w.state name ≡ false → insert_all (documents_of w.state name) documents ≡ r
+        → Good (r >>= (λ stored. let x : Result (World × Pairs) Refusal = Ok (record w { state = put_collection (record { name = name; documents = stored }) w.state }, pair (codes "n") (int (length documents)) no_pairs) in x))
+    put (Err e) free is = λ x f. absurd cc
+    put (Ok stored) free is =
+        let kept = kept_all (documents_of w.state name) documents stored (stored_at w.state name h.kept) is in
+        let new : Collection = record { name = name; documents = stored } in
+        let one : IsKept new = record { lawful = record { rising = kept.0; stored = kept.1 }; short = short } in
+        let p = put_kept new w.state h.apart h.kept h.few one free in
+        good_one (record w { state = put_collection new w.state }) (pair (codes "n") (int (length documents)) no_pairs) (record { apart = p.apart; kept = p.kept; few = p.few; cursors = h.cursors }) (insert-sendable (length documents))
+
+    at : (b : Bool) → is_full w.state name ≡ b
+        → Good (unless b refusals.TooMany (insert_all (documents_of w.state name) documents >>= (λ stored. let x : Result (World × Pairs) Refusal = Ok (record w { state = put_collection (record { name = name; documents = stored }) w.state }, pair (codes "n") (int (length documents)) no_pairs) in x)))
+    at true full = λ x f. absurd cc
+    at false free = put (insert_all (documents_of w.state name) documents) free refl
+
+abbrev fits_in : List Pairs → Type 0
+fits_in ds = length (items_bytes 0 (items_of_documents ds)) ≤ max (BATCH_LIMIT - 5) (STORED_LIMIT + 3)
+
+module _ (w : World) (connection : ℕ) (name : List ℕ) (rest : List Pairs) where
+  abbrev new_cursor : Cursor
+  new_cursor = record { number = w.next; connection = connection; namespace = name; rest = rest }
+
+  abbrev with_cursor : World
+  with_cursor = record w { cursors = new_cursor ∷ w.cursors; next = w.next + 1; touched = w.next ∷ w.touched }
+
+  opened_lawful : (opened : World) → IsLawful w → All IsStored rest → open_cursor w connection name rest ≡ Ok opened → IsLawful opened
+  opened_lawful opened h stored e = at (nat_le MOST_CURSORS (count_of connection w.cursors) || nat_le (2 ^ 63) w.next) e
+    where
+      at : (b : Bool) → unless b refusals.TooMany (Ok with_cursor) ≡ Ok opened → IsLawful opened
+      at true e = absurd cc
+      at false e =
+          let same : with_cursor ≡ opened = cc in
+          subst IsLawful same (record { apart = h.apart; kept = h.kept; few = h.few; cursors = All-cons (λ (c : Cursor). All IsStored c.rest) new_cursor w.cursors stored h.cursors })
+
+module _ (w : World) (connection : ℕ) (name : List ℕ) (batch_size : Option ℕ) where
+  abbrev ds : List Pairs
+  ds = documents_of w.state name
+
+  abbrev n : ℕ
+  n = batch_of (unwrap_or batch_size FIRST_BATCH) ds
+
+  abbrev after_opening : Result World Refusal → Result (World × Pairs) Refusal
+  after_opening r = r >>= (λ opened. let x : Result (World × Pairs) Refusal = Ok (opened, cursor_reply (codes "firstBatch") (take n ds) w.next name) in x)
+
+  good_find : IsLawful w → length name ≤ NAMESPACE_LIMIT → Good (run_find w connection name batch_size)
+  unfolding run_find
+  good_find h short = at (nat_le (length ds) n) refl
+    where
+      stored : All IsStored ds
+      stored = (stored_at w.state name h.kept).1
+
+      small : fits_in (take n ds)
+      small = batch_items (unwrap_or batch_size FIRST_BATCH) (BATCH_LIMIT - 5) ds stored
+
+      part : (r : Result World Refusal) → open_cursor w connection name (drop n ds) ≡ r → Good (after_opening r)
+      part (Err e) is = λ x f. absurd cc
+      part (Ok opened) is =
+          good_one opened (cursor_reply (codes "firstBatch") (take n ds) w.next name) (opened_lawful w connection name (drop n ds) opened h (All-drop IsStored n ds stored) is) (cursor-sendable (take n ds) w.next name small short)
+
+      at : (b : Bool) → nat_le (length ds) n ≡ b → Good (if b then Ok (w, cursor_reply (codes "firstBatch") ds 0 name) else after_opening (open_cursor w connection name (drop n ds)))
+      at true whole =
+          let all : length ds ≤ n = grind (arith, nat_tests) in
+          good_one w (cursor_reply (codes "firstBatch") ds 0 name) h (cursor-sendable ds 0 name (subst fits_in (take_all n ds all) small) short)
+      at false over = part (open_cursor w connection name (drop n ds)) refl
+
+good_run : (w : World) (connection : ℕ) (command : Command) → IsLawful w → IsBounded command → Good (run w connection command)
+good_run w connection ping h b = good_one w no_pairs h ping-sendable
+good_run w connection (insert_of name documents) h b = good_insert w name documents h b.0
+good_run w connection (find_of name batch_size) h b = good_find w connection name batch_size h b
+
+-- the world after a step, and its reply
+pub record Steps (x : World × Pairs) : Type 0 where
+  pub lawful : IsLawful x.0
+  pub sendable : IsSendable x.1
+
+pub steps : (w : World) (connection : ℕ) (body : Result Pairs BsonFault) → IsLawful w → Steps (step w connection body)
+steps w connection (Err fault) h = record { lawful = h; sendable = refusal-sendable refusals.InvalidBSON }
+steps w connection (Ok body) h = at (command_of body) refl
+  where
+    ran : (c : Command) (r : Result (World × Pairs) Refusal) → Good r → Steps (answered w r)
+    ran c (Err e) good = record { lawful = h; sendable = refusal-sendable e }
+    ran c (Ok x) good = let g = good x refl in record { lawful = g.0; sendable = g.1 }
+
+    at : (r : Result Command Refusal) → command_of body ≡ r → Steps (answered w (r >>= run w connection))
+    at (Err e) is = record { lawful = h; sendable = refusal-sendable e }
+    at (Ok c) is = ran c (run w connection c) (good_run w connection c h (bounded body c is))

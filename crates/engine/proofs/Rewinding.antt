@@ -1,0 +1,188 @@
+-- Changes that lead back, one after another.
+use Rattle.std.proofs.Common.{◌≡◌, ℕ, zero, suc, ◌<◌, ◌≤◌, List, [], ◌∷◌, ◌++◌, length, get_or, set, insert, remove, refl, sym, ap, subst, ◌∙◌, append_assoc, arith, inl, inr, false, Option, Some, None, Ok, Err}
+use Rattle.std.specs.Prelude.{nat_le}
+use Rattle.std.proofs.lemmas.Bool.Decides.{nat_tests}
+use Rattle.std.specs.Cmp.Lexicographic.{slice_cmp}
+use Rattle.std.specs.Ordering.{nat_cmp}
+use Rattle.std.specs.declared.cmp.Ordering.TheVariants as orders
+use Rattle.std.proofs.lemmas.Bool.{cases_eq}
+use Rattle.std.proofs.lemmas.Grind.{get_or-set_at}
+use Rattle.std.proofs.lemmas.List.{append-nil, get_or_default, get_or-set_other, set-set, set-get_or, length-set}
+use Rattle.std.proofs.lemmas.List.Edits.{length-insert, get_or-insert_at}
+use Rattle.std.proofs.lemmas.Cmp.{nat_list_cmp_total}
+use Rattle.bson.specs.Tree.{Tree, Pairs}
+use Rattle.engine.specs.World.{Collection, documents_or_none}
+use Rattle.engine.specs.Lawful.{AreNamedApart}
+use Rattle.engine.specs.Places.{IsGap, IsMissing, by_name, collection_at, no_collection}
+use Rattle.engine.specs.Documents.{id_first, checked, place, insert_one}
+use Rattle.engine.specs.Progress.{Progress, IsProgress, without_document, undo, rewind, begun_of, CanUndo, CanRewind, Extends, is_full, Stands, with_document}
+use Rattle.engine.specs.declared.TheConstants.{MOST_COLLECTIONS}
+use Rattle.engine.specs.declared.refusal.Refusal.{Refusal}
+use Rattle.engine.specs.declared.refusal.Refusal.TheVariants as refusals
+use Rattle.engine.specs.declared.collections.Change.{Change}
+use Rattle.engine.specs.declared.collections.Change.TheVariants as changes
+use Rattle.engine.proofs.Ordered.{rises_insert}
+
+pub rewind-append : (xs ys : List Change) (cs : List Collection) → rewind (xs ++ ys) cs ≡ rewind xs (rewind ys cs)
+rewind-append [] ys cs = refl
+rewind-append (x ∷ xs) ys cs = ap (undo x) (rewind-append xs ys cs)
+
+pub CanRewind-push : (xs : List Change) (x : Change) (cs : List Collection) → CanUndo x cs → CanRewind xs (undo x cs) → CanRewind (xs ++ x ∷ []) cs
+CanRewind-push [] x cs one h = (one, tt)
+CanRewind-push (y ∷ ys) x cs one h = (subst (CanUndo y) (sym (rewind-append ys (x ∷ []) cs)) h.0, CanRewind-push ys x cs one h.1)
+
+pub CanRewind-pop : (xs : List Change) (x : Change) (cs : List Collection) → CanRewind (xs ++ x ∷ []) cs → CanUndo x cs × CanRewind xs (undo x cs)
+CanRewind-pop [] x cs h = (h.0, tt)
+CanRewind-pop (y ∷ ys) x cs h =
+    let later = CanRewind-pop ys x cs h.1 in
+    (later.0, (subst (CanUndo y) (rewind-append ys (x ∷ []) cs) h.0, later.1))
+
+-- what the last change names is there, and the others can be undone after it
+pub CanRewind-last : (old new : List Change) (x : Change) (cs : List Collection) → old ≡ new ++ x ∷ [] → CanRewind old cs → CanUndo x cs × CanRewind new (undo x cs)
+CanRewind-last old new x cs e h = CanRewind-pop new x cs (subst (λ (xs : List Change). CanRewind xs cs) e h)
+
+-- ---- an element in place of another
+
+-- the element that an access gave
+pub at_place : (cs : List Collection) (i : ℕ) (c : Collection) → i < length cs → c ≡ get_or cs i c → c ≡ collection_at cs i
+at_place cs i c within is = is ∙ get_or_default cs i c no_collection within
+
+pub apart_set : (cs : List Collection) (i : ℕ) (c : Collection) → i < length cs → c.name ≡ (collection_at cs i).name → AreNamedApart cs → AreNamedApart (set cs i c)
+apart_set cs i c within same up a b d lt below =
+    let long : b < length cs = omega (arith, length-set cs i c) in
+    subst (λ (n : List ℕ). slice_cmp nat_cmp n (get_or (set cs i c) b d).name ≡ orders.Less) (sym (named a d (omega arith)))
+    (subst (λ (n : List ℕ). slice_cmp nat_cmp (get_or cs a d).name n ≡ orders.Less) (sym (named b d long)) (up a b d lt long))
+  where
+    named : (k : ℕ) (d : Collection) → k < length cs → (get_or (set cs i c) k d).name ≡ (get_or cs k d).name
+    named k d k_in =
+        elim (cases_eq k i) [
+          | inl e ↦ ap (λ (x : Collection). x.name) (get_or-set_at cs i k c d e within) ∙ same ∙ ap (λ (x : Collection). x.name) (get_or_default cs i no_collection d within ∙ ap (λ (j : ℕ). get_or cs j d) (sym e))
+          | inr other ↦ ap (λ (x : Collection). x.name) (get_or-set_other cs i k c d other)
+        ]
+
+-- ---- what extends what
+
+pub Extends-refl : (p : Progress) → Extends p p
+Extends-refl p = record { more = []; noted = sym (append-nil p.changes); back = refl }
+
+pub Extends-trans : (p q r : Progress) → Extends p q → Extends q r → Extends p r
+Extends-trans p q r first second = record {
+  more = first.more ++ second.more;
+  noted = second.noted ∙ ap (λ (xs : List Change). xs ++ second.more) first.noted ∙ append_assoc p.changes first.more second.more;
+  back = rewind-append first.more second.more r.now ∙ ap (rewind first.more) second.back ∙ first.back;
+}
+
+pub begun-extends : (p q : Progress) → Extends p q → begun_of q ≡ begun_of p
+begun-extends p q e = ap (λ (xs : List Change). rewind xs q.now) e.noted ∙ rewind-append p.changes e.more q.now ∙ ap (rewind p.changes) e.back
+
+same_front : (xs ys us vs : List Change) → length xs ≡ length ys → xs ++ us ≡ ys ++ vs → (xs ≡ ys) × (us ≡ vs)
+same_front [] [] us vs n e = (refl, e)
+same_front [] (y ∷ ys) us vs n e = absurd (omega (arith, n))
+same_front (x ∷ xs) [] us vs n e = absurd (omega (arith, n))
+same_front (x ∷ xs) (y ∷ ys) us vs n e =
+    let first : x ≡ y = cc in
+    let rest : xs ++ us ≡ ys ++ vs = cc in
+    let later = same_front xs ys us vs (omega (arith, n)) rest in
+    ((λ i. first i ∷ later.0 i), later.1)
+
+-- two fronts of the same length are one
+pub Extends-same : (p q r : Progress) → Extends p r → Extends q r → length p.changes ≡ length q.changes → p ≡ q
+Extends-same p q r first second n =
+    let parts = same_front p.changes q.changes first.more second.more n (sym first.noted ∙ second.noted) in
+    let now : p.now ≡ q.now = sym first.back ∙ ap (λ (xs : List Change). rewind xs r.now) parts.1 ∙ second.back in
+    λ i. record { now = now i; changes = parts.0 i }
+
+-- nothing is before the beginning
+pub Extends-none : (p q : Progress) → Extends p q → length p.changes ≡ 0 → p ≡ record { now = begun_of q; changes = [] }
+Extends-none p q e n =
+    let none : p.changes ≡ [] = empty p.changes n in
+    let back : p.now ≡ begun_of q = ap (λ (xs : List Change). rewind xs p.now) (sym none) ∙ sym (begun-extends p q e) in
+    λ i. record { now = back i; changes = none i }
+  where
+    empty : (xs : List Change) → length xs ≡ 0 → xs ≡ []
+    empty [] h = refl
+    empty (x ∷ xs) h = absurd (omega (arith, h))
+
+-- ---- one more change
+
+pub remove-insert : {X : Type 0} (xs : List X) (i : ℕ) (x : X) → i ≤ length xs → remove (insert xs i x) i ≡ xs
+remove-insert [] zero x h = refl
+remove-insert [] (suc i) x h = absurd (omega arith)
+remove-insert (y ∷ ys) zero x h = refl
+remove-insert {X} (y ∷ ys) (suc i) x h = ap (λ (zs : List X). y ∷ zs) (remove-insert ys i x (omega arith))
+
+module _ (p : Progress) (now : List Collection) (x : Change) (apart : AreNamedApart now) (can : CanUndo x now) (back : undo x now ≡ p.now) where
+  pub IsProgress-push : CanRewind p.changes p.now → IsProgress (record { now = now; changes = p.changes ++ x ∷ [] })
+  IsProgress-push h = record { apart = apart; undoable = CanRewind-push p.changes x now can (subst (CanRewind p.changes) (sym back) h) }
+
+  pub Extends-push : Extends p (record { now = now; changes = p.changes ++ x ∷ [] })
+  Extends-push = record { more = x ∷ []; noted = refl; back = back }
+
+-- a document is stored in a collection
+module _ (cs : List Collection) (at place : ℕ) (d : Pairs) (within : at < length cs) (gap : place ≤ length (collection_at cs at).documents) where
+  abbrev pub grown : Collection
+  grown = record (collection_at cs at) { documents = insert (collection_at cs at).documents place d }
+
+  there : collection_at (set cs at grown) at ≡ grown
+  there = get_or-set_at cs at at grown no_collection refl within
+
+  pub undo-stored : undo (changes.Stored at place) (set cs at grown) ≡ cs
+  undo-stored =
+      ap (λ (c : Collection). set (set cs at grown) at (without_document c place)) there
+      ∙ set-set cs at grown (without_document grown place)
+      ∙ ap (λ (ds : List Pairs). set cs at (record (collection_at cs at) { documents = ds })) (remove-insert (collection_at cs at).documents place d gap)
+      ∙ set-get_or cs at no_collection
+
+  pub CanUndo-stored : CanUndo (changes.Stored at place) (set cs at grown)
+  CanUndo-stored =
+      let long : place < length grown.documents = omega (arith, length-insert (collection_at cs at).documents place d gap) in
+      (omega (arith, length-set cs at grown), subst (λ (c : Collection). place < length c.documents) (sym there) long)
+
+  pub apart-stored : AreNamedApart cs → AreNamedApart (set cs at grown)
+  apart-stored h = apart_set cs at grown within refl h
+
+-- a collection is made
+module _ (cs : List Collection) (at : ℕ) (c : Collection) (gap : IsGap (by_name c.name) cs at) where
+  pub undo-made : undo (changes.Made at) (insert cs at c) ≡ cs
+  undo-made = remove-insert cs at c gap.within
+
+  pub CanUndo-made : CanUndo (changes.Made at) (insert cs at c)
+  CanUndo-made = omega (arith, length-insert cs at c gap.within, gap.within)
+
+  pub apart-made : AreNamedApart cs → AreNamedApart (insert cs at c)
+  apart-made h = rises_insert nat_list_cmp_total (λ (x : Collection). x.name) cs at c h gap
+
+-- ---- what a document makes of a collection
+
+pub with_refused : (c : Collection) (ps : Pairs) (e : Refusal) → checked ps ≡ Err e → with_document c ps ≡ Err e
+unfolding insert_one
+with_refused c ps e is = rw is refl
+
+pub with_there : (c : Collection) (ps : Pairs) (id : Tree) → checked ps ≡ Ok id → place id (id_first ps) c.documents ≡ None → with_document c ps ≡ Err refusals.DuplicateKey
+unfolding insert_one
+with_there c ps id is none = rw (is, none) refl
+
+pub with_placed : (c : Collection) (ps : Pairs) (id : Tree) (ds : List Pairs) → checked ps ≡ Ok id → place id (id_first ps) c.documents ≡ Some ds → with_document c ps ≡ Ok (record c { documents = ds })
+unfolding insert_one
+with_placed c ps id ds is some = rw (is, some) refl
+
+-- ---- a collection that was made stands at its place
+
+pub set-insert : {X : Type 0} (xs : List X) (i : ℕ) (x y : X) → i ≤ length xs → set (insert xs i x) i y ≡ insert xs i y
+set-insert [] zero x y h = refl
+set-insert [] (suc i) x y h = absurd (omega arith)
+set-insert (z ∷ zs) zero x y h = refl
+set-insert {X} (z ∷ zs) (suc i) x y h = ap (λ (us : List X). z ∷ us) (set-insert zs i x y (omega arith))
+
+pub not_full : (cs : List Collection) (name : List ℕ) → length cs < MOST_COLLECTIONS → is_full cs name ≡ false
+not_full cs name h =
+    let few : nat_le MOST_COLLECTIONS (length cs) ≡ false = grind (arith, nat_tests) in
+    rw few refl
+
+pub Stands-made : (cs : List Collection) (at : ℕ) (name : List ℕ) (c : Collection) → IsMissing name cs at → c ≡ record { name = name; documents = [] } → length cs < MOST_COLLECTIONS → Stands name cs (insert cs at c) at
+Stands-made cs at name c gone is few = record {
+  within = omega (arith, length-insert cs at c gone.gap.within, gone.gap.within);
+  is = get_or-insert_at cs at c no_collection gone.gap.within ∙ is ∙ ap (λ (o : Option Collection). record { name = name; documents = documents_or_none o }) (sym gone.found);
+  puts = λ ds. gone.added (record { name = name; documents = ds }) refl ∙ sym (set-insert cs at c (record { name = name; documents = ds }) gone.gap.within);
+  room = not_full cs name few;
+}

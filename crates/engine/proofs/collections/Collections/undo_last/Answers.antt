@@ -1,0 +1,53 @@
+use Rattle.std.proofs.Common.{◌≡◌, ◌<◌, ◌∷◌, [], ◌++◌, length, sym, ap, subst, ◌∙◌, arith, set, refl}
+use Rattle.std.specs.Cmp.Lexicographic.{slice_cmp}
+use Rattle.std.specs.Ordering.{nat_cmp}
+use Rattle.std.specs.declared.cmp.Ordering.TheVariants as orders
+use Rattle.std.proofs.lemmas.List.Quantifiers.{all_pairs_remove}
+use Rattle.engine.specs.World.{Collection}
+use Rattle.engine.specs.Places.{collection_at}
+use Rattle.engine.specs.Progress.{IsProgress, without_document}
+use Rattle.engine.specs.declared.collections.Change.{Change}
+use Rattle.engine.specs.declared.collections.Change.TheVariants as changes
+use Rattle.engine.proofs.Rewinding.{CanRewind-last, at_place, apart_set}
+use Rattle.engine.proofs.collections.Collections.undo_last.Goals as goal
+
+pub remove-collection-requires : goal.remove-collection-requires
+remove-collection-requires c =
+    let popped = c.in-Some-Made.ensures.items ∙ ap (λ (x : Change). c.pop.new.self.items ++ x ∷ []) c.in-Some-Made.field-0-is in
+    let h = CanRewind-last c.self.inside.changes.items c.pop.new.self.items (changes.Made c.in-Some-Made.at) c.self.inside.list.items popped c.self.invariant.undoable in
+    omega (arith, h.0, c.self.inside.list.ok)
+
+pub invariant_of-self : goal.invariant_of-self
+invariant_of-self c =
+    let popped = c.in-Some-Made.ensures.items ∙ ap (λ (x : Change). c.pop.new.self.items ++ x ∷ []) c.in-Some-Made.field-0-is in
+    let h = CanRewind-last c.self.inside.changes.items c.pop.new.self.items (changes.Made c.in-Some-Made.at) c.self.inside.list.items popped c.self.invariant.undoable in
+    rw c.remove-collection.ensures.items (record {
+      apart = all_pairs_remove (λ (a b : Collection). slice_cmp nat_cmp a.name b.name ≡ orders.Less) c.self.inside.list.items c.in-Some-Made.at h.0 c.self.invariant.apart;
+      undoable = h.1;
+    })
+
+pub index_mut-collection-requires : goal.index_mut-collection-requires
+index_mut-collection-requires c =
+    let popped = c.in-Some-Stored.ensures.items ∙ ap (λ (x : Change). c.pop.new.self.items ++ x ∷ []) c.in-Some-Stored.field-0-is in
+    let h = CanRewind-last c.self.inside.changes.items c.pop.new.self.items (changes.Stored c.in-Some-Stored.at c.in-Some-Stored.place) c.self.inside.list.items popped c.self.invariant.undoable in
+    omega (arith, h.0.0, c.self.inside.list.ok)
+
+pub remove-requires : goal.remove-requires
+remove-requires c =
+    let popped = c.in-Some-Stored.ensures.items ∙ ap (λ (x : Change). c.pop.new.self.items ++ x ∷ []) c.in-Some-Stored.field-0-is in
+    let h = CanRewind-last c.self.inside.changes.items c.pop.new.self.items (changes.Stored c.in-Some-Stored.at c.in-Some-Stored.place) c.self.inside.list.items popped c.self.invariant.undoable in
+    let is = at_place c.self.inside.list.items c.in-Some-Stored.at c.index_mut-collection.result.now h.0.0 c.index_mut-collection.ensures.value in
+    subst (λ (x : Collection). c.in-Some-Stored.place < length x.documents) (sym is) h.0.1
+
+pub invariant_of-self-in-Some-Stored : goal.invariant_of-self-in-Some-Stored
+invariant_of-self-in-Some-Stored c =
+    let popped = c.in-Some-Stored.ensures.items ∙ ap (λ (x : Change). c.pop.new.self.items ++ x ∷ []) c.in-Some-Stored.field-0-is in
+    let h = CanRewind-last c.self.inside.changes.items c.pop.new.self.items (changes.Stored c.in-Some-Stored.at c.in-Some-Stored.place) c.self.inside.list.items popped c.self.invariant.undoable in
+    let cs = c.self.inside.list.items in
+    let at = c.in-Some-Stored.at in
+    let is = at_place cs at c.index_mut-collection.result.now h.0.0 c.index_mut-collection.ensures.value in
+    let new : c.remove.new.self ≡ without_document (collection_at cs at) c.in-Some-Stored.place = c.remove.ensures ∙ ap (λ (x : Collection). without_document x c.in-Some-Stored.place) is in
+    subst (λ (x : Collection). IsProgress (record { now = set cs at x; changes = c.pop.new.self.items })) (sym new) (record {
+      apart = apart_set cs at (without_document (collection_at cs at) c.in-Some-Stored.place) h.0.0 refl c.self.invariant.apart;
+      undoable = h.1;
+    })

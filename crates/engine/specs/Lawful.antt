@@ -1,0 +1,54 @@
+-- What is kept of stored documents and of collections.
+use Rattle.std.specs.Prelude.{◌≡◌, ℕ, suc, ◌≤◌, List, length, Some, None, All, refl}
+use Rattle.std.specs.List.{AllPairs}
+use Rattle.std.specs.Ordering.{nat_cmp}
+use Rattle.value_order.specs.Order.{compare}
+use Rattle.value_order.specs.KeyText.{tree_text}
+use Rattle.value_order.specs.declared.TheConstants.{KEY_LIMIT}
+use Rattle.std.specs.Cmp.Lexicographic.{slice_cmp}
+use Rattle.std.specs.Coded.{Coded, code_by, coded×, coded_ℕ, coded_list}
+use Rattle.std.specs.declared.cmp.Ordering.TheVariants as orders
+use Rattle.bson.specs.Tree.{Pairs}
+use Rattle.bson.specs.TreeCode.{coded_pairs}
+use Rattle.bson.specs.Lawful.{pairs_levels}
+use Rattle.bson.specs.Spelling.{framed, pairs_bytes}
+use Rattle.engine.specs.World.{World, Collection}
+use Rattle.engine.specs.Documents.{pairs_fault, id_first, id_of, key_of}
+use Rattle.engine.specs.declared.TheConstants.{STORED_LIMIT, STORED_LEVELS, NAMESPACE_LIMIT, MOST_COLLECTIONS}
+
+-- A document that may be stored: within the limits, each name good, its `_id` first, with a key text within the limit.
+pub record IsStored (ps : Pairs) : Type 0 where
+  pub size : length (framed (pairs_bytes ps)) ≤ STORED_LIMIT
+  pub depth : suc (pairs_levels ps) ≤ STORED_LEVELS
+  pub names : pairs_fault ps ≡ None
+  pub key : id_of ps ≡ Some (key_of ps)
+  pub short : length (tree_text (key_of ps)) ≤ KEY_LIMIT
+  pub first : id_first ps ≡ ps
+
+-- documents in rising order of `_id`, each once
+abbrev pub IsRising : List Pairs → Type 0
+IsRising ds = AllPairs (λ d e. compare (key_of d) (key_of e) ≡ orders.Less) ds
+
+pub record IsCollection (c : Collection) : Type 0 where
+  pub rising : IsRising c.documents
+  pub stored : All IsStored c.documents
+
+-- collections in rising order of their namespaces, each once
+abbrev pub AreNamedApart : List Collection → Type 0
+AreNamedApart cs = AllPairs (λ c d. slice_cmp nat_cmp c.name d.name ≡ orders.Less) cs
+
+-- a collection within the limits
+pub record IsKept (c : Collection) : Type 0 where
+  pub lawful : IsCollection c
+  pub short : length c.name ≤ NAMESPACE_LIMIT
+
+-- What is kept of a world: its collections are in order and within the limits, and a cursor holds stored documents.
+pub record IsLawful (world : World) : Type 0 where
+  pub apart : AreNamedApart world.state
+  pub kept : All IsKept world.state
+  pub few : length world.state ≤ MOST_COLLECTIONS
+  pub cursors : All (λ c. All IsStored c.rest) world.cursors
+
+-- a collection is told apart by its namespace and its documents
+abbrev pub collection_code : Coded Collection
+collection_code = code_by (List ℕ × List Pairs) (coded× (coded_list coded_ℕ) (coded_list coded_pairs)) (λ c. (c.name, c.documents)) (λ p. record { name = p.0; documents = p.1 }) (λ _. refl)

@@ -1,0 +1,12 @@
+pub mod World
+pub mod Documents
+pub mod Refusals
+pub mod Command
+pub mod Step
+pub mod Outcomes
+pub mod Lawful
+pub mod Places
+pub mod Progress
+pub mod Reading
+pub mod View
+pub mod Laws

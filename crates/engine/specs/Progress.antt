@@ -1,0 +1,104 @@
+-- The collections during a turn: as they stand, and what undoes each change of the turn.
+use Rattle.std.specs.Prelude.{◌≡◌, ◌≢◌, ◌⊎◌, ℕ, Bool, ◌<◌, ◌&&◌, not, nat_le, true, false, List, [], ◌∷◌, ◌++◌, length, slice_set, remove, Result, Ok, is_some, refl}
+use Rattle.std.proofs.Common.{inl, inr}
+use Rattle.std.specs.Coded.{Coded, code_by, coded×, coded⊎, coded_ℕ, coded_list}
+use Rattle.bson.specs.Tree.{Pairs}
+use Rattle.engine.specs.World.{Collection, find_collection, documents_of, put_collection}
+use Rattle.engine.specs.Documents.{◌>>=◌, unless, insert_one, insert_all}
+use Rattle.engine.specs.Lawful.{AreNamedApart, collection_code}
+use Rattle.engine.specs.Places.{collection_at}
+use Rattle.engine.specs.declared.TheConstants.{MOST_COLLECTIONS}
+use Rattle.engine.specs.declared.refusal.Refusal.{Refusal}
+use Rattle.engine.specs.declared.refusal.Refusal.TheVariants as refusals
+use Rattle.engine.specs.declared.collections.Change.{Change}
+use Rattle.engine.specs.declared.collections.Change.TheVariants as changes
+
+-- the collection without the document at a place
+abbrev pub without_document : Collection → ℕ → Collection
+without_document c i = record c { documents = remove c.documents i }
+
+-- the collections as they were before a change
+abbrev pub undo : Change → List Collection → List Collection
+undo (changes.Made at) cs = remove cs at
+undo (changes.Stored at place) cs = slice_set cs at (without_document (collection_at cs at) place)
+
+-- the collections as they were before these changes, of which the last is undone first
+abbrev pub rewind : List Change → List Collection → List Collection
+rewind [] cs = cs
+rewind (change ∷ later) cs = undo change (rewind later cs)
+
+-- what a change names is there
+abbrev pub CanUndo : Change → List Collection → Type 0
+CanUndo (changes.Made at) cs = at < length cs
+CanUndo (changes.Stored at place) cs = (at < length cs) × (place < length (collection_at cs at).documents)
+
+abbrev pub CanRewind : List Change → List Collection → Type 0
+CanRewind [] cs = Unit {0}
+CanRewind (change ∷ later) cs = CanUndo change (rewind later cs) × CanRewind later cs
+
+-- the collections as they stand, and the changes of the running turn
+pub record Progress : Type 0 where
+  pub now : List Collection
+  pub changes : List Change
+
+pub record IsProgress (p : Progress) : Type 0 where
+  pub apart : AreNamedApart p.now
+  pub undoable : CanRewind p.changes p.now
+
+-- the collections as they were at the beginning of the turn
+abbrev pub begun_of : Progress → List Collection
+begun_of p = rewind p.changes p.now
+
+-- more changes were made, which lead back
+pub record Extends (old new : Progress) : Type 0 where
+  pub more : List Change
+  pub noted : new.changes ≡ old.changes ++ more
+  pub back : rewind more new.now ≡ old.now
+
+-- the collection would be one too many
+abbrev pub is_full : List Collection → List ℕ → Bool
+is_full cs name = nat_le MOST_COLLECTIONS (length cs) && not (is_some (find_collection cs name))
+
+-- the collections after an insert of these documents, or its first refusal
+abbrev pub inserted : List Collection → List ℕ → List Pairs → Result (List Collection) Refusal
+inserted cs name documents =
+    unless (is_full cs name) refusals.TooMany (do
+      stored ← insert_all (documents_of cs name) documents
+      Ok (put_collection (record { name = name; documents = stored }) cs))
+
+-- A collection stands at a place for this name: an insert into what was before is a change of that one alone.
+pub record Stands (name : List ℕ) (before now : List Collection) (at : ℕ) : Type 0 where
+  pub within : at < length now
+  pub is : collection_at now at ≡ record { name = name; documents = documents_of before name }
+  pub puts : (ds : List Pairs) → put_collection (record { name = name; documents = ds }) before ≡ slice_set now at (record { name = name; documents = ds })
+  pub room : is_full before name ≡ false
+
+-- a collection was not made for that reason, or for want of memory
+abbrev pub IsFull : List Collection → List ℕ → Refusal → Type 0
+IsFull cs name e = e ≢ refusals.OutOfMemory → (e ≡ refusals.TooMany) × (is_full cs name ≡ true)
+
+-- what a document makes of a collection, or its refusal
+abbrev pub with_document : Collection → Pairs → Result Collection Refusal
+with_document c ps = do
+  stored ← insert_one c.documents ps
+  Ok (record c { documents = stored })
+
+-- ---- a progress is told apart by its collections and its changes
+
+abbrev pub change_sum : Change → ℕ ⊎ (ℕ × ℕ)
+change_sum (changes.Made at) = inl at
+change_sum (changes.Stored at place) = inr (at, place)
+
+abbrev pub sum_change : ℕ ⊎ (ℕ × ℕ) → Change
+sum_change (inl at) = changes.Made at
+sum_change (inr x) = changes.Stored x.0 x.1
+
+pub sum_change-change_sum : (change : Change) → sum_change (change_sum change) ≡ change
+sum_change-change_sum (changes.Made at) = refl
+sum_change-change_sum (changes.Stored at place) = refl
+
+abbrev pub change_code : Coded Change
+change_code = code_by (ℕ ⊎ (ℕ × ℕ)) (coded⊎ coded_ℕ (coded× coded_ℕ coded_ℕ)) change_sum sum_change sum_change-change_sum
+
+abbrev pub progress_code : Coded Progress
+progress_code = code_by (List Collection × List Change) (coded× (coded_list collection_code) (coded_list change_code)) (λ p. (p.now, p.changes)) (λ x. record { now = x.0; changes = x.1 }) (λ _. refl)

@@ -1,0 +1,39 @@
+-- What an engine and its replies stand for.
+use Rattle.std.specs.Prelude.{◌≡◌, ◌≤◌, [], length, Result, Ok, Err}
+use Rattle.bson.specs.Tree.{Pairs}
+use Rattle.bson.specs.Spelling.{framed, pairs_bytes}
+use Rattle.engine.specs.declared.TheConstants.{REPLY_LIMIT}
+use Rattle.engine.specs.World.{World}
+use Rattle.engine.specs.Refusals.{refusal_reply, ok_reply}
+use Rattle.engine.specs.Outcomes.{Refuses}
+use Rattle.engine.specs.Progress.{begun_of}
+use Rattle.engine.specs.declared.refusal.Refusal.{Refusal}
+use Rattle.engine.specs.declared.engine.Reply.{Reply}
+use Rattle.engine.specs.declared.engine.Reply.TheVariants as replies
+use Rattle.engine.specs.declared.engine.Engine.{Engine}
+
+abbrev pub reply_of : Reply → Pairs
+reply_of (replies.Done ps) = ps
+reply_of (replies.Refused r) = refusal_reply r
+
+-- No cursor is opened yet, so there are none and the next number is the first.
+abbrev pub world : Engine → World
+world engine = record { state = engine.collections.now; cursors = []; next = 1; touched = [] }
+
+-- the world as it was at the beginning of the turn
+abbrev pub begun : Engine → World
+begun engine = record { state = begun_of engine.collections; cursors = []; next = 1; touched = [] }
+
+-- the reply is within the limit of replies
+abbrev pub IsSendable : Pairs → Type 0
+IsSendable ps = length (framed (pairs_bytes ps)) ≤ REPLY_LIMIT
+
+-- what is planned, with the end of its reply
+abbrev pub with_ok : Result (World × Pairs) Refusal → Result (World × Pairs) Refusal
+with_ok (Ok x) = Ok (x.0, ok_reply x.1)
+with_ok (Err e) = Err e
+
+-- What running a command made of a world: what was planned, or a refusal, which leaves the world as it was.
+abbrev pub Runs : World → Result (World × Pairs) Refusal → World → Result Pairs Refusal → Type 0
+Runs old planned new (Ok reply) = with_ok planned ≡ Ok (new, reply)
+Runs old planned new (Err e) = (new ≡ old) × Refuses planned e

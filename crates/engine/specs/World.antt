@@ -1,0 +1,84 @@
+-- What an engine holds: collections, open cursors, the number of the next cursor, and what the running turn did to cursors.
+use Rattle.std.specs.Prelude.{ℕ, suc, ◌==◌, if◌then◌else◌, List, [], ◌∷◌, Option, Some, None}
+use Rattle.std.specs.Str.{bytes_eq}
+use Rattle.std.specs.List.{list_any}
+use Rattle.std.specs.Ordering.{nat_cmp}
+use Rattle.std.specs.Cmp.Lexicographic.{slice_cmp}
+use Rattle.std.specs.declared.cmp.Ordering.{Ordering}
+use Rattle.std.specs.declared.cmp.Ordering.TheVariants as orders
+use Rattle.bson.specs.Tree.{Pairs}
+
+-- a namespace, and its documents in rising order of `_id`
+pub record Collection : Type 0 where
+  pub name : List ℕ
+  pub documents : List Pairs
+
+-- documents that a connection has not been given yet
+pub record Cursor : Type 0 where
+  pub number : ℕ
+  pub connection : ℕ
+  pub namespace : List ℕ
+  pub rest : List Pairs
+
+-- The collections stand in rising order of their namespaces, so that equal states are one list. Of the running turn it
+-- keeps the numbers of the cursors that were opened, advanced or killed; between turns there are none.
+pub record World : Type 0 where
+  pub state : List Collection
+  pub cursors : List Cursor
+  pub next : ℕ
+  pub touched : List ℕ
+
+abbrev pub new_world : World
+new_world = record { state = []; cursors = []; next = 1; touched = [] }
+
+abbrev pub find_collection : List Collection → List ℕ → Option Collection
+find_collection [] name = None
+find_collection (c ∷ cs) name = if bytes_eq name c.name then Some c else find_collection cs name
+
+-- a missing collection reads as empty
+abbrev pub documents_or_none : Option Collection → List Pairs
+documents_or_none None = []
+documents_or_none (Some c) = c.documents
+
+abbrev pub documents_of : List Collection → List ℕ → List Pairs
+documents_of state name = documents_or_none (find_collection state name)
+
+abbrev pub by_order : {X : Type 0} → Ordering → X → X → X → X
+by_order orders.Less less equal greater = less
+by_order orders.Equal less equal greater = equal
+by_order orders.Greater less equal greater = greater
+
+-- the collection in place of the one of its name, or in its order among the others
+abbrev pub put_collection : Collection → List Collection → List Collection
+put_collection new [] = new ∷ []
+put_collection new (c ∷ cs) = by_order (slice_cmp nat_cmp new.name c.name) (new ∷ c ∷ cs) (new ∷ cs) (c ∷ put_collection new cs)
+
+-- the cursors of a connection
+abbrev pub count_of : ℕ → List Cursor → ℕ
+count_of connection [] = 0
+count_of connection (c ∷ cs) = if c.connection == connection then suc (count_of connection cs) else count_of connection cs
+
+-- the cursors of the others
+abbrev pub without_cursors : ℕ → List Cursor → List Cursor
+without_cursors connection [] = []
+without_cursors connection (c ∷ cs) = if c.connection == connection then without_cursors connection cs else c ∷ without_cursors connection cs
+
+-- a connection has ended
+abbrev pub forget : World → ℕ → World
+forget world connection = record world { cursors = without_cursors connection world.cursors }
+
+-- ---- how a turn ends
+
+-- the cursors whose numbers are not among these
+abbrev pub untouched : List ℕ → List Cursor → List Cursor
+untouched numbers [] = []
+untouched numbers (c ∷ cs) = if list_any (λ n. n == c.number) numbers then untouched numbers cs else c ∷ untouched numbers cs
+
+-- A turn that is done keeps what its commands made.
+abbrev pub settled : World → World
+settled now = record now { touched = [] }
+
+-- A turn that is undone leaves the state from before it. Cursors that were opened, advanced or killed in it are closed,
+-- and the numbers that were drawn stay drawn.
+abbrev pub undone : World → World → World
+undone before now = record { state = before.state; cursors = untouched now.touched before.cursors; next = now.next; touched = [] }

@@ -1,0 +1,87 @@
+//! A namespace with its documents.
+
+ghost use Rattle.std.specs.Prelude.{◌≡◌, [], ◌<◌, IfOk, OnOk, OnErr, All, length, insert, remove};
+ghost use Rattle.engine.specs.Documents.{key_of};
+ghost use Rattle.engine.specs.Lawful.{IsStored};
+ghost use Rattle.engine.specs.Places.{IsPlace, IsGap, by_key};
+
+use crate::documents::compare_ids;
+use bson::{Document, NoMemory};
+use std::alloc::Global;
+use std::marker::Model;
+
+/// A namespace with its documents, in rising order of `_id`.
+#[derive(Drop)]
+pub(crate) struct Collection {
+    namespace: String,
+    documents: Vec<Document>,
+}
+
+impl Model for Collection {
+    ghost use Rattle.std.specs.Prelude.{string_bytes};
+    ghost use Rattle.engine.specs.World as worlds;
+    ghost use Rattle.engine.specs.Lawful.{IsCollection, collection_code};
+
+    ghost Value = { worlds.Collection };
+
+    ghost coded = { collection_code };
+
+    ghost view = { λ a. record { name = string_bytes a.namespace; documents = a.documents.items } };
+
+    ghost invariant = { λ a. IsCollection (record {
+      name = string_bytes a.namespace;
+      documents = a.documents.items;
+    }) };
+}
+
+impl Collection {
+    pub(crate) fn new(alloc: Global, namespace: &str) -> Result<Collection, NoMemory>
+        ensures { IfOk result (λ c. c ≡ record { name = namespace.now; documents = [] }) }
+    {
+        Ok(Collection {
+            namespace: String::from_str(alloc, namespace)?,
+            documents: Vec::new(alloc),
+        })
+    }
+
+    pub(crate) fn namespace(&self) -> &str
+        ensures { result.now ≡ self.now.name }
+    {
+        self.namespace.as_str()
+    }
+
+    pub(crate) fn documents(&self) -> &[Document]
+        ensures documents { result.now ≡ self.now.documents }
+        ensures stored { All IsStored result.now }
+    {
+        &self.documents
+    }
+
+    /// Where a document of the same `_id` stands, or where this one would stand.
+    pub(crate) fn place_of(&self, document: &Document) -> Result<usize, usize>
+        ensures { IsPlace (key_of document.now) self.now.documents result }
+    {
+        self.documents
+            .binary_search_by(|other| compare_ids(other, document))
+    }
+
+    /// Stores a document at its place. An `Err` leaves all as it was.
+    pub(crate) fn insert(&mut self, place: usize, document: Document) -> Result<(), NoMemory>
+        requires stored { IsStored document }
+        requires gap { IsGap (by_key (key_of document)) self.old.documents place }
+        ensures ok { OnOk result
+            (self.new ≡ record self.old { documents = insert self.old.documents place document }) }
+        ensures err { OnErr result (self.new ≡ self.old) }
+    {
+        self.documents.insert(place, document)?;
+        Ok(())
+    }
+
+    /// Takes the document at a place away.
+    pub(crate) fn remove(&mut self, place: usize)
+        requires { place < length self.old.documents }
+        ensures { self.new ≡ record self.old { documents = remove self.old.documents place } }
+    {
+        let _document = self.documents.remove(place);
+    }
+}

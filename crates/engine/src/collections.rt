@@ -1,0 +1,195 @@
+//! The collections, and what undoes the changes of the running turn.
+//!
+//! Room for what undoes a change is made before the change. So a growth that is refused leaves all as
+//! it was, and undoing takes no memory.
+
+ghost use Rattle.std.specs.Prelude.{◌≡◌, ◌<◌, ◌≤◌, ◌+◌, [], length, slice_set, All, OnOk, OnErr, IfOk, IfErr};
+ghost use Rattle.engine.specs.World.{documents_of};
+ghost use Rattle.engine.specs.Lawful.{IsStored};
+ghost use Rattle.engine.specs.Places.{IsNamedAt, collection_at};
+ghost use Rattle.engine.specs.Outcomes.{Does};
+ghost use Rattle.engine.specs.Reading.{documents_at};
+ghost use Rattle.engine.specs.Progress.{begun_of, Extends, Stands, IsFull, with_document, inserted};
+
+use crate::MOST_COLLECTIONS;
+use crate::collection::Collection;
+use crate::documents::stored;
+use crate::refusal::Refusal;
+use bson::Document;
+use std::alloc::Global;
+use std::marker::Model;
+
+/// A change of the running turn, as undoing it needs it.
+#[derive(Clone, Copy)]
+enum Change {
+    /// A collection was made at this place.
+    Made { at: usize },
+    /// A document was stored at a place of the collection at another.
+    Stored { at: usize, place: usize },
+}
+
+/// The collections in rising order of their namespaces, and the changes of the running turn.
+#[derive(Drop)]
+pub(crate) struct Collections {
+    list: Vec<Collection>,
+    changes: Vec<Change>,
+}
+
+impl Model for Collections {
+    ghost use Rattle.engine.specs.Progress.{Progress, IsProgress, progress_code};
+
+    ghost Value = { Progress };
+
+    ghost coded = { progress_code };
+
+    ghost view = { λ a. record { now = a.list.items; changes = a.changes.items } };
+
+    ghost invariant = { λ a. IsProgress (record { now = a.list.items; changes = a.changes.items }) };
+}
+
+impl Collections {
+    pub(crate) fn new(alloc: Global) -> Collections
+        ensures { result ≡ record { now = []; changes = [] } }
+    {
+        Collections {
+            list: Vec::new(alloc),
+            changes: Vec::new(alloc),
+        }
+    }
+
+    /// Where the collection of a namespace stands, or where it would stand.
+    fn place_of(&self, namespace: &str) -> Result<usize, usize>
+        ensures { IsNamedAt namespace.now self.now.now result }
+    {
+        self.list
+            .binary_search_by(|collection| collection.namespace().cmp(namespace))
+    }
+
+    /// The documents of a collection. A missing one reads as empty.
+    pub(crate) fn documents(&self, namespace: &str) -> &[Document]
+        ensures documents { result.now ≡ documents_of self.now.now namespace.now }
+        ensures stored { All IsStored result.now }
+    {
+        match self.place_of(namespace) {
+            Ok(at) => {
+                let collection = &self.list[at];
+                collection.documents()
+            }
+            Err(_) => &[],
+        }
+    }
+
+    /// Where the collection of a namespace stands, which is made where it is missing; `TooMany` where it
+    /// would be one too many.
+    fn find_or_make(&mut self, namespace: &str) -> Result<usize, Refusal>
+        ensures extends { Extends self.old self.new }
+        ensures ok { IfOk result (λ at. Stands namespace.now self.old.now self.new.now at) }
+        ensures err { IfErr result (λ e. IsFull self.old.now namespace.now e) }
+    {
+        match self.place_of(namespace) {
+            Ok(at) => Ok(at),
+            Err(at) => {
+                if MOST_COLLECTIONS <= self.list.len() {
+                    return Err(Refusal::TooMany);
+                }
+                let collection = Collection::new(*self.list.allocator(), namespace)?;
+                self.changes.reserve(1)?;
+                self.list.insert(at, collection)?;
+                self.changes.push(Change::Made { at }).unwrap();
+                Ok(at)
+            }
+        }
+    }
+
+    /// Stores a document in the collection at a place; the first refusal of the document otherwise, or
+    /// `DuplicateKey`.
+    fn store(&mut self, at: usize, document: &Document) -> Result<(), Refusal>
+        requires { at < length self.old.now }
+        ensures extends { Extends self.old self.new }
+        ensures does { Does (with_document (collection_at self.old.now at) document.now)
+            (collection_at self.new.now at) result }
+        ensures ok { OnOk result (self.new.now ≡ slice_set self.old.now at (collection_at self.new.now at)) }
+    {
+        let document = stored(*self.list.allocator(), document)?;
+        self.changes.reserve(1)?;
+        let collection = &mut self.list[at];
+        match collection.place_of(&document) {
+            Ok(_) => Err(Refusal::DuplicateKey),
+            Err(place) => {
+                collection.insert(place, document)?;
+                self.changes.push(Change::Stored { at, place }).unwrap();
+                Ok(())
+            }
+        }
+    }
+
+    /// Stores documents in a collection, up to the first that is refused.
+    fn store_each(&mut self, namespace: &str, documents: &[&Document]) -> Result<(), Refusal>
+        ensures extends { Extends self.old self.new }
+        ensures does { Does (inserted self.old.now namespace.now (documents_at documents.now)) self.new.now result }
+    {
+        let at = self.find_or_make(namespace)?;
+        'documents: for document in documents {
+            self.store(at, document)?;
+        }
+        Ok(())
+    }
+
+    /// Takes back the last change.
+    fn undo_last(&mut self)
+        requires { 0 < length self.old.changes }
+        ensures extends { Extends self.new self.old }
+        ensures len { length self.new.changes + 1 ≡ length self.old.changes }
+    {
+        match self.changes.pop() {
+            Some(Change::Made { at }) => {
+                let _collection = self.list.remove(at);
+            }
+            Some(Change::Stored { at, place }) => {
+                let collection = &mut self.list[at];
+                collection.remove(place);
+            }
+            None => unreachable!(),
+        }
+    }
+
+    /// Takes back the changes after so many.
+    fn undo_to(&mut self, mark: usize)
+        requires { mark ≤ length self.old.changes }
+        ensures extends { Extends self.new self.old }
+        ensures len { length self.new.changes ≡ mark }
+    {
+        while mark < self.changes.len() {
+            self.undo_last();
+        }
+    }
+
+    /// Stores documents in a collection, which is made where it is missing: all of them, or none and the
+    /// first refusal.
+    pub(crate) fn insert(&mut self, namespace: &str, documents: &[&Document]) -> Result<(), Refusal>
+        ensures does { Does (inserted self.old.now namespace.now (documents_at documents.now)) self.new.now result }
+        ensures begun { begun_of self.new ≡ begun_of self.old }
+        ensures err { OnErr result (self.new ≡ self.old) }
+    {
+        let mark = self.changes.len();
+        let outcome = self.store_each(namespace, documents);
+        if outcome.is_err() {
+            self.undo_to(mark);
+        }
+        outcome
+    }
+
+    /// Keeps what the turn changed.
+    pub(crate) fn commit(&mut self)
+        ensures { self.new ≡ record { now = self.old.now; changes = [] } }
+    {
+        self.changes.clear();
+    }
+
+    /// Takes back what the turn changed.
+    pub(crate) fn undo(&mut self)
+        ensures { self.new ≡ record { now = begun_of self.old; changes = [] } }
+    {
+        self.undo_to(0);
+    }
+}

@@ -1,0 +1,18 @@
+//! Laws of the definitions, each the contract of a function that does nothing.
+
+ghost use Rattle.engine.specs.Laws.{BeginsLawful, StaysLawful, RepliesSendable};
+
+/// The world that an engine begins with is lawful.
+pub fn begins_lawful()
+    ensures { BeginsLawful }
+{}
+
+/// A lawful world steps to a lawful world, whatever it is told.
+pub fn stays_lawful()
+    ensures { StaysLawful }
+{}
+
+/// What a lawful world replies is within `REPLY_LIMIT`.
+pub fn replies_sendable()
+    ensures { RepliesSendable }
+{}

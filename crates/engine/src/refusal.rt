@@ -1,0 +1,128 @@
+//! Why a command was refused.
+
+ghost use Rattle.std.specs.Prelude.{◌≡◌, ◌≢◌, pos};
+ghost use Rattle.engine.specs.Refusals.{row_of};
+ghost use Rattle.engine.specs.declared.refusal.Refusal.TheVariants as refusals;
+
+use bson::BsonFault;
+use std::alloc::{AllocError, AllocFailed};
+
+/// Why a command was refused. Each has a number, a name and a text, which its reply says.
+#[derive(Clone, Copy, Debug, PartialEq, Eq)]
+pub enum Refusal {
+    /// A value that is out of range or may not stand there.
+    BadValue,
+    /// A field that the command does not have, or one that it lacks.
+    FailedToParse,
+    /// A value of another type than its field takes.
+    TypeMismatch,
+    /// Bytes that are no document.
+    InvalidBSON,
+    /// A name of a stored document that begins with `$`.
+    DollarPrefixedFieldName,
+    /// An empty name in a stored document.
+    EmptyFieldName,
+    /// A name of a stored document that contains a dot.
+    DottedFieldName,
+    /// A command that is not known.
+    CommandNotFound,
+    /// A database or a collection that may not be called so.
+    InvalidNamespace,
+    /// An `_id` whose key text has more than 500 bytes.
+    KeyTooLong,
+    /// More documents, cursors or collections than there may be.
+    TooMany,
+    /// Memory ran out.
+    OutOfMemory,
+    /// A stored document above the limit.
+    BSONObjectTooLarge,
+    /// A key that is there already.
+    DuplicateKey,
+}
+
+/// What a reply says of a refusal.
+#[derive(Clone, Copy)]
+struct Row {
+    code: i32,
+    name: &'static str,
+    text: &'static str,
+}
+
+impl Refusal {
+    /// What is said of it, all in one table.
+    fn row(self) -> Row
+        ensures code { result.code ≡ pos (row_of self).code }
+        ensures name { result.name.now ≡ (row_of self).name }
+        ensures text { result.text.now ≡ (row_of self).text }
+    {
+        let (code, name, text) = match self {
+            Refusal::BadValue => (2, "BadValue", "bad value"),
+            Refusal::FailedToParse => (9, "FailedToParse", "command not understood"),
+            Refusal::TypeMismatch => (14, "TypeMismatch", "wrong type"),
+            Refusal::InvalidBSON => (22, "InvalidBSON", "invalid BSON"),
+            Refusal::DollarPrefixedFieldName => (
+                52,
+                "DollarPrefixedFieldName",
+                "name begins with $",
+            ),
+            Refusal::EmptyFieldName => (56, "EmptyFieldName", "empty name"),
+            Refusal::DottedFieldName => (57, "DottedFieldName", "name contains ."),
+            Refusal::CommandNotFound => (59, "CommandNotFound", "no such command"),
+            Refusal::InvalidNamespace => (73, "InvalidNamespace", "bad collection name"),
+            Refusal::KeyTooLong => (9001, "KeyTooLong", "key too long"),
+            Refusal::TooMany => (9002, "TooMany", "too many"),
+            Refusal::OutOfMemory => (9004, "OutOfMemory", "out of memory"),
+            Refusal::BSONObjectTooLarge => (10334, "BSONObjectTooLarge", "document too large"),
+            Refusal::DuplicateKey => (11000, "DuplicateKey", "duplicate key"),
+        };
+        Row { code, name, text }
+    }
+
+    /// The number that clients tell refusals apart by.
+    pub fn code(self) -> i32
+        ensures { result ≡ pos (row_of self).code }
+    {
+        self.row().code
+    }
+
+    /// The name beside the number.
+    pub fn name(self) -> &'static str
+        ensures { result.now ≡ (row_of self).name }
+    {
+        self.row().name
+    }
+
+    /// A few words for people.
+    pub fn text(self) -> &'static str
+        ensures { result.now ≡ (row_of self).text }
+    {
+        self.row().text
+    }
+}
+
+impl From<AllocError> for Refusal {
+    ghost from_gives = { λ _ e. e ≡ refusals.OutOfMemory };
+
+    fn from(_e: AllocError) -> Refusal {
+        Refusal::OutOfMemory
+    }
+}
+
+impl<T: Drop> From<AllocFailed<T>> for Refusal {
+    ghost from_gives = { λ _ e. e ≡ refusals.OutOfMemory };
+
+    fn from(_e: AllocFailed<T>) -> Refusal {
+        Refusal::OutOfMemory
+    }
+}
+
+/// What bytes that are no document are refused with.
+pub fn body_refusal(fault: BsonFault) -> Refusal
+    ensures memory { fault ≡ BsonFault.Memory → result ≡ Refusal.OutOfMemory }
+    ensures other { fault ≢ BsonFault.Memory → result ≡ Refusal.InvalidBSON }
+{
+    match fault {
+        BsonFault::Memory => Refusal::OutOfMemory,
+        _ => Refusal::InvalidBSON,
+    }
+}

@@ -1,0 +1,137 @@
+//! Documents that replies are.
+
+ghost use Rattle.std.specs.Prelude.{◌≡◌, ◌==◌, ◌≤◌, None, All, OnOk, IfOk, codes, false};
+ghost use Rattle.std.specs.List.{list_any};
+ghost use Rattle.bson.specs.Tree.{pair, no_pairs, append, append_items, item, no_items};
+ghost use Rattle.bson.specs.View.{tree};
+ghost use Rattle.bson.specs.Lookup.{lookup};
+ghost use Rattle.bson.specs.Spelling.{framed, pairs_bytes};
+ghost use Rattle.bson.specs.Lawful.{levels};
+ghost use Rattle.engine.specs.Lawful.{IsStored};
+ghost use Rattle.engine.specs.Refusals.{int, words, ok_reply, refusal_reply};
+ghost use Rattle.engine.specs.Step.{items_of_documents, cursor_reply};
+
+use crate::MOST_STATEMENTS;
+use crate::refusal::Refusal;
+use bson::{Array, BuildFault, Document, NoMemory, Text, Value};
+use std::alloc::{AllocError, Global};
+
+/// Adds a pair to a reply: of another name than those before, and not nested too deep, so only memory can be wanting.
+fn put(reply: &mut Document, name: &str, value: Value) -> Result<(), NoMemory>
+    requires name { list_any (λ b. b == 0) name.now ≡ false }
+    requires new { lookup reply.old name.now ≡ None }
+    requires flat { levels (tree value) ≤ 99 }
+    ensures { OnOk result (reply.new ≡ append reply.old (pair name.now (tree value) no_pairs)) }
+{
+    match reply.push(name, value) {
+        Ok(()) => Ok(()),
+        Err(BuildFault::Memory) => Err(AllocError),
+        Err(BuildFault::Name) => unreachable!("it has no zero"),
+        Err(BuildFault::Repeated) => unreachable!("it is new"),
+        Err(BuildFault::Deep) => unreachable!("it is flat"),
+    }
+}
+
+/// Adds an item to an array of a reply, which is not nested too deep, so only memory can be wanting.
+fn add(array: &mut Array, value: Value) -> Result<(), NoMemory>
+    requires { levels (tree value) ≤ 98 }
+    ensures { OnOk result (array.new ≡ append_items array.old (item (tree value) no_items)) }
+{
+    match array.push(value) {
+        Ok(()) => Ok(()),
+        Err(BuildFault::Deep) => unreachable!("it is flat"),
+        Err(_) => Err(AllocError),
+    }
+}
+
+/// A text as a value.
+fn text_value(alloc: Global, text: &str) -> Result<Value, NoMemory>
+    ensures { IfOk result (λ v. tree v ≡ words text.now) }
+{
+    Ok(Value::String(Text::from_str(alloc, text)?))
+}
+
+/// Ends the reply of a command that was done.
+fn done(mut reply: Document) -> Result<Document, NoMemory>
+    requires { lookup reply (codes "ok") ≡ None }
+    ensures { IfOk result (λ d. d ≡ ok_reply reply) }
+{
+    put(&mut reply, "ok", Value::Int32(1))?;
+    Ok(reply)
+}
+
+/// The reply of a `ping`.
+pub(crate) fn ping_reply(alloc: Global) -> Result<Document, NoMemory>
+    ensures { IfOk result (λ d. d ≡ ok_reply no_pairs) }
+{
+    done(Document::new(alloc))
+}
+
+/// The reply of an insert of so many documents.
+pub(crate) fn insert_reply(alloc: Global, count: usize) -> Result<Document, NoMemory>
+    requires { count ≤ MOST_STATEMENTS }
+    ensures { IfOk result (λ d. d ≡ ok_reply (pair (codes "n") (int count) no_pairs)) }
+{
+    let mut reply = Document::new(alloc);
+    put(&mut reply, "n", Value::Int32(count as i32))?;
+    done(reply)
+}
+
+/// Copies of documents as an array.
+fn array_of(alloc: Global, documents: &[Document]) -> Result<Array, NoMemory>
+    requires { All IsStored documents.now }
+    ensures { IfOk result (λ a. a ≡ items_of_documents documents.now) }
+{
+    let mut array = Array::new(alloc);
+    'documents: for document in documents {
+        add(&mut array, Value::Document(document.copy()?))?;
+    }
+    Ok(array)
+}
+
+/// The reply of a find whose documents all go into the first batch.
+pub(crate) fn find_reply(
+    alloc: Global,
+    namespace: &str,
+    documents: &[Document],
+) -> Result<Document, NoMemory>
+    requires { All IsStored documents.now }
+    ensures { IfOk result (λ d. d ≡ ok_reply (cursor_reply (codes "firstBatch") documents.now 0 namespace.now)) }
+{
+    let mut cursor = Document::new(alloc);
+    put(
+        &mut cursor,
+        "firstBatch",
+        Value::Array(array_of(alloc, documents)?),
+    )?;
+    put(&mut cursor, "id", Value::Int64(0))?;
+    put(&mut cursor, "ns", text_value(alloc, namespace)?)?;
+    let mut reply = Document::new(alloc);
+    put(&mut reply, "cursor", Value::Document(cursor))?;
+    done(reply)
+}
+
+/// The document that a refusal is answered with.
+pub fn refusal_document(alloc: Global, refusal: Refusal) -> Result<Document, NoMemory>
+    ensures { IfOk result (λ d. d ≡ refusal_reply refusal) }
+{
+    let mut reply = Document::new(alloc);
+    put(&mut reply, "ok", Value::Int32(0))?;
+    put(&mut reply, "errmsg", text_value(alloc, refusal.text())?)?;
+    put(&mut reply, "code", Value::Int32(refusal.code()))?;
+    put(&mut reply, "codeName", text_value(alloc, refusal.name())?)?;
+    Ok(reply)
+}
+
+/// The bytes of the document that says that memory ran out, for where there may be no memory to make it.
+#[tactic(auto, unfolding(bson::specs::Spelling::tree_bytes, bson::specs::Spelling::pairs_bytes))]
+pub fn out_of_memory_bytes() -> &'static [u8]
+    ensures { result.now ≡ framed (pairs_bytes (refusal_reply Refusal.OutOfMemory)) }
+{
+    b"\x4b\0\0\0\
+        \x10ok\0\0\0\0\0\
+        \x02errmsg\0\x0e\0\0\0out of memory\0\
+        \x10code\0\x2c\x23\0\0\
+        \x02codeName\0\x0c\0\0\0OutOfMemory\0\
+        \0"
+}

@@ -1,0 +1,6 @@
+//! What happens where something fails: `tests/each_growth faults` refuses each growth in turn, and each test passes then
+//! too, since it follows what was answered.
+#![tactic(auto)]
+
+#[cfg(test)]
+mod growths;

@@ -1,0 +1,6 @@
+pub mod Faults
+pub mod Frame
+pub mod Stream
+pub mod Request
+pub mod View
+pub mod Laws

@@ -1,0 +1,71 @@
+-- What taking the message at the front gives, and how a reply is spelled (MongoDB wire protocol, OP_MSG). A message's body is
+-- the document that its bytes are, all of them, or the first fault of these bytes. A reply is a frame with its own number, the
+-- number of the request, no flags, and one body.
+use Rattle.std.specs.Prelude.{◌≡◌, ℕ, ◌+◌, List, [], ◌∷◌, ◌++◌, length, Bool, true, false, Result, Ok, Err, Option, Some, None}
+use Rattle.std.specs.Int.{w32, to_le_bytes}
+use Rattle.bson.specs.Tree.{Pairs}
+use Rattle.bson.specs.Spelling.{framed, pairs_bytes}
+use Rattle.bson.specs.Reading.{Gives, document_at}
+use Rattle.bson.specs.declared.fault.BsonFault.{BsonFault}
+use Rattle.op_msg.specs.Frame.{Frame}
+use Rattle.op_msg.specs.declared.fault.FrameFault.{FrameFault}
+use Rattle.op_msg.specs.declared.request.Head.{Head}
+use Rattle.op_msg.specs.declared.request.Request.{Request}
+
+abbrev pub document_alone : Result (Pairs × ℕ) BsonFault → Result Pairs BsonFault
+document_alone (Ok x) = Ok x.0
+document_alone (Err e) = Err e
+
+-- the document that the bytes are, or why they are none
+abbrev pub document_in : List ℕ → Result Pairs BsonFault
+document_in bytes = document_alone (document_at bytes)
+
+-- The document of a message. Its frame says where it ends.
+abbrev pub body_of : Frame → Result Pairs BsonFault
+body_of frame = document_in frame.body
+
+-- What a message says of itself.
+abbrev pub head_of : Result (Option (Frame × List ℕ)) FrameFault → Result (Option Head) FrameFault
+head_of (Ok None) = Ok None
+head_of (Ok (Some x)) = Ok (Some (record { request_id = x.0.number; more_to_come = x.0.more_to_come }))
+head_of (Err fault) = Err fault
+
+-- This request is that message. Its body may be missing where memory ran out.
+pub record IsRequest (frame : Frame) (request : Request) : Type 0 where
+  pub number : request.request_id ≡ frame.number
+  pub more : request.more_to_come ≡ frame.more_to_come
+  pub body : Gives (λ d. d) request.body (body_of frame)
+
+-- What a call of `next` may answer, by what stands at the front, with what is left after it.
+abbrev pub IsNext : Result (Option (Frame × List ℕ)) FrameFault → List ℕ → Result (Option Request) FrameFault → List ℕ → Type 0
+IsNext (Ok (Some x)) old (Ok (Some request)) new = IsRequest x.0 request × (new ≡ x.1)
+IsNext (Ok None) old (Ok None) new = new ≡ old
+IsNext (Err fault) old (Err e) new = (e ≡ fault) × (new ≡ old)
+IsNext (Ok (Some x)) old (Err e) new = ⊥
+IsNext (Ok (Some x)) old (Ok None) new = ⊥
+IsNext (Ok None) old (Ok (Some request)) new = ⊥
+IsNext (Ok None) old (Err e) new = ⊥
+IsNext (Err fault) old (Ok (Some request)) new = ⊥
+IsNext (Err fault) old (Ok None) new = ⊥
+
+-- a message or a fault stands at the front
+abbrev pub is_waiting : Result (Option (Frame × List ℕ)) FrameFault → Bool
+is_waiting (Ok None) = false
+is_waiting (Ok (Some x)) = true
+is_waiting (Err fault) = true
+
+abbrev pub le_32 : ℕ → List ℕ
+le_32 n = to_le_bytes w32 n
+
+-- What stands before a body of this length: the length of the whole, the reply's number, the request's, the opcode, no flags,
+-- and the kind of a section that is a body.
+abbrev pub head_bytes : ℕ → ℕ → ℕ → List ℕ
+head_bytes number request len = le_32 (len + 21) ++ le_32 number ++ le_32 request ++ le_32 2013 ++ le_32 0 ++ 0 ∷ []
+
+-- The frame of a body, as its bytes.
+abbrev pub frame_bytes : ℕ → ℕ → List ℕ → List ℕ
+frame_bytes number request body = head_bytes number request (length body) ++ body
+
+-- A reply: a frame whose body is the document.
+unfoldable pub reply_bytes : ℕ → ℕ → Pairs → List ℕ
+reply_bytes number request ps = frame_bytes number request (framed (pairs_bytes ps))

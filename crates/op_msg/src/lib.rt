@@ -1,0 +1,14 @@
+//! Messages of the MongoDB wire protocol, OP_MSG: frames from a stream, and replies.
+#![tactic(auto)]
+
+mod fault;
+mod frames;
+pub mod laws;
+mod reading;
+mod request;
+mod writing;
+
+pub use fault::FrameFault;
+pub use frames::Frames;
+pub use request::{Head, Request};
+pub use writing::{FRAME_BYTES, reply, spelled_reply};

@@ -1,0 +1,67 @@
+//! Replies.
+
+ghost use Rattle.std.specs.Prelude.{◌≡◌, ◌≤◌, ◌+◌, length, IfOk};
+ghost use Rattle.bson.specs.Spelling.{framed, pairs_bytes};
+ghost use Rattle.bson.specs.declared.TheConstants.{MESSAGE_LIMIT};
+ghost use Rattle.op_msg.specs.Request.{head_bytes, frame_bytes, reply_bytes};
+
+use bson::{Document, EncodeFault, NoMemory, encode_onto};
+use std::alloc::{AllocError, Global};
+
+/// The bytes of a frame beside its body: the header, the flags, and the kind of the section.
+pub const FRAME_BYTES: u32 = 21;
+
+/// The frame of a reply (MongoDB wire protocol, OP_MSG): its own number, that of the request, and one body. An `Err`
+/// comes only where memory ran out.
+pub fn reply(
+    alloc: Global,
+    reply_no: u32,
+    request_id: u32,
+    document: &Document,
+) -> Result<Vec<u8>, NoMemory>
+    requires { length (framed (pairs_bytes document.now)) + FRAME_BYTES ≤ MESSAGE_LIMIT }
+    ensures { IfOk result (λ v. v.items ≡ reply_bytes reply_no request_id document.now) }
+{
+    let mut frame = begun_frame(alloc, reply_no, request_id, document.encoded_len())?;
+    match encode_onto(&mut frame, document) {
+        Ok(()) => Ok(frame),
+        Err(EncodeFault::Memory) => Err(AllocError),
+        Err(EncodeFault::TooLarge) => unreachable!(),
+    }
+}
+
+/// The frame of a reply whose body is spelled already.
+pub fn spelled_reply(
+    alloc: Global,
+    reply_no: u32,
+    request_id: u32,
+    body: &[u8],
+) -> Result<Vec<u8>, NoMemory>
+    requires { length body.now + FRAME_BYTES ≤ MESSAGE_LIMIT }
+    ensures { IfOk result (λ v. v.items ≡ frame_bytes reply_no request_id body.now) }
+{
+    let mut frame = begun_frame(alloc, reply_no, request_id, body.len())?;
+    frame.extend_from_slice(body)?;
+    Ok(frame)
+}
+
+/// A frame up to its body, with room for a body of this length.
+fn begun_frame(
+    alloc: Global,
+    reply_no: u32,
+    request_id: u32,
+    body_len: usize,
+) -> Result<Vec<u8>, NoMemory>
+    requires { body_len + FRAME_BYTES ≤ MESSAGE_LIMIT }
+    ensures { IfOk result (λ v. v.items ≡ head_bytes reply_no request_id body_len) }
+{
+    let len = body_len as u32 + FRAME_BYTES;
+    let mut frame = Vec::with_capacity(alloc, len as usize)?;
+    frame.extend_from_slice(&len.to_le_bytes())?;
+    frame.extend_from_slice(&reply_no.to_le_bytes())?;
+    frame.extend_from_slice(&request_id.to_le_bytes())?;
+    frame.extend_from_slice(&2013u32.to_le_bytes())?;
+    frame.extend_from_slice(&0u32.to_le_bytes())?;
+    frame.push(0)?;
+    Ok(frame)
+}

@@ -1,0 +1,102 @@
+-- How a run of device calls goes on.
+use Rattle.std.proofs.Common.{◌≡◌, inl, inr, ℕ, ◌+◌, ◌≤◌, Bool, true, false, List, refl, ◌∙◌, subst, arith}
+use Rattle.std.specs.Prelude.{if◌then◌else◌}
+use Rattle.std.proofs.lemmas.Bool.{cases_lt}
+use Rattle.page.specs.History.{History, Sector, KeepsWord, now, IsImage, LeftSince, Ticks}
+use Rattle.page.specs.Crash.{GoesOn, LeavesOnly, LeavesNow, ReadsOnly}
+
+-- before the first call
+pub goes_nowhere : (h : History) → GoesOn h h
+goes_nowhere h = record { kept = λ k. k; clock = λ k. omega arith; past = λ k t le. refl; failures = λ k. omega arith }
+
+-- the sectors as they are now, where no time went by
+only_now : (h : History) (image : ℕ → List ℕ) → LeftSince h h.clock image → IsImage (now h) image
+only_now h image left =
+    let same : left.at ≡ h.clock = omega (arith, left.after, left.before) in
+    subst (λ (t : ℕ). IsImage (h.moment t) image) same left.left
+
+pub started : (h : History) (P : (ℕ → List ℕ) → Type 0) → LeavesNow h P → LeavesOnly h h P
+started h P here k image left = here k image (only_now h image left)
+
+-- one call
+pub goes_one : (old new : History) (ok : Bool) → Ticks old new ok → GoesOn old new
+goes_one old new ok tick = record {
+  kept = tick.kept;
+  clock = λ k. omega (arith, tick.clock k);
+  past = tick.past;
+  failures = λ k. le_if ok old.failures new.failures (tick.failures k);
+}
+  where
+    le_if : (ok : Bool) (m n : ℕ) → n ≡ (if ok then m else m + 1) → m ≤ n
+    le_if true m n is = omega arith
+    le_if false m n is = omega arith
+
+-- two runs, one after the other
+pub goes_further : (a b c : History) → GoesOn a b → GoesOn b c → GoesOn a c
+goes_further a b c first second = record {
+  kept = λ k. first.kept (second.kept k);
+  clock = λ k. omega (arith, first.clock (second.kept k), second.clock k);
+  past = λ k t le. second.past k t (omega (arith, le, first.clock (second.kept k))) ∙ first.past (second.kept k) t le;
+  failures = λ k. omega (arith, first.failures (second.kept k), second.failures k);
+}
+
+-- what held up to b and from b on holds of the whole
+pub leaves_further : (a b c : History) (P : (ℕ → List ℕ) → Type 0) → GoesOn b c → LeavesOnly a b P → LeavesOnly b c P → LeavesOnly a c P
+leaves_further a b c P goes first second k image left =
+    elim (cases_lt b.clock left.at) [
+      | inl late ↦ second k image (record { at = left.at; after = omega arith; before = left.before; left = left.left })
+      | inr early ↦
+          let then_left : LeftSince b a.clock image = record {
+            at = left.at;
+            after = left.after;
+            before = early;
+            left = subst (λ (s : ℕ → Sector). IsImage s image) (goes.past k left.at early) left.left;
+          } in first (goes.kept k) image then_left
+    ]
+
+-- one call more, after which a crash leaves what has P
+pub leaves_call : (a b c : History) (ok : Bool) (P : (ℕ → List ℕ) → Type 0) → Ticks b c ok → LeavesOnly a b P → LeavesNow c P → LeavesOnly a c P
+leaves_call a b c ok P tick so_far here k image left =
+    elim (cases_lt b.clock left.at) [
+      | inl late ↦
+          let last : left.at ≡ c.clock = omega (arith, tick.clock k, late, left.before) in
+          here k image (subst (λ (t : ℕ). IsImage (c.moment t) image) last left.left)
+      | inr early ↦
+          let then_left : LeftSince b a.clock image = record {
+            at = left.at;
+            after = left.after;
+            before = early;
+            left = subst (λ (s : ℕ → Sector). IsImage s image) (tick.past k left.at early) left.left;
+          } in so_far (tick.kept k) image then_left
+    ]
+
+-- what holds since an earlier moment holds now
+pub leaves_now : (a b : History) (P : (ℕ → List ℕ) → Type 0) → GoesOn a b → LeavesOnly a b P → LeavesNow b P
+leaves_now a b P goes since k image is = since k image (record { at = b.clock; after = goes.clock k; before = omega arith; left = is })
+
+pub leaves_weaker : (a b : History) (P Q : (ℕ → List ℕ) → Type 0) → ((image : ℕ → List ℕ) → P image → Q image) → LeavesOnly a b P → LeavesOnly a b Q
+leaves_weaker a b P Q to since k image left = to image (since k image left)
+
+-- ---- calls that only read
+
+pub reads_nothing : (h : History) → ReadsOnly h h
+reads_nothing h = record { on = goes_nowhere h; same = λ keeps. refl; moments = started h (IsImage (now h)) (λ keeps image is. is) }
+
+pub reads_further : (a b c : History) → ReadsOnly a b → ReadsOnly b c → ReadsOnly a c
+reads_further a b c first second = record {
+  on = goes_further a b c first.on second.on;
+  same = λ keeps. second.same keeps ∙ first.same (second.on.kept keeps);
+  moments =
+      leaves_further a b c (IsImage (now a)) second.on first.moments
+      (λ keeps image left. subst (λ (s : ℕ → Sector). IsImage s image) (first.same (second.on.kept keeps)) (second.moments keeps image left));
+}
+
+-- one call that left the sectors as they are
+pub reads_one : (old new : History) (ok : Bool) → Ticks old new ok → (KeepsWord new → now new ≡ now old) → ReadsOnly old new
+reads_one old new ok tick same = record {
+  on = goes_one old new ok tick;
+  same = same;
+  moments =
+      leaves_call old old new ok (IsImage (now old)) tick (started old (IsImage (now old)) (λ keeps image is. is))
+      (λ keeps image is. subst (λ (s : ℕ → Sector). IsImage s image) (same keeps) is);
+}

@@ -1,0 +1,45 @@
+-- What holds of every image that a crash may leave, over several calls.
+use Rattle.std.specs.Prelude.{◌≡◌, ℕ, ◌≤◌, List, if◌then◌else◌, ◌==◌}
+use Rattle.page.specs.History.{History, Sector, KeepsWord, now, MayHold, IsImage, LeftSince, reads}
+
+-- the disk went on from old to new
+pub record GoesOn (old new : History) : Type 0 where
+  pub kept : KeepsWord new → KeepsWord old
+  pub clock : KeepsWord new → old.clock ≤ new.clock
+  pub past : KeepsWord new → (t : ℕ) → t ≤ old.clock → new.moment t ≡ old.moment t
+  pub failures : KeepsWord new → old.failures ≤ new.failures
+
+-- a crash at any moment from old to new leaves an image that has P
+abbrev pub LeavesOnly : History → History → ((ℕ → List ℕ) → Type 0) → Type 0
+LeavesOnly old new P = KeepsWord new → (image : ℕ → List ℕ) → LeftSince new old.clock image → P image
+
+-- a crash now leaves an image that has P
+abbrev pub LeavesNow : History → ((ℕ → List ℕ) → Type 0) → Type 0
+LeavesNow h P = KeepsWord h → (image : ℕ → List ℕ) → IsImage (now h) image → P image
+
+-- a crash leaves in the sector what a read gives
+abbrev pub Settled : Sector → Type 0
+Settled sector = (bytes : List ℕ) → MayHold sector bytes → bytes ≡ sector.read
+
+-- an image with other bytes in one sector
+abbrev pub put : (ℕ → List ℕ) → ℕ → List ℕ → ℕ → List ℕ
+put image sector bytes k = if k == sector then bytes else image k
+
+-- In the sectors that are kept a crash leaves what reads give, and that decides P of every image.
+pub record Secures (sectors : ℕ → Sector) (Kept : ℕ → Type 0) (P : (ℕ → List ℕ) → Type 0) : Type 0 where
+  pub durable : (k : ℕ) → Kept k → Settled (sectors k)
+  pub decides : (image : ℕ → List ℕ) → ((k : ℕ) → Kept k → image k ≡ reads sectors k) → P image
+
+-- a crash leaves what reads give
+abbrev pub IsSettled : (ℕ → Sector) → Type 0
+IsSettled sectors = (k : ℕ) → Settled (sectors k)
+
+-- an image of these sectors, but for some of them
+abbrev pub IsImageOutside : (ℕ → Sector) → (ℕ → Type 0) → (ℕ → List ℕ) → Type 0
+IsImageOutside sectors Written image = (k : ℕ) → (Written k → ⊥) → MayHold (sectors k) (image k)
+
+-- The calls only read: the sectors stayed as they are, at every moment.
+pub record ReadsOnly (old new : History) : Type 0 where
+  pub on : GoesOn old new
+  pub same : KeepsWord new → now new ≡ now old
+  pub moments : LeavesOnly old new (IsImage (now old))

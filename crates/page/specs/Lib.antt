@@ -1,0 +1,9 @@
+pub mod Crash
+pub mod Faulty
+pub mod History
+pub mod Memory
+pub mod Nothing
+pub mod Page
+pub mod Replay
+pub mod Format
+pub mod View

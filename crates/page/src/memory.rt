@@ -1,0 +1,205 @@
+// A disk in memory. It records its writes and its syncs that succeeded, each with the moment that it made.
+ghost use Rattle.std.specs.Prelude.{◌≡◌, ℕ, ◌≤◌, ◌+◌, All, not, length};
+ghost use Rattle.page.specs.History.{reads, now};
+ghost use Rattle.std.specs.Prelude.{◌<◌, slice_index_or, true};
+ghost use Rattle.page.specs.Replay.{replay, blank, IsWrite};
+ghost use Rattle.page.specs.declared.memory.Call.{Call};
+
+use crate::{DeviceFault, Disk};
+use std::alloc::{AllocError, Global};
+
+#[derive(Clone, Copy)]
+enum Step {
+    Write(u64, [u8; 512]),
+    Sync,
+}
+
+#[derive(Clone, Copy)]
+struct Call {
+    moment: u64,
+    step: Step,
+}
+
+/// Keeps its word until its clock, the number of its calls, has no greater value.
+#[derive(Drop)]
+pub struct MemDisk {
+    alloc: Global,
+    calls: Vec<Call>,
+    clock: u64,
+    failures: u64,
+    ended: bool,
+    ghost recorded: { All (λ c. c.moment ≤ clock) calls.items },
+    ghost counted: { failures ≤ clock },
+}
+
+// What a read of a sector gives after these calls.
+fn read_back(calls: &[Call], sector: u64, bytes: &mut [u8; 512])
+    ensures { (t : ℕ) → All (λ c. c.moment ≤ t) calls.now → bytes.new ≡ (replay t calls.now blank sector).read }
+{
+    *bytes = [0; 512];
+    for call in calls {
+        if let Step::Write(to, written) = call.step {
+            if to == sector {
+                *bytes = written;
+            }
+        }
+    }
+}
+
+// After how many of these calls the last sync stands.
+fn after_sync(calls: &[Call]) -> usize
+    ensures within { result ≤ length calls.now }
+    ensures writes { (k : ℕ) (d : Call) → result ≤ k → k < length calls.now → IsWrite (slice_index_or calls.now k d).step }
+{
+    let mut after = 0;
+    for (i, call) in calls.iter().enumerate() {
+        if let Step::Sync = call.step {
+            after = i + 1;
+        }
+    }
+    after
+}
+
+// The first of the last ten of the calls behind a sync.
+fn last_ten(after: usize, len: usize) -> usize
+    ensures { len ≤ result + 10 }
+{
+    if len > 10 && len - 10 > after {
+        len - 10
+    } else {
+        after
+    }
+}
+
+// Whether a recorded call is kept in an image: all up to the last sync are, and then those that the mask names.
+fn is_kept(mask: u16, after: usize, len: usize, i: usize) -> bool
+    requires { i < len }
+    ensures { i < after → result ≡ true }
+{
+    if i < after {
+        return true;
+    }
+    let oldest = last_ten(after, len);
+    if i < oldest {
+        mask & 1024 != 0
+    } else {
+        mask & (1 << (i - oldest)) != 0
+    }
+}
+
+impl MemDisk {
+    ghost use Rattle.std.specs.Prelude.{◌≡◌, OnOk, OnErr, is_ok, None, false};
+    ghost use Rattle.std.specs.Prelude.{IfOk};
+    ghost use Rattle.page.specs.History.{KeepsWord, now, Ticks, IsImage, reads};
+    ghost use Rattle.page.specs.Crash.{IsSettled};
+    ghost use Rattle.page.specs.Replay.{blank, apply_some};
+    ghost use Rattle.page.specs.Memory.{memory_history};
+
+    /// A disk of zeros.
+    pub fn new(alloc: Global) -> Self
+        ensures { now (memory_history result) ≡ blank }
+    {
+        MemDisk {
+            alloc,
+            calls: Vec::new(alloc),
+            clock: 0,
+            failures: 0,
+            ended: false,
+        }
+    }
+
+    /// The number of calls of the disk so far, which is its clock.
+    pub fn calls(&self) -> u64
+        ensures { result ≡ (memory_history self.now).clock }
+    {
+        self.clock
+    }
+
+    /// The disk that a crash may leave, all of it synced. Bit i of the mask says whether the i-th of the last ten
+    /// pending writes lands, the oldest of them first, and bit 10 whether the earlier ones do.
+    pub fn image(&self, mask: u16) -> Result<MemDisk, AllocError>
+        ensures image { IfOk result (λ disk. IsImage (now (memory_history self.now)) (reads (now (memory_history disk)))) }
+        ensures synced { IfOk result (λ disk. IsSettled (now (memory_history disk))) }
+    {
+        let after = after_sync(&self.calls);
+        let mut calls = Vec::new(self.alloc);
+        for (i, call) in self.calls.iter().enumerate() {
+            if is_kept(mask, after, self.calls.len(), i) {
+                calls.push(Call {
+                    moment: 0,
+                    step: call.step,
+                })?;
+            }
+        }
+        calls.push(Call {
+            moment: 0,
+            step: Step::Sync,
+        })?;
+        Ok(MemDisk {
+            alloc: self.alloc,
+            calls,
+            clock: 0,
+            failures: 0,
+            ended: false,
+        })
+    }
+
+    /// A call that fails, and does nothing else.
+    pub(crate) fn fail(&mut self)
+        ensures time { Ticks (memory_history self.old) (memory_history self.new) false }
+        ensures same { KeepsWord (memory_history self.new) → now (memory_history self.new) ≡ now (memory_history self.old) }
+    {
+        if self.clock == u64::MAX {
+            self.ended = true;
+        } else {
+            self.clock += 1;
+            self.failures += 1;
+        }
+    }
+
+    // One call: counts it, and records its step.
+    fn advance(&mut self, step: Option<Step>) -> Result<(), DeviceFault>
+        ensures time { Ticks (memory_history self.old) (memory_history self.new) (is_ok result) }
+        ensures ok { OnOk result (now (memory_history self.new) ≡ apply_some step (now (memory_history self.old))) }
+        ensures err { KeepsWord (memory_history self.new) → OnErr result (now (memory_history self.new) ≡ now (memory_history self.old)) }
+        ensures calls { step ≡ None → self.new.calls.items ≡ self.old.calls.items }
+    {
+        if self.clock == u64::MAX {
+            self.ended = true;
+            return Err(DeviceFault);
+        }
+        self.clock += 1;
+        let Some(step) = step else {
+            return Ok(());
+        };
+        let call = Call {
+            moment: self.clock,
+            step,
+        };
+        if self.calls.push(call).is_err() {
+            self.failures += 1;
+            return Err(DeviceFault);
+        }
+        Ok(())
+    }
+}
+
+impl Disk for MemDisk {
+    ghost use Rattle.page.specs.Memory.{memory_history};
+
+    ghost history = { memory_history };
+
+    fn read(&mut self, sector: u64, bytes: &mut [u8; 512]) -> Result<(), DeviceFault> {
+        self.advance(None)?;
+        read_back(&self.calls, sector, bytes);
+        Ok(())
+    }
+
+    fn write(&mut self, sector: u64, bytes: &[u8; 512]) -> Result<(), DeviceFault> {
+        self.advance(Some(Step::Write(sector, *bytes)))
+    }
+
+    fn sync(&mut self) -> Result<(), DeviceFault> {
+        self.advance(Some(Step::Sync))
+    }
+}

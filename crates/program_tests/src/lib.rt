@@ -1,0 +1,7 @@
+//! What the program says and writes: its words, its statuses, and its faults.
+#![tactic(auto)]
+
+#[cfg(test)]
+mod devices;
+#[cfg(test)]
+mod endings;

@@ -1,0 +1,9 @@
+pub mod CommitSteps
+pub mod FreePages
+pub mod Images
+pub mod Links
+pub mod OpenSteps
+pub mod OpeningRules
+pub mod ReadSteps
+pub mod ReplaceSteps
+pub mod WriteSteps

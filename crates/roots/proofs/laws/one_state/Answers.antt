@@ -1,0 +1,5 @@
+use Rattle.roots.proofs.OpenSteps as steps
+use Rattle.roots.proofs.laws.one_state.Goals as goal
+
+pub returns : goal.returns
+returns c = steps.one_state

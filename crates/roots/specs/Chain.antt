@@ -1,0 +1,50 @@
+-- A chain of pages. Its first page is named from outside, each page names the one that goes on, and the last names
+-- page 0. The bytes of the chain are those of its pages, in order.
+use Rattle.std.specs.Prelude.{◌≡◌, ◌⊎◌, ℕ, ◌<◌, List, [], ◌∷◌, ◌++◌, Result, Ok, Err}
+use Rattle.std.specs.List.{AllByRecursion}
+use Rattle.page.specs.Page.{page_at, IsSectorOf}
+use Rattle.page.specs.Format.{Content, chain, Sheet, sheet_in}
+use Rattle.page.specs.declared.image.PageFault.{PageFault}
+
+-- what a page of the image holds, in a file whose root has this generation
+abbrev pub sheet_at : (ℕ → List ℕ) → ℕ → ℕ → Result Sheet PageFault
+sheet_at image generation page = sheet_in page generation (page_at image page)
+
+abbrev pub next_of : Content → ℕ
+next_of (chain next bytes) = next
+
+abbrev pub bytes_of : Content → List ℕ
+bytes_of (chain next bytes) = bytes
+
+-- the pages lead from the first one to the one that the last of them names
+abbrev pub IsPath : (ℕ → List ℕ) → ℕ → ℕ → List ℕ → ℕ → Type 0
+IsPath image generation first [] end = first ≡ end
+IsPath image generation first (page ∷ pages) end =
+    (first ≡ page) × (0 < page) × ((sheet : Sheet) × (sheet_at image generation page ≡ Ok sheet) × IsPath image generation (next_of sheet.content) pages end)
+
+abbrev pub IsChain : (ℕ → List ℕ) → ℕ → ℕ → List ℕ → Type 0
+IsChain image generation first pages = IsPath image generation first pages 0
+
+abbrev pub piece_in : Result Sheet PageFault → List ℕ
+piece_in (Ok sheet) = bytes_of sheet.content
+piece_in (Err fault) = []
+
+-- the bytes of the chain that has these pages
+abbrev pub path_bytes : (ℕ → List ℕ) → ℕ → List ℕ → List ℕ
+path_bytes image generation [] = []
+path_bytes image generation (page ∷ pages) = piece_in (sheet_at image generation page) ++ path_bytes image generation pages
+
+-- the pages rise, from above 0
+abbrev pub AreApart : List ℕ → Type 0
+AreApart [] = Unit {0}
+AreApart (page ∷ pages) = (0 < page) × AllByRecursion (λ other. page < other) pages × AreApart pages
+
+-- one of the pages has this sector
+abbrev pub IsSectorIn : List ℕ → ℕ → Type 0
+IsSectorIn [] k = ⊥
+IsSectorIn (page ∷ pages) k = IsSectorOf page k ⊎ IsSectorIn pages k
+
+-- the page that names such a chain from outside
+abbrev pub first_of : List ℕ → ℕ
+first_of [] = 0
+first_of (page ∷ pages) = page

@@ -1,0 +1,130 @@
+//! The sectors that a commit writes.
+ghost use Rattle.page.specs.Memory.{memory_history};
+ghost use Rattle.roots.specs.Store.{IsSound};
+
+use page::{Disk, MemDisk};
+use roots::{CommitFault, Config, Store};
+use std::process::Abort;
+use std::test::Fail;
+
+const CONFIG: Config = Config { max_pages: 40 };
+
+fn commit(rt: &impl Abort, store: &mut Store<MemDisk>, bytes: &[u8])
+    requires { IsSound memory_history store.old }
+    ensures { IsSound memory_history store.new }
+{
+    let Ok(pages) = store.write_bytes(bytes) else {
+        panic!(rt; "the bytes aren't written");
+    };
+    assert!(rt; store.commit(pages).is_ok());
+}
+
+fn new_store(rt: &(impl Abort + AllocGlobal)) -> Store<MemDisk>
+    ensures { IsSound memory_history result }
+{
+    match Store::open(rt.alloc(), MemDisk::new(rt.alloc()), CONFIG) {
+        Ok(store) => store,
+        Err(_) => panic!(rt; "zeros don't open"),
+    }
+}
+
+fn all_zero(bytes: &[u8]) -> bool {
+    bytes.iter().all(|b| *b == 0)
+}
+
+fn sector(rt: &impl Abort, disk: &mut MemDisk, number: u64) -> [u8; 512] {
+    let mut bytes = [0; 512];
+    assert!(rt; disk.read(number, &mut bytes).is_ok());
+    bytes
+}
+
+/// The first commit: page 1 and the root in sector 1, by nine writes and two syncs.
+#[test]
+fn first_commit(rt: HostRuntime) -> Result<(), Fail> {
+    let mut store = new_store(&rt);
+    commit(&rt, &mut store, &[7; 77]);
+    let mut disk = store.into_disk();
+    // two reads and a sync opened it
+    assert_eq!(rt; disk.calls(), 3 + 9 + 2);
+
+    let root = sector(&rt, &mut disk, 1);
+    assert!(rt; root[..8] == b"DOCPAGE1"[..]);
+    assert!(rt; root[8..16] == [1, 0, 0, 0, 0, 16, 0, 0][..]);
+    assert!(rt; root[16..24] == [1, 0, 0, 0, 0, 0, 0, 0][..]);
+    assert!(rt; root[24..32] == [1, 0, 0, 0, 2, 0, 0, 0][..]);
+    assert!(rt; all_zero(&root[32..]));
+    assert!(rt; sector(&rt, &mut disk, 0) == [0; 512]);
+
+    let page = sector(&rt, &mut disk, 8);
+    assert!(rt; page[..8] == [3, 0, 77, 0, 1, 0, 0, 0][..]);
+    assert!(rt; page[8..20] == [1, 0, 0, 0, 0, 0, 0, 0, 0, 0, 0, 0][..]);
+    assert!(rt; page[20..97] == [7; 77][..]);
+    assert!(rt; all_zero(&page[97..]));
+    assert!(rt; sector(&rt, &mut disk, 15) == [0; 512]);
+    Ok(())
+}
+
+/// The pages of two commits take turns, and the number of pages never falls.
+#[test]
+fn three_commits(rt: HostRuntime) -> Result<(), Fail> {
+    let mut store = new_store(&rt);
+    commit(&rt, &mut store, b"1");
+    commit(&rt, &mut store, b"12");
+    commit(&rt, &mut store, b"123");
+    assert_eq!(rt; store.version(), 3);
+    let Ok(bytes) = store.bytes() else {
+        panic!(&rt; "the bytes aren't read");
+    };
+    assert!(rt; bytes[..] == b"123"[..]);
+    let mut disk = store.into_disk();
+    assert!(rt;
+        sector(&rt, &mut disk, 0)[16..32] == [2, 0, 0, 0, 0, 0, 0, 0, 2, 0, 0, 0, 3, 0, 0, 0][..]
+    );
+    assert!(rt;
+        sector(&rt, &mut disk, 1)[16..32] == [3, 0, 0, 0, 0, 0, 0, 0, 1, 0, 0, 0, 3, 0, 0, 0][..]
+    );
+    Ok(())
+}
+
+/// A chain of two pages: 4,076 bytes in page 1, which names page 2, and the rest there.
+#[test]
+fn two_pages(rt: HostRuntime) -> Result<(), Fail> {
+    let mut store = new_store(&rt);
+    commit(&rt, &mut store, &[9; 5000]);
+    let Ok(bytes) = store.bytes() else {
+        panic!(&rt; "the bytes aren't read");
+    };
+    assert!(rt; bytes[..] == [9; 5000][..]);
+    let mut disk = store.into_disk();
+    assert!(rt;
+        sector(&rt, &mut disk, 8)[..20]
+            == [
+                3, 0, 236, 15, 1, 0, 0, 0, 1, 0, 0, 0, 0, 0, 0, 0, 2, 0, 0, 0
+            ][..]
+    );
+    assert!(rt;
+        sector(&rt, &mut disk, 16)[..20]
+            == [3, 0, 156, 3, 2, 0, 0, 0, 1, 0, 0, 0, 0, 0, 0, 0, 0, 0, 0, 0][..]
+    );
+    Ok(())
+}
+
+/// No pairs have no page, and pages past the limit are Full and change nothing.
+#[test]
+fn limits(rt: HostRuntime) -> Result<(), Fail> {
+    let Ok(mut store) = Store::open(
+        rt.alloc(),
+        MemDisk::new(rt.alloc()),
+        Config { max_pages: 1 },
+    ) else {
+        panic!(&rt; "zeros don't open");
+    };
+    commit(&rt, &mut store, &[]);
+    let Err(fault) = store.write_bytes(&[1; 61_141]) else {
+        panic!(&rt; "sixteen pages hold no more than fifteen");
+    };
+    assert_eq!(rt; fault, CommitFault::Full);
+    commit(&rt, &mut store, &[1; 61_140]);
+    assert_eq!(rt; store.version(), 2);
+    Ok(())
+}

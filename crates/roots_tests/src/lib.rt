@@ -1,0 +1,9 @@
+//! Tests of crate `roots`: its bytes, worked by hand, and its store stopped and failed at each call of the device.
+#![tactic(auto)]
+
+#[cfg(test)]
+mod bytes;
+#[cfg(test)]
+mod faults;
+#[cfg(test)]
+mod opening;

@@ -1,0 +1,119 @@
+//! ping, insert and find over one collection.
+
+use crate::session::Session;
+use by_hand::*;
+use engine::ConnId;
+use server::*;
+use std::alloc::{AllocError, Global};
+use std::test::*;
+
+// {ping: 1, $db: "t"}, number 7, and its reply.
+const PING: [u8; 47] =
+    *b"\x2f\0\0\0\x07\0\0\0\0\0\0\0\xdd\x07\0\0\0\0\0\0\0\x1a\0\0\0\x10ping\0\x01\0\0\0\x02$db\0\x02\0\0\0t\0\0";
+
+const PING_REPLY: [u8; 34] =
+    *b"\x22\0\0\0\x01\0\0\0\x07\0\0\0\xdd\x07\0\0\0\0\0\0\0\x0d\0\0\0\x10ok\0\x01\0\0\0\0";
+
+fn insert(alloc: Global) -> Result<Vec<u8>, AllocError> {
+    let documents = [Bytes::new(alloc).int32("_id", 1)];
+    let body = Bytes::new(alloc)
+        .text("insert", "c")
+        .documents("documents", &documents)
+        .text("$db", "t");
+    frame(alloc, 8, 0, &body)
+}
+
+fn find(alloc: Global) -> Result<Vec<u8>, AllocError> {
+    let body = Bytes::new(alloc).text("find", "c").text("$db", "t");
+    frame(alloc, 9, 0, &body)
+}
+
+fn insert_reply(alloc: Global) -> Result<Vec<u8>, AllocError> {
+    let body = Bytes::new(alloc).int32("n", 1).int32("ok", 1);
+    frame(alloc, 2, 8, &body)
+}
+
+fn find_reply(alloc: Global) -> Result<Vec<u8>, AllocError> {
+    let batch = [Bytes::new(alloc).int32("_id", 1)];
+    let cursor = Bytes::new(alloc)
+        .documents("firstBatch", &batch)
+        .int64("id", 0)
+        .text("ns", "t.c");
+    let body = Bytes::new(alloc).document("cursor", &cursor).int32("ok", 1);
+    frame(alloc, 3, 9, &body)
+}
+
+/// Drives the three frames in chunks of this size, and then four turns: one has no message left.
+fn driven(rt: &HostRuntime, size: usize) -> Result<DriveOut, Fail> {
+    let connection = ConnId::new(0).ok_or("connection 0")?;
+    let mut bytes = PING.to_vec(rt.alloc())?;
+    bytes.extend_from_slice(&insert(rt.alloc())?)?;
+    bytes.extend_from_slice(&find(rt.alloc())?)?;
+    if bytes.len() != 180 {
+        return Err(Fail::from("other frames"));
+    }
+    let mut steps = Vec::new(rt.alloc());
+    for part in bytes.chunks(size.max(1)) {
+        steps.push(Step::Bytes(connection, part.to_vec(rt.alloc())?))?;
+    }
+    for _ in 0..4 {
+        steps.push(Step::Turn)?;
+    }
+    Ok(Core::new(rt.alloc()).drive(rt.alloc(), &steps))
+}
+
+fn is_first_path(rt: &HostRuntime, out: &DriveOut) -> Result<bool, Fail> {
+    let wanted = [
+        PING_REPLY.to_vec(rt.alloc())?,
+        insert_reply(rt.alloc())?,
+        find_reply(rt.alloc())?,
+    ];
+    let same = out.replies.iter().zip(wanted.iter()).all(|((_, found), wanted)| found.as_slice()
+        == wanted.as_slice());
+    Ok(same && out.replies.len() == 3 && out.turns == 4 && out.stopped.is_none())
+}
+
+#[test]
+fn frames_in_one_chunk(rt: HostRuntime) -> Result<(), Fail> {
+    assert_eq!(rt; insert(rt.alloc())?.len(), 84);
+    assert_eq!(rt; find(rt.alloc())?.len(), 49);
+    assert_eq!(rt; insert_reply(rt.alloc())?.len(), 41);
+    assert_eq!(rt; find_reply(rt.alloc())?.len(), 105);
+    let out = driven(&rt, 180)?;
+    assert!(rt; is_first_path(&rt, &out)?);
+    Ok(())
+}
+
+#[test]
+fn frames_byte_by_byte(rt: HostRuntime) -> Result<(), Fail> {
+    let out = driven(&rt, 1)?;
+    assert!(rt; is_first_path(&rt, &out)?);
+    Ok(())
+}
+
+#[test]
+fn ping(rt: HostRuntime) -> Result<(), Fail> {
+    let mut session = Session::new(rt.alloc()).ok_or("no session")?;
+    let reply = session.send(&PING).ok_or("no reply")?;
+    assert_eq!(rt; reply.as_slice(), PING_REPLY.as_slice());
+    Ok(())
+}
+
+#[test]
+fn the_same_number_as_a_long(rt: HostRuntime) -> Result<(), Fail> {
+    let alloc = rt.alloc();
+    let mut session = Session::new(alloc).ok_or("no session")?;
+    let one = [Bytes::new(alloc).int32("_id", 1)];
+    let long = [Bytes::new(alloc).int64("_id", 1)];
+    let first = Bytes::new(alloc)
+        .text("insert", "c")
+        .documents("documents", &one)
+        .text("$db", "t");
+    let second = Bytes::new(alloc)
+        .text("insert", "c")
+        .documents("documents", &long)
+        .text("$db", "t");
+    assert!(rt; session.answers(&first, &Bytes::new(alloc).int32("n", 1).int32("ok", 1)));
+    assert!(rt; session.refuses(&second, 11000));
+    Ok(())
+}

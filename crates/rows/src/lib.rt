@@ -1,0 +1,19 @@
+//! The worked rows of the first path, by public calls: bytes of frames in, bytes of replies out.
+#![tactic(auto)]
+
+#[cfg(test)]
+mod chunks;
+#[cfg(test)]
+mod commands;
+#[cfg(test)]
+mod first_path;
+#[cfg(test)]
+mod ids;
+#[cfg(test)]
+mod limits;
+#[cfg(test)]
+mod names;
+#[cfg(test)]
+mod order;
+#[cfg(test)]
+mod session;

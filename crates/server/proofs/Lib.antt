@@ -1,0 +1,5 @@
+pub mod Histories
+pub mod Places
+pub mod LinkServed
+pub mod LinksServed
+pub mod StreamsTaken

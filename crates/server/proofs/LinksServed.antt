@@ -1,0 +1,109 @@
+-- How the links are served, one after the other.
+use Rattle.std.proofs.Common.{◌≡◌, ℕ, zero, suc, ◌+◌, ◌<◌, List, [], ◌∷◌, ◌++◌, length, take, drop, get_or, set, refl, sym, ◌∙◌, ap, subst, arith, append_assoc, append-nil}
+use Rattle.std.proofs.lemmas.List.{take_more}
+use Rattle.std.specs.Prelude.{Bool, true, false, ◌&&◌}
+use Rattle.bson.specs.Tree.{Pairs}
+use Rattle.engine.specs.World.{World, forget}
+use Rattle.op_msg.specs.declared.fault.FrameFault.{FrameFault}
+use Rattle.server.specs.Turn.{Call, Runs, frames_of, frame_for, calls, call_at, front_of, link_after, links_after, forget_all, no_memory, refused_calls, refused_frames, faults, fault_at}
+use Rattle.server.specs.Taking.{Serves, refused_at}
+use Rattle.server.specs.declared.link.Link.{Link}
+
+runs_on : (cs ds : List Call) (a b c : World) (rs ss : List Pairs) → Runs a cs rs b → Runs b ds ss c → Runs a (cs ++ ds) (rs ++ ss) c
+runs_on [] ds a b c [] ss h k = subst (λ (w : World). Runs w ds ss c) h k
+runs_on [] ds a b c (r ∷ rs) ss h k = absurd h
+runs_on (x ∷ cs) ds a b c [] ss h k = absurd h
+runs_on (x ∷ cs) ds a b c (r ∷ rs) ss h k = (h.0, h.1, runs_on cs ds h.0 b c rs ss h.2 k)
+
+frames_on : (cs ds : List Call) (a b : World) (rs ss : List Pairs) → Runs a cs rs b → frames_of (cs ++ ds) (rs ++ ss) ≡ frames_of cs rs ++ frames_of ds ss
+frames_on [] ds a b [] ss h = refl
+frames_on [] ds a b (r ∷ rs) ss h = absurd h
+frames_on (x ∷ cs) ds a b [] ss h = absurd h
+frames_on (x ∷ cs) ds a b (r ∷ rs) ss h =
+    ap (λ (fs : List (ℕ × List ℕ)). frame_for x r ++ fs) (frames_on cs ds h.0 b rs ss h.2)
+    ∙ sym (append_assoc (frame_for x r) (frames_of cs rs) (frames_of ds ss))
+
+both : (p q : Bool) → (p && q) ≡ true → (p ≡ true) × (q ≡ true)
+both true q e = (refl, e)
+both false q e = absurd cc
+
+pub serves_on : (cs ds : List Call) (a b c : World) (p q : Bool) (f g h : List (ℕ × List ℕ)) → Serves cs a b p f g → Serves ds b c q g h → Serves (cs ++ ds) a c (p && q) f h
+serves_on cs ds a b c p q f g h s t = record {
+  replies = s.replies ++ t.replies;
+  runs = runs_on cs ds a b c s.replies t.replies s.runs t.runs;
+  frames = λ e.
+      let e2 = both p q e in
+      t.frames e2.1 ∙ ap (λ (fs : List (ℕ × List ℕ)). fs ++ frames_of ds t.replies) (s.frames e2.0)
+      ∙ append_assoc f (frames_of cs s.replies) (frames_of ds t.replies)
+      ∙ ap (λ (fs : List (ℕ × List ℕ)). f ++ fs) (sym (frames_on cs ds a b s.replies t.replies s.runs));
+}
+
+calls_append : (ks ls : List Link) → calls (ks ++ ls) ≡ calls ks ++ calls ls
+calls_append [] ls = refl
+calls_append (k ∷ ks) ls = ap (λ (cs : List Call). call_at k (front_of k) ++ cs) (calls_append ks ls) ∙ sym (append_assoc (call_at k (front_of k)) (calls ks) (calls ls))
+
+pub calls_more : (ls : List Link) (i : ℕ) (d : Link) → i < length ls → calls (take (i + 1) ls) ≡ calls (take i ls) ++ call_at (get_or ls i d) (front_of (get_or ls i d))
+calls_more ls i d within =
+    ap calls (take_more ls i d within) ∙ calls_append (take i ls) (get_or ls i d ∷ []) ∙ ap (λ (cs : List Call). calls (take i ls) ++ cs) (append-nil (call_at (get_or ls i d) (front_of (get_or ls i d))))
+
+-- one link more
+pub record Stepped (now first : List Link) (i : ℕ) (x : Link) : Type 0 where
+  pub done : take (suc i) now ≡ links_after (take (suc i) first)
+  pub left : drop (suc i) now ≡ drop (suc i) first
+  pub same : x ≡ get_or first i x
+  pub within : i < length first
+
+head_is : (x y : Link) (xs ys : List Link) → x ∷ xs ≡ y ∷ ys → x ≡ y
+head_is x y xs ys e = cc
+
+tail_is : (x y : Link) (xs ys : List Link) → x ∷ xs ≡ y ∷ ys → xs ≡ ys
+tail_is x y xs ys e = cc
+
+pub links_step : (now first : List Link) (i : ℕ) (x new : Link) → i < length now → take i now ≡ links_after (take i first) → drop i now ≡ drop i first → x ≡ get_or now i x → new ≡ link_after x → Stepped (set now i new) first i x
+links_step [] first i x new within t d e n = absurd (omega arith)
+links_step (m ∷ ms) [] zero x new within t d e n = absurd cc
+links_step (m ∷ ms) [] (suc i) x new within t d e n = absurd cc
+links_step (m ∷ ms) (f ∷ fs) zero x new within t d e n = record {
+  done = λ k. (n ∙ ap link_after (e ∙ head_is m f ms fs d)) k ∷ [];
+  left = tail_is m f ms fs d;
+  same = e ∙ head_is m f ms fs d;
+  within = omega arith;
+}
+links_step (m ∷ ms) (f ∷ fs) (suc i) x new within t d e n =
+    let s = links_step ms fs i x new (omega arith) (tail_is m (link_after f) (take i ms) (links_after (take i fs)) t) d e n in
+    record {
+      done = λ k. head_is m (link_after f) (take i ms) (links_after (take i fs)) t k ∷ s.done k;
+      left = s.left;
+      same = s.same;
+      within = omega (arith, s.within);
+    }
+
+-- ---- connections that a fault closed
+
+forget_all_append : (w : World) (fs gs : List (ℕ × FrameFault)) → forget_all w (fs ++ gs) ≡ forget_all (forget_all w fs) gs
+forget_all_append w [] gs = refl
+forget_all_append w (f ∷ fs) gs = forget_all_append (forget w f.0) fs gs
+
+pub forget_all_more : (w : World) (fs : List (ℕ × FrameFault)) (i : ℕ) (d : ℕ × FrameFault) → i < length fs → forget_all w (take (i + 1) fs) ≡ forget (forget_all w (take i fs)) (get_or fs i d).0
+forget_all_more w fs i d within = ap (forget_all w) (take_more fs i d within) ∙ forget_all_append w (take i fs) (get_or fs i d ∷ [])
+
+-- ---- what a turn makes ready
+
+refused_append : (cs ds : List Call) → frames_of (cs ++ ds) (refused_calls (cs ++ ds)) ≡ frames_of cs (refused_calls cs) ++ frames_of ds (refused_calls ds)
+refused_append [] ds = refl
+refused_append (c ∷ cs) ds =
+    ap (λ (fs : List (ℕ × List ℕ)). frame_for c (no_memory c) ++ fs) (refused_append cs ds)
+    ∙ sym (append_assoc (frame_for c (no_memory c)) (frames_of cs (refused_calls cs)) (frames_of ds (refused_calls ds)))
+
+pub refused_more : (ls : List Link) (i : ℕ) (d : Link) → i < length ls → refused_frames (take (i + 1) ls) ≡ refused_frames (take i ls) ++ refused_at (get_or ls i d) (front_of (get_or ls i d))
+refused_more ls i d within =
+    ap (λ (cs : List Call). frames_of cs (refused_calls cs)) (calls_more ls i d within) ∙ refused_append (calls (take i ls)) (call_at (get_or ls i d) (front_of (get_or ls i d)))
+
+faults_append : (ks ls : List Link) → faults (ks ++ ls) ≡ faults ks ++ faults ls
+faults_append [] ls = refl
+faults_append (k ∷ ks) ls =
+    ap (λ (fs : List (ℕ × FrameFault)). fault_at k (front_of k) ++ fs) (faults_append ks ls) ∙ sym (append_assoc (fault_at k (front_of k)) (faults ks) (faults ls))
+
+pub faults_more : (ls : List Link) (i : ℕ) (d : Link) → i < length ls → faults (take (i + 1) ls) ≡ faults (take i ls) ++ fault_at (get_or ls i d) (front_of (get_or ls i d))
+faults_more ls i d within =
+    ap faults (take_more ls i d within) ∙ faults_append (take i ls) (get_or ls i d ∷ []) ∙ ap (λ (fs : List (ℕ × FrameFault)). faults (take i ls) ++ fs) (append-nil (fault_at (get_or ls i d) (front_of (get_or ls i d))))

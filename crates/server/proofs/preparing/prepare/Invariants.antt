@@ -1,0 +1,10 @@
+use Rattle.std.proofs.Common.{◌≡◌, take}
+use Rattle.server.specs.Turn.{faults, refused_frames}
+use Rattle.server.specs.View.{frames_in}
+use Rattle.server.proofs.preparing.prepare.Given as goal
+
+abbrev pub invariant-links : goal.invariant-links
+invariant-links l = record {
+  refusals : frames_in l.prepared.refusals.items ≡ refused_frames (take l.link-index l.links);
+  closed : l.prepared.closed.items ≡ faults (take l.link-index l.links);
+}

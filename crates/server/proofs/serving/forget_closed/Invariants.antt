@@ -1,0 +1,10 @@
+use Rattle.std.proofs.Common.{◌≡◌, take}
+use Rattle.engine.specs.View.{world, begun}
+use Rattle.server.specs.Turn.{forget_all}
+use Rattle.server.proofs.serving.forget_closed.Given as goal
+
+abbrev pub invariant-closed : goal.invariant-closed
+invariant-closed l = record {
+  world_is : world l.engine ≡ forget_all (world l.initial.engine) (take l.connection-index l.closed);
+  idle : begun l.engine ≡ world l.engine;
+}

@@ -1,0 +1,26 @@
+-- A history: a list of chunks of bytes, turns and ends of connections, and what comes of it. Its output for a connection is its
+-- frames in the order in which the turns handed them out.
+use Rattle.std.specs.Prelude.{◌≡◌, ℕ, suc, ◌==◌, if◌then◌else◌, List, [], ◌∷◌, ◌++◌}
+use Rattle.server.specs.Site.{Site, fed, ended}
+use Rattle.server.specs.Turn.{Out, Turns}
+use Rattle.server.specs.declared.step.Step.{Step}
+use Rattle.server.specs.declared.step.Step.TheVariants as steps
+
+-- After these steps the site may be this one, and the frames that were handed out these, each with its connection, in order.
+abbrev pub Happens : Site → List Step → List (ℕ × List ℕ) → Site → Type 0
+Happens site [] given new = (given ≡ []) × (new ≡ site)
+Happens site (steps.Bytes connection chunk ∷ later) given new = Happens (fed site connection chunk.items) later given new
+Happens site (steps.Gone connection ∷ later) given new = Happens (ended site connection) later given new
+Happens site (steps.Turn ∷ later) given new =
+    (mid : Site) × (out : Out) × (others : List (ℕ × List ℕ)) × Turns site out mid × (given ≡ out.replies ++ others) × Happens mid later others new
+
+-- the bytes for a connection
+abbrev pub bytes_to : ℕ → List (ℕ × List ℕ) → List ℕ
+bytes_to connection [] = []
+bytes_to connection (f ∷ fs) = if f.0 == connection then f.1 ++ bytes_to connection fs else bytes_to connection fs
+
+abbrev pub turns_in : List Step → ℕ
+turns_in [] = 0
+turns_in (steps.Turn ∷ later) = suc (turns_in later)
+turns_in (steps.Bytes connection chunk ∷ later) = turns_in later
+turns_in (steps.Gone connection ∷ later) = turns_in later

@@ -1,0 +1,12 @@
+pub mod WorldCode
+pub mod Site
+pub mod Turn
+pub mod History
+pub mod View
+pub mod OneStep
+pub mod Headline
+pub mod Faults
+pub mod Rows
+pub mod Chunks
+pub mod Streams
+pub mod Taking

@@ -1,0 +1,48 @@
+-- What the turns take from one connection, beside the stream of all its bytes. A turn takes the message at the front of the bytes
+-- that no message has taken yet; the law says that these messages, one after the other, are those at the front of the whole
+-- stream, whatever chunks the bytes came in and whenever the turns were made. Where a fault closed the connection, that fault
+-- stands behind them.
+use Rattle.std.specs.Prelude.{◌≡◌, ℕ, List, [], ◌∷◌, ◌++◌, Result, Ok, Err, Option, Some, None}
+use Rattle.op_msg.specs.Frame.{Frame, front}
+use Rattle.op_msg.specs.Stream.{Begins}
+use Rattle.op_msg.specs.declared.fault.FrameFault.{FrameFault}
+use Rattle.server.specs.Site.{add_bytes}
+use Rattle.server.specs.Turn.{front_of, link_after}
+use Rattle.server.specs.declared.link.Link.{Link}
+
+-- what happens to an open connection: bytes come, or a turn is made
+pub data Event : Type 0 where
+  bytes : List ℕ → Event
+  turn : Event
+
+-- the bytes that came
+abbrev pub stream_of : List Event → List ℕ
+stream_of [] = []
+stream_of (bytes chunk ∷ later) = chunk ++ stream_of later
+stream_of (turn ∷ later) = stream_of later
+
+abbrev pub link_over : Link → List Event → Link
+link_over link [] = link
+link_over link (bytes chunk ∷ later) = link_over (add_bytes link link.fault chunk) later
+link_over link (turn ∷ later) = link_over (link_after link) later
+
+abbrev pub message_at : Result (Option (Frame × List ℕ)) FrameFault → List Frame
+message_at (Ok None) = []
+message_at (Ok (Some x)) = x.0 ∷ []
+message_at (Err fault) = []
+
+-- the messages that the turns take
+abbrev pub taken_over : Link → List Event → List Frame
+taken_over link [] = []
+taken_over link (bytes chunk ∷ later) = taken_over (add_bytes link link.fault chunk) later
+taken_over link (turn ∷ later) = message_at (front_of link) ++ taken_over (link_after link) later
+
+-- What follows the messages in the stream: the bytes that no message has taken, or those with the fault at their front.
+abbrev pub IsLeft : Option FrameFault → List ℕ → List ℕ → Type 0
+IsLeft None unread rest = rest ≡ unread
+IsLeft (Some fault) unread rest = front rest ≡ Err fault
+
+abbrev pub TakesTheStream : Type 0
+TakesTheStream = (link : Link) (events : List Event) → link.fault ≡ None →
+    (rest : List ℕ) × Begins (link.frames ++ stream_of events) (taken_over link events) rest
+    × IsLeft (link_over link events).fault (link_over link events).frames rest

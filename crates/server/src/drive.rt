@@ -1,0 +1,80 @@
+//! Whole histories.
+
+ghost use Rattle.std.specs.Prelude.{◌+◌, ◌<◌, ◌^◌};
+ghost use Rattle.server.specs.Headline.{Drives};
+ghost use Rattle.server.specs.OneStep.{Does};
+ghost use Rattle.server.specs.View.{site};
+
+use crate::link::FeedFault;
+use crate::step::Step;
+use crate::turn::{Core, TurnFault};
+use engine::ConnId;
+use std::alloc::Global;
+
+/// Why a run stopped at a step.
+#[derive(Clone, Copy, Debug, PartialEq, Eq)]
+pub enum DriveFault {
+    /// The bytes were not taken, for want of memory. The step changed nothing.
+    Feed(FeedFault),
+    /// The turn took no message. The step changed nothing.
+    Turn(TurnFault),
+    /// The turn answered, and memory ran out for its frames, which are missing.
+    Gather,
+}
+
+/// What a run hands out: the frames in the order of handing out, each with its connection, how many turns answered, and
+/// the step and the fault at which it stopped, if it did.
+#[derive(Drop)]
+pub struct DriveOut {
+    pub replies: Vec<(ConnId, Vec<u8>)>,
+    pub turns: usize,
+    pub stopped: Option<(usize, DriveFault)>,
+}
+
+impl Core {
+    /// Does one step, and puts what a turn hands out at the end.
+    fn do_step(&mut self, step: &Step, out: &mut DriveOut) -> Result<(), DriveFault>
+        requires { out.old.turns + 1 < 2 ^ 64 }
+        ensures { Does (site self.old) step.now out.old result out.new (site self.new) }
+    {
+        match step {
+            Step::Bytes(connection, chunk) => match self.feed(*connection, chunk) {
+                Err(FeedFault::Memory) => Err(DriveFault::Feed(FeedFault::Memory)),
+                Err(FeedFault::Closed) => Ok(()),
+                Ok(()) => Ok(()),
+            },
+            Step::Turn => match self.turn() {
+                Ok(mut turn) => {
+                    out.turns += 1;
+                    if out.replies.append(&mut turn.replies).is_err() {
+                        return Err(DriveFault::Gather);
+                    }
+                    Ok(())
+                }
+                Err(fault) => Err(DriveFault::Turn(fault)),
+            },
+            Step::Gone(connection) => {
+                self.gone(*connection);
+                Ok(())
+            }
+        }
+    }
+
+    /// Drives steps in order. It passes over bytes for a closed connection, and stops at the first other `Err`.
+    pub fn drive(&mut self, alloc: Global, steps: &[Step]) -> DriveOut
+        ensures { Drives (site self.old) steps.now result (site self.new) }
+    {
+        let mut out = DriveOut {
+            replies: Vec::new(alloc),
+            turns: 0,
+            stopped: None,
+        };
+        'steps: for (i, step) in steps.iter().enumerate() {
+            if let Err(fault) = self.do_step(step, &mut out) {
+                out.stopped = Some((i, fault));
+                return out;
+            }
+        }
+        out
+    }
+}

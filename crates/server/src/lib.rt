@@ -1,0 +1,16 @@
+//! The server: bytes in, turns, bytes out.
+#![tactic(auto)]
+
+mod drive;
+pub mod laws;
+mod link;
+mod preparing;
+pub mod program;
+mod serving;
+mod step;
+mod turn;
+
+pub use drive::{DriveFault, DriveOut};
+pub use link::FeedFault;
+pub use step::Step;
+pub use turn::{Core, TurnFault, TurnOut};

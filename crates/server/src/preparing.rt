@@ -1,0 +1,87 @@
+//! What a turn makes ready before it takes a message, so that it can be undone without memory.
+
+ghost use Rattle.std.specs.Prelude.{◌≡◌, ◌++◌, IfOk, OnOk};
+ghost use Rattle.engine.specs.Refusals.{refusal_reply};
+ghost use Rattle.engine.specs.declared.refusal.Refusal.TheVariants.{OutOfMemory};
+ghost use Rattle.op_msg.specs.Request.{head_of, reply_bytes};
+ghost use Rattle.server.specs.Turn.{front_of, faults, fault_at, frame_unless, next_number, refused_frames};
+ghost use Rattle.server.specs.Taking.{refused_at};
+ghost use Rattle.server.specs.View.{frames_in};
+
+use crate::link::{Link, next_number};
+use bson::NoMemory;
+use engine::{ConnId, out_of_memory_bytes};
+use op_msg::{FrameFault, Head, spelled_reply};
+use std::alloc::Global;
+
+/// The frames that a turn hands out if it is undone, and the connections that it closes.
+#[derive(Drop)]
+pub(crate) struct Prepared {
+    pub refusals: Vec<(ConnId, Vec<u8>)>,
+    pub closed: Vec<(ConnId, FrameFault)>,
+}
+
+/// What the message at the front of an open link says of itself.
+fn head_at(link: &Link) -> Result<Option<Head>, FrameFault>
+    ensures { result ≡ head_of (front_of link.now) }
+{
+    if link.fault.is_some() {
+        return Ok(None);
+    }
+    link.frames.head()
+}
+
+/// The frame that says that memory ran out. Its body is ready-made, so a turn that goes well pays for a copy and no more.
+fn no_memory_frame(alloc: Global, number: u32, request_id: u32) -> Result<Vec<u8>, NoMemory>
+    ensures { IfOk result (λ v. v.items ≡ reply_bytes number request_id (refusal_reply OutOfMemory)) }
+{
+    spelled_reply(alloc, number, request_id, out_of_memory_bytes())
+}
+
+/// Puts the frame of a refusal at the end, unless no reply is wanted.
+fn push_refusal(
+    frames: &mut Vec<(ConnId, Vec<u8>)>,
+    link: &Link,
+    head: Head,
+) -> Result<(), NoMemory>
+    ensures { OnOk result (frames_in frames.new.items ≡ frames_in frames.old.items
+        ++ frame_unless head.more_to_come link.now.connection (next_number link.now.last_reply)
+        head.request_id (refusal_reply OutOfMemory)) }
+{
+    if head.more_to_come {
+        return Ok(());
+    }
+    let alloc = *frames.allocator();
+    let frame = no_memory_frame(alloc, next_number(link.last_reply), head.request_id)?;
+    frames.push((link.connection, frame))?;
+    Ok(())
+}
+
+/// Puts a link's part at the end: the refusal of the message at its front, or its fault.
+fn prepare_link(prepared: &mut Prepared, link: &Link) -> Result<(), NoMemory>
+    ensures refusals { OnOk result (frames_in prepared.new.refusals.items
+        ≡ frames_in prepared.old.refusals.items ++ refused_at link.now (front_of link.now)) }
+    ensures closed { OnOk result (prepared.new.closed.items
+        ≡ prepared.old.closed.items ++ fault_at link.now (front_of link.now)) }
+{
+    match head_at(link) {
+        Ok(None) => Ok(()),
+        Ok(Some(head)) => push_refusal(&mut prepared.refusals, link, head),
+        Err(fault) => Ok(prepared.closed.push((link.connection, fault))?),
+    }
+}
+
+/// Makes ready what an undone turn hands out, and the list of the connections that the turn closes.
+pub(crate) fn prepare(alloc: Global, links: &[Link]) -> Result<Prepared, NoMemory>
+    ensures refusals { IfOk result (λ p. frames_in p.refusals.items ≡ refused_frames links.now) }
+    ensures closed { IfOk result (λ p. p.closed.items ≡ faults links.now) }
+{
+    let mut prepared = Prepared {
+        refusals: Vec::new(alloc),
+        closed: Vec::new(alloc),
+    };
+    'links: for link in links {
+        prepare_link(&mut prepared, link)?;
+    }
+    Ok(prepared)
+}

@@ -1,0 +1,10 @@
+pub mod Order
+pub mod KeyText
+pub mod View
+pub mod Writing
+pub mod Laws
+pub mod Wrapped
+pub mod Sorting
+pub mod Coding
+pub mod Total
+pub mod FaultNames

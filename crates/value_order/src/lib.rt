@@ -1,0 +1,15 @@
+//! The order of values, and texts of bytes that order as the values do.
+#![tactic(auto)]
+
+mod class;
+pub mod laws;
+mod order;
+mod texts;
+mod wrapper;
+
+pub use order::compare;
+pub use texts::{Direction, KeyFault, KeyPart, group_text, key_text};
+pub use wrapper::Order;
+
+/// The most bytes of a key text.
+pub const KEY_LIMIT: usize = 500;
