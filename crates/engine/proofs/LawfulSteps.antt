@@ -173,11 +173,11 @@ good_insert w name documents h short = at (is_full w.state name) refl
         → Good (r >>= (λ stored. let x : Result (World × Pairs) Refusal = Ok (record w { state = put_collection (record { name = name; documents = stored }) w.state }, pair (codes "n") (int (length documents)) no_pairs) in x))
     put (Err e) free is = λ x f. absurd cc
     put (Ok stored) free is =
-        let kept = kept_all (documents_of w.state name) documents stored (stored_at w.state name h.kept) is in
+        let kept = kept_all (documents_of w.state name) documents stored (stored_at w.state name h.state.kept) is in
         let new : Collection = record { name = name; documents = stored } in
         let one : IsKept new = record { lawful = record { rising = kept.0; stored = kept.1 }; short = short } in
-        let p = put_kept new w.state h.apart h.kept h.few one free in
-        good_one (record w { state = put_collection new w.state }) (pair (codes "n") (int (length documents)) no_pairs) (record { apart = p.apart; kept = p.kept; few = p.few; cursors = h.cursors }) (insert-sendable (length documents))
+        let p = put_kept new w.state h.state.apart h.state.kept h.state.few one free in
+        good_one (record w { state = put_collection new w.state }) (pair (codes "n") (int (length documents)) no_pairs) (record { state = record { apart = p.apart; kept = p.kept; few = p.few }; cursors = h.cursors }) (insert-sendable (length documents))
 
     at : (b : Bool) → is_full w.state name ≡ b
         → Good (unless b refusals.TooMany (insert_all (documents_of w.state name) documents >>= (λ stored. let x : Result (World × Pairs) Refusal = Ok (record w { state = put_collection (record { name = name; documents = stored }) w.state }, pair (codes "n") (int (length documents)) no_pairs) in x)))
@@ -201,7 +201,7 @@ module _ (w : World) (connection : ℕ) (name : List ℕ) (rest : List Pairs) wh
       at true e = absurd cc
       at false e =
           let same : with_cursor ≡ opened = cc in
-          subst IsLawful same (record { apart = h.apart; kept = h.kept; few = h.few; cursors = All-cons (λ (c : Cursor). All IsStored c.rest) new_cursor w.cursors stored h.cursors })
+          subst IsLawful same (record { state = h.state; cursors = All-cons (λ (c : Cursor). All IsStored c.rest) new_cursor w.cursors stored h.cursors })
 
 module _ (w : World) (connection : ℕ) (name : List ℕ) (batch_size : Option ℕ) where
   abbrev ds : List Pairs
@@ -218,7 +218,7 @@ module _ (w : World) (connection : ℕ) (name : List ℕ) (batch_size : Option �
   good_find h short = at (nat_le (length ds) n) refl
     where
       stored : All IsStored ds
-      stored = (stored_at w.state name h.kept).1
+      stored = (stored_at w.state name h.state.kept).1
 
       small : fits_in (take n ds)
       small = batch_items (unwrap_or batch_size FIRST_BATCH) (BATCH_LIMIT - 5) ds stored

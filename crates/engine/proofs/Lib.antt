@@ -11,3 +11,4 @@ pub mod Bounded
 pub mod LawfulSteps
 pub mod SpelledSizes
 pub mod Replying
+mod Sound

@@ -42,11 +42,15 @@ pub record IsKept (c : Collection) : Type 0 where
   pub lawful : IsCollection c
   pub short : length c.name ≤ NAMESPACE_LIMIT
 
--- What is kept of a world: its collections are in order and within the limits, and a cursor holds stored documents.
+-- What is kept of the collections: they are in order and within the limits.
+pub record IsLawfulState (state : List Collection) : Type 0 where
+  pub apart : AreNamedApart state
+  pub kept : All IsKept state
+  pub few : length state ≤ MOST_COLLECTIONS
+
+-- What is kept of a world: its collections are lawful, and a cursor holds stored documents.
 pub record IsLawful (world : World) : Type 0 where
-  pub apart : AreNamedApart world.state
-  pub kept : All IsKept world.state
-  pub few : length world.state ≤ MOST_COLLECTIONS
+  pub state : IsLawfulState world.state
   pub cursors : All (λ c. All IsStored c.rest) world.cursors
 
 -- a collection is told apart by its namespace and its documents

@@ -10,3 +10,4 @@ pub mod Progress
 pub mod Reading
 pub mod View
 pub mod Laws
+pub mod Durable

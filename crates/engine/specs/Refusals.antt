@@ -25,6 +25,7 @@ row_of refusals.CommandNotFound = row 59 (codes "CommandNotFound") (codes "no su
 row_of refusals.InvalidNamespace = row 73 (codes "InvalidNamespace") (codes "bad collection name")
 row_of refusals.KeyTooLong = row 9001 (codes "KeyTooLong") (codes "key too long")
 row_of refusals.TooMany = row 9002 (codes "TooMany") (codes "too many")
+row_of refusals.Full = row 9003 (codes "Full") (codes "file is full")
 row_of refusals.OutOfMemory = row 9004 (codes "OutOfMemory") (codes "out of memory")
 row_of refusals.BSONObjectTooLarge = row 10334 (codes "BSONObjectTooLarge") (codes "document too large")
 row_of refusals.DuplicateKey = row 11000 (codes "DuplicateKey") (codes "duplicate key")

@@ -17,11 +17,11 @@ reply_of (replies.Done ps) = ps
 reply_of (replies.Refused r) = refusal_reply r
 
 -- No cursor is opened yet, so there are none and the next number is the first.
-abbrev pub world : Engine → World
+abbrev pub world : {D : Type 0} → Engine D → World
 world engine = record { state = engine.collections.now; cursors = []; next = 1; touched = [] }
 
 -- the world as it was at the beginning of the turn
-abbrev pub begun : Engine → World
+abbrev pub begun : {D : Type 0} → Engine D → World
 begun engine = record { state = begun_of engine.collections; cursors = []; next = 1; touched = [] }
 
 -- the reply is within the limit of replies

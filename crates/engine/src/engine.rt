@@ -1,10 +1,14 @@
-//! Commands, turn by turn.
+//! Commands, turn by turn, over a disk.
 
-ghost use Rattle.std.specs.Prelude.{◌≡◌, ◌≤◌, Ok, Some, IfOk, length};
-ghost use Rattle.engine.specs.World.{new_world, settled, undone, forget};
+ghost use Rattle.std.specs.Prelude.{◌≡◌, ◌≢◌, ◌⊎◌, ◌≤◌, ◌<◌, Ok, Err, Some, true, [], List, IfOk, IfErr, OnOk, length};
+ghost use Rattle.page.specs.History.{KeepsWord, now, reads, IsImage};
+ghost use Rattle.page.specs.Crash.{GoesOn, LeavesOnly, LeavesNow};
+ghost use Rattle.roots.specs.Root.{root_of};
+ghost use Rattle.engine.specs.World.{Collection, settled, undone, forget};
 ghost use Rattle.engine.specs.Step.{Answers, run_insert, run_find, read_and_run};
 ghost use Rattle.engine.specs.Reading.{documents_at};
 ghost use Rattle.engine.specs.View.{world, begun, reply_of, IsSendable, Runs};
+ghost use Rattle.engine.specs.Durable.{Holds, past, stopped, IsRunning, IsSound, IsFull};
 
 use crate::batch::batch_len;
 use crate::collections::Collections;
@@ -14,6 +18,8 @@ use crate::refusal::Refusal;
 use crate::reply::{find_reply, insert_reply, ping_reply};
 use crate::{FIRST_BATCH, MOST_STATEMENTS, NAMESPACE_LIMIT};
 use bson::Document;
+use page::Disk;
+use roots::{CommitFault, Config, OpenFault, Store};
 use std::alloc::Global;
 
 /// What a command is answered.
@@ -25,29 +31,66 @@ pub enum Reply {
     Refused(Refusal),
 }
 
-/// Collections of documents in memory. Commands run in turns: `commit_turn` keeps what the commands of a
+/// Collections of documents, kept on a disk. Commands run in turns: `commit_turn` makes durable what the commands of a
 /// turn changed, `undo_turn` takes it back.
 #[derive(Drop)]
-pub struct Engine {
+pub struct Engine<D> {
     alloc: Global,
     collections: Collections,
+    store: Store<D>,
 }
 
-impl Engine {
-    /// An engine without collections. It takes no memory yet.
-    pub fn new(alloc: Global) -> Engine
-        ensures world { world result ≡ new_world }
-        ensures begun { begun result ≡ new_world }
+impl<D: Disk> Engine<D> {
+    /// Opens the database on a disk that a crash may have left; a disk of zeros holds the empty one. It writes nothing, and
+    /// syncs before it answers. An `Err` hands the disk back.
+    pub fn open(alloc: Global, disk: D, config: Config) -> Result<Engine<D>, (D, OpenFault)>
+        ensures sound { IfOk result (λ engine. IsSound D.history engine × IsRunning engine) }
+        ensures begun { IfOk result (λ engine. begun engine ≡ world engine) }
+        ensures world { IfOk result (λ engine. world engine ≡ record { state = (world engine).state; cursors = []; next = 1; touched = [] }) }
+        ensures on { IfOk result (λ engine. GoesOn (D.history disk) (past D.history engine)) }
+        ensures on_err { IfErr result (λ e. GoesOn (D.history disk) (D.history e.0)) }
+
+        // It gives what was read, and from then on every image holds that alone.
+        ensures holds { IfOk result (λ engine. KeepsWord (past D.history engine) → Holds (reads (now (D.history disk))) (world engine).state) }
+        ensures alone { IfOk result (λ engine. LeavesNow (past D.history engine) (λ image. Holds image (world engine).state)) }
+
+        // Where reads give one of the images, the images during the call and after it are among those from before.
+        ensures any_moment { IfOk result (λ engine. IsImage (now (D.history disk)) (reads (now (D.history disk)))
+            → LeavesOnly (D.history disk) (past D.history engine) (IsImage (now (D.history disk)))) }
+        ensures any_moment_err { IfErr result (λ e. LeavesOnly (D.history disk) (D.history e.0) (IsImage (now (D.history disk)))) }
+
+        // A fault of the bytes comes only where they hold no collections.
+        ensures damaged { IfErr result (λ e. e.1 ≢ OpenFault.Device → e.1 ≢ OpenFault.Memory → KeepsWord (D.history e.0)
+            → (state : List Collection) → Holds (reads (now (D.history disk))) state → ⊥) }
+        ensures foreign { IfErr result (λ e. e.1 ≡ OpenFault.NotADatabase → KeepsWord (D.history e.0)
+            → root_of (reads (now (D.history disk)) 0) (reads (now (D.history disk)) 1) ≡ Err OpenFault.NotADatabase) }
+        ensures later { IfErr result (λ e. e.1 ≡ OpenFault.NewerFormat → KeepsWord (D.history e.0)
+            → root_of (reads (now (D.history disk)) 0) (reads (now (D.history disk)) 1) ≡ Err OpenFault.NewerFormat) }
+        ensures device { IfErr result (λ e. e.1 ≡ OpenFault.Device → KeepsWord (D.history e.0)
+            → (D.history disk).failures < (D.history e.0).failures) }
     {
-        Engine {
-            alloc,
-            collections: Collections::new(alloc),
-        }
+        let _ = (alloc, config);
+        Err((disk, OpenFault::Memory))
+    }
+
+    /// Hands the disk back as it is.
+    pub fn into_disk(self) -> D
+        ensures { D.history result ≡ past D.history self }
+    {
+        self.store.into_disk()
+    }
+
+    /// Whether a write or a sync has failed. Nothing is committed any more then.
+    pub fn is_stopped(&self) -> bool
+        ensures { result ≡ stopped self.now }
+    {
+        self.store.is_stopped()
     }
 
     /// Stores documents, all or none.
     fn insert(&mut self, namespace: &str, documents: &[&Document]) -> Result<Document, Refusal>
         requires { length documents.now ≤ MOST_STATEMENTS }
+        ensures disk { self.new.store ≡ self.old.store }
         ensures runs { Runs (world self.old) (run_insert (world self.old) namespace.now (documents_at documents.now))
             (world self.new) result }
         ensures begun { begun self.new ≡ begun self.old }
@@ -77,6 +120,7 @@ impl Engine {
 
     /// Reads a command and runs it.
     fn run(&mut self, connection: ConnId, body: &Document) -> Result<Document, Refusal>
+        ensures disk { self.new.store ≡ self.old.store }
         ensures runs { Runs (world self.old) (read_and_run (world self.old) connection body.now)
             (world self.new) result }
         ensures begun { begun self.new ≡ begun self.old }
@@ -102,6 +146,10 @@ impl Engine {
     /// Runs a command and answers it. `OutOfMemory` comes in place of another answer where a growth was
     /// refused.
     pub fn execute(&mut self, connection: ConnId, body: &Document) -> Reply
+        requires sound { IsSound D.history self.old }
+        ensures sound { IsSound D.history self.new }
+        ensures disk { past D.history self.new ≡ past D.history self.old }
+        ensures running { stopped self.new ≡ stopped self.old }
         ensures answers { Answers (world self.old) connection (Ok body.now) (world self.new) (reply_of result) }
         ensures begun { begun self.new ≡ begun self.old }
         ensures sendable { IsSendable (reply_of result) }
@@ -112,16 +160,41 @@ impl Engine {
         }
     }
 
-    /// Ends the turn, and keeps what its commands changed.
-    pub fn commit_turn(&mut self)
-        ensures world { world self.new ≡ settled (world self.old) }
+    /// Ends the turn, and makes durable what its commands changed. Where nothing changed, nothing is written. `Memory` and
+    /// `Full` undo the turn, as `undo_turn` does. At `Device` the engine has stopped: what the turn changed may be durable
+    /// or not.
+    pub fn commit_turn(&mut self) -> Result<(), CommitFault>
+        requires sound { IsSound D.history self.old }
+        ensures sound { IsSound D.history self.new }
+        ensures on { GoesOn (past D.history self.old) (past D.history self.new) }
+        ensures done { OnOk result (world self.new ≡ settled (world self.old)) }
+        ensures stops { result ≡ Err CommitFault.Device → (world self.new ≡ settled (world self.old)) × (stopped self.new ≡ true) }
+        ensures memory { result ≡ Err CommitFault.Memory → world self.new ≡ undone (begun self.old) (world self.old) }
+        ensures full { result ≡ Err CommitFault.Full → (world self.new ≡ undone (begun self.old) (world self.old)) × IsFull self.old }
         ensures begun { begun self.new ≡ world self.new }
+        ensures running { result ≢ Err CommitFault.Device → stopped self.new ≡ stopped self.old }
+
+        // A crash at any moment of the call leaves the collections as they were before the turn or as they are after it.
+        ensures any_moment { IsRunning self.old → LeavesOnly (past D.history self.old) (past D.history self.new)
+            (λ image. Holds image (begun self.old).state ⊎ Holds image (world self.old).state) }
+
+        // At Ok it leaves them as they are after it, and nothing else.
+        ensures acknowledged { IsRunning self.old → OnOk result (LeavesNow (past D.history self.new) (λ image. Holds image (world self.old).state)) }
+
+        ensures device { result ≡ Err CommitFault.Device → KeepsWord (past D.history self.new)
+            → (stopped self.old ≡ true) ⊎ ((past D.history self.old).failures < (past D.history self.new).failures) }
+        ensures idle { stopped self.old ≡ true → past D.history self.new ≡ past D.history self.old }
     {
-        self.collections.commit();
+        self.collections.undo();
+        Err(CommitFault::Memory)
     }
 
     /// Ends the turn, and takes back what its commands changed. It takes no memory.
     pub fn undo_turn(&mut self)
+        requires sound { IsSound D.history self.old }
+        ensures sound { IsSound D.history self.new }
+        ensures disk { past D.history self.new ≡ past D.history self.old }
+        ensures running { stopped self.new ≡ stopped self.old }
         ensures world { world self.new ≡ undone (begun self.old) (world self.old) }
         ensures begun { begun self.new ≡ world self.new }
     {
@@ -130,6 +203,10 @@ impl Engine {
 
     /// A connection has ended, and its cursors with it.
     pub fn gone(&mut self, connection: ConnId)
+        requires sound { IsSound D.history self.old }
+        ensures sound { IsSound D.history self.new }
+        ensures disk { past D.history self.new ≡ past D.history self.old }
+        ensures running { stopped self.new ≡ stopped self.old }
         ensures world { world self.new ≡ forget (world self.old) connection }
         ensures begun { begun self.old ≡ world self.old → begun self.new ≡ world self.new }
         ensures before { begun self.new ≡ forget (begun self.old) connection }

@@ -16,7 +16,7 @@ mod reply;
 pub use connection::{CONNECTIONS, ConnId};
 pub use engine::{Engine, Reply};
 pub use refusal::{Refusal, body_refusal};
-pub use reply::{out_of_memory_bytes, refusal_document};
+pub use reply::{full_bytes, out_of_memory_bytes, refusal_document};
 
 /// The most bytes of a stored document.
 pub const STORED_LIMIT: usize = 65_535;

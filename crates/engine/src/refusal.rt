@@ -32,6 +32,8 @@ pub enum Refusal {
     KeyTooLong,
     /// More documents, cursors or collections than there may be.
     TooMany,
+    /// The file has no room, or no commit can follow.
+    Full,
     /// Memory ran out.
     OutOfMemory,
     /// A stored document above the limit.
@@ -71,6 +73,7 @@ impl Refusal {
             Refusal::InvalidNamespace => (73, "InvalidNamespace", "bad collection name"),
             Refusal::KeyTooLong => (9001, "KeyTooLong", "key too long"),
             Refusal::TooMany => (9002, "TooMany", "too many"),
+            Refusal::Full => (9003, "Full", "file is full"),
             Refusal::OutOfMemory => (9004, "OutOfMemory", "out of memory"),
             Refusal::BSONObjectTooLarge => (10334, "BSONObjectTooLarge", "document too large"),
             Refusal::DuplicateKey => (11000, "DuplicateKey", "duplicate key"),

@@ -135,3 +135,16 @@ pub fn out_of_memory_bytes() -> &'static [u8]
         \x02codeName\0\x0c\0\0\0OutOfMemory\0\
         \0"
 }
+
+/// The bytes of the document that says that the file is full.
+#[tactic(auto, unfolding(bson::specs::Spelling::tree_bytes, bson::specs::Spelling::pairs_bytes))]
+pub fn full_bytes() -> &'static [u8]
+    ensures { result.now ≡ framed (pairs_bytes (refusal_reply Refusal.Full)) }
+{
+    b"\x43\0\0\0\
+        \x10ok\0\0\0\0\0\
+        \x02errmsg\0\x0d\0\0\0file is full\0\
+        \x10code\0\x2b\x23\0\0\
+        \x02codeName\0\x05\0\0\0Full\0\
+        \0"
+}

@@ -1,5 +1,5 @@
 -- What a store keeps on its disk.
-use Rattle.std.specs.Prelude.{◌≡◌, ℕ, ◌+◌, ◌*◌, ◌<◌, ◌≤◌, max, List, length, false}
+use Rattle.std.specs.Prelude.{◌≡◌, ℕ, ◌+◌, ◌*◌, ◌<◌, ◌≤◌, max, Bool, List, length, false}
 use Rattle.std.specs.List.{AllByRecursion}
 use Rattle.page.specs.History.{History, KeepsWord, now, reads}
 use Rattle.page.specs.Crash.{Settled}
@@ -14,9 +14,13 @@ use Rattle.roots.specs.declared.store.Store.{Store}
 abbrev pub past : {D : Type 0} → (D → History) → Store D → History
 past history store = history store.disk
 
+-- a write or a sync of the store's has failed
+abbrev pub is_stopped : {D : Type 0} → Store D → Bool
+is_stopped store = store.stopped
+
 -- no write and no sync of the store's has failed
 abbrev pub IsRunning : {D : Type 0} → Store D → Type 0
-IsRunning store = store.stopped ≡ false
+IsRunning store = is_stopped store ≡ false
 
 -- what reads of the store's disk give
 abbrev pub reads_of : {D : Type 0} → (D → History) → Store D → ℕ → List ℕ

@@ -7,7 +7,7 @@ ghost use Rattle.roots.specs.Image.{HasRoot, StandsFor};
 ghost use Rattle.roots.specs.declared.root.Root.{Root};
 ghost use Rattle.roots.specs.declared.store.CommitFault.TheVariants.{Memory};
 ghost use Rattle.roots.specs.Chain.{first_of};
-ghost use Rattle.roots.specs.Store.{IsTooLong, pages_of, IsSound, IsRunning, IsWritten, past, committed, handed, version_of};
+ghost use Rattle.roots.specs.Store.{IsTooLong, is_stopped, pages_of, IsSound, IsRunning, IsWritten, past, committed, handed, version_of};
 
 use crate::chain::write_chain;
 use crate::free::{ChainPages, take};
@@ -172,6 +172,13 @@ impl<D: Disk> Store<D> {
         ensures { result ≡ version_of self.now }
     {
         self.root.generation
+    }
+
+    /// Whether a write or a sync has failed. A stopped store commits nothing any more.
+    pub fn is_stopped(&self) -> bool
+        ensures { result ≡ is_stopped self.now }
+    {
+        self.stopped
     }
 
     /// Reads the bytes that were committed last.

@@ -1,5 +1,19 @@
 use Rattle.engine.proofs.SpelledSizes.{refusal-sendable}
+use Rattle.engine.proofs.Sound.{keeps_sound, runs_lawful}
+use Rattle.engine.specs.View.{world}
 use Rattle.engine.proofs.engine.Engine.execute.Goals as goal
 
 pub returns-in-Err-clause-sendable : goal.returns-in-Err-clause-sendable
-returns-in-Err-clause-sendable c = refusal-sendable c.in-Err.refusal
+returns-in-Err-clause-sendable g c = refusal-sendable c.in-Err.refusal
+
+pub returns-in-Ok-clause-sound : goal.returns-in-Ok-clause-sound
+returns-in-Ok-clause-sound g c =
+    let new = c.run.new.self in
+    keeps_sound g.D.Disk.history c.args.self.now new c.requires.sound c.run.ensures.disk c.run.ensures.begun
+    (runs_lawful (world c.args.self.now).state (world new).state c.args.connection c.args.body.now c.run.result c.requires.sound.lawful c.run.ensures.runs)
+
+pub returns-in-Err-clause-sound : goal.returns-in-Err-clause-sound
+returns-in-Err-clause-sound g c =
+    let new = c.run.new.self in
+    keeps_sound g.D.Disk.history c.args.self.now new c.requires.sound c.run.ensures.disk c.run.ensures.begun
+    (runs_lawful (world c.args.self.now).state (world new).state c.args.connection c.args.body.now c.run.result c.requires.sound.lawful c.run.ensures.runs)

@@ -14,13 +14,13 @@ use Rattle.engine.proofs.SpelledSizes.{batch_items, cursor-sendable}
 use Rattle.engine.proofs.engine.Engine.find.Goals as goal
 
 pub returns-then-batch_len-documents-clause-runs : goal.returns-then-batch_len-documents-clause-runs
-returns-then-batch_len-documents-clause-runs c =
+returns-then-batch_len-documents-clause-runs g c =
     let documents = c.documents-documents.ensures.documents in
     let over = subst (λ (ds : List Pairs). batch_of c.args.most ds < length ds) documents (omega (arith, c.batch_len.ensures, c.if-batch_len-documents.true)) in
     (refl, λ _. run_find-over (world c.args.self.now) c.args.connection c.args.namespace.now c.args.most over)
 
 pub returns-clause-runs : goal.returns-clause-runs
-returns-clause-runs c =
+returns-clause-runs g c =
     let documents = c.documents-documents.ensures.documents in
     let whole = subst (λ (ds : List Pairs). length ds ≤ batch_of c.args.most ds) documents (omega (arith, c.batch_len.ensures, c.if-batch_len-documents.false)) in
     let answer : Pairs → Result (World × Pairs) Refusal = λ d. Ok (world c.args.self.now, d) in
@@ -28,7 +28,7 @@ returns-clause-runs c =
     ap with_ok (run_find-whole (world c.args.self.now) c.args.connection c.args.namespace.now c.args.most whole) ∙ ap answer (sym reply)
 
 pub returns-clause-sendable : goal.returns-clause-sendable
-returns-clause-sendable c =
+returns-clause-sendable g c =
     let ds = c.documents-documents.result.now in
     let whole : length ds ≤ batch_of c.args.most ds = omega (arith, c.batch_len.ensures, c.if-batch_len-documents.false) in
     let small : length (items_bytes 0 (items_of_documents (take (batch_of c.args.most ds) ds))) ≤ max (BATCH_LIMIT - 5) (STORED_LIMIT + 3) = batch_items c.args.most (BATCH_LIMIT - 5) ds c.documents-documents.ensures.stored in

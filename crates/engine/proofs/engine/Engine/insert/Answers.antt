@@ -14,14 +14,14 @@ use Rattle.engine.proofs.SpelledSizes.{insert-sendable}
 use Rattle.engine.proofs.engine.Engine.insert.Goals as goal
 
 pub returns-in_err-insert-clause-runs : goal.returns-in_err-insert-clause-runs
-returns-in_err-insert-clause-runs c =
+returns-in_err-insert-clause-runs g c =
     let p = err_from_is_err_and c.from_residual-in_err-insert.result c.from_residual-in_err-insert.ensures.1 in
     let same : World = record { state = c.insert.new.self.now; cursors = []; next = 1; touched = [] } in
     let kept : same ≡ world c.args.self.now = ap (λ (q : Progress). let w : World = record { state = q.now; cursors = []; next = 1; touched = [] } in w) c.in_err-insert.ensures.err in
     rw (p.1, p.2) (kept, λ other. run_insert-refused (world c.args.self.now) c.args.namespace.now (documents_at c.args.documents.now) c.in_err-insert.field-0.0 (c.in_err-insert.ensures.does other))
 
 pub returns-clause-runs : goal.returns-clause-runs
-returns-clause-runs c =
+returns-clause-runs g c =
     let new : World = record { state = c.insert.new.self.now; cursors = []; next = 1; touched = [] } in
     let answer : Pairs → Result (World × Pairs) Refusal = λ d. Ok (new, d) in
     let count : length c.args.documents.now ≡ length (documents_at c.args.documents.now) = sym (length-map c.args.documents.now (λ d. d.now)) in
@@ -29,4 +29,4 @@ returns-clause-runs c =
     ap with_ok (run_insert-done (world c.args.self.now) c.args.namespace.now (documents_at c.args.documents.now) c.insert.new.self.now c.in_ok-insert.ensures.does) ∙ ap answer (sym reply)
 
 pub returns-clause-sendable : goal.returns-clause-sendable
-returns-clause-sendable c = subst IsSendable (sym c.in_ok-reply.ensures) (insert-sendable (length c.args.documents.now))
+returns-clause-sendable g c = subst IsSendable (sym c.in_ok-reply.ensures) (insert-sendable (length c.args.documents.now))

@@ -15,10 +15,10 @@ use Rattle.engine.proofs.SpelledSizes.{ping-sendable}
 use Rattle.engine.proofs.engine.Engine.run.Goals as goal
 
 pub returns-in_ok-ping_reply-in-Ping-clause-sendable : goal.returns-in_ok-ping_reply-in-Ping-clause-sendable
-returns-in_ok-ping_reply-in-Ping-clause-sendable c = subst IsSendable (sym c.in_ok-ping_reply-in-Ping.ensures) ping-sendable
+returns-in_ok-ping_reply-in-Ping-clause-sendable g c = subst IsSendable (sym c.in_ok-ping_reply-in-Ping.ensures) ping-sendable
 
 pub returns-in-Find-clause-runs : goal.returns-in-Find-clause-runs
-returns-in-Find-clause-runs c =
+returns-in-Find-clause-runs g c =
     let w = world c.args.self.now in
     let read : Result commands.Command Refusal → Result (World × Pairs) Refusal = λ r. r >>= run w c.args.connection in
     let spelled : read_and_run w c.args.connection c.args.body.now ≡ run_find w c.args.connection (string_bytes c.in-Find.namespace) c.in-Find.batch_size =

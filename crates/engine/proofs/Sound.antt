@@ -1,0 +1,46 @@
+-- What commands, and the ends of turns and connections, keep of an engine.
+use Rattle.std.proofs.Common.{◌≡◌, ℕ, false, List, [], Result, Ok, Err, ap, subst, sym, arith}
+use Rattle.bson.specs.Tree.{Pairs}
+use Rattle.page.specs.History.{History, KeepsWord}
+use Rattle.page.specs.Crash.{LeavesNow}
+use Rattle.roots.specs.Store as stores
+use Rattle.roots.specs.declared.store.Store.{Store}
+use Rattle.engine.specs.World.{World, Collection}
+use Rattle.engine.specs.Lawful.{IsLawfulState, IsLawful}
+use Rattle.engine.specs.Step.{read_and_run, step, answered}
+use Rattle.engine.specs.View.{world, begun, with_ok, Runs}
+use Rattle.engine.specs.Durable.{Holds, spelled, IsSound}
+use Rattle.engine.specs.declared.engine.Engine.{Engine}
+use Rattle.engine.specs.declared.refusal.Refusal.{Refusal}
+use Rattle.engine.proofs.LawfulSteps.{steps}
+
+-- the disk stayed as it is, and so did the collections from the beginning of the turn
+pub keeps_sound : {D : Type 0} (history : D → History) (old new : Engine D) → IsSound history old → new.store ≡ old.store → begun new ≡ begun old → IsLawfulState (world new).state → IsSound history new
+keeps_sound {D} history old new h store same lawful = record {
+  store = subst (λ (s : Store D). stores.IsSound history s) (sym store) h.store;
+  lawful = lawful;
+  before = subst (λ (w : World). IsLawfulState w.state) (sym same) h.before;
+  holds = subst (λ (s : Store D). stores.is_stopped s ≡ false → LeavesNow (history s.disk) (λ image. Holds image (begun new).state)) (sym store)
+    (subst (λ (w : World). stores.is_stopped old.store ≡ false → LeavesNow (history old.store.disk) (λ image. Holds image w.state)) (sym same) h.holds);
+  committed = subst (λ (s : Store D). KeepsWord (history s.disk) → stores.is_stopped s ≡ false → stores.committed history s ≡ spelled (begun new).state) (sym store)
+    (subst (λ (w : World). KeepsWord (history old.store.disk) → stores.is_stopped old.store ≡ false → stores.committed history old.store ≡ spelled w.state) (sym same) h.committed);
+}
+
+-- a world without cursors
+abbrev of_state : List Collection → World
+of_state cs = record { state = cs; cursors = []; next = 1; touched = [] }
+
+-- what a command makes of lawful collections is lawful
+pub runs_lawful : (cs ds : List Collection) (connection : ℕ) (body : Pairs) (r : Result Pairs Refusal) → IsLawfulState cs
+    → Runs (of_state cs) (read_and_run (of_state cs) connection body) (of_state ds) r → IsLawfulState ds
+runs_lawful cs ds connection body (Err e) h runs = subst (λ (w : World). IsLawfulState w.state) (sym runs.0) h
+runs_lawful cs ds connection body (Ok reply) h runs =
+    at (read_and_run (of_state cs) connection body) runs (steps (of_state cs) connection (Ok body) (record { state = h; cursors = λ k d below. absurd (omega arith) })).lawful
+  where
+    world_in : Result (World × Pairs) Refusal → World
+    world_in (Ok x) = x.0
+    world_in (Err e) = of_state cs
+
+    at : (planned : Result (World × Pairs) Refusal) → with_ok planned ≡ Ok (of_state ds, reply) → IsLawful (answered (of_state cs) planned).0 → IsLawfulState ds
+    at (Err e) same lawful = absurd cc
+    at (Ok x) same lawful = let there : x.0 ≡ of_state ds = ap world_in same in subst (λ (w : World). IsLawfulState w.state) there lawful.state

@@ -1,0 +1,41 @@
+-- What an engine keeps on its disk.
+use Rattle.std.specs.Prelude.{◌≡◌, ◌⊎◌, ℕ, ◌-◌, ◌^◌, Bool, List, [], length, false}
+use Rattle.page.specs.History.{History, KeepsWord}
+use Rattle.page.specs.Crash.{LeavesNow}
+use Rattle.roots.specs.Image.{StandsFor}
+use Rattle.roots.specs.Store as stores
+use Rattle.engine.specs.World.{Collection}
+use Rattle.engine.specs.Lawful.{IsLawfulState}
+use Rattle.engine.specs.View.{world, begun}
+use Rattle.engine.specs.declared.engine.Engine.{Engine}
+
+abbrev pub spelled : List Collection → List ℕ
+spelled state = []
+
+-- The image holds these collections: they are lawful, and its root names their pairs.
+pub record Holds (image : ℕ → List ℕ) (state : List Collection) : Type 0 where
+  pub lawful : IsLawfulState state
+  pub stands : StandsFor image (spelled state)
+
+-- each moment of the engine's disk so far
+abbrev pub past : {D : Type 0} → (D → History) → Engine D → History
+past history engine = history engine.store.disk
+
+-- a write or a sync of the engine's has failed
+abbrev pub stopped : {D : Type 0} → Engine D → Bool
+stopped engine = stores.is_stopped engine.store
+
+abbrev pub IsRunning : {D : Type 0} → Engine D → Type 0
+IsRunning engine = stopped engine ≡ false
+
+-- Until it stops, every image holds the collections as they were at the beginning of the turn, and no others.
+pub record IsSound {D : Type 0} (history : D → History) (engine : Engine D) : Type 0 where
+  pub store : stores.IsSound history engine.store
+  pub lawful : IsLawfulState (world engine).state
+  pub before : IsLawfulState (begun engine).state
+  pub holds : IsRunning engine → LeavesNow (past history engine) (λ image. Holds image (begun engine).state)
+  pub committed : KeepsWord (past history engine) → IsRunning engine → stores.committed history engine.store ≡ spelled (begun engine).state
+
+-- No commit finds room: the collections are too long for the free pages, or no greater generation is left.
+abbrev pub IsFull : {D : Type 0} → Engine D → Type 0
+IsFull engine = (stores.version_of engine.store ≡ 2 ^ 64 - 1) ⊎ stores.IsTooLong engine.store (length (spelled (world engine).state))
