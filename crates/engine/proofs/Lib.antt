@@ -12,3 +12,4 @@ pub mod LawfulSteps
 pub mod SpelledSizes
 pub mod Replying
 mod Sound
+pub mod Numbers

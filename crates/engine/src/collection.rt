@@ -10,10 +10,11 @@ use bson::{Document, NoMemory};
 use std::alloc::Global;
 use std::marker::Model;
 
-/// A namespace with its documents, in rising order of `_id`.
+/// A namespace with its documents, in rising order of `_id`, and the number that they are kept under.
 #[derive(Drop)]
 pub(crate) struct Collection {
     namespace: String,
+    number: u32,
     documents: Vec<Document>,
 }
 
@@ -26,20 +27,22 @@ impl Model for Collection {
 
     ghost coded = { collection_code };
 
-    ghost view = { λ a. record { name = string_bytes a.namespace; documents = a.documents.items } };
+    ghost view = { λ a. record { name = string_bytes a.namespace; number = a.number; documents = a.documents.items } };
 
     ghost invariant = { λ a. IsCollection (record {
       name = string_bytes a.namespace;
+      number = a.number;
       documents = a.documents.items;
     }) };
 }
 
 impl Collection {
-    pub(crate) fn new(alloc: Global, namespace: &str) -> Result<Collection, NoMemory>
-        ensures { IfOk result (λ c. c ≡ record { name = namespace.now; documents = [] }) }
+    pub(crate) fn new(alloc: Global, namespace: &str, number: u32) -> Result<Collection, NoMemory>
+        ensures { IfOk result (λ c. c ≡ record { name = namespace.now; number = number; documents = [] }) }
     {
         Ok(Collection {
             namespace: String::from_str(alloc, namespace)?,
+            number,
             documents: Vec::new(alloc),
         })
     }
@@ -48,6 +51,12 @@ impl Collection {
         ensures { result.now ≡ self.now.name }
     {
         self.namespace.as_str()
+    }
+
+    pub(crate) fn number(&self) -> u32
+        ensures { result ≡ self.now.number }
+    {
+        self.number
     }
 
     pub(crate) fn documents(&self) -> &[Document]

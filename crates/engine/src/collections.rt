@@ -4,7 +4,7 @@
 //! it was, and undoing takes no memory.
 
 ghost use Rattle.std.specs.Prelude.{◌≡◌, ◌<◌, ◌≤◌, ◌+◌, [], length, slice_set, All, OnOk, OnErr, IfOk, IfErr};
-ghost use Rattle.engine.specs.World.{documents_of};
+ghost use Rattle.engine.specs.World.{documents_of, uses, unused};
 ghost use Rattle.engine.specs.Lawful.{IsStored};
 ghost use Rattle.engine.specs.Places.{IsNamedAt, collection_at};
 ghost use Rattle.engine.specs.Outcomes.{Does};
@@ -79,6 +79,30 @@ impl Collections {
         }
     }
 
+    /// Whether a collection has this number.
+    fn uses(&self, number: u32) -> bool
+        ensures { result ≡ uses self.now.now number }
+    {
+        self.list
+            .iter()
+            .any(|collection| collection.number() == number)
+    }
+
+    /// The least number from 1 on that no collection has.
+    fn unused(&self) -> u32
+        requires { length self.now.now < MOST_COLLECTIONS }
+        ensures { result ≡ unused self.now.now }
+    {
+        let mut number = 1;
+        'numbers: for _ in 0..self.list.len() {
+            if !self.uses(number) {
+                return number;
+            }
+            number += 1;
+        }
+        number
+    }
+
     /// Where the collection of a namespace stands, which is made where it is missing; `TooMany` where it
     /// would be one too many.
     fn find_or_make(&mut self, namespace: &str) -> Result<usize, Refusal>
@@ -92,7 +116,8 @@ impl Collections {
                 if MOST_COLLECTIONS <= self.list.len() {
                     return Err(Refusal::TooMany);
                 }
-                let collection = Collection::new(*self.list.allocator(), namespace)?;
+                let number = self.unused();
+                let collection = Collection::new(*self.list.allocator(), namespace, number)?;
                 self.changes.reserve(1)?;
                 self.list.insert(at, collection)?;
                 self.changes.push(Change::Made { at }).unwrap();
