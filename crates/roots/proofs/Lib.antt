@@ -3,6 +3,7 @@ pub mod FreePages
 pub mod Images
 pub mod Links
 pub mod OpenSteps
+mod PairSteps
 pub mod OpeningRules
 pub mod ReadSteps
 pub mod ReplaceSteps

@@ -1,6 +1,8 @@
 pub mod Chain
 pub mod Free
 pub mod Image
+pub mod PairLaws
+pub mod Pairs
 pub mod Reading
 pub mod Replace
 pub mod Root
