@@ -1,6 +1,7 @@
 pub mod Chain
 pub mod Free
 pub mod Image
+pub mod Opening
 pub mod PairLaws
 pub mod Pairs
 pub mod Reading
