@@ -4,6 +4,7 @@ pub mod Images
 pub mod Links
 pub mod OpenSteps
 mod PairSteps
+mod RowSteps
 pub mod OpeningRules
 pub mod ReadSteps
 pub mod ReplaceSteps

@@ -4,6 +4,7 @@ pub mod Image
 pub mod Opening
 pub mod PairLaws
 pub mod Pairs
+pub mod PairsLeft
 pub mod Reading
 pub mod Replace
 pub mod Root

@@ -1,9 +1,10 @@
 -- What opening a disk gives.
-use Rattle.std.specs.Prelude.{◌≡◌, ◌≢◌, ℕ, ◌<◌, List, Err}
+use Rattle.std.specs.Prelude.{◌≡◌, ◌≢◌, ◌<◌, List, Err}
 use Rattle.page.specs.History.{History, KeepsWord, now, reads, IsImage}
 use Rattle.page.specs.Crash.{GoesOn, LeavesOnly, LeavesNow}
 use Rattle.roots.specs.Root.{root_of}
-use Rattle.roots.specs.Image.{StandsFor}
+use Rattle.roots.specs.Image.{StandsFor, Holds}
+use Rattle.roots.specs.Pairs.{Pair, SpellsRow}
 use Rattle.roots.specs.Store.{IsSound, IsRunning, past, committed}
 use Rattle.roots.specs.declared.opening.OpenFault.{OpenFault}
 use Rattle.roots.specs.declared.opening.OpenFault.TheVariants as faults
@@ -14,8 +15,9 @@ pub record IsOpened {D : Type 0} (history : D → History) (disk : D) (store : S
   pub sound : IsSound history store
   pub running : IsRunning store
   pub on : GoesOn (history disk) (past history store)
-  -- it gives what was read, and from then on every image stands for that alone
+  -- it gives what was read, a row of pairs, and from then on every image stands for that alone
   pub stands : KeepsWord (past history store) → StandsFor (reads (now (history disk))) (committed history store)
+  pub row : KeepsWord (past history store) → SpellsRow (committed history store)
   pub settled : LeavesNow (past history store) (λ image. image ≡ reads (now (history disk)))
   pub alone : LeavesNow (past history store) (λ image. StandsFor image (committed history store))
   -- where reads give one of the images, the images during the call and after it are among those from before
@@ -26,8 +28,8 @@ pub record IsRefused {D : Type 0} (history : D → History) (disk back : D) (fau
   pub on : GoesOn (history disk) (history back)
   -- the images during the call and after it are among those from before
   pub any_moment : LeavesOnly (history disk) (history back) (IsImage (now (history disk)))
-  -- a fault of the bytes comes only where they stand for nothing
-  pub damaged : fault ≢ faults.Device → fault ≢ faults.Memory → KeepsWord (history back) → (bytes : List ℕ) → StandsFor (reads (now (history disk))) bytes → ⊥
+  -- a fault of the bytes comes only where they hold no pairs
+  pub damaged : fault ≢ faults.Device → fault ≢ faults.Memory → KeepsWord (history back) → (pairs : List Pair) → Holds (reads (now (history disk))) pairs → ⊥
   pub foreign : fault ≡ faults.NotADatabase → KeepsWord (history back) → root_of (reads (now (history disk)) 0) (reads (now (history disk)) 1) ≡ Err faults.NotADatabase
   pub later : fault ≡ faults.NewerFormat → KeepsWord (history back) → root_of (reads (now (history disk)) 0) (reads (now (history disk)) 1) ≡ Err faults.NewerFormat
   pub device : fault ≡ faults.Device → KeepsWord (history back) → (history disk).failures < (history back).failures

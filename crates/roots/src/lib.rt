@@ -12,7 +12,7 @@ mod root;
 mod store;
 
 pub use free::ChainPages;
-pub use laws::{one_pair, one_row, one_state};
+pub use laws::{one_image, one_pair, one_row, one_state};
 pub use opening::OpenFault;
 pub use pairs::{PairList, SplitPair, split_pair};
 pub use root::Root;

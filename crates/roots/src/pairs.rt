@@ -1,9 +1,11 @@
 //! Rows of pairs, and the bytes that spell them.
-ghost use Rattle.std.specs.Prelude.{◌≡◌, ◌≤◌, ◌<◌, ◌+◌, ◌^◌, ℕ, List, [], ◌++◌, length, IfSome, IfNone, OnOk, OnErr, vec_len, vec_capacity};
+ghost use Rattle.std.specs.Prelude.{◌≡◌, ◌≤◌, ◌<◌, ◌+◌, ◌^◌, ℕ, List, [], ◌++◌, length, IfSome, IfNone, OnOk, OnErr, vec_len, vec_capacity, IsTrue, ◌↔◌, option_map};
 ghost use Rattle.std.specs.Int.{w16, w32, to_le_bytes};
-ghost use Rattle.roots.specs.Pairs.{Pair, IsFit, pair_bytes, spelled};
+ghost use Rattle.roots.specs.Pairs.{Pair, IsFit, SpellsRow, pair_bytes, spelled};
+ghost use Rattle.roots.specs.PairsLeft.{IsPairAbove};
 
 use std::alloc::{AllocError, Global};
+use std::cmp::Ordering;
 
 /// The bytes of the two lengths of a pair.
 const LENGTHS: usize = 6;
@@ -51,6 +53,37 @@ pub fn split_pair(bytes: &[u8]) -> Option<SplitPair<'_>>
     }
     let (value, rest) = behind.split_at(value_len);
     Some(SplitPair { key, value, rest })
+}
+
+/// The pair at the front of bytes, where its key is above that of the pair before it.
+fn split_above<'a>(last: Option<&[u8]>, bytes: &'a [u8]) -> Option<SplitPair<'a>>
+    ensures some { IfSome result (λ found. IsPairAbove (option_map (λ key. key.now) last.entry) bytes.now (record { key = found.key.now; value = found.value.now }) found.rest.now) }
+    ensures none { IfNone result ((pair : Pair) (rest : List ℕ) → IsPairAbove (option_map (λ key. key.now) last.entry) bytes.now pair rest → ⊥) }
+{
+    let found = split_pair(bytes)?;
+    match last {
+        None => Some(found),
+        Some(key) => match key.cmp(found.key) {
+            Ordering::Less => Some(found),
+            _ => None,
+        },
+    }
+}
+
+/// Whether bytes spell pairs whose keys rise.
+pub(crate) fn are_rising(bytes: &[u8]) -> bool
+    ensures { IsTrue result ↔ SpellsRow bytes.now }
+{
+    let mut last = None;
+    let mut rest = bytes;
+    while !rest.is_empty() {
+        let Some(found) = split_above(last, rest) else {
+            return false;
+        };
+        last = Some(found.key);
+        rest = found.rest;
+    }
+    true
 }
 
 impl PairList {

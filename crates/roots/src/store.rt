@@ -14,7 +14,7 @@ ghost use Rattle.roots.specs.Store.{IsTooLong, pages_of, IsSound, IsRunning, IsW
 use crate::chain::write_chain;
 use crate::free::{ChainPages, take};
 use crate::opening::{OpenFault, read_root};
-use crate::pairs::PairList;
+use crate::pairs::{PairList, are_rising};
 use crate::reading::{Chain, read_chain};
 use crate::replace::replace;
 use crate::root::{MAX_PAGES, Root};
@@ -138,6 +138,9 @@ impl<D: Disk> Store<D> {
             Ok(chain) => chain,
             Err(fault) => return Err((disk, fault)),
         };
+        if !are_rising(&bytes) {
+            return Err((disk, OpenFault::Damaged));
+        }
         match disk.sync() {
             Ok(()) => {
                 let store = Store {
