@@ -7,3 +7,5 @@ mod bytes;
 mod faults;
 #[cfg(test)]
 mod opening;
+#[cfg(test)]
+mod rows;

@@ -1,4 +1,5 @@
 //! Disks with roots written by hand.
+use crate::rows::row;
 use page::{Disk, MemDisk};
 use roots::{CommitFault, Config, OpenFault, Root, Store};
 use std::process::Abort;
@@ -32,14 +33,12 @@ fn root(generation: u64) -> [u8; 512] {
 
 #[test]
 fn zeros_are_the_empty_database(rt: HostRuntime) -> Result<(), Fail> {
-    let Ok(mut store) = Store::open(rt.alloc(), MemDisk::new(rt.alloc()), CONFIG) else {
+    let opened = Store::open_pairs(rt.alloc(), MemDisk::new(rt.alloc()), CONFIG);
+    let Ok((store, pairs)) = opened else {
         panic!(&rt; "zeros don't open");
     };
     assert_eq!(rt; store.version(), 0);
-    let Ok(bytes) = store.bytes() else {
-        panic!(&rt; "zeros have no bytes");
-    };
-    assert!(rt; bytes.is_empty());
+    assert!(rt; pairs.bytes().is_empty());
     Ok(())
 }
 
@@ -108,7 +107,7 @@ fn the_greatest_generation_is_full(rt: HostRuntime) -> Result<(), Fail> {
         panic!(&rt; "the greatest generation doesn't open");
     };
     assert_eq!(rt; store.version(), u64::MAX);
-    let Err(fault) = store.write_bytes(b"pair") else {
+    let Err(fault) = store.write_image(&row(&rt, b"pair")) else {
         panic!(&rt; "a generation past the greatest");
     };
     assert_eq!(rt; fault, CommitFault::Full);

@@ -5,7 +5,7 @@ use Rattle.roots.specs.Free.{AreFree}
 use Rattle.roots.specs.declared.free.ChainPages.{ChainPages}
 use Rattle.roots.proofs.CommitSteps.{stands_now}
 use Rattle.roots.proofs.WriteSteps.{moments, still_opens, still_chain, still_durable, still_bytes}
-use Rattle.roots.proofs.store.Store.write_bytes.Goals as goal
+use Rattle.roots.proofs.store.Store.write_image.Goals as goal
 
 pub returns-then-self-2-clause-any_moment : goal.returns-then-self-2-clause-any_moment
 returns-then-self-2-clause-any_moment g c running =
