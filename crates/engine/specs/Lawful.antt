@@ -1,5 +1,5 @@
 -- What is kept of stored documents and of collections.
-use Rattle.std.specs.Prelude.{◌≡◌, ℕ, suc, ◌≤◌, false, List, [], ◌∷◌, length, Some, None, All, refl}
+use Rattle.std.specs.Prelude.{◌≡◌, ℕ, suc, ◌≤◌, false, List, [], ◌∷◌, length, Some, None, All, IsUtf8, refl}
 use Rattle.std.specs.List.{AllPairs}
 use Rattle.std.specs.Ordering.{nat_cmp}
 use Rattle.value_order.specs.Order.{compare}
@@ -10,7 +10,7 @@ use Rattle.std.specs.Coded.{Coded, code_by, coded×, coded_ℕ, coded_list}
 use Rattle.std.specs.declared.cmp.Ordering.TheVariants as orders
 use Rattle.bson.specs.Tree.{Pairs}
 use Rattle.bson.specs.TreeCode.{coded_pairs}
-use Rattle.bson.specs.Lawful.{pairs_levels}
+use Rattle.bson.specs.Lawful.{pairs_levels, IsDocument}
 use Rattle.bson.specs.Spelling.{framed, pairs_bytes}
 use Rattle.engine.specs.World.{World, Collection, uses}
 use Rattle.engine.specs.Documents.{pairs_fault, id_first, id_of, key_of}
@@ -32,6 +32,16 @@ IsRising ds = AllPairs (λ d e. compare (key_of d) (key_of e) ≡ orders.Less) d
 pub record IsCollection (c : Collection) : Type 0 where
   pub rising : IsRising c.documents
   pub stored : All IsStored c.documents
+
+-- bytes spell the name and the documents
+pub record IsReadable (c : Collection) : Type 0 where
+  pub name : IsUtf8 c.name
+  pub documents : All IsDocument c.documents
+
+-- what a collection in memory keeps
+pub record IsHeld (c : Collection) : Type 0 where
+  pub lawful : IsCollection c
+  pub readable : IsReadable c
 
 -- collections in rising order of their namespaces, each once
 abbrev pub AreNamedApart : List Collection → Type 0
