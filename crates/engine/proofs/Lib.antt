@@ -13,3 +13,5 @@ pub mod SpelledSizes
 pub mod Replying
 mod Sound
 pub mod Numbers
+pub mod Loops
+pub mod PairSizes

@@ -10,4 +10,5 @@ pub mod Progress
 pub mod Reading
 pub mod View
 pub mod Laws
+pub mod Stored
 pub mod Durable

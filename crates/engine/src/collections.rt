@@ -6,6 +6,7 @@
 ghost use Rattle.std.specs.Prelude.{◌≡◌, ◌<◌, ◌≤◌, ◌+◌, [], length, slice_set, All, OnOk, OnErr, IfOk, IfErr};
 ghost use Rattle.engine.specs.World.{documents_of, uses, unused};
 ghost use Rattle.engine.specs.Lawful.{IsStored};
+ghost use Rattle.engine.specs.Stored.{documents_numbered};
 ghost use Rattle.engine.specs.Places.{IsNamedAt, collection_at};
 ghost use Rattle.engine.specs.Outcomes.{Does};
 ghost use Rattle.engine.specs.Reading.{documents_at};
@@ -55,6 +56,26 @@ impl Collections {
             list: Vec::new(alloc),
             changes: Vec::new(alloc),
         }
+    }
+
+    /// The collections, in rising order of their namespaces.
+    pub(crate) fn list(&self) -> &[Collection]
+        ensures { result.now ≡ self.now.now }
+    {
+        &self.list
+    }
+
+    /// The documents of the collection of a number. A missing one reads as empty.
+    pub(crate) fn documents_numbered(&self, number: u32) -> &[Document]
+        ensures documents { result.now ≡ documents_numbered number self.now.now }
+        ensures stored { All IsStored result.now }
+    {
+        'list: for collection in &self.list {
+            if collection.number() == number {
+                return collection.documents();
+            }
+        }
+        &[]
     }
 
     /// Where the collection of a namespace stands, or where it would stand.

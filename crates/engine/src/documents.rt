@@ -114,7 +114,7 @@ fn check_key(alloc: Global, id: &Value) -> Result<(), Refusal>
 }
 
 /// The `_id` of a document, where it has one that may be stored.
-fn id_of(document: &Document) -> Option<&Value>
+pub(crate) fn id_of(document: &Document) -> Option<&Value>
     ensures { option_map (λ v. tree v.now) result ≡ id_of document.now }
 {
     match document.get(ID) {

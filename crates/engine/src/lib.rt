@@ -8,6 +8,7 @@ mod command;
 mod connection;
 mod documents;
 mod engine;
+mod image;
 pub mod laws;
 mod namespace;
 mod refusal;

@@ -103,6 +103,11 @@ impl PairList {
         PairList { bytes }
     }
 
+    /// Where its memory comes from.
+    pub fn allocator(&self) -> Global {
+        *self.bytes.allocator()
+    }
+
     /// The bytes that spell the row.
     pub fn bytes(&self) -> &[u8]
         ensures { result.now ≡ spelled self.now }
