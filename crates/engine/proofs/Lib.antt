@@ -15,3 +15,4 @@ mod Sound
 pub mod Numbers
 pub mod Loops
 pub mod PairSizes
+pub mod Rising
