@@ -16,3 +16,5 @@ pub mod Numbers
 pub mod Loops
 pub mod PairSizes
 pub mod Rising
+pub mod Saving
+pub mod Ending

@@ -12,3 +12,4 @@ pub mod View
 pub mod Laws
 pub mod Stored
 pub mod Durable
+pub mod Committing

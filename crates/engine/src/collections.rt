@@ -3,7 +3,7 @@
 //! Room for what undoes a change is made before the change. So a growth that is refused leaves all as
 //! it was, and undoing takes no memory.
 
-ghost use Rattle.std.specs.Prelude.{◌≡◌, ◌<◌, ◌≤◌, ◌+◌, [], length, slice_set, All, OnOk, OnErr, IfOk, IfErr};
+ghost use Rattle.std.specs.Prelude.{◌≡◌, ◌<◌, ◌≤◌, ◌+◌, false, [], length, slice_set, All, OnOk, OnErr, IfOk, IfErr};
 ghost use Rattle.engine.specs.World.{documents_of, uses, unused};
 ghost use Rattle.engine.specs.Lawful.{IsStored};
 ghost use Rattle.engine.specs.Stored.{documents_numbered};
@@ -223,6 +223,13 @@ impl Collections {
             self.undo_to(mark);
         }
         outcome
+    }
+
+    /// Whether the turn has changed anything.
+    pub(crate) fn is_changed(&self) -> bool
+        ensures { result ≡ false → self.now.changes ≡ [] }
+    {
+        !self.changes.is_empty()
     }
 
     /// Keeps what the turn changed.

@@ -1,9 +1,12 @@
 //! Commands, turn by turn, over a disk.
 
-ghost use Rattle.std.specs.Prelude.{◌≡◌, ◌≢◌, ◌⊎◌, ◌≤◌, ◌<◌, Ok, Err, Some, true, [], List, IfOk, IfErr, OnOk, length};
+ghost use Rattle.std.specs.Prelude.{◌≡◌, ◌≢◌, ◌⊎◌, ◌≤◌, ◌<◌, Ok, Err, Some, true, [], List, IfOk, IfErr, OnOk, OnErr, length};
 ghost use Rattle.page.specs.History.{KeepsWord, now, reads, IsImage};
 ghost use Rattle.page.specs.Crash.{GoesOn, LeavesOnly, LeavesNow};
 ghost use Rattle.roots.specs.Root.{root_of};
+ghost use Rattle.roots.specs.Pairs.{spelled};
+ghost use Rattle.roots.specs.Store as stores;
+ghost use Rattle.engine.specs.Committing.{Saves, Commits};
 ghost use Rattle.engine.specs.World.{Collection, settled, undone, forget};
 ghost use Rattle.engine.specs.Step.{Answers, run_insert, run_find, read_and_run};
 ghost use Rattle.engine.specs.Reading.{documents_at};
@@ -14,12 +17,13 @@ use crate::batch::batch_len;
 use crate::collections::Collections;
 use crate::command::{Command, read_command};
 use crate::connection::ConnId;
+use crate::image::image_of;
 use crate::refusal::Refusal;
 use crate::reply::{find_reply, insert_reply, ping_reply};
 use crate::{FIRST_BATCH, MOST_STATEMENTS, NAMESPACE_LIMIT};
 use bson::Document;
 use page::Disk;
-use roots::{CommitFault, Config, OpenFault, Store};
+use roots::{CommitFault, Config, OpenFault, PairList, Store};
 use std::alloc::Global;
 
 /// What a command is answered.
@@ -29,6 +33,17 @@ pub enum Reply {
     Done(Document),
     /// The command was refused and changed nothing. `refusal_document` makes the document that says so.
     Refused(Refusal),
+}
+
+/// Commits these pairs.
+fn save<D: Disk>(store: &mut Store<D>, pairs: &PairList) -> Result<(), CommitFault>
+    requires { stores.IsSound D.history store.old }
+    ensures { Saves D.history (spelled pairs.now) result store.old store.new }
+{
+    match store.write_image(pairs) {
+        Ok(pages) => store.commit(pages),
+        Err(fault) => Err(fault),
+    }
 }
 
 /// Collections of documents, kept on a disk. Commands run in turns: `commit_turn` makes durable what the commands of a
@@ -160,6 +175,41 @@ impl<D: Disk> Engine<D> {
         }
     }
 
+    /// Ends the turn as `commit_turn` does.
+    fn settle(&mut self) -> Result<(), CommitFault>
+        requires { IsSound D.history self.old }
+        ensures { Commits D.history result self.old self.new }
+    {
+        if !self.collections.is_changed() {
+            return Ok(());
+        }
+        let pairs = match image_of(self.alloc, &self.collections) {
+            Ok(pairs) => pairs,
+            Err(_) => {
+                self.collections.undo();
+                return Err(CommitFault::Memory);
+            }
+        };
+        match save(&mut self.store, &pairs) {
+            Ok(()) => {
+                self.collections.commit();
+                Ok(())
+            }
+            Err(CommitFault::Device) => {
+                self.collections.commit();
+                Err(CommitFault::Device)
+            }
+            Err(CommitFault::Memory) => {
+                self.collections.undo();
+                Err(CommitFault::Memory)
+            }
+            Err(CommitFault::Full) => {
+                self.collections.undo();
+                Err(CommitFault::Full)
+            }
+        }
+    }
+
     /// Ends the turn, and makes durable what its commands changed. Where nothing changed, nothing is written. `Memory` and
     /// `Full` undo the turn, as `undo_turn` does. At `Device` the engine has stopped: what the turn changed may be durable
     /// or not.
@@ -178,6 +228,10 @@ impl<D: Disk> Engine<D> {
         ensures any_moment { IsRunning self.old → LeavesOnly (past D.history self.old) (past D.history self.new)
             (λ image. Holds image (begun self.old).state ⊎ Holds image (world self.old).state) }
 
+        // Where the turn is undone, it leaves them as they were before, at every moment.
+        ensures kept { IsRunning self.old → result ≢ Err CommitFault.Device → OnErr result (LeavesOnly (past D.history self.old) (past D.history self.new)
+            (λ image. Holds image (begun self.old).state)) }
+
         // At Ok it leaves them as they are after it, and nothing else.
         ensures acknowledged { IsRunning self.old → OnOk result (LeavesNow (past D.history self.new) (λ image. Holds image (world self.old).state)) }
 
@@ -185,8 +239,7 @@ impl<D: Disk> Engine<D> {
             → (stopped self.old ≡ true) ⊎ ((past D.history self.old).failures < (past D.history self.new).failures) }
         ensures idle { stopped self.old ≡ true → past D.history self.new ≡ past D.history self.old }
     {
-        self.collections.undo();
-        Err(CommitFault::Memory)
+        self.settle()
     }
 
     /// Ends the turn, and takes back what its commands changed. It takes no memory.

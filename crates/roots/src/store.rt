@@ -209,6 +209,7 @@ impl<D: Disk> Store<D> {
         ensures device { result ≡ Err CommitFault.Device → KeepsWord (past D.history self.new)
             → (self.old.stopped ≡ true) ⊎ ((past D.history self.old).failures < (past D.history self.new).failures) }
         ensures stops { result ≡ Err CommitFault.Device → self.new.stopped ≡ true }
+        ensures version { version_of self.new ≡ version_of self.old }
         ensures nothing { result ≢ Err CommitFault.Device → OnErr result (self.new ≡ self.old) }
         ensures idle { self.old.stopped ≡ true → self.new ≡ self.old }
     {
