@@ -24,7 +24,7 @@ use Rattle.engine.specs.Refusals.{int, ok_reply}
 use Rattle.engine.specs.Command.{Command, ping, insert as insert_of, find as find_of, command_of, IsBounded}
 use Rattle.engine.specs.Lawful.{IsStored, IsRising, AreNamedApart, AreNumberedApart, IsKept, IsLawfulState, IsLawful}
 use Rattle.engine.specs.Places.{IsGap, collection_at, no_collection}
-use Rattle.engine.specs.Progress.{is_full}
+use Rattle.engine.specs.Progress.{is_full, with_document}
 use Rattle.engine.specs.Step.{items_of_documents, batch_of, cursor_reply, open_cursor, run_insert, run_find, run, answered, step}
 use Rattle.engine.specs.View.{IsSendable}
 use Rattle.engine.specs.declared.refusal.Refusal.{Refusal}
@@ -156,6 +156,40 @@ put_kept new cs h one free numbered = at (located nat_list_cmp_total (λ (c : Co
           numbers = subst AreNumberedApart (sym put) (numbers_set cs t.place new t.within kept_number h.numbers);
           kept = subst (λ (ds : List Collection). All IsKept ds) (sym put) (All-set IsKept cs t.place new one h.kept);
           few = omega (arith, ap length put, length-set cs t.place new, h.few);
+        }
+
+-- a collection without documents beside the others
+pub added_lawful : (new : Collection) (cs : List Collection) → IsLawfulState cs → IsKept new → find_collection cs new.name ≡ None → uses cs new.number ≡ false → length cs < MOST_COLLECTIONS → IsLawfulState (put_collection new cs)
+added_lawful new cs h one none fresh room = at (located nat_list_cmp_total (λ (c : Collection). c.name) cs new.name h.apart)
+  where
+    at : Gap (slice_cmp nat_cmp) (λ (c : Collection). c.name) cs new.name ⊎ There (slice_cmp nat_cmp) (λ (c : Collection). c.name) cs new.name → IsLawfulState (put_collection new cs)
+    at (inl g) =
+        let put : put_collection new cs ≡ insert cs g.0 new = added cs g.0 new.name new g.1 refl in
+        record {
+          apart = subst AreNamedApart (sym put) (rises_insert nat_list_cmp_total (λ (c : Collection). c.name) cs g.0 new h.apart g.1);
+          numbers = subst AreNumberedApart (sym put) (numbers_insert cs g.0 new g.1.within fresh h.numbers);
+          kept = subst (λ (ds : List Collection). All IsKept ds) (sym put) (All-inserted IsKept cs g.0 new g.1.within h.kept one);
+          few = omega (arith, ap length put, length-insert cs g.0 new g.1.within, room);
+        }
+    at (inr t) = let there = found cs t.place new.name h.apart t.within (t.same no_collection) in absurd cc
+
+-- one more document in the collection at a place
+pub grown_lawful : (cs : List Collection) (at : ℕ) (d : Pairs) (grown : Collection) → IsLawfulState cs → at < length cs → with_document (collection_at cs at) d ≡ Ok grown → IsLawfulState (set cs at grown)
+grown_lawful cs at d grown h within e = made (insert_one (collection_at cs at).documents d) refl e
+  where
+    made : (r : Result (List Pairs) Refusal) → insert_one (collection_at cs at).documents d ≡ r → (r >>= (λ stored. Ok (record (collection_at cs at) { documents = stored }))) ≡ Ok grown → IsLawfulState (set cs at grown)
+    made (Err f) is e = absurd cc
+    made (Ok ds) is e =
+        let old = collection_at cs at in
+        let now : record old { documents = ds } ≡ grown = cc in
+        let kept = h.kept at no_collection within in
+        let good = kept_one old.documents d ds (kept.lawful.rising, kept.lawful.stored) is in
+        let one : IsKept grown = subst IsKept now (record { lawful = record { rising = good.0; stored = good.1 }; short = kept.short; least = kept.least; most = kept.most }) in
+        record {
+          apart = apart_set cs at grown within (ap (λ (x : Collection). x.name) (sym now)) h.apart;
+          numbers = numbers_set cs at grown within (ap (λ (x : Collection). x.number) (sym now)) h.numbers;
+          kept = All-set IsKept cs at grown one h.kept;
+          few = omega (arith, length-set cs at grown, h.few);
         }
 
 -- ---- one command

@@ -18,3 +18,7 @@ pub mod PairSizes
 pub mod Rising
 pub mod Saving
 pub mod Ending
+pub mod LoadingNames
+pub mod LoadingSteps
+pub mod LoadingAll
+pub mod OpenSteps

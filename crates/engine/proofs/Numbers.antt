@@ -105,11 +105,11 @@ numbers_set [] i c h e apart = absurd (omega arith)
 numbers_set (d ∷ ds) zero c h e apart = (ap (uses ds) e ∙ apart.0, apart.1)
 numbers_set (d ∷ ds) (suc i) c h e apart = (uses_set ds i c d.number (omega arith) e ∙ apart.0, numbers_set ds i c (omega arith) e apart.1)
 
-neither : (a b : Bool) → (a || b) ≡ false → (a ≡ false) × (b ≡ false)
+pub neither : (a b : Bool) → (a || b) ≡ false → (a ≡ false) × (b ≡ false)
 neither true b e = absurd cc
 neither false b e = (refl, e)
 
-turned : (a b : ℕ) → (a == b) ≡ false → (b == a) ≡ false
+pub turned : (a b : ℕ) → (a == b) ≡ false → (b == a) ≡ false
 turned a b e = grind (arith, nat_tests)
 
 uses_insert : (cs : List Collection) (i : ℕ) (c : Collection) (n : ℕ) → i ≤ length cs → (c.number == n) ≡ false → uses cs n ≡ false → uses (insert cs i c) n ≡ false

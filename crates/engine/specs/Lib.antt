@@ -12,4 +12,6 @@ pub mod View
 pub mod Laws
 pub mod Stored
 pub mod Durable
+pub mod Loading
 pub mod Committing
+pub mod Opening

@@ -3,8 +3,9 @@
 //! Room for what undoes a change is made before the change. So a growth that is refused leaves all as
 //! it was, and undoing takes no memory.
 
-ghost use Rattle.std.specs.Prelude.{◌≡◌, ◌<◌, ◌≤◌, ◌+◌, false, [], length, slice_set, All, OnOk, OnErr, IfOk, IfErr};
-ghost use Rattle.engine.specs.World.{documents_of, uses, unused};
+ghost use Rattle.std.specs.Prelude.{◌≡◌, ◌<◌, ◌≤◌, ◌+◌, false, [], length, slice_set, All, OnOk, OnErr, IfOk, IfErr, IfSome, IfNone, None};
+ghost use Rattle.engine.specs.World.{documents_of, find_collection, uses, unused};
+ghost use Rattle.engine.specs.Loading.{place_numbered, IsAdded};
 ghost use Rattle.engine.specs.Lawful.{IsStored};
 ghost use Rattle.engine.specs.Stored.{documents_numbered};
 ghost use Rattle.engine.specs.Places.{IsNamedAt, collection_at};
@@ -16,7 +17,7 @@ use crate::MOST_COLLECTIONS;
 use crate::collection::Collection;
 use crate::documents::stored;
 use crate::refusal::Refusal;
-use bson::Document;
+use bson::{Document, NoMemory};
 use std::alloc::Global;
 use std::marker::Model;
 
@@ -147,9 +148,38 @@ impl Collections {
         }
     }
 
+    /// Where the collection of a number stands.
+    pub(crate) fn place_numbered(&self, number: u32) -> Option<usize>
+        ensures { result ≡ place_numbered number self.now.now }
+    {
+        self.list
+            .iter()
+            .position(|collection| collection.number() == number)
+    }
+
+    /// Makes a collection that was kept under a number; `None` where there is one of that name or that number, or too many.
+    pub(crate) fn add(&mut self, namespace: &str, number: u32) -> Result<Option<()>, NoMemory>
+        requires { self.old.changes ≡ [] }
+        ensures changes { self.new.changes ≡ [] }
+        ensures added { IfOk result (λ made. IfSome made (λ _. IsAdded namespace.now number self.old.now self.new.now)) }
+        ensures none { IfOk result (λ made. IfNone made (find_collection self.old.now namespace.now ≡ None → uses self.old.now number ≡ false → length self.old.now < MOST_COLLECTIONS → ⊥)) }
+        ensures same { IfOk result (λ made. IfNone made (self.new ≡ self.old)) }
+        ensures err { OnErr result (self.new ≡ self.old) }
+    {
+        let Err(at) = self.place_of(namespace) else {
+            return Ok(None);
+        };
+        if MOST_COLLECTIONS <= self.list.len() || self.uses(number) {
+            return Ok(None);
+        }
+        let collection = Collection::new(*self.list.allocator(), namespace, number)?;
+        self.list.insert(at, collection)?;
+        Ok(Some(()))
+    }
+
     /// Stores a document in the collection at a place; the first refusal of the document otherwise, or
     /// `DuplicateKey`.
-    fn store(&mut self, at: usize, document: &Document) -> Result<(), Refusal>
+    pub(crate) fn store(&mut self, at: usize, document: &Document) -> Result<(), Refusal>
         requires { at < length self.old.now }
         ensures extends { Extends self.old self.new }
         ensures does { Does (with_document (collection_at self.old.now at) document.now)

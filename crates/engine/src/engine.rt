@@ -7,6 +7,7 @@ ghost use Rattle.roots.specs.Root.{root_of};
 ghost use Rattle.roots.specs.Pairs.{spelled};
 ghost use Rattle.roots.specs.Store as stores;
 ghost use Rattle.engine.specs.Committing.{Saves, Commits};
+ghost use Rattle.engine.specs.Opening.{IsOpened, IsRefused};
 ghost use Rattle.engine.specs.World.{Collection, settled, undone, forget};
 ghost use Rattle.engine.specs.Step.{Answers, run_insert, run_find, read_and_run};
 ghost use Rattle.engine.specs.Reading.{documents_at};
@@ -18,6 +19,7 @@ use crate::collections::Collections;
 use crate::command::{Command, read_command};
 use crate::connection::ConnId;
 use crate::image::image_of;
+use crate::loading::load;
 use crate::refusal::Refusal;
 use crate::reply::{find_reply, insert_reply, ping_reply};
 use crate::{FIRST_BATCH, MOST_STATEMENTS, NAMESPACE_LIMIT};
@@ -72,7 +74,8 @@ impl<D: Disk> Engine<D> {
         // Where reads give one of the images, the images during the call and after it are among those from before.
         ensures any_moment { IfOk result (λ engine. IsImage (now (D.history disk)) (reads (now (D.history disk)))
             → LeavesOnly (D.history disk) (past D.history engine) (IsImage (now (D.history disk)))) }
-        ensures any_moment_err { IfErr result (λ e. LeavesOnly (D.history disk) (D.history e.0) (IsImage (now (D.history disk)))) }
+        ensures any_moment_err { IfErr result (λ e. IsImage (now (D.history disk)) (reads (now (D.history disk)))
+            → LeavesOnly (D.history disk) (D.history e.0) (IsImage (now (D.history disk)))) }
 
         // A fault of the bytes comes only where they hold no collections.
         ensures damaged { IfErr result (λ e. e.1 ≢ OpenFault.Device → e.1 ≢ OpenFault.Memory → KeepsWord (D.history e.0)
@@ -84,8 +87,30 @@ impl<D: Disk> Engine<D> {
         ensures device { IfErr result (λ e. e.1 ≡ OpenFault.Device → KeepsWord (D.history e.0)
             → (D.history disk).failures < (D.history e.0).failures) }
     {
-        let _ = (alloc, config);
-        Err((disk, OpenFault::Memory))
+        Engine::open_collections(alloc, disk, config)
+    }
+
+    /// Opens a disk as `open` does.
+    fn open_collections(
+        alloc: Global,
+        disk: D,
+        config: Config,
+    ) -> Result<Engine<D>, (D, OpenFault)>
+        ensures opened { IfOk result (IsOpened D.history disk) }
+        ensures refused { IfErr result (λ e. IsRefused D.history disk e.0 e.1) }
+    {
+        let (store, pairs) = match Store::open_pairs(alloc, disk, config) {
+            Ok(found) => found,
+            Err(refused) => return Err(refused),
+        };
+        match load(alloc, &pairs) {
+            Ok(collections) => Ok(Engine {
+                alloc,
+                collections,
+                store,
+            }),
+            Err(fault) => Err((store.into_disk(), fault)),
+        }
     }
 
     /// Hands the disk back as it is.

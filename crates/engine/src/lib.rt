@@ -9,6 +9,7 @@ mod connection;
 mod documents;
 mod engine;
 mod image;
+mod loading;
 pub mod laws;
 mod namespace;
 mod refusal;
