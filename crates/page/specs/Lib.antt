@@ -1,4 +1,5 @@
 pub mod Crash
+pub mod FaultNames
 pub mod Faulty
 pub mod History
 pub mod Memory

@@ -58,8 +58,12 @@ pub enum CommitFault {
 }
 
 impl CommitFault {
+    ghost use Rattle.roots.specs.FaultNames.{commit_fault_name};
+
     /// The fault's name, as it is printed.
-    pub fn name(self) -> &'static str {
+    pub fn name(self) -> &'static str
+        ensures { result.now ≡ commit_fault_name self }
+    {
         match self {
             CommitFault::Device => "Device",
             CommitFault::Memory => "Memory",
