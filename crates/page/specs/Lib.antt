@@ -2,6 +2,7 @@ pub mod Crash
 pub mod FaultNames
 pub mod Faulty
 pub mod History
+pub mod Kept
 pub mod Memory
 pub mod Nothing
 pub mod Page
