@@ -8,7 +8,7 @@ ghost use Rattle.roots.specs.declared.root.Root.{Root};
 ghost use Rattle.roots.specs.declared.store.CommitFault.TheVariants.{Memory};
 ghost use Rattle.roots.specs.Chain.{first_of};
 ghost use Rattle.roots.specs.Opening.{IsOpened, IsRefused};
-ghost use Rattle.roots.specs.Pairs.{spelled};
+ghost use Rattle.roots.specs.Pairs.{SpellsRow, spelled};
 ghost use Rattle.roots.specs.Store.{AreLeast, IsTooLong, pages_of, reach, IsSound, IsRunning, IsWritten, limit_in, limit_of, past, committed, handed, version_of};
 
 use crate::chain::write_chain;
@@ -129,6 +129,7 @@ impl<D: Disk> Store<D> {
         config: Config,
     ) -> Result<(Store<D>, PairList), (D, OpenFault)>
         ensures opened { IfOk result (λ found. IsOpened D.history disk found.0) }
+        ensures row { IfOk result (λ found. SpellsRow (spelled found.1)) }
         ensures pairs { IfOk result (λ found. KeepsWord (past D.history found.0) → spelled found.1 ≡ committed D.history found.0) }
         ensures limit { IfOk result (λ found. limit_of found.0 ≡ limit_in config) }
         ensures refused { IfErr result (λ e. IsRefused D.history disk e.0 e.1) }

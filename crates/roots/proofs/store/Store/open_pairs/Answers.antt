@@ -91,6 +91,9 @@ returns-in-Ok-sync-clause-opened g c =
       any_moment = λ readable. leaves_call h0 h1 h2 _ (IsImage (now h0)) c.sync.ensures.time (reads_moments h0 h1 only) (λ k image is. subst (IsImage (now h0)) (sym (settled k image is)) readable);
     }
 
+pub returns-in-Ok-sync-clause-row : goal.returns-in-Ok-sync-clause-row
+returns-in-Ok-sync-clause-row g c = subst SpellsRow (c.deref.ensures.value ∙ sym c.from_bytes.ensures) (c.if-not-are_rising.ensures.0 refl)
+
 pub returns-in-Ok-sync-clause-pairs : goal.returns-in-Ok-sync-clause-pairs
 returns-in-Ok-sync-clause-pairs g c k =
     let h0 = g.D.Disk.history c.args.disk in
