@@ -1,4 +1,5 @@
 pub mod Chain
+pub mod FaultNames
 pub mod Free
 pub mod Image
 pub mod Opening

@@ -8,8 +8,8 @@ ghost use Rattle.roots.specs.declared.root.Root.{Root};
 ghost use Rattle.roots.specs.declared.store.CommitFault.TheVariants.{Memory};
 ghost use Rattle.roots.specs.Chain.{first_of};
 ghost use Rattle.roots.specs.Opening.{IsOpened, IsRefused};
-ghost use Rattle.roots.specs.Pairs.{spelled};
-ghost use Rattle.roots.specs.Store.{IsTooLong, is_stopped, pages_of, IsSound, IsRunning, IsWritten, past, committed, handed, version_of};
+ghost use Rattle.roots.specs.Pairs.{SpellsRow, spelled};
+ghost use Rattle.roots.specs.Store.{AreLeast, IsTooLong, is_stopped, pages_of, reach, IsSound, IsRunning, IsWritten, limit_in, limit_of, past, committed, handed, version_of};
 
 use crate::chain::write_chain;
 use crate::free::{ChainPages, take};
@@ -33,8 +33,7 @@ pub struct Config {
 
 impl Config {
     fn limit(self) -> u32
-        ensures least { 1 ≤ result }
-        ensures most { result ≤ 1048576 }
+        ensures { result ≡ limit_in self }
     {
         if self.max_pages < LEAST_LIMIT {
             LEAST_LIMIT
@@ -58,8 +57,12 @@ pub enum CommitFault {
 }
 
 impl CommitFault {
+    ghost use Rattle.roots.specs.FaultNames.{commit_fault_name};
+
     /// The fault's name, as it is printed.
-    pub fn name(self) -> &'static str {
+    pub fn name(self) -> &'static str
+        ensures { result.now ≡ commit_fault_name self }
+    {
         match self {
             CommitFault::Device => "Device",
             CommitFault::Memory => "Memory",
@@ -79,8 +82,7 @@ impl From<AllocError> for CommitFault {
 /// The pages that hold so many bytes.
 fn pages_for(len: usize) -> usize
     ensures enough { len ≤ 4076 * result }
-    ensures needed { 4076 * (result - 1) ≤ len }
-    ensures strictly { 1 ≤ result → 4076 * (result - 1) < len }
+    ensures needed { 4076 * result < len + 4076 }
 {
     let full = len / CHAIN_BYTES;
     if full * CHAIN_BYTES == len {
@@ -127,7 +129,9 @@ impl<D: Disk> Store<D> {
         config: Config,
     ) -> Result<(Store<D>, PairList), (D, OpenFault)>
         ensures opened { IfOk result (λ found. IsOpened D.history disk found.0) }
+        ensures row { IfOk result (λ found. SpellsRow (spelled found.1)) }
         ensures pairs { IfOk result (λ found. KeepsWord (past D.history found.0) → spelled found.1 ≡ committed D.history found.0) }
+        ensures limit { IfOk result (λ found. limit_of found.0 ≡ limit_in config) }
         ensures refused { IfErr result (λ e. IsRefused D.history disk e.0 e.1) }
     {
         let root = match read_root(&mut disk) {
@@ -160,6 +164,7 @@ impl<D: Disk> Store<D> {
     /// Opens a disk as `open_pairs` does.
     pub fn open(alloc: Global, disk: D, config: Config) -> Result<Store<D>, (D, OpenFault)>
         ensures opened { IfOk result (IsOpened D.history disk) }
+        ensures limit { IfOk result (λ store. limit_of store ≡ limit_in config) }
         ensures refused { IfErr result (λ e. IsRefused D.history disk e.0 e.1) }
     {
         match Store::open_pairs(alloc, disk, config) {
@@ -204,6 +209,9 @@ impl<D: Disk> Store<D> {
         ensures same { KeepsWord (past D.history self.new) → OnOk result (committed D.history self.new ≡ committed D.history self.old) }
         ensures written { IfOk result (IsWritten D.history self.new) }
         ensures bytes { KeepsWord (past D.history self.new) → IfOk result (λ taken. handed D.history self.new taken ≡ spelled pairs.now) }
+
+        ensures least { IfOk result (λ taken. AreLeast self.old taken (length (spelled pairs.now))) }
+        ensures limit { limit_of self.new ≡ limit_of self.old }
 
         ensures full { result ≡ Err CommitFault.Full → (version_of self.old ≡ 2 ^ 64 - 1) ⊎ IsTooLong self.old (length (spelled pairs.now)) }
         ensures device { result ≡ Err CommitFault.Device → KeepsWord (past D.history self.new)
@@ -255,7 +263,8 @@ impl<D: Disk> Store<D> {
         ensures acknowledged { OnOk result (LeavesNow (past D.history self.new) (λ image. StandsFor image (handed D.history self.old pages))) }
         ensures same { KeepsWord (past D.history self.new) → OnOk result (committed D.history self.new ≡ handed D.history self.old pages) }
         ensures version { OnOk result (version_of self.new ≡ version_of self.old + 1) }
-        ensures never_fewer { OnOk result (pages_of self.old ≤ pages_of self.new) }
+        ensures pages { OnOk result (pages_of self.new ≡ max (pages_of self.old) (reach pages)) }
+        ensures limit { limit_of self.new ≡ limit_of self.old }
 
         ensures full { result ≡ Err CommitFault.Full → (version_of self.old ≡ 2 ^ 64 - 1) × (self.new ≡ self.old) }
         ensures kept { result ≡ Err CommitFault.Full → LeavesNow (past D.history self.new) (λ image. StandsFor image (committed D.history self.old)) }

@@ -1,7 +1,7 @@
-use Rattle.std.proofs.Common.{rules, ◌≡◌, ◌∙◌, sym, ap, subst, refl, List, ℕ}
+use Rattle.std.proofs.Common.{rules, arith, ◌≡◌, ◌∙◌, sym, ap, subst, refl, List, ℕ}
 use Rattle.page.specs.History.{Sector, now, reads, IsImage, KeepsWord}
 use Rattle.page.specs.Crash.{IsSettled, LeavesNow, ReadsOnly}
-use Rattle.page.proofs.Moments.{leaves_call, reads_further}
+use Rattle.page.proofs.Moments.{leaves_call, reads_further, reads_moments, reads_one, then_syncs}
 use Rattle.page.proofs.TwoFacts.{settled_all, reads_settled}
 use Rattle.roots.specs.Image.{HasRoot, HasChain, StandsFor}
 use Rattle.roots.specs.Chain.{path_bytes}
@@ -14,8 +14,7 @@ returns-in-Err-read_chain-clause-refused g c =
     let h0 = g.D.Disk.history c.args.disk in
     let only = reads_further h0 (g.D.Disk.history c.read_root.new.disk) (g.D.Disk.history c.read_chain.new.disk) c.read_root.ensures.reads c.read_chain.ensures.reads in
     record {
-      on = only.on;
-      any_moment = only.moments;
+      untouched = only;
       damaged = λ no_device no_memory keeps pairs holds.
           let k1 = c.read_chain.ensures.reads.on.kept keeps in
           c.in-Err-read_chain.ensures.damaged keeps no_device no_memory holds.stands.pages
@@ -46,8 +45,7 @@ returns-then-not-are_rising-clause-refused g c =
       bytes_are = ap (λ (f : ℕ → List ℕ). path_bytes f root.generation pages) (sym same) ∙ c.in-Ok-read_chain.ensures.bytes k;
     } in
     record {
-      on = only.on;
-      any_moment = only.moments;
+      untouched = only;
       damaged = λ no_device no_memory keeps pairs holds.
           let is : bytes ≡ pairs_bytes pairs = one_state (reads (now h0)) bytes (pairs_bytes pairs) (stands keeps) holds.stands in
           absurd (let no = c.if-not-are_rising.ensures.1 (record { pairs = pairs; row = holds.row; bytes_are = c.deref.ensures.value ∙ is }) in cc);
@@ -77,20 +75,24 @@ returns-in-Ok-sync-clause-opened g c =
     record {
       sound = record {
         known = c.in-Ok.ensures.known;
-        least = c.limit.ensures.least;
-        most = c.limit.ensures.most;
+        least = omega (arith, c.limit.ensures);
+        most = omega (arith, c.limit.ensures);
         opens = λ k _. subst (λ (f : ℕ → List ℕ). HasRoot f root) (sym (same k)) (c.in-Ok.ensures.root (keeps1 k));
         chain = λ k _. subst (λ (f : ℕ → List ℕ). HasChain f root pages) (sym (same k)) (has k);
         durable = λ k _ j _. all k j;
       };
       running = refl;
       on = search rules;
+      only = then_syncs h0 h1 h2 _ only c.sync.ensures.time c.in-Ok-sync.ensures.settles;
       stands = stands;
       row = λ k. subst SpellsRow (c.deref.ensures.value ∙ sym (c.in-Ok-read_chain.ensures.bytes (keeps2 k)) ∙ ap (λ (f : ℕ → List ℕ). path_bytes f root.generation pages) (ap reads (sym (c.read_chain.ensures.reads.same (keeps2 k))) ∙ sym (reads_settled (now h1) (now h2) (c.in-Ok-sync.ensures.settles k)))) (c.if-not-are_rising.ensures.0 refl);
       settled = settled;
       alone = λ k image is. subst (λ (f : ℕ → List ℕ). StandsFor f (path_bytes (reads (now h2)) root.generation pages)) (sym (settled k image is)) (stands k);
-      any_moment = λ readable. leaves_call h0 h1 h2 _ (IsImage (now h0)) c.sync.ensures.time only.moments (λ k image is. subst (IsImage (now h0)) (sym (settled k image is)) readable);
+      any_moment = λ readable. leaves_call h0 h1 h2 _ (IsImage (now h0)) c.sync.ensures.time (reads_moments h0 h1 only) (λ k image is. subst (IsImage (now h0)) (sym (settled k image is)) readable);
     }
+
+pub returns-in-Ok-sync-clause-row : goal.returns-in-Ok-sync-clause-row
+returns-in-Ok-sync-clause-row g c = subst SpellsRow (c.deref.ensures.value ∙ sym c.from_bytes.ensures) (c.if-not-are_rising.ensures.0 refl)
 
 pub returns-in-Ok-sync-clause-pairs : goal.returns-in-Ok-sync-clause-pairs
 returns-in-Ok-sync-clause-pairs g c k =
@@ -110,11 +112,7 @@ returns-in-Err-sync-clause-refused g c =
     let h2 = g.D.Disk.history c.sync.new.self in
     let only : ReadsOnly h0 h1 = reads_further h0 (g.D.Disk.history c.read_root.new.disk) h1 c.read_root.ensures.reads c.read_chain.ensures.reads in
     record {
-      on = search rules;
-      any_moment = leaves_call h0 h1 h2 _ (IsImage (now h0)) c.sync.ensures.time only.moments
-          (λ k image is.
-          let same : now h2 ≡ now h0 = c.in-Err-sync.ensures.unchanged k ∙ only.same (c.sync.ensures.time.kept k) in
-          subst (λ (s : ℕ → Sector). IsImage s image) same is);
+      untouched = reads_further h0 h1 h2 only (reads_one h1 h2 _ c.sync.ensures.time c.in-Err-sync.ensures.unchanged);
       damaged = λ no_device. absurd (no_device refl);
       foreign = λ is. absurd cc;
       later = λ is. absurd cc;

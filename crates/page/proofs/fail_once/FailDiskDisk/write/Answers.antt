@@ -5,7 +5,7 @@ use Rattle.page.specs.Memory.{memory_history}
 use Rattle.page.specs.Replay.{replay, blank}
 use Rattle.page.specs.declared.disk.DeviceFault.{DeviceFault}
 use Rattle.page.proofs.ReplayLemmas.{takes, readable}
-use Rattle.page.proofs.faulty.FailDiskDisk.write.Goals as goal
+use Rattle.page.proofs.fail_once.FailDiskDisk.write.Goals as goal
 
 pub returns-then-not-self-clause-takes : goal.returns-then-not-self-clause-takes
 returns-then-not-self-clause-takes c keeps =

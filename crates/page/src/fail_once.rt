@@ -1,53 +1,7 @@
-// Disks in memory that fail, for tests.
+// A disk in memory of which one call fails, for tests.
 ghost use Rattle.std.specs.Prelude.{◌≡◌, true};
 
 use crate::{DeviceFault, Disk, MemDisk};
-
-/// From its n-th write or sync on, every write and sync fails and nothing lands.
-#[derive(Drop)]
-pub struct StopDisk {
-    disk: MemDisk,
-    left: u64,
-}
-
-impl StopDisk {
-    pub fn new(disk: MemDisk, left: u64) -> Self {
-        StopDisk { disk, left }
-    }
-
-    pub fn into_inner(self) -> MemDisk {
-        let StopDisk { disk, left: _ } = self;
-        disk
-    }
-}
-
-impl Disk for StopDisk {
-    ghost use Rattle.page.specs.Faulty.{stop_history};
-
-    ghost history = { stop_history };
-
-    fn read(&mut self, sector: u64, bytes: &mut [u8; 512]) -> Result<(), DeviceFault> {
-        self.disk.read(sector, bytes)
-    }
-
-    fn write(&mut self, sector: u64, bytes: &[u8; 512]) -> Result<(), DeviceFault> {
-        if self.left == 0 {
-            self.disk.fail();
-            return Err(DeviceFault);
-        }
-        self.left -= 1;
-        self.disk.write(sector, bytes)
-    }
-
-    fn sync(&mut self) -> Result<(), DeviceFault> {
-        if self.left == 0 {
-            self.disk.fail();
-            return Err(DeviceFault);
-        }
-        self.left -= 1;
-        self.disk.sync()
-    }
-}
 
 /// Its n-th call, counted from 1, fails once: a read gives nothing, a sync does nothing, and a write lands or not, as
 /// asked.
@@ -62,7 +16,13 @@ pub struct FailDisk {
 }
 
 impl FailDisk {
-    pub fn new(disk: MemDisk, n: u64, lands: bool) -> Self {
+    ghost use Rattle.page.specs.History.{now};
+    ghost use Rattle.page.specs.Faulty.{fail_history};
+    ghost use Rattle.page.specs.Memory.{memory_history};
+
+    pub fn new(disk: MemDisk, n: u64, lands: bool) -> Self
+        ensures { fail_history result ≡ memory_history disk }
+    {
         FailDisk {
             disk,
             left: n,
@@ -71,7 +31,9 @@ impl FailDisk {
         }
     }
 
-    pub fn into_inner(self) -> MemDisk {
+    pub fn into_inner(self) -> MemDisk
+        ensures { now (memory_history result) ≡ now (fail_history self) }
+    {
         let FailDisk {
             disk,
             left: _,
