@@ -1,6 +1,6 @@
 //! Commands, turn by turn, over a disk.
 
-ghost use Rattle.std.specs.Prelude.{◌≡◌, ◌≢◌, ◌⊎◌, ◌≤◌, ◌<◌, Ok, Err, Some, true, [], List, IfOk, IfErr, OnOk, length};
+ghost use Rattle.std.specs.Prelude.{◌≡◌, ◌≢◌, ◌⊎◌, ◌≤◌, ◌<◌, Ok, Err, Some, true, [], List, IfOk, IfErr, OnOk, OnErr, length};
 ghost use Rattle.page.specs.History.{KeepsWord, now, reads, IsImage};
 ghost use Rattle.page.specs.Crash.{GoesOn, LeavesOnly, LeavesNow};
 ghost use Rattle.roots.specs.Root.{root_of};
@@ -177,6 +177,10 @@ impl<D: Disk> Engine<D> {
         // A crash at any moment of the call leaves the collections as they were before the turn or as they are after it.
         ensures any_moment { IsRunning self.old → LeavesOnly (past D.history self.old) (past D.history self.new)
             (λ image. Holds image (begun self.old).state ⊎ Holds image (world self.old).state) }
+
+        // Where the turn is undone, it leaves them as they were before, at every moment.
+        ensures kept { IsRunning self.old → result ≢ Err CommitFault.Device → OnErr result (LeavesOnly (past D.history self.old) (past D.history self.new)
+            (λ image. Holds image (begun self.old).state)) }
 
         // At Ok it leaves them as they are after it, and nothing else.
         ensures acknowledged { IsRunning self.old → OnOk result (LeavesNow (past D.history self.new) (λ image. Holds image (world self.old).state)) }
