@@ -2,8 +2,13 @@
 use Rattle.std.specs.Prelude.{◌≡◌, ◌⊎◌, ℕ, Bool, true, List, Contains}
 use Rattle.page.specs.History.{History}
 use Rattle.page.specs.Crash.{GoesOn, LeavesOnly}
-use Rattle.engine.specs.World.{Collection}
+use Rattle.engine.specs.World.{Collection, World}
 use Rattle.engine.specs.Durable as engines
+use Rattle.engine.specs.View.{world}
+use Rattle.engine.specs.declared.engine.Engine.{Engine}
+use Rattle.engine.specs.declared.refusal.Refusal.TheVariants as refusals
+use Rattle.server.specs.Site.{Site}
+use Rattle.server.specs.Turn.{Out, Undone}
 use Rattle.server.specs.View.{site}
 use Rattle.server.specs.declared.turn.Core.{Core}
 
@@ -21,6 +26,19 @@ IsRunning core = engines.IsRunning core.engine
 -- Until it stops, every image holds the collections as they are, and no others.
 abbrev pub IsSound : {D : Type 0} → (D → History) → Core D → Type 0
 IsSound history core = engines.IsSound history core.engine
+
+-- An engine over the same disk that holds this world finds no room for it.
+pub record HasNoRoom {D : Type 0} (history : D → History) (old : Engine D) (last : World) : Type 0 where
+  pub engine : Engine D
+  pub sound : engines.IsSound history engine
+  pub same : engines.past history engine ≡ engines.past history old
+  pub ran : world engine ≡ last
+  pub full : engines.IsFull engine
+
+-- A turn that is undone for want of room: there was none for the world that its messages had made.
+pub record FindsNoRoom {D : Type 0} (history : D → History) (core : Core D) (out : Out) (new : Site) : Type 0 where
+  pub undone : Undone (site core) refusals.Full out new
+  pub no_room : HasNoRoom history core.engine undone.last
 
 -- the collections of the server
 abbrev pub state_of : {D : Type 0} → Core D → List Collection

@@ -80,13 +80,13 @@ abbrev pub IsAnswer : World → ℕ → Request → World → Pairs → Type 0
 IsAnswer old connection request new reply = (read : Result Pairs BsonFault) → Gives (λ d. d) request.body read → Answers old connection read new reply
 
 -- The messages of the links ran. The turn kept what they changed and hands out these replies, or it took back what they changed
--- and hands out refusals.
-pub record Settles (old : World) (links : List Link) (given : List (ℕ × List ℕ)) (new : World) : Type 0 where
+-- and hands out refusals: for want of room only where there is none in the last world.
+pub record Settles (HasNoRoom : World → Type 0) (old : World) (links : List Link) (given : List (ℕ × List ℕ)) (new : World) : Type 0 where
   pub replies : List Pairs
   pub last : World
   pub runs : Runs old (calls links) replies last
   pub ends : ((given ≡ frames_of (calls links) replies) × (new ≡ settled last))
-      ⊎ (((given ≡ refused_frames refusals.OutOfMemory links) ⊎ (given ≡ refused_frames refusals.Full links)) × (new ≡ undone old last))
+      ⊎ (((given ≡ refused_frames refusals.OutOfMemory links) ⊎ ((given ≡ refused_frames refusals.Full links) × HasNoRoom last)) × (new ≡ undone old last))
 
 -- The messages of the links ran, and the device failed when what they changed was to be made durable.
 pub record Breaks (old : World) (links : List Link) (new : World) : Type 0 where

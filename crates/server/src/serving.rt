@@ -9,6 +9,7 @@ ghost use Rattle.engine.specs.Durable.{Holds, past, stopped, IsRunning, IsSound}
 ghost use Rattle.engine.specs.declared.refusal.Refusal.TheVariants.{OutOfMemory};
 ghost use Rattle.server.specs.Turn.{front_of, links_taken, taken_at, call_at, calls, refused_frames, forget_all};
 ghost use Rattle.server.specs.Taking.{Serves, IsAnswer, Settles, Breaks};
+ghost use Rattle.server.specs.Durable.{HasNoRoom};
 ghost use Rattle.server.specs.View.{frames_in};
 
 use crate::link::{Link, Taken, take_call};
@@ -120,7 +121,7 @@ pub(crate) fn run_messages<D: Disk>(
     requires idle { begun engine.old ≡ world engine.old }
     requires refusals { frames_in refusals.items ≡ refused_frames OutOfMemory links.old.items }
     ensures sound { IsSound D.history engine.new }
-    ensures settles { IfSome result (λ given. Settles (world engine.old) links.old.items (frames_in given.items) (world engine.new)) }
+    ensures settles { IfSome result (λ given. Settles (HasNoRoom D.history engine.old) (world engine.old) links.old.items (frames_in given.items) (world engine.new)) }
     ensures breaks { result ≡ None → Breaks (world engine.old) links.old.items (world engine.new) }
     ensures links { links.new.items ≡ links_taken links.old.items }
     ensures idle { begun engine.new ≡ world engine.new }

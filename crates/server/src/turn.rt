@@ -71,10 +71,11 @@ impl<D: Disk> Core<D> {
     ghost use Rattle.roots.specs.Root.{root_of};
     ghost use Rattle.engine.specs.World.{Collection, new_world};
     ghost use Rattle.engine.specs.Durable.{Holds};
+    ghost use Rattle.engine.specs.declared.refusal.Refusal.TheVariants as refusals;
     ghost use Rattle.server.specs.Site.{fed, ended, find_link, is_closed_in};
-    ghost use Rattle.server.specs.Turn.{Turns, TurnFails, is_waiting_in};
+    ghost use Rattle.server.specs.Turn.{Done, Undone, Turns, TurnFails, is_waiting_in};
     ghost use Rattle.server.specs.View.{site, out_of};
-    ghost use Rattle.server.specs.Durable.{past, stopped, IsRunning, IsSound, state_of};
+    ghost use Rattle.server.specs.Durable.{past, stopped, IsRunning, IsSound, FindsNoRoom, state_of};
 
     /// Opens the database on a disk that a crash may have left; a disk of zeros holds the empty one. It writes nothing, and
     /// syncs before it answers. An `Err` hands the disk back.
@@ -144,6 +145,9 @@ impl<D: Disk> Core<D> {
         requires sound { IsSound D.history self.old }
         ensures sound { IsSound D.history self.new }
         ensures turns { IfOk result (λ out. Turns (site self.old) (out_of out) (site self.new)) }
+        ensures full { IfOk result (λ out. Done (site self.old) (out_of out) (site self.new)
+            ⊎ (Undone (site self.old) refusals.OutOfMemory (out_of out) (site self.new)
+            ⊎ FindsNoRoom D.history self.old (out_of out) (site self.new))) }
         ensures fails { IfErr result (λ fault. TurnFails (site self.old) fault (stopped self.old) (site self.new)) }
 
         // A crash at any moment of the call leaves the collections as they were before the turn or as they are after it.

@@ -1,4 +1,4 @@
-use Rattle.std.proofs.Common.{◌≡◌, List, length, inr, sym, subst, ap, ◌∙◌, rules}
+use Rattle.std.proofs.Common.{◌≡◌, List, length, inr, refl, sym, subst, ap, ◌∙◌, rules}
 use Rattle.std.proofs.lemmas.List.{length-map}
 use Rattle.engine.specs.View.{world}
 use Rattle.engine.specs.World.{undone}
@@ -7,6 +7,7 @@ use Rattle.server.specs.declared.link.Link.{Link}
 use Rattle.engine.specs.Durable.{Holds}
 use Rattle.server.specs.Turn.{Runs, calls, refused_frames}
 use Rattle.server.specs.Taking.{HaveRoom, full_body, respelled_frames}
+use Rattle.server.specs.Durable.{HasNoRoom}
 use Rattle.server.specs.View.{frames_in}
 use Rattle.engine.specs.declared.refusal.Refusal.TheVariants.{OutOfMemory, Full}
 use Rattle.server.proofs.Images.{stays}
@@ -35,9 +36,16 @@ returns-in-Err-Full-clause-settles g c =
     let taken : c.deref_mut.result.now ≡ links = search rules in
     let world_is : world c.commit_turn.new.self ≡ undone (world c.args.engine.now) (world c.serve_links.new.engine) = search rules in
     let serves = c.serve_links.ensures.serves in
+    let no_room : HasNoRoom g.D.Disk.history c.args.engine.now (world c.serve_links.new.engine) = record {
+      engine = c.serve_links.new.engine;
+      sound = c.serve_links.ensures.sound;
+      same = c.serve_links.ensures.disk;
+      ran = refl;
+      full = search rules;
+    } in
     record {
       replies = serves.replies;
       last = world c.serve_links.new.engine;
       runs = subst (λ (ls : List Link). Runs (world c.args.engine.now) (calls ls) serves.replies (world c.serve_links.new.engine)) taken serves.runs;
-      ends = inr (inr (ap frames_in (whole new _ c.args.refusals.len long) ∙ given), world_is);
+      ends = inr (inr (ap frames_in (whole new _ c.args.refusals.len long) ∙ given, no_room), world_is);
     }
