@@ -5,7 +5,7 @@ use Rattle.std.proofs.lemmas.List.Elements.{Contains-append_left, Contains-push}
 use Rattle.std.proofs.lemmas.Option.{slice_get_read}
 use Rattle.std.specs.Prelude.{◌⊎◌, ◌≢◌, Result, Option, Some, None, Err, Vec, Bool, true, Contains}
 use Rattle.std.specs.Global.{Global}
-use Rattle.page.specs.History.{History}
+use Rattle.page.specs.History.{History, KeepsWord}
 use Rattle.page.specs.Crash.{GoesOn, LeavesOnly, LeavesNow}
 use Rattle.page.proofs.Moments.{goes_nowhere, started, goes_further, leaves_further, leaves_now, leaves_weaker}
 use Rattle.engine.specs.World.{Collection}
@@ -16,7 +16,7 @@ use Rattle.server.specs.History.{Happens, last_state, turns_in}
 use Rattle.server.specs.View.{site, frames_in}
 use Rattle.server.specs.Durable.{past, stopped, IsRunning, IsSound, state_of, HoldsOneOf, GoesSafely}
 use Rattle.server.specs.OneStep.{Adds, Goes, Does}
-use Rattle.server.specs.Headline.{Drives, Ends, turns_done}
+use Rattle.server.specs.Headline.{Drives, Ends, IsStopped, turns_done}
 use Rattle.server.specs.declared.turn.Core.{Core}
 use Rattle.server.specs.declared.turn.TurnFault.TheVariants as turns
 use Rattle.server.specs.declared.step.Step.{Step}
@@ -137,6 +137,7 @@ ends history first all i out now whole s =
       at_end = λ running goes. subst (λ (x : List Collection). LeavesNow (past history now) (λ image. Holds image x)) state (holds_now history now s.sound (s.running ∙ running));
       at_stop = λ running k image is. inr (holds_now history now s.sound (s.running ∙ running) k image is);
       idle = s.idle;
+      device = λ stop. absurd (subst IsStopped s.runs stop);
     }
 
 module _ {D : Type 0} (history : D → History) (first : Core D) (all : List Step) (i : ℕ) (step : Step) (old : DriveOut) (now : Core D) (within : i < length all) (is : step ≡ get_or all i step) (s : SoFar history first all i old now) where
@@ -223,8 +224,10 @@ module _ {D : Type 0} (history : D → History) (first : Core D) (all : List Ste
   last_in last = Contains-push (state_of first ∷ s.states) (state_of last)
 
   pub stops_at : (fault : DriveFault) (new : DriveOut) (last : Core D) → Does (site now) step old (Err fault) (stopped now) new (site last) → IsSound history last → GoesSafely history now last
-      → (failing fault ≢ failing (stops.Turn turns.Stopped) → stopped last ≡ stopped now) → Drives history first all (stopped_at fault new) last
-  stops_at (stops.Feed feeds.Memory) new last does sound safe runs = record {
+      → (failing fault ≢ failing (stops.Turn turns.Stopped) → stopped last ≡ stopped now)
+      → (failing fault ≡ failing (stops.Turn turns.Stopped) → KeepsWord (past history last) → (stopped now ≡ true) ⊎ ((past history now).failures < (past history last).failures))
+      → Drives history first all (stopped_at fault new) last
+  stops_at (stops.Feed feeds.Memory) new last does sound safe runs cause = record {
     given = frames_in new.replies.items;
     states = s.states;
     happens = ((does.0.0, does.0.1, at new 0 does.1 _ does.0.2), subst (λ (x : Site). Happens (site first) (take i all) (frames_in new.replies.items) s.states x) (sym does.2) (before new 0 does.1));
@@ -236,9 +239,10 @@ module _ {D : Type 0} (history : D → History) (first : Core D) (all : List Ste
     at_end = λ running goes. end_same last sound safe does.2 (runs (λ e. absurd cc)) running;
     at_stop = stop_now last safe;
     idle = idle_on last safe;
+    device = λ stop. absurd stop;
   }
-  stops_at (stops.Feed feeds.Closed) new last does sound safe runs = absurd does
-  stops_at (stops.Turn turns.Memory) new last does sound safe runs = record {
+  stops_at (stops.Feed feeds.Closed) new last does sound safe runs cause = absurd does
+  stops_at (stops.Turn turns.Memory) new last does sound safe runs cause = record {
     given = frames_in new.replies.items;
     states = s.states;
     happens = (at new 0 does.1 _ does.0, record { before = site now; happens = before new 0 does.1; turn = subst (λ (b : Bool). TurnFails (site now) turns.Memory b (site last)) s.running does.2 });
@@ -250,8 +254,9 @@ module _ {D : Type 0} (history : D → History) (first : Core D) (all : List Ste
     at_end = λ running goes. end_same last sound safe (subst (λ (b : Bool). TurnFails (site now) turns.Memory b (site last)) (s.running ∙ running) does.2) (runs (λ e. absurd cc)) running;
     at_stop = stop_now last safe;
     idle = idle_on last safe;
+    device = λ stop. absurd stop;
   }
-  stops_at (stops.Turn turns.Stopped) new last does sound safe runs = record {
+  stops_at (stops.Turn turns.Stopped) new last does sound safe runs cause = record {
     given = frames_in new.replies.items;
     states = s.states;
     happens = (at new 0 does.1 _ does.0, record { before = site now; happens = before new 0 does.1; turn = subst (λ (b : Bool). TurnFails (site now) turns.Stopped b (site last)) s.running does.2 });
@@ -263,8 +268,12 @@ module _ {D : Type 0} (history : D → History) (first : Core D) (all : List Ste
     at_end = λ running goes. absurd (goes tt);
     at_stop = stop_now last safe;
     idle = idle_on last safe;
+    device = λ stop k. ⊎_elim
+        (λ stopped_now. inl (sym s.running ∙ stopped_now))
+        (λ failed. inr (omega (arith, s.on.failures (safe.on.kept k), failed)))
+        (cause refl k);
   }
-  stops_at stops.Gather new last does sound safe runs =
+  stops_at stops.Gather new last does sound safe runs cause =
       let states : List (List Collection) = s.states ++ state_of last ∷ [] in
       let state : state_of last ≡ last_state (state_of first) states = sym (last_of_pushed (state_of first) s.states (state_of last)) in
       let now_holds : IsRunning first → LeavesNow (past history last) (λ image. Holds image (state_of last)) = λ running. holds_now history last sound (runs (λ e. absurd cc) ∙ s.running ∙ running) in
@@ -281,4 +290,5 @@ module _ {D : Type 0} (history : D → History) (first : Core D) (all : List Ste
         at_end = λ running goes. subst (λ (x : List Collection). LeavesNow (past history last) (λ image. Holds image x)) state (now_holds running);
         at_stop = λ running k image is. inr (now_holds running k image is);
         idle = idle_on last safe;
+        device = λ stop. absurd stop;
       }

@@ -6,9 +6,9 @@
 --
 -- A crash, at any moment of the run, leaves the collections after some whole turns of that history, in order. At its end it leaves
 -- those after all turns that answered, or after one further turn where the device failed in it.
-use Rattle.std.specs.Prelude.{◌≡◌, ◌⊎◌, ℕ, ◌+◌, Bool, true, List, [], ◌∷◌, ◌++◌, take, slice_get, Option, Some, None, Vec}
+use Rattle.std.specs.Prelude.{◌≡◌, ◌⊎◌, ◌<◌, ℕ, ◌+◌, Bool, true, List, [], ◌∷◌, ◌++◌, take, slice_get, Option, Some, None, Vec}
 use Rattle.std.specs.Global.{Global}
-use Rattle.page.specs.History.{History}
+use Rattle.page.specs.History.{History, KeepsWord}
 use Rattle.page.specs.Crash.{GoesOn, LeavesOnly, LeavesNow}
 use Rattle.engine.specs.World.{Collection}
 use Rattle.engine.specs.Durable.{Holds}
@@ -90,3 +90,4 @@ pub record Drives {D : Type 0} (history : D → History) (first : Core D) (all :
   pub at_stop : IsRunning first
       → LeavesNow (past history last) (λ image. Holds image (last_state (state_of first) states) ⊎ Holds image (state_of last))
   pub idle : stopped first ≡ true → past history last ≡ past history first
+  pub device : IsStopped out.stopped → KeepsWord (past history last) → (stopped first ≡ true) ⊎ ((past history first).failures < (past history last).failures)

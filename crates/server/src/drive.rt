@@ -1,7 +1,8 @@
 //! Whole histories.
 
-ghost use Rattle.std.specs.Prelude.{◌≡◌, ◌≢◌, ◌+◌, ◌<◌, ◌^◌, Err};
-ghost use Rattle.server.specs.Durable.{IsSound, GoesSafely, stopped};
+ghost use Rattle.std.specs.Prelude.{◌≡◌, ◌≢◌, ◌⊎◌, ◌+◌, ◌<◌, ◌^◌, Err, true};
+ghost use Rattle.page.specs.History.{KeepsWord};
+ghost use Rattle.server.specs.Durable.{IsSound, GoesSafely, past, stopped};
 ghost use Rattle.server.specs.Headline.{Drives};
 ghost use Rattle.server.specs.OneStep.{Does};
 ghost use Rattle.server.specs.View.{site};
@@ -41,6 +42,8 @@ impl<D: Disk> Core<D> {
         ensures sound { IsSound D.history self.new }
         ensures does { Does (site self.old) step.now out.old result (stopped self.old) out.new (site self.new) }
         ensures disk { GoesSafely D.history self.old self.new }
+        ensures device { result ≡ Err (DriveFault.Turn TurnFault.Stopped) → KeepsWord (past D.history self.new)
+            → (stopped self.old ≡ true) ⊎ ((past D.history self.old).failures < (past D.history self.new).failures) }
         ensures running { result ≢ Err (DriveFault.Turn TurnFault.Stopped) → stopped self.new ≡ stopped self.old }
     {
         match step {

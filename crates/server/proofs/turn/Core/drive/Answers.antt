@@ -8,7 +8,7 @@ steps-init g c = starts g.D.Disk.history c.args.self.now c.args.steps.now (recor
 pub returns-in-Err-clause-drives : goal.returns-in-Err-clause-drives
 returns-in-Err-clause-drives g c =
     let call = c.do_step in
-    stops_at g.D.Disk.history c.args.self.now c.args.steps.now c.steps.i c.index-steps-i.result c.steps.out c.steps.self c.steps-test.true c.index-steps-i.is c.steps.invariant c.in-Err.fault call.new.out call.new.self c.in-Err.ensures.does call.ensures.sound call.ensures.disk c.in-Err.ensures.running
+    stops_at g.D.Disk.history c.args.self.now c.args.steps.now c.steps.i c.index-steps-i.result c.steps.out c.steps.self c.steps-test.true c.index-steps-i.is c.steps.invariant c.in-Err.fault call.new.out call.new.self c.in-Err.ensures.does call.ensures.sound call.ensures.disk c.in-Err.ensures.running c.in-Err.ensures.device
 
 pub steps-preserved : goal.steps-preserved
 steps-preserved g c =
