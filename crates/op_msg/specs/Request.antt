@@ -1,7 +1,7 @@
 -- What taking the message at the front gives, and how a reply is spelled (MongoDB wire protocol, OP_MSG). A message's body is
 -- the document that its bytes are, all of them, or the first fault of these bytes. A reply is a frame with its own number, the
 -- number of the request, no flags, and one body.
-use Rattle.std.specs.Prelude.{◌≡◌, ℕ, ◌+◌, List, [], ◌∷◌, ◌++◌, length, Bool, true, false, Result, Ok, Err, Option, Some, None}
+use Rattle.std.specs.Prelude.{◌≡◌, ℕ, ◌+◌, List, [], ◌∷◌, ◌++◌, length, take, drop, Bool, true, false, Result, Ok, Err, Option, Some, None}
 use Rattle.std.specs.Int.{w32, to_le_bytes}
 use Rattle.bson.specs.Tree.{Pairs}
 use Rattle.bson.specs.Spelling.{framed, pairs_bytes}
@@ -65,6 +65,10 @@ head_bytes number request len = le_32 (len + 21) ++ le_32 number ++ le_32 reques
 -- The frame of a body, as its bytes.
 abbrev pub frame_bytes : ℕ → ℕ → List ℕ → List ℕ
 frame_bytes number request body = head_bytes number request (length body) ++ body
+
+-- The frame with another body, and so with another length; what stands between stays.
+abbrev pub respelled : List ℕ → List ℕ → List ℕ
+respelled frame body = le_32 (length body + 21) ++ take 17 (drop 4 frame) ++ body
 
 -- A reply: a frame whose body is the document.
 unfoldable pub reply_bytes : ℕ → ℕ → Pairs → List ℕ

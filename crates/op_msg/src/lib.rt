@@ -11,4 +11,4 @@ mod writing;
 pub use fault::FrameFault;
 pub use frames::Frames;
 pub use request::{Head, Request};
-pub use writing::{FRAME_BYTES, reply, spelled_reply};
+pub use writing::{FRAME_BYTES, reply, respell, spelled_reply};

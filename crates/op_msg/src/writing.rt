@@ -3,7 +3,7 @@
 ghost use Rattle.std.specs.Prelude.{◌≡◌, ◌≤◌, ◌+◌, length, IfOk};
 ghost use Rattle.bson.specs.Spelling.{framed, pairs_bytes};
 ghost use Rattle.bson.specs.declared.TheConstants.{MESSAGE_LIMIT};
-ghost use Rattle.op_msg.specs.Request.{head_bytes, frame_bytes, reply_bytes};
+ghost use Rattle.op_msg.specs.Request.{head_bytes, frame_bytes, reply_bytes, respelled};
 
 use bson::{Document, EncodeFault, NoMemory, encode_onto};
 use std::alloc::{AllocError, Global};
@@ -43,6 +43,28 @@ pub fn spelled_reply(
     let mut frame = begun_frame(alloc, reply_no, request_id, body.len())?;
     frame.extend_from_slice(body)?;
     Ok(frame)
+}
+
+/// Puts another body into a frame, one that is no longer than its own. It takes no memory.
+pub fn respell(frame: &mut Vec<u8>, body: &[u8])
+    requires room { length body.now + FRAME_BYTES ≤ length frame.old.items }
+    requires limit { length body.now + FRAME_BYTES ≤ MESSAGE_LIMIT }
+    ensures { frame.new.items ≡ respelled frame.old.items body.now }
+{
+    frame.truncate(body.len() + FRAME_BYTES as usize);
+    put_body(frame, body);
+}
+
+/// Puts a body into the frame that has just the room.
+fn put_body(frame: &mut [u8], body: &[u8])
+    requires room { length body.now + FRAME_BYTES ≡ length frame.old }
+    requires limit { length body.now + FRAME_BYTES ≤ MESSAGE_LIMIT }
+    ensures body { frame.new ≡ respelled frame.old body.now }
+    ensures same { length frame.new ≡ length frame.old }
+{
+    let len = body.len() as u32 + FRAME_BYTES;
+    frame[..4].copy_from_slice(&len.to_le_bytes());
+    frame[21..].copy_from_slice(body);
 }
 
 /// A frame up to its body, with room for a body of this length.

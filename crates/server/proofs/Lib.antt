@@ -1,3 +1,6 @@
+pub mod Refusing
+pub mod TurnParts
+pub mod Images
 pub mod Histories
 pub mod Places
 pub mod LinkServed

@@ -7,7 +7,7 @@ use Rattle.op_msg.specs.Request.{body_of}
 use Rattle.op_msg.specs.declared.fault.FrameFault.{FrameFault}
 use Rattle.op_msg.specs.declared.request.Request.{Request}
 use Rattle.engine.specs.World.{World}
-use Rattle.server.specs.Turn.{frame_unless, frame_for, call_at, link_at}
+use Rattle.server.specs.Turn.{frame_unless, frame_for, call_at, taken_at}
 use Rattle.server.specs.Taking.{IsTaken, IsAnswer, Serves}
 use Rattle.server.specs.declared.link.Link.{Link}
 use Rattle.server.specs.declared.link.Taken.{Taken}
@@ -16,22 +16,18 @@ use Rattle.server.specs.declared.link.Taken.TheVariants as takes
 abbrev Front : Type 0
 Front = Result (Option (Frame × List ℕ)) FrameFault
 
-pub taken_link : (old new : Link) (front : Front) (t : Taken) → IsTaken old front t new → new ≡ link_at old front
+pub taken_link : (old new : Link) (front : Front) (t : Taken) → IsTaken old front t new → new ≡ taken_at old front
 taken_link old new (Ok None) takes.Nothing h = h
-taken_link old new (Ok None) (takes.Fault f) h = absurd h
 taken_link old new (Ok None) (takes.Call n r) h = absurd h
 taken_link old new (Ok (Some x)) takes.Nothing h = absurd h
-taken_link old new (Ok (Some x)) (takes.Fault f) h = absurd h
 taken_link old new (Ok (Some x)) (takes.Call n r) h = h.2
-taken_link old new (Err e) takes.Nothing h = absurd h
-taken_link old new (Err e) (takes.Fault f) h = h.1
+taken_link old new (Err e) takes.Nothing h = h
 taken_link old new (Err e) (takes.Call n r) h = absurd h
 
 pub nothing_served : (old new : Link) (front : Front) (t : Taken) (w : World) (given : List (ℕ × List ℕ)) → IsTaken old front t new → ((n : ℕ) (r : Request) → t ≡ takes.Call n r → ⊥) → Serves (call_at old front) w w true given given
 nothing_served old new (Ok None) t w given h none = record { replies = []; runs = refl; frames = λ e. sym (append-nil given) }
 nothing_served old new (Err e) t w given h none = record { replies = []; runs = refl; frames = λ e. sym (append-nil given) }
 nothing_served old new (Ok (Some x)) takes.Nothing w given h none = absurd h
-nothing_served old new (Ok (Some x)) (takes.Fault f) w given h none = absurd h
 nothing_served old new (Ok (Some x)) (takes.Call n r) w given h none = absurd (none n r refl)
 
 pub one_served : (old new : Link) (front : Front) (n : ℕ) (r : Request) (w w' : World) (reply : Pairs) (ok : Bool) (given now : List (ℕ × List ℕ)) → IsTaken old front (takes.Call n r) new

@@ -1,12 +1,15 @@
 -- How the links are served, one after the other.
 use Rattle.std.proofs.Common.{◌≡◌, ℕ, zero, suc, ◌+◌, ◌<◌, List, [], ◌∷◌, ◌++◌, length, take, drop, get_or, set, refl, sym, ◌∙◌, ap, subst, arith, append_assoc, append-nil}
 use Rattle.std.proofs.lemmas.List.{take_more}
-use Rattle.std.specs.Prelude.{Bool, true, false, ◌&&◌}
+use Rattle.std.specs.Prelude.{Bool, true, false, ◌&&◌, Option, Result, Ok, Err}
 use Rattle.bson.specs.Tree.{Pairs}
 use Rattle.engine.specs.World.{World, forget}
+use Rattle.engine.specs.Refusals.{refusal_reply}
+use Rattle.engine.specs.declared.refusal.Refusal.{Refusal}
+use Rattle.op_msg.specs.Frame.{Frame}
 use Rattle.op_msg.specs.declared.fault.FrameFault.{FrameFault}
-use Rattle.server.specs.Turn.{Call, Runs, frames_of, frame_for, calls, call_at, front_of, link_after, links_after, forget_all, no_memory, refused_calls, refused_frames, faults, fault_at}
-use Rattle.server.specs.Taking.{Serves, refused_at}
+use Rattle.server.specs.Turn.{Call, Runs, frames_of, frame_for, calls, call_at, front_of, link_at, links_after, taken_at, links_taken, forget_all, refused_calls, refused_frames, faults, fault_at}
+use Rattle.server.specs.Taking.{Serves, refused_at, fault_in, faults_in, closed_by, closed_links, fault_beside}
 use Rattle.server.specs.declared.link.Link.{Link}
 
 runs_on : (cs ds : List Call) (a b c : World) (rs ss : List Pairs) → Runs a cs rs b → Runs b ds ss c → Runs a (cs ++ ds) (rs ++ ss) c
@@ -46,9 +49,12 @@ pub calls_more : (ls : List Link) (i : ℕ) (d : Link) → i < length ls → cal
 calls_more ls i d within =
     ap calls (take_more ls i d within) ∙ calls_append (take i ls) (get_or ls i d ∷ []) ∙ ap (λ (cs : List Call). calls (take i ls) ++ cs) (append-nil (call_at (get_or ls i d) (front_of (get_or ls i d))))
 
+abbrev taken : Link → Link
+taken l = taken_at l (front_of l)
+
 -- one link more
 pub record Stepped (now first : List Link) (i : ℕ) (x : Link) : Type 0 where
-  pub done : take (suc i) now ≡ links_after (take (suc i) first)
+  pub done : take (suc i) now ≡ links_taken (take (suc i) first)
   pub left : drop (suc i) now ≡ drop (suc i) first
   pub same : x ≡ get_or first i x
   pub within : i < length first
@@ -59,20 +65,20 @@ head_is x y xs ys e = cc
 tail_is : (x y : Link) (xs ys : List Link) → x ∷ xs ≡ y ∷ ys → xs ≡ ys
 tail_is x y xs ys e = cc
 
-pub links_step : (now first : List Link) (i : ℕ) (x new : Link) → i < length now → take i now ≡ links_after (take i first) → drop i now ≡ drop i first → x ≡ get_or now i x → new ≡ link_after x → Stepped (set now i new) first i x
+pub links_step : (now first : List Link) (i : ℕ) (x new : Link) → i < length now → take i now ≡ links_taken (take i first) → drop i now ≡ drop i first → x ≡ get_or now i x → new ≡ taken_at x (front_of x) → Stepped (set now i new) first i x
 links_step [] first i x new within t d e n = absurd (omega arith)
 links_step (m ∷ ms) [] zero x new within t d e n = absurd cc
 links_step (m ∷ ms) [] (suc i) x new within t d e n = absurd cc
 links_step (m ∷ ms) (f ∷ fs) zero x new within t d e n = record {
-  done = λ k. (n ∙ ap link_after (e ∙ head_is m f ms fs d)) k ∷ [];
+  done = λ k. (n ∙ ap taken (e ∙ head_is m f ms fs d)) k ∷ [];
   left = tail_is m f ms fs d;
   same = e ∙ head_is m f ms fs d;
   within = omega arith;
 }
 links_step (m ∷ ms) (f ∷ fs) (suc i) x new within t d e n =
-    let s = links_step ms fs i x new (omega arith) (tail_is m (link_after f) (take i ms) (links_after (take i fs)) t) d e n in
+    let s = links_step ms fs i x new (omega arith) (tail_is m (taken f) (take i ms) (links_taken (take i fs)) t) d e n in
     record {
-      done = λ k. head_is m (link_after f) (take i ms) (links_after (take i fs)) t k ∷ s.done k;
+      done = λ k. head_is m (taken f) (take i ms) (links_taken (take i fs)) t k ∷ s.done k;
       left = s.left;
       same = s.same;
       within = omega (arith, s.within);
@@ -89,15 +95,15 @@ forget_all_more w fs i d within = ap (forget_all w) (take_more fs i d within) �
 
 -- ---- what a turn makes ready
 
-refused_append : (cs ds : List Call) → frames_of (cs ++ ds) (refused_calls (cs ++ ds)) ≡ frames_of cs (refused_calls cs) ++ frames_of ds (refused_calls ds)
-refused_append [] ds = refl
-refused_append (c ∷ cs) ds =
-    ap (λ (fs : List (ℕ × List ℕ)). frame_for c (no_memory c) ++ fs) (refused_append cs ds)
-    ∙ sym (append_assoc (frame_for c (no_memory c)) (frames_of cs (refused_calls cs)) (frames_of ds (refused_calls ds)))
+refused_append : (r : Refusal) (cs ds : List Call) → frames_of (cs ++ ds) (refused_calls r (cs ++ ds)) ≡ frames_of cs (refused_calls r cs) ++ frames_of ds (refused_calls r ds)
+refused_append r [] ds = refl
+refused_append r (c ∷ cs) ds =
+    ap (λ (fs : List (ℕ × List ℕ)). frame_for c (refusal_reply r) ++ fs) (refused_append r cs ds)
+    ∙ sym (append_assoc (frame_for c (refusal_reply r)) (frames_of cs (refused_calls r cs)) (frames_of ds (refused_calls r ds)))
 
-pub refused_more : (ls : List Link) (i : ℕ) (d : Link) → i < length ls → refused_frames (take (i + 1) ls) ≡ refused_frames (take i ls) ++ refused_at (get_or ls i d) (front_of (get_or ls i d))
-refused_more ls i d within =
-    ap (λ (cs : List Call). frames_of cs (refused_calls cs)) (calls_more ls i d within) ∙ refused_append (calls (take i ls)) (call_at (get_or ls i d) (front_of (get_or ls i d)))
+pub refused_more : (r : Refusal) (ls : List Link) (i : ℕ) (d : Link) → i < length ls → refused_frames r (take (i + 1) ls) ≡ refused_frames r (take i ls) ++ refused_at r (get_or ls i d) (front_of (get_or ls i d))
+refused_more r ls i d within =
+    ap (λ (cs : List Call). frames_of cs (refused_calls r cs)) (calls_more ls i d within) ∙ refused_append r (calls (take i ls)) (call_at (get_or ls i d) (front_of (get_or ls i d)))
 
 faults_append : (ks ls : List Link) → faults (ks ++ ls) ≡ faults ks ++ faults ls
 faults_append [] ls = refl
@@ -107,3 +113,46 @@ faults_append (k ∷ ks) ls =
 pub faults_more : (ls : List Link) (i : ℕ) (d : Link) → i < length ls → faults (take (i + 1) ls) ≡ faults (take i ls) ++ fault_at (get_or ls i d) (front_of (get_or ls i d))
 faults_more ls i d within =
     ap faults (take_more ls i d within) ∙ faults_append (take i ls) (get_or ls i d ∷ []) ∙ ap (λ (fs : List (ℕ × FrameFault)). faults (take i ls) ++ fs) (append-nil (fault_at (get_or ls i d) (front_of (get_or ls i d))))
+
+faults_in-append : (ks ls : List Link) → faults_in (ks ++ ls) ≡ faults_in ks ++ faults_in ls
+faults_in-append [] ls = refl
+faults_in-append (k ∷ ks) ls = ap (λ (fs : List (Option FrameFault)). fault_in (front_of k) ∷ fs) (faults_in-append ks ls)
+
+pub faults_in-more : (ls : List Link) (i : ℕ) (d : Link) → i < length ls → faults_in (take (i + 1) ls) ≡ faults_in (take i ls) ++ fault_in (front_of (get_or ls i d)) ∷ []
+faults_in-more ls i d within = ap faults_in (take_more ls i d within) ∙ faults_in-append (take i ls) (get_or ls i d ∷ [])
+
+-- ---- links that a fault closes
+
+-- one link more
+pub record Closed (now first : List Link) (fs : List (Option FrameFault)) (i : ℕ) : Type 0 where
+  pub done : take (suc i) now ≡ closed_links (take (suc i) first) fs
+  pub left : drop (suc i) now ≡ drop (suc i) first
+
+pub close_step : (now first : List Link) (fs : List (Option FrameFault)) (i : ℕ) (x new : Link) → i < length now → take i now ≡ closed_links (take i first) fs → drop i now ≡ drop i first → x ≡ get_or now i x
+    → new ≡ closed_by x (fault_beside fs i) → Closed (set now i new) first fs i
+close_step [] first fs i x new within t d e n = absurd (omega arith)
+close_step (m ∷ ms) [] fs zero x new within t d e n = absurd cc
+close_step (m ∷ ms) [] fs (suc i) x new within t d e n = absurd cc
+close_step (m ∷ ms) (f ∷ ls) [] zero x new within t d e n = record {
+  done = λ k. (n ∙ e ∙ head_is m f ms ls d) k ∷ [];
+  left = tail_is m f ms ls d;
+}
+close_step (m ∷ ms) (f ∷ ls) (g ∷ gs) zero x new within t d e n = record {
+  done = λ k. (n ∙ ap (λ (l : Link). closed_by l g) (e ∙ head_is m f ms ls d)) k ∷ [];
+  left = tail_is m f ms ls d;
+}
+close_step (m ∷ ms) (f ∷ ls) [] (suc i) x new within t d e n =
+    let s = close_step ms ls [] i x new (omega arith) (tail_is m f (take i ms) (closed_links (take i ls) []) t) d e n in
+    record { done = λ k. head_is m f (take i ms) (closed_links (take i ls) []) t k ∷ s.done k; left = s.left }
+close_step (m ∷ ms) (f ∷ ls) (g ∷ gs) (suc i) x new within t d e n =
+    let s = close_step ms ls gs i x new (omega arith) (tail_is m (closed_by f g) (take i ms) (closed_links (take i ls) gs) t) d e n in
+    record { done = λ k. head_is m (closed_by f g) (take i ms) (closed_links (take i ls) gs) t k ∷ s.done k; left = s.left }
+
+-- what a fault closes after the messages were taken
+closed_after : (l : Link) (front : Result (Option (Frame × List ℕ)) FrameFault) → closed_by (taken_at l front) (fault_in front) ≡ link_at l front
+closed_after l (Ok x) = refl
+closed_after l (Err fault) = refl
+
+pub all_closed : (ls : List Link) → closed_links (links_taken ls) (faults_in ls) ≡ links_after ls
+all_closed [] = refl
+all_closed (l ∷ ls) = λ k. closed_after l (front_of l) k ∷ all_closed ls k

@@ -10,4 +10,5 @@ feed_fault_name feeds.Memory = codes "Memory"
 feed_fault_name feeds.Closed = codes "Closed"
 
 abbrev pub turn_fault_name : TurnFault → List ℕ
+turn_fault_name turns.Stopped = codes "Stopped"
 turn_fault_name turns.Memory = codes "Memory"

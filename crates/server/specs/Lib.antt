@@ -3,6 +3,7 @@ pub mod Site
 pub mod Turn
 pub mod History
 pub mod View
+pub mod Durable
 pub mod OneStep
 pub mod Headline
 pub mod Faults

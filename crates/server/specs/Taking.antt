@@ -1,29 +1,72 @@
 -- The parts of a turn: what is made ready before a message is taken, what is taken from one link, and how the messages run.
-use Rattle.std.specs.Prelude.{◌≡◌, ◌⊎◌, ℕ, List, Result, Ok, Err, Option, Some, None, ◌++◌, Bool, true}
+use Rattle.std.specs.Prelude.{◌≡◌, ◌⊎◌, ◌≤◌, ◌+◌, ℕ, List, [], ◌∷◌, length, map, slice_get, All, Result, Ok, Err, Option, Some, None, ◌++◌, Bool, true}
 use Rattle.op_msg.specs.Frame.{Frame}
-use Rattle.op_msg.specs.Request.{IsRequest}
+use Rattle.op_msg.specs.Request.{IsRequest, respelled}
 use Rattle.op_msg.specs.declared.fault.FrameFault.{FrameFault}
 use Rattle.op_msg.specs.declared.request.Request.{Request}
 use Rattle.bson.specs.Tree.{Pairs}
+use Rattle.bson.specs.Spelling.{framed, pairs_bytes}
 use Rattle.bson.specs.Reading.{Gives}
 use Rattle.bson.specs.declared.fault.BsonFault.{BsonFault}
 use Rattle.engine.specs.World.{World, settled, undone}
+use Rattle.engine.specs.Refusals.{refusal_reply}
 use Rattle.engine.specs.Step.{Answers}
-use Rattle.server.specs.Turn.{Call, Runs, calls, call_at, frames_of, refused_calls, refused_frames, link_at, next_number}
+use Rattle.engine.specs.declared.refusal.Refusal.{Refusal}
+use Rattle.engine.specs.declared.refusal.Refusal.TheVariants as refusals
+use Rattle.server.specs.Turn.{Call, Runs, calls, call_at, frames_of, front_of, refused_calls, refused_frames, taken_at, next_number}
 use Rattle.server.specs.declared.link.Link.{Link}
 use Rattle.server.specs.declared.link.Taken.{Taken}
 use Rattle.server.specs.declared.link.Taken.TheVariants as takes
 
 -- the frame that an undone turn hands out for a link, by what stands at its front
-abbrev pub refused_at : Link → Result (Option (Frame × List ℕ)) FrameFault → List (ℕ × List ℕ)
-refused_at link front = frames_of (call_at link front) (refused_calls (call_at link front))
+abbrev pub refused_at : Refusal → Link → Result (Option (Frame × List ℕ)) FrameFault → List (ℕ × List ℕ)
+refused_at refusal link front = frames_of (call_at link front) (refused_calls refusal (call_at link front))
 
--- The link goes on as in a turn, and this is what was at its front.
+-- the fault at the front of a link, if one is there
+abbrev pub fault_in : Result (Option (Frame × List ℕ)) FrameFault → Option FrameFault
+fault_in (Ok x) = None
+fault_in (Err fault) = Some fault
+
+abbrev pub faults_in : List Link → List (Option FrameFault)
+faults_in [] = []
+faults_in (l ∷ ls) = fault_in (front_of l) ∷ faults_in ls
+
+-- a link that this fault closes
+abbrev pub closed_by : Link → Option FrameFault → Link
+closed_by link None = link
+closed_by link (Some fault) = record link { fault = Some fault }
+
+-- the fault at this place
+abbrev pub fault_or_none : Option (Option FrameFault) → Option FrameFault
+fault_or_none None = None
+fault_or_none (Some fault) = fault
+
+abbrev pub fault_beside : List (Option FrameFault) → ℕ → Option FrameFault
+fault_beside faults i = fault_or_none (slice_get faults i)
+
+abbrev pub closed_links : List Link → List (Option FrameFault) → List Link
+closed_links [] fs = []
+closed_links (l ∷ ls) [] = l ∷ closed_links ls []
+closed_links (l ∷ ls) (f ∷ fs) = closed_by l f ∷ closed_links ls fs
+
+-- the document that says that there was no room
+abbrev pub full_body : List ℕ
+full_body = framed (pairs_bytes (refusal_reply refusals.Full))
+
+-- the frames with that document in place of theirs
+abbrev pub respelled_frames : List (ℕ × List ℕ) → List (ℕ × List ℕ)
+respelled_frames frames = map (λ f. (f.0, respelled f.1 full_body)) frames
+
+-- each frame is no shorter than one with that document
+abbrev pub HaveRoom : List (ℕ × List ℕ) → Type 0
+HaveRoom frames = All (λ f. length full_body + 21 ≤ length f.1) frames
+
+-- The message at the front is taken, if there is one.
 abbrev pub IsTaken : Link → Result (Option (Frame × List ℕ)) FrameFault → Taken → Link → Type 0
 IsTaken old (Ok None) takes.Nothing new = new ≡ old
-IsTaken old (Err fault) (takes.Fault f) new = (f ≡ fault) × (new ≡ link_at old (Err fault))
+IsTaken old (Err fault) takes.Nothing new = new ≡ old
 IsTaken old (Ok (Some x)) (takes.Call number request) new =
-    (number ≡ next_number old.last_reply) × IsRequest x.0 request × (new ≡ link_at old (Ok (Some x)))
+    (number ≡ next_number old.last_reply) × IsRequest x.0 request × (new ≡ taken_at old (Ok (Some x)))
 IsTaken old front other new = ⊥
 
 -- The calls were answered so, and at ok each frame was put at the end.
@@ -36,10 +79,18 @@ pub record Serves (calls : List Call) (old new : World) (ok : Bool) (given now :
 abbrev pub IsAnswer : World → ℕ → Request → World → Pairs → Type 0
 IsAnswer old connection request new reply = (read : Result Pairs BsonFault) → Gives (λ d. d) request.body read → Answers old connection read new reply
 
--- The messages of the links ran, and the turn kept what they changed and hands out these replies, or it took back what they
--- changed and hands out the refusals.
-pub record Settles (old : World) (links : List Link) (given : List (ℕ × List ℕ)) (new : World) : Type 0 where
+-- The messages of the links ran. The turn kept what they changed and hands out these replies, or it took back what they changed
+-- and hands out refusals: for want of room only where there is none in the last world.
+pub record Settles (HasNoRoom : World → Type 0) (old : World) (links : List Link) (given : List (ℕ × List ℕ)) (new : World) : Type 0 where
   pub replies : List Pairs
   pub last : World
   pub runs : Runs old (calls links) replies last
-  pub ends : ((given ≡ frames_of (calls links) replies) × (new ≡ settled last)) ⊎ ((given ≡ refused_frames links) × (new ≡ undone old last))
+  pub ends : ((given ≡ frames_of (calls links) replies) × (new ≡ settled last))
+      ⊎ (((given ≡ refused_frames refusals.OutOfMemory links) ⊎ ((given ≡ refused_frames refusals.Full links) × HasNoRoom last)) × (new ≡ undone old last))
+
+-- The messages of the links ran, and the device failed when what they changed was to be made durable.
+pub record Breaks (old : World) (links : List Link) (new : World) : Type 0 where
+  pub replies : List Pairs
+  pub last : World
+  pub runs : Runs old (calls links) replies last
+  pub ends : new ≡ settled last

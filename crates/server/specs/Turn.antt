@@ -1,8 +1,9 @@
 -- What a turn may do. It takes the first whole message of each open connection, in rising connection number, and runs them one
--- after the other. Done: the world is the last step's, and the replies are theirs. Undone, which only want of memory makes it:
--- the state is the one before, every reply is the refusal for want of memory, and cursors that were opened, advanced or killed
--- are closed. A fault at a connection's front closes it, done or undone. A message with moreToCome gets no reply, and replies
--- that are handed out are numbered 1, 2, 3 and so on for each connection.
+-- after the other. Done: the world is the last step's, and the replies are theirs. Undone, which only want of memory or of room
+-- makes it: the state is the one before, every reply is the refusal that says of what, and cursors that were opened, advanced or
+-- killed are closed. A fault at a connection's front closes it, done or undone. Cut, where the device failed in the commit: the
+-- world is the last step's, no reply is handed out, and no connection is closed. A message with moreToCome gets no reply, and
+-- replies that are handed out are numbered 1, 2, 3 and so on for each connection.
 use Rattle.std.specs.Prelude.{◌≡◌, ◌⊎◌, ℕ, ◌+◌, Bool, true, false, nat_lt, if◌then◌else◌, List, [], ◌∷◌, ◌++◌, Result, Ok, Err, Option, Some, None}
 use Rattle.bson.specs.Tree.{Pairs}
 use Rattle.op_msg.specs.Frame.{Frame, front}
@@ -11,9 +12,12 @@ use Rattle.op_msg.specs.declared.fault.FrameFault.{FrameFault}
 use Rattle.engine.specs.World.{World, forget, settled, undone}
 use Rattle.engine.specs.Refusals.{refusal_reply}
 use Rattle.engine.specs.Step.{Answers}
+use Rattle.engine.specs.declared.refusal.Refusal.{Refusal}
 use Rattle.engine.specs.declared.refusal.Refusal.TheVariants as refusals
 use Rattle.server.specs.Site.{Site}
 use Rattle.server.specs.declared.link.Link.{Link}
+use Rattle.server.specs.declared.turn.TurnFault.{TurnFault}
+use Rattle.server.specs.declared.turn.TurnFault.TheVariants as turns
 
 -- What stands at the front of a link: nothing where a fault closed it.
 abbrev pub front_if_open : Option FrameFault → List ℕ → Result (Option (Frame × List ℕ)) FrameFault
@@ -96,23 +100,29 @@ pub record Out : Type 0 where
   pub replies : List (ℕ × List ℕ)
   pub closed : List (ℕ × FrameFault)
 
--- the reply of a turn that is undone
-abbrev pub no_memory : Call → Pairs
-no_memory call = refusal_reply refusals.OutOfMemory
-
 -- the links after the turn
 abbrev pub links_after : List Link → List Link
 links_after [] = []
 links_after (l ∷ ls) = link_after l ∷ links_after ls
 
+-- a link of which the message at the front is taken, and a fault stays where it is
+abbrev pub taken_at : Link → Result (Option (Frame × List ℕ)) FrameFault → Link
+taken_at link (Ok x) = link_at link (Ok x)
+taken_at link (Err fault) = link
+
+-- the links after a turn that is cut
+abbrev pub links_taken : List Link → List Link
+links_taken [] = []
+links_taken (l ∷ ls) = taken_at l (front_of l) ∷ links_taken ls
+
 -- each call's reply in a turn that is undone
-abbrev pub refused_calls : List Call → List Pairs
-refused_calls [] = []
-refused_calls (c ∷ cs) = no_memory c ∷ refused_calls cs
+abbrev pub refused_calls : Refusal → List Call → List Pairs
+refused_calls refusal [] = []
+refused_calls refusal (c ∷ cs) = refusal_reply refusal ∷ refused_calls refusal cs
 
 -- the frames of a turn that is undone
-abbrev pub refused_frames : List Link → List (ℕ × List ℕ)
-refused_frames links = frames_of (calls links) (refused_calls (calls links))
+abbrev pub refused_frames : Refusal → List Link → List (ℕ × List ℕ)
+refused_frames refusal links = frames_of (calls links) (refused_calls refusal (calls links))
 
 -- The messages are taken, and answered so. Done: the world is the last step's.
 pub record Done (site : Site) (out : Out) (new : Site) : Type 0 where
@@ -122,17 +132,32 @@ pub record Done (site : Site) (out : Out) (new : Site) : Type 0 where
   pub hands_out : out ≡ record { replies = frames_of (calls site.links) replies; closed = faults site.links }
   pub leaves : new ≡ record { world = forget_all (settled last) (faults site.links); links = links_after site.links }
 
--- Undone: the state is the one before, and each reply says that memory ran out.
-pub record Undone (site : Site) (out : Out) (new : Site) : Type 0 where
+-- Undone: the state is the one before, and each reply is this refusal.
+pub record Undone (site : Site) (refusal : Refusal) (out : Out) (new : Site) : Type 0 where
   pub replies : List Pairs
   pub last : World
   pub runs : Runs site.world (calls site.links) replies last
-  pub hands_out : out ≡ record { replies = refused_frames site.links; closed = faults site.links }
+  pub hands_out : out ≡ record { replies = refused_frames refusal site.links; closed = faults site.links }
   pub leaves : new ≡ record { world = forget_all (undone site.world last) (faults site.links); links = links_after site.links }
 
--- a turn that answers
+-- A turn that answers: done, or undone for want of memory or of room.
 abbrev pub Turns : Site → Out → Site → Type 0
-Turns site out new = Done site out new ⊎ Undone site out new
+Turns site out new = Done site out new ⊎ (Undone site refusals.OutOfMemory out new ⊎ Undone site refusals.Full out new)
+
+-- Cut: the messages are taken and ran, no reply is handed out, and no connection is closed.
+pub record Cut (site : Site) (new : Site) : Type 0 where
+  pub replies : List Pairs
+  pub last : World
+  pub runs : Runs site.world (calls site.links) replies last
+  pub leaves : new ≡ record { world = settled last; links = links_taken site.links }
+
+-- A turn that answers no messages, by its fault and whether the server had stopped before. A server that had stopped changes
+-- nothing. One that had not stops where the turn is cut, and changes nothing where memory runs out before a message is taken.
+abbrev pub TurnFails : Site → TurnFault → Bool → Site → Type 0
+TurnFails site turns.Stopped true new = new ≡ site
+TurnFails site turns.Stopped false new = Cut site new
+TurnFails site turns.Memory true new = ⊥
+TurnFails site turns.Memory false new = new ≡ site
 
 -- a message or a fault stands at the front of the open connection
 abbrev pub is_waiting_in : Option Link → Bool

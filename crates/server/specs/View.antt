@@ -6,7 +6,7 @@ use Rattle.server.specs.Turn.{Out}
 use Rattle.server.specs.declared.turn.Core.{Core}
 use Rattle.server.specs.declared.turn.TurnOut.{TurnOut}
 
-abbrev pub site : Core → Site
+abbrev pub site : {D : Type 0} → Core D → Site
 site core = record { world = engines.world core.engine; links = core.links.items }
 
 abbrev pub frames_in : {Z : Type 0} → List (ℕ × Vec ℕ Z) → List (ℕ × List ℕ)

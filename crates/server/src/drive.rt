@@ -1,6 +1,8 @@
 //! Whole histories.
 
-ghost use Rattle.std.specs.Prelude.{◌+◌, ◌<◌, ◌^◌};
+ghost use Rattle.std.specs.Prelude.{◌≡◌, ◌≢◌, ◌⊎◌, ◌+◌, ◌<◌, ◌^◌, Err, true};
+ghost use Rattle.page.specs.History.{KeepsWord};
+ghost use Rattle.server.specs.Durable.{IsSound, GoesSafely, past, stopped};
 ghost use Rattle.server.specs.Headline.{Drives};
 ghost use Rattle.server.specs.OneStep.{Does};
 ghost use Rattle.server.specs.View.{site};
@@ -9,6 +11,7 @@ use crate::link::FeedFault;
 use crate::step::Step;
 use crate::turn::{Core, TurnFault};
 use engine::ConnId;
+use page::Disk;
 use std::alloc::Global;
 
 /// Why a run stopped at a step.
@@ -16,7 +19,7 @@ use std::alloc::Global;
 pub enum DriveFault {
     /// The bytes were not taken, for want of memory. The step changed nothing.
     Feed(FeedFault),
-    /// The turn took no message. The step changed nothing.
+    /// The turn handed out nothing.
     Turn(TurnFault),
     /// The turn answered, and memory ran out for its frames, which are missing.
     Gather,
@@ -31,11 +34,17 @@ pub struct DriveOut {
     pub stopped: Option<(usize, DriveFault)>,
 }
 
-impl Core {
+impl<D: Disk> Core<D> {
     /// Does one step, and puts what a turn hands out at the end.
     fn do_step(&mut self, step: &Step, out: &mut DriveOut) -> Result<(), DriveFault>
-        requires { out.old.turns + 1 < 2 ^ 64 }
-        ensures { Does (site self.old) step.now out.old result out.new (site self.new) }
+        requires sound { IsSound D.history self.old }
+        requires counts { out.old.turns + 1 < 2 ^ 64 }
+        ensures sound { IsSound D.history self.new }
+        ensures does { Does (site self.old) step.now out.old result (stopped self.old) out.new (site self.new) }
+        ensures disk { GoesSafely D.history self.old self.new }
+        ensures device { result ≡ Err (DriveFault.Turn TurnFault.Stopped) → KeepsWord (past D.history self.new)
+            → (stopped self.old ≡ true) ⊎ ((past D.history self.old).failures < (past D.history self.new).failures) }
+        ensures running { result ≢ Err (DriveFault.Turn TurnFault.Stopped) → stopped self.new ≡ stopped self.old }
     {
         match step {
             Step::Bytes(connection, chunk) => match self.feed(*connection, chunk) {
@@ -62,7 +71,9 @@ impl Core {
 
     /// Drives steps in order. It passes over bytes for a closed connection, and stops at the first other `Err`.
     pub fn drive(&mut self, alloc: Global, steps: &[Step]) -> DriveOut
-        ensures { Drives (site self.old) steps.now result (site self.new) }
+        requires sound { IsSound D.history self.old }
+        ensures sound { IsSound D.history self.new }
+        ensures drives { Drives D.history self.old steps.now result self.new }
     {
         let mut out = DriveOut {
             replies: Vec::new(alloc),

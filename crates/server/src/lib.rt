@@ -12,5 +12,6 @@ mod turn;
 
 pub use drive::{DriveFault, DriveOut};
 pub use link::FeedFault;
+pub use roots::{Config, OpenFault};
 pub use step::Step;
 pub use turn::{Core, TurnFault, TurnOut};

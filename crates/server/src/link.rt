@@ -3,7 +3,7 @@
 ghost use Rattle.std.specs.Prelude.{◌≡◌, ◌≢◌, ◌<◌, ◌≤◌, Err, OnErr, MatchResult, is_err, length};
 ghost use Rattle.server.specs.Site.{feed_links, drop_link, find_link, is_closed_in, place_in};
 ghost use Rattle.server.specs.Faults.{feed_fault_name};
-ghost use Rattle.server.specs.Taking.{IsTaken};
+ghost use Rattle.server.specs.Taking.{IsTaken, closed_by, closed_links, fault_beside};
 ghost use Rattle.server.specs.Turn.{is_waiting_in, next_number, front_of};
 
 use engine::ConnId;
@@ -116,11 +116,10 @@ pub(crate) fn waits(links: &[Link], connection: ConnId) -> bool
     }
 }
 
-/// What a turn takes from a link.
+/// What a turn takes from a link: a message, with the number of its reply.
 #[derive(Drop)]
 pub(crate) enum Taken {
     Nothing,
-    Fault(FrameFault),
     Call(u32, Request),
 }
 
@@ -131,7 +130,7 @@ pub(crate) fn next_number(last: u32) -> u32
     if last < 2_147_483_647 { last + 1 } else { 1 }
 }
 
-/// Takes the message at the front of an open link, with the number of its reply. A fault closes the link.
+/// Takes the message at the front of an open link, with the number of its reply. A fault stays where it is.
 pub(crate) fn take_call(link: &mut Link) -> Taken
     ensures taken { IsTaken link.old (front_of link.old) result link.new }
     ensures connection { link.new.connection ≡ link.old.connection }
@@ -148,9 +147,34 @@ pub(crate) fn take_call(link: &mut Link) -> Taken
             }
             Taken::Call(number, request)
         }
-        Err(fault) => {
-            link.fault = Some(fault);
-            Taken::Fault(fault)
-        }
+        Err(_) => Taken::Nothing,
+    }
+}
+
+/// The fault that stands beside a link, if one does.
+fn fault_beside(faults: &[Option<FrameFault>], i: usize) -> Option<FrameFault>
+    ensures { result ≡ fault_beside faults.now i }
+{
+    match faults.get(i) {
+        Some(fault) => *fault,
+        None => None,
+    }
+}
+
+/// Closes a link, where there is a fault.
+fn close_link(link: &mut Link, fault: Option<FrameFault>)
+    ensures { link.new ≡ closed_by link.old fault }
+{
+    if fault.is_some() {
+        link.fault = fault;
+    }
+}
+
+/// Closes each link that has a fault beside it.
+pub(crate) fn close_links(links: &mut [Link], faults: &[Option<FrameFault>])
+    ensures { links.new ≡ closed_links links.old faults.now }
+{
+    'links: for (i, link) in links.iter_mut().enumerate() {
+        close_link(link, fault_beside(faults, i));
     }
 }

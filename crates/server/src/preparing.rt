@@ -1,24 +1,26 @@
 //! What a turn makes ready before it takes a message, so that it can be undone without memory.
 
-ghost use Rattle.std.specs.Prelude.{◌≡◌, ◌++◌, IfOk, OnOk};
+ghost use Rattle.std.specs.Prelude.{◌≡◌, ◌++◌, [], ◌∷◌, IfOk, OnOk};
 ghost use Rattle.engine.specs.Refusals.{refusal_reply};
 ghost use Rattle.engine.specs.declared.refusal.Refusal.TheVariants.{OutOfMemory};
 ghost use Rattle.op_msg.specs.Request.{head_of, reply_bytes};
 ghost use Rattle.server.specs.Turn.{front_of, faults, fault_at, frame_unless, next_number, refused_frames};
-ghost use Rattle.server.specs.Taking.{refused_at};
+ghost use Rattle.server.specs.Taking.{refused_at, fault_in, faults_in, HaveRoom, respelled_frames};
 ghost use Rattle.server.specs.View.{frames_in};
 
 use crate::link::{Link, next_number};
 use bson::NoMemory;
-use engine::{ConnId, out_of_memory_bytes};
-use op_msg::{FrameFault, Head, spelled_reply};
+use engine::{ConnId, full_bytes, out_of_memory_bytes};
+use op_msg::{FrameFault, Head, respell, spelled_reply};
 use std::alloc::Global;
 
-/// The frames that a turn hands out if it is undone, and the connections that it closes.
+/// The frames that a turn hands out if it is undone for want of memory, the connections that it closes, and for each link
+/// the fault at its front.
 #[derive(Drop)]
 pub(crate) struct Prepared {
     pub refusals: Vec<(ConnId, Vec<u8>)>,
     pub closed: Vec<(ConnId, FrameFault)>,
+    pub faults: Vec<Option<FrameFault>>,
 }
 
 /// What the message at the front of an open link says of itself.
@@ -60,28 +62,48 @@ fn push_refusal(
 /// Puts a link's part at the end: the refusal of the message at its front, or its fault.
 fn prepare_link(prepared: &mut Prepared, link: &Link) -> Result<(), NoMemory>
     ensures refusals { OnOk result (frames_in prepared.new.refusals.items
-        ≡ frames_in prepared.old.refusals.items ++ refused_at link.now (front_of link.now)) }
+        ≡ frames_in prepared.old.refusals.items ++ refused_at OutOfMemory link.now (front_of link.now)) }
     ensures closed { OnOk result (prepared.new.closed.items
         ≡ prepared.old.closed.items ++ fault_at link.now (front_of link.now)) }
+    ensures faults { OnOk result (prepared.new.faults.items
+        ≡ prepared.old.faults.items ++ fault_in (front_of link.now) ∷ []) }
 {
     match head_at(link) {
-        Ok(None) => Ok(()),
-        Ok(Some(head)) => push_refusal(&mut prepared.refusals, link, head),
-        Err(fault) => Ok(prepared.closed.push((link.connection, fault))?),
+        Ok(None) => Ok(prepared.faults.push(None)?),
+        Ok(Some(head)) => {
+            prepared.faults.push(None)?;
+            push_refusal(&mut prepared.refusals, link, head)
+        }
+        Err(fault) => {
+            prepared.faults.push(Some(fault))?;
+            Ok(prepared.closed.push((link.connection, fault))?)
+        }
     }
 }
 
-/// Makes ready what an undone turn hands out, and the list of the connections that the turn closes.
+/// Makes ready what an undone turn hands out, and the lists of what the turn closes.
 pub(crate) fn prepare(alloc: Global, links: &[Link]) -> Result<Prepared, NoMemory>
-    ensures refusals { IfOk result (λ p. frames_in p.refusals.items ≡ refused_frames links.now) }
+    ensures refusals { IfOk result (λ p. frames_in p.refusals.items ≡ refused_frames OutOfMemory links.now) }
     ensures closed { IfOk result (λ p. p.closed.items ≡ faults links.now) }
+    ensures faults { IfOk result (λ p. p.faults.items ≡ faults_in links.now) }
 {
     let mut prepared = Prepared {
         refusals: Vec::new(alloc),
         closed: Vec::new(alloc),
+        faults: Vec::new(alloc),
     };
     'links: for link in links {
         prepare_link(&mut prepared, link)?;
     }
     Ok(prepared)
+}
+
+/// Makes each refusal the one that says that there was no room, which is shorter. It takes no memory.
+pub(crate) fn say_full(frames: &mut [(ConnId, Vec<u8>)])
+    requires { HaveRoom (frames_in frames.old) }
+    ensures { frames_in frames.new ≡ respelled_frames (frames_in frames.old) }
+{
+    'frames: for (_, frame) in frames.iter_mut() {
+        respell(frame, full_bytes());
+    }
 }

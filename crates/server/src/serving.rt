@@ -1,16 +1,24 @@
 //! The messages of a turn, answered one after the other.
 
-ghost use Rattle.std.specs.Prelude.{◌≡◌, IfOk};
+ghost use Rattle.std.specs.Prelude.{◌≡◌, ◌≢◌, ◌⊎◌, ◌<◌, IfOk, IfSome, IsSome, None, Some, true};
+ghost use Rattle.page.specs.History.{KeepsWord};
+ghost use Rattle.page.specs.Crash.{GoesOn, LeavesOnly, LeavesNow};
 ghost use Rattle.op_msg.specs.Request.{reply_bytes};
 ghost use Rattle.engine.specs.View.{world, begun, reply_of, IsSendable};
-ghost use Rattle.server.specs.Turn.{front_of, link_after, links_after, call_at, calls, refused_frames, forget_all};
-ghost use Rattle.server.specs.Taking.{Serves, IsAnswer, Settles};
+ghost use Rattle.engine.specs.Durable.{Holds, past, stopped, IsRunning, IsSound};
+ghost use Rattle.engine.specs.declared.refusal.Refusal.TheVariants.{OutOfMemory};
+ghost use Rattle.server.specs.Turn.{front_of, links_taken, taken_at, call_at, calls, refused_frames, forget_all};
+ghost use Rattle.server.specs.Taking.{Serves, IsAnswer, Settles, Breaks};
+ghost use Rattle.server.specs.Durable.{HasNoRoom};
 ghost use Rattle.server.specs.View.{frames_in};
 
 use crate::link::{Link, Taken, take_call};
+use crate::preparing::say_full;
 use bson::NoMemory;
 use engine::{ConnId, Engine, Reply, body_refusal, refusal_document};
 use op_msg::{FrameFault, Request, reply};
+use page::Disk;
+use roots::CommitFault;
 use std::alloc::Global;
 
 /// The frame of what the engine answered.
@@ -33,7 +41,11 @@ fn frame_of_reply(
 }
 
 /// Runs a request. One whose body found no memory, or is no document, is refused.
-fn answer(engine: &mut Engine, connection: ConnId, request: &Request) -> Reply
+fn answer<D: Disk>(engine: &mut Engine<D>, connection: ConnId, request: &Request) -> Reply
+    requires sound { IsSound D.history engine.old }
+    ensures sound { IsSound D.history engine.new }
+    ensures disk { past D.history engine.new ≡ past D.history engine.old }
+    ensures running { stopped engine.new ≡ stopped engine.old }
     ensures answer { IsAnswer (world engine.old) connection request.now (world engine.new) (reply_of result) }
     ensures begun { begun engine.new ≡ begun engine.old }
     ensures sendable { IsSendable (reply_of result) }
@@ -46,10 +58,18 @@ fn answer(engine: &mut Engine, connection: ConnId, request: &Request) -> Reply
 
 /// Answers the message at the front of a link, if there is one, and puts the frame at the end. It says whether the
 /// frame found memory.
-fn serve_link(engine: &mut Engine, link: &mut Link, frames: &mut Vec<(ConnId, Vec<u8>)>) -> bool
+fn serve_link<D: Disk>(
+    engine: &mut Engine<D>,
+    link: &mut Link,
+    frames: &mut Vec<(ConnId, Vec<u8>)>,
+) -> bool
+    requires sound { IsSound D.history engine.old }
+    ensures sound { IsSound D.history engine.new }
+    ensures disk { past D.history engine.new ≡ past D.history engine.old }
+    ensures running { stopped engine.new ≡ stopped engine.old }
     ensures serves { Serves (call_at link.old (front_of link.old)) (world engine.old) (world engine.new) result
         (frames_in frames.old.items) (frames_in frames.new.items) }
-    ensures link { link.new ≡ link_after link.old }
+    ensures link { link.new ≡ taken_at link.old (front_of link.old) }
     ensures begun { begun engine.new ≡ begun engine.old }
 {
     let connection = link.connection;
@@ -67,10 +87,18 @@ fn serve_link(engine: &mut Engine, link: &mut Link, frames: &mut Vec<(ConnId, Ve
 }
 
 /// Answers the message at the front of each link. It says whether every frame found memory.
-fn serve_links(engine: &mut Engine, links: &mut [Link], frames: &mut Vec<(ConnId, Vec<u8>)>) -> bool
+fn serve_links<D: Disk>(
+    engine: &mut Engine<D>,
+    links: &mut [Link],
+    frames: &mut Vec<(ConnId, Vec<u8>)>,
+) -> bool
+    requires sound { IsSound D.history engine.old }
+    ensures sound { IsSound D.history engine.new }
+    ensures disk { past D.history engine.new ≡ past D.history engine.old }
+    ensures running { stopped engine.new ≡ stopped engine.old }
     ensures serves { Serves (calls links.old) (world engine.old) (world engine.new) result
         (frames_in frames.old.items) (frames_in frames.new.items) }
-    ensures links { links.new ≡ links_after links.old }
+    ensures links { links.new ≡ links_taken links.old }
     ensures begun { begun engine.new ≡ begun engine.old }
 {
     let mut all = true;
@@ -81,31 +109,54 @@ fn serve_links(engine: &mut Engine, links: &mut [Link], frames: &mut Vec<(ConnId
     all
 }
 
-/// Answers the message at the front of each link, and ends the turn. Where every frame found memory, what the messages
-/// changed is kept. Otherwise it is taken back, and the frames are the refusals, which were made before.
-pub(crate) fn run_messages(
-    engine: &mut Engine,
+/// Answers the message at the front of each link, and ends the turn. What the messages changed is made durable, or it is
+/// taken back where memory runs out for a frame, or memory or room for the commit: the frames are then the refusals, which
+/// were made before. `None` says that the device failed.
+pub(crate) fn run_messages<D: Disk>(
+    engine: &mut Engine<D>,
     links: &mut Vec<Link>,
-    refusals: Vec<(ConnId, Vec<u8>)>,
-) -> Vec<(ConnId, Vec<u8>)>
+    mut refusals: Vec<(ConnId, Vec<u8>)>,
+) -> Option<Vec<(ConnId, Vec<u8>)>>
+    requires sound { IsSound D.history engine.old }
     requires idle { begun engine.old ≡ world engine.old }
-    requires refusals { frames_in refusals.items ≡ refused_frames links.old.items }
-    ensures settles { Settles (world engine.old) links.old.items (frames_in result.items) (world engine.new) }
-    ensures links { links.new.items ≡ links_after links.old.items }
+    requires refusals { frames_in refusals.items ≡ refused_frames OutOfMemory links.old.items }
+    ensures sound { IsSound D.history engine.new }
+    ensures settles { IfSome result (λ given. Settles (HasNoRoom D.history engine.old) (world engine.old) links.old.items (frames_in given.items) (world engine.new)) }
+    ensures breaks { result ≡ None → Breaks (world engine.old) links.old.items (world engine.new) }
+    ensures links { links.new.items ≡ links_taken links.old.items }
     ensures idle { begun engine.new ≡ world engine.new }
+    ensures on { GoesOn (past D.history engine.old) (past D.history engine.new) }
+    ensures any_moment { IsRunning engine.old → LeavesOnly (past D.history engine.old) (past D.history engine.new)
+        (λ image. Holds image (world engine.old).state ⊎ Holds image (world engine.new).state) }
+    ensures running { IfSome result (λ _. stopped engine.new ≡ stopped engine.old) }
+    ensures stops { result ≡ None → stopped engine.new ≡ true }
+    ensures device { result ≡ None → KeepsWord (past D.history engine.new)
+        → (stopped engine.old ≡ true) ⊎ ((past D.history engine.old).failures < (past D.history engine.new).failures) }
+    ensures unchanged { stopped engine.old ≡ true → past D.history engine.new ≡ past D.history engine.old }
 {
     let mut replies = Vec::new(*links.allocator());
     if !serve_links(engine, links, &mut replies) {
         engine.undo_turn();
-        return refusals;
+        return Some(refusals);
     }
-    engine.commit_turn();
-    replies
+    match engine.commit_turn() {
+        Ok(()) => Some(replies),
+        Err(CommitFault::Memory) => Some(refusals),
+        Err(CommitFault::Full) => {
+            say_full(&mut refusals);
+            Some(refusals)
+        }
+        Err(CommitFault::Device) => None,
+    }
 }
 
 /// The cursors of connections that a fault closed end.
-pub(crate) fn forget_closed(engine: &mut Engine, closed: &[(ConnId, FrameFault)])
-    requires { begun engine.old ≡ world engine.old }
+pub(crate) fn forget_closed<D: Disk>(engine: &mut Engine<D>, closed: &[(ConnId, FrameFault)])
+    requires sound { IsSound D.history engine.old }
+    requires idle { begun engine.old ≡ world engine.old }
+    ensures sound { IsSound D.history engine.new }
+    ensures disk { past D.history engine.new ≡ past D.history engine.old }
+    ensures running { stopped engine.new ≡ stopped engine.old }
     ensures world { world engine.new ≡ forget_all (world engine.old) closed.now }
     ensures idle { begun engine.new ≡ world engine.new }
 {

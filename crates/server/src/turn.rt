@@ -4,18 +4,23 @@ ghost use Rattle.std.specs.Prelude.{◌≡◌};
 ghost use Rattle.engine.specs.View.{world, begun};
 ghost use Rattle.server.specs.WorldCode.{world_set};
 
-use crate::link::{FeedFault, Link, end_link, feed_link, waits};
+use crate::link::{FeedFault, Link, close_links, end_link, feed_link, waits};
 use crate::preparing::{Prepared, prepare};
 use crate::serving::{forget_closed, run_messages};
 use engine::{ConnId, Engine};
 use op_msg::FrameFault;
+use page::Disk;
+use roots::{Config, OpenFault};
 use std::alloc::{AllocError, Global};
 
-/// Why a turn took no message.
+/// Why a turn answered no message.
 #[derive(Clone, Copy, Debug, PartialEq, Eq)]
 pub enum TurnFault {
+    /// A write or a sync failed, in this turn or an earlier one. In this turn: its messages were taken, and what they
+    /// changed may be durable or not. In an earlier one: nothing changed.
+    Stopped = 1,
     /// Memory ran out before a message was taken. Nothing changed.
-    Memory = 2,
+    Memory,
 }
 
 impl TurnFault {
@@ -26,6 +31,7 @@ impl TurnFault {
         ensures { result.now ≡ turn_fault_name self }
     {
         match self {
+            TurnFault::Stopped => "Stopped",
             TurnFault::Memory => "Memory",
         }
     }
@@ -50,34 +56,77 @@ pub struct TurnOut {
 
 /// The engine and the connections.
 #[derive(Drop)]
-pub struct Core {
-    pub(crate) engine: Engine,
+pub struct Core<D> {
+    pub(crate) engine: Engine<D>,
     // in rising connection number
     pub(crate) links: Vec<Link>,
     // no turn is open between calls
     ghost idle: { begun engine ≡ world engine } by { world_set (begun engine) (world engine) },
 }
 
-impl Core {
-    ghost use Rattle.std.specs.Prelude.{◌≢◌, [], Err, IfOk, OnErr, is_err};
-    ghost use Rattle.engine.specs.World.{new_world};
+impl<D: Disk> Core<D> {
+    ghost use Rattle.std.specs.Prelude.{◌≢◌, ◌⊎◌, ◌<◌, ℕ, List, [], Ok, Err, true, IfOk, IfErr, OnOk, OnErr, is_err};
+    ghost use Rattle.page.specs.History.{KeepsWord, now, reads, IsImage};
+    ghost use Rattle.page.specs.Crash.{GoesOn, LeavesOnly, LeavesNow};
+    ghost use Rattle.roots.specs.Root.{root_of};
+    ghost use Rattle.engine.specs.World.{Collection, new_world};
+    ghost use Rattle.engine.specs.Durable.{Holds};
+    ghost use Rattle.engine.specs.declared.refusal.Refusal.TheVariants as refusals;
     ghost use Rattle.server.specs.Site.{fed, ended, find_link, is_closed_in};
-    ghost use Rattle.server.specs.Turn.{Turns, is_waiting_in};
+    ghost use Rattle.server.specs.Turn.{Done, Undone, Turns, TurnFails, is_waiting_in};
     ghost use Rattle.server.specs.View.{site, out_of};
+    ghost use Rattle.server.specs.Durable.{past, stopped, IsRunning, IsSound, FindsNoRoom, state_of};
 
-    /// A server without collections and connections. Its documents end with it.
-    pub fn new(alloc: Global) -> Core
-        ensures { site result ≡ record { world = new_world; links = [] } }
+    /// Opens the database on a disk that a crash may have left; a disk of zeros holds the empty one. It writes nothing, and
+    /// syncs before it answers. An `Err` hands the disk back.
+    pub fn open(alloc: Global, disk: D, config: Config) -> Result<Core<D>, (D, OpenFault)>
+        ensures sound { IfOk result (λ core. IsSound D.history core × IsRunning core) }
+        ensures site { IfOk result (λ core. site core ≡ record { world = record new_world { state = state_of core }; links = [] }) }
+        ensures on { IfOk result (λ core. GoesOn (D.history disk) (past D.history core)) }
+        ensures on_err { IfErr result (λ e. GoesOn (D.history disk) (D.history e.0)) }
+
+        // It gives what was read, and from then on every image holds that alone.
+        ensures holds { IfOk result (λ core. KeepsWord (past D.history core) → Holds (reads (now (D.history disk))) (state_of core)) }
+        ensures alone { IfOk result (λ core. LeavesNow (past D.history core) (λ image. Holds image (state_of core))) }
+
+        // Where reads give one of the images, the images during the call and after it are among those from before.
+        ensures any_moment { IfOk result (λ core. IsImage (now (D.history disk)) (reads (now (D.history disk)))
+            → LeavesOnly (D.history disk) (past D.history core) (IsImage (now (D.history disk)))) }
+        ensures any_moment_err { IfErr result (λ e. LeavesOnly (D.history disk) (D.history e.0) (IsImage (now (D.history disk)))) }
+
+        // A fault of the bytes comes only where they hold no collections.
+        ensures damaged { IfErr result (λ e. e.1 ≢ OpenFault.Device → e.1 ≢ OpenFault.Memory → KeepsWord (D.history e.0)
+            → (state : List Collection) → Holds (reads (now (D.history disk))) state → ⊥) }
+        ensures foreign { IfErr result (λ e. e.1 ≡ OpenFault.NotADatabase → KeepsWord (D.history e.0)
+            → root_of (reads (now (D.history disk)) 0) (reads (now (D.history disk)) 1) ≡ Err OpenFault.NotADatabase) }
+        ensures later { IfErr result (λ e. e.1 ≡ OpenFault.NewerFormat → KeepsWord (D.history e.0)
+            → root_of (reads (now (D.history disk)) 0) (reads (now (D.history disk)) 1) ≡ Err OpenFault.NewerFormat) }
+        ensures device { IfErr result (λ e. e.1 ≡ OpenFault.Device → KeepsWord (D.history e.0)
+            → (D.history disk).failures < (D.history e.0).failures) }
     {
-        Core {
-            engine: Engine::new(alloc),
-            links: Vec::new(alloc),
+        match Engine::open(alloc, disk, config) {
+            Ok(engine) => Ok(Core {
+                engine,
+                links: Vec::new(alloc),
+            }),
+            Err(refused) => Err(refused),
         }
+    }
+
+    /// Hands the disk back as it is.
+    pub fn into_disk(self) -> D
+        ensures { D.history result ≡ past D.history self }
+    {
+        self.engine.into_disk()
     }
 
     /// Takes bytes that came on a connection. The first ones open it. A connection that a fault of a frame closed answers
     /// `Closed` until `gone`, and the bytes are passed over.
     pub fn feed(&mut self, connection: ConnId, bytes: &[u8]) -> Result<(), FeedFault>
+        requires sound { IsSound D.history self.old }
+        ensures sound { IsSound D.history self.new }
+        ensures disk { past D.history self.new ≡ past D.history self.old }
+        ensures running { stopped self.new ≡ stopped self.old }
         ensures fed { result ≢ Err FeedFault.Memory
             → site self.new ≡ fed (site self.old) connection bytes.now }
         ensures closed { result ≢ Err FeedFault.Memory
@@ -87,23 +136,59 @@ impl Core {
         feed_link(&mut self.links, connection, bytes)
     }
 
-    /// A turn: it takes the first whole message of each open connection, runs them in rising connection number, and hands
-    /// out the replies. Where memory runs out for a reply, the turn is undone and each reply is the refusal for want of
-    /// memory. A connection with a fault at its front is closed. An `Err` took no message and changed nothing.
+    /// A turn: it takes the first whole message of each open connection, runs them in rising connection number, makes what
+    /// they changed durable, and hands out the replies. Where memory runs out for a reply, or memory or room for what they
+    /// changed, the turn is undone and each reply is the refusal that says so. A connection with a fault at its front is
+    /// closed. `Memory` took no message and changed nothing. `Stopped` hands out nothing and closes no connection: the
+    /// device failed in this turn, or before it, and then nothing changed.
     pub fn turn(&mut self) -> Result<TurnOut, TurnFault>
+        requires sound { IsSound D.history self.old }
+        ensures sound { IsSound D.history self.new }
         ensures turns { IfOk result (λ out. Turns (site self.old) (out_of out) (site self.new)) }
-        ensures err { OnErr result (site self.new ≡ site self.old) }
+        ensures full { IfOk result (λ out. Done (site self.old) (out_of out) (site self.new)
+            ⊎ (Undone (site self.old) refusals.OutOfMemory (out_of out) (site self.new)
+            ⊎ FindsNoRoom D.history self.old (out_of out) (site self.new))) }
+        ensures fails { IfErr result (λ fault. TurnFails (site self.old) fault (stopped self.old) (site self.new)) }
+
+        // A crash at any moment of the call leaves the collections as they were before the turn or as they are after it.
+        ensures on { GoesOn (past D.history self.old) (past D.history self.new) }
+        ensures any_moment { IsRunning self.old → LeavesOnly (past D.history self.old) (past D.history self.new)
+            (λ image. Holds image (state_of self.old) ⊎ Holds image (state_of self.new)) }
+
+        // At Ok it leaves them as they are after it, and nothing else.
+        ensures acknowledged { IsRunning self.old → OnOk result (LeavesNow (past D.history self.new) (λ image. Holds image (state_of self.new))) }
+        ensures running { result ≢ Err TurnFault.Stopped → stopped self.new ≡ stopped self.old }
+        ensures stops { result ≡ Err TurnFault.Stopped → stopped self.new ≡ true }
+
+        // A server that had stopped answers so, and leaves the disk as it is. Another stops only where the device failed.
+        ensures idle { stopped self.old ≡ true → (result ≡ Err TurnFault.Stopped) × (past D.history self.new ≡ past D.history self.old) }
+        ensures device { result ≡ Err TurnFault.Stopped → KeepsWord (past D.history self.new)
+            → (stopped self.old ≡ true) ⊎ ((past D.history self.old).failures < (past D.history self.new).failures) }
     {
+        if self.engine.is_stopped() {
+            return Err(TurnFault::Stopped);
+        }
         let alloc = *self.links.allocator();
-        let Prepared { refusals, closed } = prepare(alloc, &self.links)?;
-        let replies = run_messages(&mut self.engine, &mut self.links, refusals);
+        let Prepared {
+            refusals,
+            closed,
+            faults,
+        } = prepare(alloc, &self.links)?;
+        let Some(replies) = run_messages(&mut self.engine, &mut self.links, refusals) else {
+            return Err(TurnFault::Stopped);
+        };
+        close_links(&mut self.links, &faults);
         forget_closed(&mut self.engine, &closed);
         Ok(TurnOut { replies, closed })
     }
 
     /// A connection has ended: its cursors, its bytes and its count of replies are forgotten.
     pub fn gone(&mut self, connection: ConnId)
-        ensures { site self.new ≡ ended (site self.old) connection }
+        requires sound { IsSound D.history self.old }
+        ensures sound { IsSound D.history self.new }
+        ensures disk { past D.history self.new ≡ past D.history self.old }
+        ensures running { stopped self.new ≡ stopped self.old }
+        ensures site { site self.new ≡ ended (site self.old) connection }
     {
         self.engine.gone(connection);
         end_link(&mut self.links, connection);

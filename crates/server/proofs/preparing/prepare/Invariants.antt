@@ -1,10 +1,13 @@
 use Rattle.std.proofs.Common.{◌≡◌, take}
+use Rattle.engine.specs.declared.refusal.Refusal.TheVariants.{OutOfMemory}
 use Rattle.server.specs.Turn.{faults, refused_frames}
+use Rattle.server.specs.Taking.{faults_in}
 use Rattle.server.specs.View.{frames_in}
 use Rattle.server.proofs.preparing.prepare.Given as goal
 
 abbrev pub invariant-links : goal.invariant-links
 invariant-links l = record {
-  refusals : frames_in l.prepared.refusals.items ≡ refused_frames (take l.link-index l.links);
+  refusals : frames_in l.prepared.refusals.items ≡ refused_frames OutOfMemory (take l.link-index l.links);
   closed : l.prepared.closed.items ≡ faults (take l.link-index l.links);
+  faults : l.prepared.faults.items ≡ faults_in (take l.link-index l.links);
 }

@@ -5,12 +5,17 @@ use Rattle.server.proofs.LinksServed.{forget_all_more}
 use Rattle.server.proofs.serving.forget_closed.Goals as goal
 
 pub closed-preserved : goal.closed-preserved
-closed-preserved c =
+closed-preserved g c =
     let i = c.closed.connection-index in
     let fs = c.args.closed.now in
     let d = c.closed-item.result in
+    let inv = c.closed.invariant in
+    let call = c.gone in
     record {
-      world_is = c.gone.ensures.world ∙ (λ k. forget (c.closed.invariant.world_is k) (c.closed-item.is k).0)
+      sound = call.ensures.sound;
+      disk = call.ensures.disk ∙ inv.disk;
+      running = call.ensures.running ∙ inv.running;
+      world_is = call.ensures.world ∙ (λ k. forget (inv.world_is k) (c.closed-item.is k).0)
           ∙ sym (forget_all_more (world c.args.engine.now) fs i d c.closed-test.true);
-      idle = c.gone.ensures.begun c.closed.invariant.idle;
+      idle = call.ensures.begun inv.idle;
     }

@@ -8,7 +8,7 @@ use Rattle.server.proofs.LinkServed.{one_served}
 use Rattle.server.proofs.serving.serve_link.Goals as goal
 
 pub returns-then-request-clause-serves : goal.returns-then-request-clause-serves
-returns-then-request-clause-serves c =
+returns-then-request-clause-serves g c =
     let given = frames_in c.args.frames.now.items in
     let link = c.args.link.now in
     let r = c.in-Call.request in
@@ -16,14 +16,14 @@ returns-then-request-clause-serves c =
     (λ e. sym (append-nil given) ∙ ap (λ (b : Bool). given ++ frame_unless b link.connection c.in-Call.number r.request_id (reply_of c.answer-reply.result)) (sym c.if-request.true))
 
 pub returns-clause-serves : goal.returns-clause-serves
-returns-clause-serves c =
+returns-clause-serves g c =
     let given = frames_in c.args.frames.now.items in
     let link = c.args.link.now in
     one_served link c.take_call.new.link (front_of link) c.in-Call.number c.in-Call.request (world c.args.engine.now) (world c.answer-reply.new.engine) (reply_of c.answer-reply.result) false given given c.in-Call.ensures.taken c.answer-reply.ensures.answer
     (λ e. absurd cc)
 
 pub returns-in-Ok-clause-serves : goal.returns-in-Ok-clause-serves
-returns-in-Ok-clause-serves c =
+returns-in-Ok-clause-serves g c =
     let given = frames_in c.args.frames.now.items in
     let link = c.args.link.now in
     let r = c.in-Call.request in

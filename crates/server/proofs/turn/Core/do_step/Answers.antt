@@ -2,19 +2,43 @@ use Rattle.std.proofs.Common.{◌≡◌, [], ◌∷◌, ◌++◌, ◌+◌, sym, 
 use Rattle.server.specs.History.{Happens, turns_in}
 use Rattle.server.specs.OneStep.{Adds}
 use Rattle.server.specs.View.{site, frames_in, out_of}
+use Rattle.server.specs.Durable.{state_of}
 use Rattle.server.specs.declared.step.Step.{Step}
-use Rattle.server.proofs.Histories.{one_turn, frames_append}
+use Rattle.server.proofs.Histories.{one_turn, bytes_on, gone_on, frames_append}
+use Rattle.server.proofs.Images.{unmoved}
 use Rattle.server.proofs.turn.Core.do_step.Goals as goal
 
-pub returns-else-is_err : goal.returns-else-is_err
-returns-else-is_err c =
+pub returns-else-is_err-clause-does : goal.returns-else-is_err-clause-does
+returns-else-is_err-clause-does g c =
     let turn = c.in-Ok-turn.turn in
     let kept : c.append.new.self.items ≡ c.args.out.now.replies.items ++ turn.replies.items = search rules in
     let frames = frames_in turn.replies.items in
     record {
       frames = frames;
-      happens = subst (λ (s : Step). Happens (site c.args.self.now) (s ∷ []) frames (site c.turn.new.self)) (sym c.in-Turn.is)
+      states = state_of c.turn.new.self ∷ [];
+      happens = subst (λ (s : Step). Happens (site c.args.self.now) (s ∷ []) frames (state_of c.turn.new.self ∷ []) (site c.turn.new.self)) (sym c.in-Turn.is)
           (one_turn (site c.args.self.now) (site c.turn.new.self) (out_of turn) c.in-Ok-turn.ensures.turns);
       adds = subst (λ (s : Step). Adds frames (turns_in (s ∷ [])) c.args.out.now (record { replies = c.append.new.self; turns = c.args.out.now.turns + 1; stopped = c.args.out.now.stopped })) (sym c.in-Turn.is)
           (record { replies = ap frames_in kept ∙ frames_append c.args.out.now.replies.items turn.replies.items; counted = refl; stopped = refl });
     }
+
+pub returns-in-Err-Memory-clause-disk : goal.returns-in-Err-Memory-clause-disk
+returns-in-Err-Memory-clause-disk g c = unmoved g.D.Disk.history c.args.self.now c.feed.new.self c.requires.sound c.feed.ensures.disk
+
+pub returns-in-Err-Closed-clause-does : goal.returns-in-Err-Closed-clause-does
+returns-in-Err-Closed-clause-does g c = bytes_on c.args.step.now c.in-Bytes.connection c.in-Bytes.chunk c.args.out.now (site c.args.self.now) (site c.feed.new.self) c.in-Bytes.is (search rules)
+
+pub returns-in-Err-Closed-clause-disk : goal.returns-in-Err-Closed-clause-disk
+returns-in-Err-Closed-clause-disk g c = unmoved g.D.Disk.history c.args.self.now c.feed.new.self c.requires.sound c.feed.ensures.disk
+
+pub returns-in-Ok-clause-does : goal.returns-in-Ok-clause-does
+returns-in-Ok-clause-does g c = bytes_on c.args.step.now c.in-Bytes.connection c.in-Bytes.chunk c.args.out.now (site c.args.self.now) (site c.feed.new.self) c.in-Bytes.is (search rules)
+
+pub returns-in-Ok-clause-disk : goal.returns-in-Ok-clause-disk
+returns-in-Ok-clause-disk g c = unmoved g.D.Disk.history c.args.self.now c.feed.new.self c.requires.sound c.feed.ensures.disk
+
+pub returns-in-Gone-clause-does : goal.returns-in-Gone-clause-does
+returns-in-Gone-clause-does g c = gone_on c.args.step.now c.in-Gone.connection c.args.out.now (site c.args.self.now) (site c.gone.new.self) c.in-Gone.is c.gone.ensures.site
+
+pub returns-in-Gone-clause-disk : goal.returns-in-Gone-clause-disk
+returns-in-Gone-clause-disk g c = unmoved g.D.Disk.history c.args.self.now c.gone.new.self c.requires.sound c.gone.ensures.disk

@@ -1,11 +1,19 @@
-use Rattle.server.specs.View.{site}
-use Rattle.server.proofs.Histories.{step_on, stops_at}
+use Rattle.std.proofs.Common.{None, arith, refl, rules}
+use Rattle.server.proofs.Histories.{starts, step_on, stops_at, ends}
 use Rattle.server.proofs.turn.Core.drive.Goals as goal
 
-pub returns-in-Err : goal.returns-in-Err
-returns-in-Err c =
-    stops_at (site c.args.self.now) c.args.steps.now c.steps.i c.index-steps-i.result c.steps.out (site c.steps.self) c.steps-test.true c.index-steps-i.is c.steps.invariant c.in-Err.fault c.do_step.new.out (site c.do_step.new.self) c.in-Err.ensures
+pub steps-init : goal.steps-init
+steps-init g c = starts g.D.Disk.history c.args.self.now c.args.steps.now (record { replies = c.new.result; turns = 0; stopped = None }) (search rules) refl refl c.requires.sound
+
+pub returns-in-Err-clause-drives : goal.returns-in-Err-clause-drives
+returns-in-Err-clause-drives g c =
+    let call = c.do_step in
+    stops_at g.D.Disk.history c.args.self.now c.args.steps.now c.steps.i c.index-steps-i.result c.steps.out c.steps.self c.steps-test.true c.index-steps-i.is c.steps.invariant c.in-Err.fault call.new.out call.new.self c.in-Err.ensures.does call.ensures.sound call.ensures.disk c.in-Err.ensures.running c.in-Err.ensures.device
 
 pub steps-preserved : goal.steps-preserved
-steps-preserved c =
-    step_on (site c.args.self.now) c.args.steps.now c.steps.i c.index-steps-i.result c.steps.out (site c.steps.self) c.steps-test.true c.index-steps-i.is c.steps.invariant c.do_step.new.out (site c.do_step.new.self) c.in_default.ensures
+steps-preserved g c =
+    let call = c.do_step in
+    step_on g.D.Disk.history c.args.self.now c.args.steps.now c.steps.i c.index-steps-i.result c.steps.out c.steps.self c.steps-test.true c.index-steps-i.is c.steps.invariant call.new.out call.new.self c.in_default.ensures.does call.ensures.sound call.ensures.disk (c.in_default.ensures.running (λ e. absurd cc))
+
+pub returns-clause-drives : goal.returns-clause-drives
+returns-clause-drives g c = ends g.D.Disk.history c.args.self.now c.args.steps.now c.steps.i c.steps.out c.steps.self (omega arith) c.steps.invariant

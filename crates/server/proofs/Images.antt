@@ -1,0 +1,50 @@
+-- What images hold, and which states stand among which.
+use Rattle.std.proofs.Common.{◌≡◌, inl, ℕ, List, [], ◌∷◌, ◌++◌, refl, sym, subst, arith}
+use Rattle.std.proofs.lemmas.List.Elements.{Contains-append_left, Contains-append_right}
+use Rattle.std.specs.Prelude.{◌⊎◌, Contains}
+use Rattle.page.specs.History.{History}
+use Rattle.page.specs.Crash.{GoesOn, LeavesOnly, LeavesNow}
+use Rattle.page.proofs.Moments.{goes_nowhere, started}
+use Rattle.engine.specs.World.{Collection, World}
+use Rattle.engine.specs.Durable.{Holds}
+use Rattle.engine.specs.Durable as engines
+use Rattle.engine.specs.View.{world, begun}
+use Rattle.engine.specs.declared.engine.Engine.{Engine}
+use Rattle.server.specs.History.{last_state}
+use Rattle.server.specs.Durable.{past, IsRunning, IsSound, state_of, HoldsOneOf, GoesSafely}
+use Rattle.server.specs.declared.turn.Core.{Core}
+
+-- between calls every image holds the collections as they are
+pub holds_now : {D : Type 0} (history : D → History) (core : Core D) → IsSound history core → IsRunning core → LeavesNow (past history core) (λ image. Holds image (state_of core))
+holds_now history core sound running = subst (λ (w : World). LeavesNow (past history core) (λ image. Holds image w.state)) core.idle (sound.holds running)
+
+-- as long as the disk stays as it is
+pub stays : {D : Type 0} (history : D → History) (old new : Engine D) (Q : (ℕ → List ℕ) → Type 0) → engines.IsSound history old → begun old ≡ world old → engines.past history new ≡ engines.past history old → engines.IsRunning old
+    → LeavesOnly (engines.past history old) (engines.past history new) (λ image. Holds image (world old).state ⊎ Q image)
+stays history old new Q sound idle same running =
+    subst (λ (h : History). LeavesOnly (engines.past history old) h (λ image. Holds image (world old).state ⊎ Q image)) (sym same)
+    (started (engines.past history old) (λ image. Holds image (world old).state ⊎ Q image)
+    (λ k image is. inl (subst (λ (w : World). Holds image w.state) idle (sound.holds running k image is))))
+
+pub unmoved : {D : Type 0} (history : D → History) (old new : Core D) → IsSound history old → past history new ≡ past history old → GoesSafely history old new
+unmoved history old new sound same = record {
+  on = subst (λ (h : History). GoesOn (past history old) h) (sym same) (goes_nowhere (past history old));
+  any_moment = stays history old.engine new.engine (λ image. Holds image (state_of new)) sound old.idle same;
+  idle = λ _. same;
+}
+
+-- between turns every image holds the collections as they are
+pub engine_holds : {D : Type 0} (history : D → History) (engine : Engine D) → engines.IsSound history engine → begun engine ≡ world engine → engines.IsRunning engine → LeavesNow (engines.past history engine) (λ image. Holds image (world engine).state)
+engine_holds history engine sound idle running = subst (λ (w : World). LeavesNow (engines.past history engine) (λ image. Holds image w.state)) idle (sound.holds running)
+
+-- one state more
+pub among : (states : List (List Collection)) (more : List Collection) (image : ℕ → List ℕ) → HoldsOneOf states image → HoldsOneOf (states ++ more ∷ []) image
+among states more image one = record { state = one.state; one = Contains-append_left states (more ∷ []) one.state one.one; holds = one.holds }
+
+pub last_among : (first : List Collection) (states : List (List Collection)) → Contains (first ∷ states) (last_state first states)
+last_among first [] = (0, omega arith, refl)
+last_among first (state ∷ states) = Contains-append_right (first ∷ []) (state ∷ states) (last_state state states) (last_among state states)
+
+pub last_of_pushed : (first : List Collection) (states : List (List Collection)) (last : List Collection) → last_state first (states ++ last ∷ []) ≡ last
+last_of_pushed first [] last = refl
+last_of_pushed first (state ∷ states) last = last_of_pushed state states last
