@@ -22,3 +22,4 @@ pub mod LoadingNames
 pub mod LoadingSteps
 pub mod LoadingAll
 pub mod OpenSteps
+pub mod LoadingOnce

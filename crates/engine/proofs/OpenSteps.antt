@@ -3,6 +3,7 @@ use Rattle.std.proofs.Common.{◌≡◌, ◌≢◌, ℕ, List, [], refl, sym, ap
 use Rattle.std.specs.Prelude.{All}
 use Rattle.page.specs.History.{History, KeepsWord, now, reads, IsImage}
 use Rattle.page.specs.Crash.{GoesOn, LeavesOnly}
+use Rattle.page.proofs.Moments.{reads_moments}
 use Rattle.roots.specs.Image.{StandsFor}
 use Rattle.roots.specs.Opening as roots
 use Rattle.roots.specs.Pairs.{pairs_bytes}
@@ -48,12 +49,13 @@ module _ {D : Type 0} (history : D → History) (disk : D) where
         holds = λ k. held state (reads (now (history disk))) loading.lawful readable (subst (StandsFor (reads (now (history disk)))) (committed k) (r.stands k));
         alone = λ k image left. held state image loading.lawful readable (subst (StandsFor image) (committed k) (r.alone k image left));
         any_moment = r.any_moment;
+        only = r.only;
       }
 
   pub refused_store : (back : D) (fault : OpenFault) → roots.IsRefused history disk back fault → IsRefused history disk back fault
   refused_store back fault r = record {
-    on = r.on;
-    any_moment = λ one. r.any_moment;
+    on = r.untouched.on;
+    any_moment = λ one. reads_moments (history disk) (history back) r.untouched;
     damaged = λ other memory k state h. r.damaged other memory k (pairs_of state) h.pairs;
     foreign = r.foreign;
     later = r.later;

@@ -1,7 +1,7 @@
 -- What opening a disk gives.
 use Rattle.std.specs.Prelude.{◌≡◌, ◌≢◌, ◌<◌, List, [], Err}
 use Rattle.page.specs.History.{History, KeepsWord, now, reads, IsImage}
-use Rattle.page.specs.Crash.{GoesOn, LeavesOnly, LeavesNow}
+use Rattle.page.specs.Crash.{GoesOn, LeavesOnly, LeavesNow, OnlySyncs}
 use Rattle.roots.specs.Root.{root_of}
 use Rattle.roots.specs.declared.opening.OpenFault.{OpenFault}
 use Rattle.roots.specs.declared.opening.OpenFault.TheVariants as faults
@@ -16,6 +16,8 @@ pub record IsOpened {D : Type 0} (history : D → History) (disk : D) (engine : 
   pub running : IsRunning engine
   pub idle : begun engine ≡ world engine
   pub on : GoesOn (history disk) (past history engine)
+  -- it only read and synced
+  pub only : OnlySyncs (history disk) (past history engine)
   -- it gives what was read, and from then on every image holds that alone
   pub holds : KeepsWord (past history engine) → Holds (reads (now (history disk))) (world engine).state
   pub alone : LeavesNow (past history engine) (λ image. Holds image (world engine).state)

@@ -2,7 +2,7 @@
 
 ghost use Rattle.std.specs.Prelude.{◌≡◌, ◌≢◌, ◌⊎◌, ◌≤◌, ◌<◌, Ok, Err, Some, true, [], List, IfOk, IfErr, OnOk, OnErr, length};
 ghost use Rattle.page.specs.History.{KeepsWord, now, reads, IsImage};
-ghost use Rattle.page.specs.Crash.{GoesOn, LeavesOnly, LeavesNow};
+ghost use Rattle.page.specs.Crash.{GoesOn, LeavesOnly, LeavesNow, OnlySyncs};
 ghost use Rattle.roots.specs.Root.{root_of};
 ghost use Rattle.roots.specs.Pairs.{spelled};
 ghost use Rattle.roots.specs.Store as stores;
@@ -66,6 +66,8 @@ impl<D: Disk> Engine<D> {
         ensures world { IfOk result (λ engine. world engine ≡ record { state = (world engine).state; cursors = []; next = 1; touched = [] }) }
         ensures on { IfOk result (λ engine. GoesOn (D.history disk) (past D.history engine)) }
         ensures on_err { IfErr result (λ e. GoesOn (D.history disk) (D.history e.0)) }
+
+        ensures only { IfOk result (λ engine. OnlySyncs (D.history disk) (past D.history engine)) }
 
         // It gives what was read, and from then on every image holds that alone.
         ensures holds { IfOk result (λ engine. KeepsWord (past D.history engine) → Holds (reads (now (D.history disk))) (world engine).state) }

@@ -12,3 +12,6 @@ returns-clause-any_moment g c = if_ok c.open_collections.result (λ engine h. h.
 
 pub returns-clause-damaged : goal.returns-clause-damaged
 returns-clause-damaged g c = if_err c.open_collections.result (λ e h. h.damaged) c.open_collections.ensures.refused
+
+pub returns-clause-only : goal.returns-clause-only
+returns-clause-only g c = if_ok c.open_collections.result (λ engine h. h.only) c.open_collections.ensures.opened
