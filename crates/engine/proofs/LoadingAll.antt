@@ -106,12 +106,11 @@ entries xs (y ∷ ys) rest last lawful readable later =
       fresh = number_new xs y ys lawful.numbers;
       room = omega (arith, length_map xs, lawful.few, length-append xs (y ∷ ys));
       next_is = map_append xs (y ∷ []) ∙ sym (put_last (emptied y) xs under);
-    } in
-    (
+    } in (
       next,
       inl one,
       entries (xs ++ y ∷ []) ys rest last (subst IsLawfulState (sym assoc) lawful) (λ k d below. readable (suc k) d (omega (arith, below)))
-      (subst (λ (cs : List Collection). Loads (map emptied cs) rest last) (sym assoc) later),
+          (subst (λ (cs : List Collection). Loads (map emptied cs) rest last) (sym assoc) later),
     )
 
 -- ---- the documents of one collection
@@ -182,12 +181,11 @@ module _ (xs ys : List Collection) (c : Collection) (n : ℕ) (free : uses xs n 
         found = place_found n xs now ys free same;
         grows = ap (λ (x : Collection). with_document x d) (get_or-append_seam xs now ys no_collection) ∙ grows;
         next_is = sym (set_seam xs now next ys);
-      } in
-      (
+      } in (
         at_front (front ++ d ∷ []),
         inr adds,
         subst (λ (ds : List Pairs). Loads (at_front (front ++ d ∷ [])) (map (document_pair n) back) (at_front ds)) assoc
-        (stores (front ++ d ∷ []) back (subst IsRising (sym assoc) rising) (λ k e below. stored (suc k) e (omega (arith, below))) (λ k e below. readable (suc k) e (omega (arith, below)))),
+            (stores (front ++ d ∷ []) back (subst IsRising (sym assoc) rising) (λ k e below. stored (suc k) e (omega (arith, below))) (λ k e below. readable (suc k) e (omega (arith, below)))),
       )
 
 -- ---- number after number
@@ -222,7 +220,7 @@ numbered : (n : ℕ) (front cs : List Collection) → suc n ≤ MOST_COLLECTIONS
     → Loads (front ++ filled n cs) (map (document_pair (suc n)) (documents_numbered (suc n) cs)) (front ++ filled (suc n) cs)
 numbered n front [] most free apart kept readable = refl
 numbered n front (c ∷ cs) most free apart kept readable =
-    at (c.number == suc n) refl (numbered n (front ++ up_to n c ∷ []) cs most) 
+    at (c.number == suc n) refl (numbered n (front ++ up_to n c ∷ []) cs most)
   where
     at : (b : Bool) → (c.number == suc n) ≡ b
         → (uses (front ++ up_to n c ∷ []) (suc n) ≡ false → AreNumberedApart cs → All IsKept cs → All IsReadable cs → Loads ((front ++ up_to n c ∷ []) ++ filled n cs) (map (document_pair (suc n)) (documents_numbered (suc n) cs)) ((front ++ up_to n c ∷ []) ++ filled (suc n) cs))

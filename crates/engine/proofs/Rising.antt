@@ -168,7 +168,7 @@ whole (suc n) cs fits kept h = at (whole n cs (omega (arith, fits)) kept h) (num
           fit = all_append IsFit (documents_to n cs) now before.fit (numbered_fit (suc n) ds fine.stored);
           rise = rise_append (documents_to n cs) now before.rise (numbered_rise (suc n) ds fine) (below_all n (documents_to n cs) ds (omega (arith, fits)) before.above);
           above = all_append (Above (suc n)) (documents_to n cs) now (later_number n (documents_to n cs) before.above)
-            (all_map (Above (suc n)) (document_pair (suc n)) ds (λ k d below j ps lt small. under_two (suc n) j (tree_text (key_of (get_or ds k d))) (tree_text (key_of ps)) lt small));
+              (all_map (Above (suc n)) (document_pair (suc n)) ds (λ k d below j ps lt small. under_two (suc n) j (tree_text (key_of (get_or ds k d))) (tree_text (key_of ps)) lt small));
         }
 
 -- the catalogue stands below all documents
@@ -184,11 +184,11 @@ are_row cs lawful h =
     let documents = whole MOST_COLLECTIONS cs (omega arith) lawful.kept h in
     record {
       fit = all_append IsFit (map catalogue_pair cs) (documents_to MOST_COLLECTIONS cs)
-        (all_map IsFit catalogue_pair cs (λ k d below. fits (get_or cs k d) (lawful.kept k d below))) documents.fit;
+          (all_map IsFit catalogue_pair cs (λ k d below. fits (get_or cs k d) (lawful.kept k d below))) documents.fit;
       rise = rise_append (map catalogue_pair cs) (documents_to MOST_COLLECTIONS cs)
-        (rise_map catalogue_pair cs (λ i j d lt below. names_rise (get_or cs i d) (get_or cs j d) (lawful.kept i d (omega (arith, lt, below))) (lawful.kept j d below) (h i d (omega (arith, lt, below))) (h j d below) (lawful.apart i j d lt below)))
-        documents.rise
-        (all_map (λ (x : Pair). AllByRecursion (λ (y : Pair). IsBelow x.key y.key) (documents_to MOST_COLLECTIONS cs)) catalogue_pair cs (λ k d below. first_all MOST_COLLECTIONS (get_or cs k d) cs (omega arith)));
+          (rise_map catalogue_pair cs (λ i j d lt below. names_rise (get_or cs i d) (get_or cs j d) (lawful.kept i d (omega (arith, lt, below))) (lawful.kept j d below) (h i d (omega (arith, lt, below))) (h j d below) (lawful.apart i j d lt below)))
+          documents.rise
+          (all_map (λ (x : Pair). AllByRecursion (λ (y : Pair). IsBelow x.key y.key) (documents_to MOST_COLLECTIONS cs)) catalogue_pair cs (λ k d below. first_all MOST_COLLECTIONS (get_or cs k d) cs (omega arith)));
     }
   where
     fits : (c : Collection) → IsKept c → IsFit (catalogue_pair c)
