@@ -1,8 +1,8 @@
 -- The pairs of lawful collections, read one after another, make these collections.
-use Rattle.std.proofs.Common.{◌≡◌, ◌≢◌, inl, inr, ℕ, zero, suc, ◌+◌, ◌-◌, ◌<◌, ◌≤◌, Bool, true, false, List, [], ◌∷◌, ◌++◌, length, get_or, set, insert, map, Option, Some, None, Ok, is_eq, refl, sym, ap, subst, ◌∙◌, arith, append_assoc, length-append}
-use Rattle.std.specs.Prelude.{All, ◌==◌, ◌||◌, not, nat_le, nat_lt, IsUtf8, if◌then◌else◌}
+use Rattle.std.proofs.Common.{◌≡◌, inl, inr, ℕ, zero, suc, ◌≤◌, Bool, true, false, List, [], ◌∷◌, ◌++◌, length, get_or, set, insert, map, Some, None, Ok, is_eq, refl, sym, ap, subst, ◌∙◌, arith, append_assoc, length-append}
+use Rattle.std.specs.Prelude.{All, ◌==◌, ◌||◌, nat_le, nat_lt, if◌then◌else◌}
 use Rattle.std.specs.Str.{bytes_eq}
-use Rattle.std.specs.List.{AllByRecursion, AllPairs, list_any, position, position_or_len, prefix_len}
+use Rattle.std.specs.List.{AllByRecursion, position_or_len}
 use Rattle.std.specs.Ordering.{nat_cmp}
 use Rattle.std.specs.Cmp.Lexicographic.{slice_cmp}
 use Rattle.std.specs.declared.cmp.Ordering.TheVariants as orders
@@ -13,7 +13,7 @@ use Rattle.std.proofs.lemmas.Cmp.{nat_list_cmp_total}
 use Rattle.std.proofs.lemmas.List.{append-nil}
 use Rattle.std.proofs.lemmas.List.Folds.{list_any-append}
 use Rattle.std.proofs.lemmas.Map.Text.{is_eq-slice_cmp}
-use Rattle.bson.specs.Tree.{Tree, Pairs}
+use Rattle.bson.specs.Tree.{Pairs}
 use Rattle.bson.specs.Lawful.{pairs_levels, IsDocument}
 use Rattle.bson.specs.Spelling.{framed, pairs_bytes}
 use Rattle.value_order.specs.KeyText.{tree_text}
@@ -22,10 +22,10 @@ use Rattle.roots.specs.Pairs.{Pair}
 use Rattle.engine.specs.World.{Collection, uses, find_collection, put_collection, by_order}
 use Rattle.engine.specs.Documents.{pairs_fault, id_first, key_of, checked, place}
 use Rattle.engine.specs.Lawful.{IsStored, IsRising, IsReadable, IsKept, IsLawfulState, AreNamedApart, AreNumberedApart}
-use Rattle.engine.specs.Places.{IsGap, by_key, collection_at, no_collection}
+use Rattle.engine.specs.Places.{IsGap, by_key, no_collection}
 use Rattle.engine.specs.Progress.{with_document}
 use Rattle.engine.specs.Stored.{catalogue_pair, document_pair, documents_numbered, documents_to, pairs_of}
-use Rattle.engine.specs.Loading.{Loads, Adds, AddsEntry, AddsDocument, place_numbered}
+use Rattle.engine.specs.Loading.{Loads, AddsEntry, AddsDocument, place_numbered}
 use Rattle.engine.specs.declared.TheConstants.{MOST_COLLECTIONS, STORED_LIMIT, STORED_LEVELS}
 use Rattle.value_order.specs.declared.TheConstants.{KEY_LIMIT}
 use Rattle.engine.proofs.Numbers.{turned, neither}

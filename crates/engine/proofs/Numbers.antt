@@ -3,7 +3,7 @@ use Rattle.std.proofs.Common.{◌≡◌, ℕ, zero, suc, ◌+◌, ◌-◌, ◌<�
 use Rattle.std.specs.Prelude.{◌==◌, ◌||◌, ◌&&◌, nat_le, if◌then◌else◌}
 use Rattle.std.specs.Str.{bytes_eq}
 use Rattle.std.proofs.lemmas.Bool.Decides.{nat_tests}
-use Rattle.engine.specs.World.{Collection, find_collection, uses, unused_from, unused, number_or, with_documents}
+use Rattle.engine.specs.World.{Collection, find_collection, uses, unused_from, unused, number_or}
 use Rattle.engine.specs.Lawful.{AreNumberedApart, IsKept}
 use Rattle.engine.specs.Places.{collection_at}
 use Rattle.engine.specs.declared.TheConstants.{MOST_COLLECTIONS}

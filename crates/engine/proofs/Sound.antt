@@ -10,7 +10,7 @@ use Rattle.roots.specs.declared.store.Store.{Store}
 use Rattle.engine.specs.World.{World, Collection}
 use Rattle.engine.specs.Lawful.{IsReadable, IsLawfulState, IsLawful}
 use Rattle.engine.specs.Stored.{pairs_of}
-use Rattle.engine.specs.Step.{read_and_run, step, answered}
+use Rattle.engine.specs.Step.{read_and_run, answered}
 use Rattle.engine.specs.View.{world, begun, with_ok, Runs}
 use Rattle.engine.specs.Durable.{Holds, IsSound}
 use Rattle.engine.specs.declared.engine.Engine.{Engine}
