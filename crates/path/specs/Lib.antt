@@ -1,0 +1,6 @@
+pub mod Refusals
+pub mod FaultNames
+pub mod Parts
+pub mod View
+pub mod Reach
+pub mod Edits
