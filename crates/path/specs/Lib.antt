@@ -4,3 +4,5 @@ pub mod Parts
 pub mod View
 pub mod Reach
 pub mod Edits
+pub mod Laws
+pub mod Rows

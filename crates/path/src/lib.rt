@@ -6,6 +6,7 @@
 
 mod fault;
 mod holding;
+pub mod laws;
 mod parsing;
 mod part;
 mod reaching;
