@@ -17,7 +17,7 @@ mod setting;
 pub use fault::PathFault;
 pub use parsing::Path;
 pub use part::Part;
-pub use reaching::{Reached, reach};
+pub use reaching::{Reached, numbered, reach};
 pub use refusal::Refusal;
 pub use removing::{remove_at, without};
 pub use setting::{with, write_at};

@@ -103,8 +103,8 @@ fn gather_items<'a>(
     }
 }
 
-/// The item that a part numbers.
-pub(crate) fn numbered<'a>(items: &'a [Value], part: &Part) -> Option<&'a Value>
+/// The item that a part numbers, if it numbers one.
+pub fn numbered<'a>(items: &'a [Value], part: &Part) -> Option<&'a Value>
     ensures { option_map (λ v. tree v.now) result ≡ option_and_then (item_at (items_of items.now)) (index_of part.now) }
 {
     match part.index() {

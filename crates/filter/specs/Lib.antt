@@ -1,0 +1,6 @@
+pub mod Rule
+pub mod RuleCode
+pub mod View
+pub mod Sizes
+pub mod Matches
+pub mod Probes

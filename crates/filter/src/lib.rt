@@ -1,0 +1,10 @@
+//! Filters: reading one, and whether it holds of a document.
+//!
+//! `rule` has a filter as it was read, `testing` what is asked of one value, `matching` of a document.
+#![tactic(auto)]
+
+mod matching;
+mod rule;
+mod testing;
+
+pub use rule::{Comparison, Filter, Rule, Test};
