@@ -4,3 +4,5 @@ pub mod View
 pub mod Sizes
 pub mod Matches
 pub mod Probes
+pub mod Words
+pub mod Reading

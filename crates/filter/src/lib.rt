@@ -3,7 +3,11 @@
 //! `rule` has a filter as it was read, `testing` what is asked of one value, `matching` of a document.
 #![tactic(auto)]
 
+mod copying;
 mod matching;
+mod operands;
+mod operator;
+mod reading;
 mod rule;
 mod testing;
 
