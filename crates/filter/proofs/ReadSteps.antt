@@ -1,5 +1,5 @@
 -- Steps of reading: one pair or one item more.
-use Rattle.std.proofs.Common.{◌≡◌, ℕ, zero, suc, ◌+◌, ◌*◌, ◌<◌, ◌≤◌, Bool, true, false, List, [], ◌∷◌, ◌++◌, length, take, drop, get_or, Result, Ok, Err, refl, sym, ap, ◌∙◌, arith, drop-cons}
+use Rattle.std.proofs.Common.{◌≡◌, ℕ, zero, suc, ◌+◌, ◌<◌, ◌≤◌, false, List, [], ◌∷◌, ◌++◌, length, take, drop, get_or, Result, Ok, Err, refl, sym, ap, ◌∙◌, arith, drop-cons}
 use Rattle.std.specs.Prelude.{◌≢◌, ◌==◌}
 use Rattle.std.specs.Result.{IsErrAnd}
 use Rattle.std.proofs.lemmas.List.{drop_all, take_more}
@@ -70,8 +70,8 @@ module _ (one : List ℕ → Tree → Result Rule Refusal) (read : Pairs → Res
       → read (pairs_of (drop i ps)) ≡ first (one name (tree p.value)) (read (pairs_of (drop (i + 1) ps)))
   taken ps i p name lt is named =
       ap (λ (qs : List Pair). read (pairs_of qs)) (drop_step ps i p lt is)
-        ∙ more p.name (tree p.value) (pairs_of (drop (i + 1) ps))
-        ∙ ap (λ (n : List ℕ). first (one n (tree p.value)) (read (pairs_of (drop (i + 1) ps)))) (sym named)
+      ∙ more p.name (tree p.value) (pairs_of (drop (i + 1) ps))
+      ∙ ap (λ (n : List ℕ). first (one n (tree p.value)) (read (pairs_of (drop (i + 1) ps)))) (sym named)
 
   pub pairs_more : (ps : List Pair) (i : ℕ) (p : Pair) (name : List ℕ) (out next : List Made) (m : Made) (planned : Result Rules Refusal) → i < length ps → p ≡ get_or ps i p → name ≡ p.name
       → one name (tree p.value) ≡ Ok (rule_of m) → next ≡ out ++ m ∷ [] → joined out (read (pairs_of (drop i ps))) ≡ planned → joined next (read (pairs_of (drop (i + 1) ps))) ≡ planned
@@ -112,10 +112,10 @@ pub equals_more : (vs : List Value) (i : ℕ) (v : Value) (out next : List Made)
     → rule_of m ≡ asks (equal (tree v)) → next ≡ out ++ m ∷ [] → append_rules (rules_of out) (equals (items_of (drop i vs))) ≡ planned → append_rules (rules_of next) (equals (items_of (drop (i + 1) vs))) ≡ planned
 equals_more vs i v out next m planned lt at made grown so_far =
     ap (λ (ms : List Made). append_rules (rules_of ms) (equals (items_of (drop (i + 1) vs)))) grown
-      ∙ append_rules-push out m (equals (items_of (drop (i + 1) vs)))
-      ∙ ap (λ (r : Rule). append_rules (rules_of out) (rule r (equals (items_of (drop (i + 1) vs))))) made
-      ∙ sym (ap (λ (ws : List Value). append_rules (rules_of out) (equals (items_of ws))) (drop_step vs i v lt at))
-      ∙ so_far
+    ∙ append_rules-push out m (equals (items_of (drop (i + 1) vs)))
+    ∙ ap (λ (r : Rule). append_rules (rules_of out) (rule r (equals (items_of (drop (i + 1) vs))))) made
+    ∙ sym (ap (λ (ws : List Value). append_rules (rules_of out) (equals (items_of ws))) (drop_step vs i v lt at))
+    ∙ so_far
 
 pub every-some : (ms : List Made) → (length ms == 0) ≡ false → every (rules_of ms) ≡ all (rules_of ms)
 every-some [] e = absurd cc
@@ -131,8 +131,8 @@ pub copied : (rs : List Made) (i : ℕ) (r m : Made) (out next : List Made) → 
     → rules_of out ≡ rules_of (take i rs) → rules_of next ≡ rules_of (take (i + 1) rs)
 copied rs i r m out next lt at made grown so_far =
     ap rules_of grown
-      ∙ rules_of-append out (m ∷ [])
-      ∙ (λ j. append_rules (so_far j) (rule (made j) no_rules))
-      ∙ ap (λ (x : Made). append_rules (rules_of (take i rs)) (rule (rule_of x) no_rules)) at
-      ∙ sym (rules_of-append (take i rs) (get_or rs i r ∷ []))
-      ∙ ap rules_of (sym (take_more rs i r lt))
+    ∙ rules_of-append out (m ∷ [])
+    ∙ (λ j. append_rules (so_far j) (rule (made j) no_rules))
+    ∙ ap (λ (x : Made). append_rules (rules_of (take i rs)) (rule (rule_of x) no_rules)) at
+    ∙ sym (rules_of-append (take i rs) (get_or rs i r ∷ []))
+    ∙ ap rules_of (sym (take_more rs i r lt))

@@ -1,5 +1,5 @@
 -- Steps of the walk.
-use Rattle.std.proofs.Common.{◌≡◌, ℕ, zero, suc, ◌+◌, ◌-◌, ◌*◌, ◌<◌, ◌≤◌, Bool, true, false, List, [], ◌∷◌, ◌++◌, length, take, drop, get_or, Some, refl, sym, ap, ◌∙◌, arith}
+use Rattle.std.proofs.Common.{◌≡◌, ℕ, zero, suc, ◌-◌, ◌<◌, ◌≤◌, Bool, true, false, List, [], ◌∷◌, length, take, drop, get_or, Some, refl, sym, ap, ◌∙◌, arith}
 use Rattle.std.specs.Prelude.{◌==◌, ◌||◌}
 use Rattle.std.specs.List.{list_any}
 use Rattle.std.proofs.lemmas.List.{take_all}
@@ -7,7 +7,7 @@ use Rattle.std.proofs.lemmas.List.Folds.{list_any-append}
 use Rattle.bson.specs.Tree.{Tree, array, Items, no_items, item}
 use Rattle.bson.specs.Edits.{items_len}
 use Rattle.path.specs.Reach.{Reached, reach, in_elements, in_place, items_list}
-use Rattle.filter.specs.Rule.{size, weight, weights, Rules}
+use Rattle.filter.specs.Rule.{size, weight, weights}
 use Rattle.filter.specs.View.{rule_of, rules_of}
 use Rattle.filter.specs.Matches.{candidate_passes, passes}
 use Rattle.filter.specs.declared.rule.Rule.{Rule}

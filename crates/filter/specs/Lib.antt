@@ -6,3 +6,6 @@ pub mod Matches
 pub mod Probes
 pub mod Words
 pub mod Reading
+pub mod Sort
+pub mod Projection
+pub mod Rows

@@ -1,10 +1,10 @@
 -- Whether a filter holds of a document: by cases over its rules, from what its paths reach, from the candidates of what
 -- is reached, and from the order of values. The negations are plain "not".
-use Rattle.std.specs.Prelude.{ℕ, ◌==◌, ◌&&◌, ◌||◌, not, Bool, true, false, if◌then◌else◌, Option, Some, None, List, [], ◌∷◌}
+use Rattle.std.specs.Prelude.{ℕ, ◌==◌, ◌&&◌, ◌||◌, not, Bool, true, false, Option, Some, None, List, [], ◌∷◌}
 use Rattle.std.specs.List.{list_any}
 use Rattle.std.specs.declared.cmp.Ordering.{Ordering}
 use Rattle.std.specs.declared.cmp.Ordering.TheVariants.{Less, Equal, Greater}
-use Rattle.bson.specs.Tree.{Tree, scalar, null, document, array, Pairs, Items, no_items, item}
+use Rattle.bson.specs.Tree.{Tree, scalar, null, document, array, Pairs}
 use Rattle.bson.specs.Kinds.{kind, kind_byte}
 use Rattle.bson.specs.Edits.{items_len}
 use Rattle.value_order.specs.Order.{class, compare}

@@ -1,5 +1,5 @@
 -- What the walk of a path looks for, and what rules are asked of.
-use Rattle.std.specs.Prelude.{◌||◌, ◌&&◌, not, Bool, true, false, if◌then◌else◌, Option, Some, None, List, [], ◌∷◌}
+use Rattle.std.specs.Prelude.{Bool, if◌then◌else◌, Option, None, List, [], ◌∷◌}
 use Rattle.std.specs.List.{list_any}
 use Rattle.bson.specs.Tree.{Tree, document}
 use Rattle.bson.specs.View.{tree}

@@ -1,5 +1,5 @@
 -- The filter that a document spells, or the first misuse from the left.
-use Rattle.std.specs.Prelude.{ℕ, if◌then◌else◌, Bool, true, false, Option, Some, None, Result, Ok, Err, List, [], ◌∷◌, map, codes}
+use Rattle.std.specs.Prelude.{ℕ, if◌then◌else◌, Bool, true, false, Option, Some, None, Result, Ok, Err, List, map, codes}
 use Rattle.std.specs.Str.{bytes_eq}
 use Rattle.bson.specs.Tree.{Tree, scalar, null, boolean, min_key, max_key, document, array, Pairs, no_pairs, pair, Items, no_items, item}
 use Rattle.bson.specs.Kinds.{kind_byte}
@@ -13,7 +13,7 @@ use Rattle.filter.specs.declared.operator.Operator.{Operator}
 use Rattle.filter.specs.declared.operator.Operator.TheVariants as operators
 use Rattle.filter.specs.declared.rule.Comparison.{Comparison}
 use Rattle.filter.specs.declared.rule.Comparison.TheVariants as comparisons
-use Rattle.filter.specs.Rule.{Test, equal, ordered, there, of_kinds, size, Rule, all, any, not_all, not_any, at, is, element, element_document, Rules, no_rules, rule, equals}
+use Rattle.filter.specs.Rule.{equal, ordered, there, of_kinds, size, Rule, all, any, not_all, not_any, at, is, element, element_document, Rules, no_rules, rule, equals}
 use Rattle.filter.specs.Words.{operator_of, all_kinds, size_in}
 
 -- ---- names and operands

@@ -4,6 +4,7 @@
 #![tactic(auto)]
 
 mod copying;
+pub mod laws;
 mod matching;
 mod operands;
 mod operator;

@@ -124,7 +124,13 @@ fn finds_from(probe: Probe<'_>, value: &Value, parts: &[Part]) -> bool
 
 /// Whether a part and the rest reach it from a document. One that lacks the part's field may be passed over.
 #[cycle(matching)]
-fn finds_in_field(probe: Probe<'_>, document: &Document, part: &Part, rest: &[Part], passes_over: bool) -> bool
+fn finds_in_field(
+    probe: Probe<'_>,
+    document: &Document,
+    part: &Part,
+    rest: &[Part],
+    passes_over: bool,
+) -> bool
     ensures { result ≡ field_passes (probe_passes probe.entry false) (reach rest.now) (lookup document.now part.now) passes_over }
 {
     match document.get(part.as_str()) {

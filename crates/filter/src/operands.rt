@@ -111,7 +111,11 @@ fn exists(alloc: Global, value: &Value) -> Result<Rule, Refusal>
 }
 
 /// The rule of an operator that looks at values.
-pub(crate) fn read_operation(alloc: Global, operator: Operator, value: &Value) -> Result<Rule, Refusal>
+pub(crate) fn read_operation(
+    alloc: Global,
+    operator: Operator,
+    value: &Value,
+) -> Result<Rule, Refusal>
     ensures { Gives rule_of (read_operation operator (tree value.now)) result }
 {
     match operator {

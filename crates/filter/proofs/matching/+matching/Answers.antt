@@ -1,4 +1,4 @@
-use Rattle.std.proofs.Common.{◌≡◌, ◌-◌, length, take, drop, ap, ◌∙◌, arith}
+use Rattle.std.proofs.Common.{◌-◌, length, take, drop, ap, ◌∙◌, arith}
 use Rattle.std.specs.Prelude.{false}
 use Rattle.bson.specs.View.{tree}
 use Rattle.filter.specs.Rule.{weights}
@@ -17,5 +17,5 @@ any_holds-holds-requires t c =
 pub finds_from-returns-in-Array : goal.finds_from-returns-in-Array
 finds_from-returns-in-Array t c =
     c.finds_in_array.ensures
-      ∙ reach-array (probe_passes c.args.probe false) c.args.parts.now (take (length c.args.parts.now - 1) (drop 1 c.args.parts.now)) c.part-item.result (tree c.args.value.now) c.in-Array.array
-          (first_and_rest c.args.parts.now c.part-item.result c.in-len1-up.len_at_least c.part-item.is) (ap tree c.in-Array.is)
+    ∙ reach-array (probe_passes c.args.probe false) c.args.parts.now (take (length c.args.parts.now - 1) (drop 1 c.args.parts.now)) c.part-item.result (tree c.args.value.now) c.in-Array.array
+    (first_and_rest c.args.parts.now c.part-item.result c.in-len1-up.len_at_least c.part-item.is) (ap tree c.in-Array.is)

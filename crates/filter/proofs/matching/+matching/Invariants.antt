@@ -1,8 +1,8 @@
 use Rattle.std.proofs.Common.{◌≡◌, ◌+◌, ◌*◌, length, drop}
-use Rattle.std.specs.Prelude.{false, ◌||◌}
+use Rattle.std.specs.Prelude.{false}
 use Rattle.std.specs.List.{list_any}
 use Rattle.bson.specs.View.{items_of}
-use Rattle.path.specs.Reach.{reach, in_elements, in_place, items_list}
+use Rattle.path.specs.Reach.{reach, in_elements, items_list}
 use Rattle.filter.specs.Rule.{weight, weights}
 use Rattle.filter.specs.View.{rule_of, rules_of}
 use Rattle.filter.specs.Matches.{all_hold, any_holds, of_document, alone}
@@ -49,14 +49,14 @@ invariant-any_holds-rules l = any_holds (rules_of (drop l.rule-index l.rule-item
 abbrev pub invariant-has_element-items : goal.invariant-has_element-items
 invariant-has_element-items l =
     list_any (λ t. all_hold l.filter (alone t)) (items_list (items_of (drop l.item-index l.item-items)))
-      ≡ list_any (λ t. all_hold l.filter (alone t)) (items_list (items_of l.item-items))
+    ≡ list_any (λ t. all_hold l.filter (alone t)) (items_list (items_of l.item-items))
 
 abbrev pub invariant-has_document-items : goal.invariant-has_document-items
 invariant-has_document-items l =
     list_any (of_document (all_hold l.filter)) (items_list (items_of (drop l.item-index l.item-items)))
-      ≡ list_any (of_document (all_hold l.filter)) (items_list (items_of l.item-items))
+    ≡ list_any (of_document (all_hold l.filter)) (items_list (items_of l.item-items))
 
 abbrev pub invariant-finds_in_array-items : goal.invariant-finds_in_array-items
 invariant-finds_in_array-items l =
     list_any (probe_passes l.probe false) (in_elements (reach l.rest) l.part (items_of (drop l.item-index l.items)))
-      ≡ list_any (probe_passes l.probe false) (in_elements (reach l.rest) l.part (items_of l.items))
+    ≡ list_any (probe_passes l.probe false) (in_elements (reach l.rest) l.part (items_of l.items))

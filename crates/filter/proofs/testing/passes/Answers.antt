@@ -1,4 +1,4 @@
-use Rattle.std.proofs.Common.{◌≡◌, Some, ap, sym, ◌∙◌}
+use Rattle.std.proofs.Common.{Some, ap, sym, ◌∙◌}
 use Rattle.std.specs.Prelude.{◌==◌}
 use Rattle.bson.specs.View.{tree}
 use Rattle.filter.specs.Matches.{passes}
@@ -9,5 +9,5 @@ use Rattle.filter.proofs.testing.passes.Goals as goal
 pub returns-in-Size-Array : goal.returns-in-Size-Array
 returns-in-Size-Array c =
     ap (λ n. n == c.in-Size-Array.size) c.len.ensures
-      ∙ sym (passes-size c.in-Size-Array.size c.args.alone c.in-Size-Array.array)
-      ∙ (λ i. passes (test_of (sym c.in-Size-Array.is-0 i)) c.args.alone (Some (tree (sym c.in-Size-Array.is-1 i))))
+    ∙ sym (passes-size c.in-Size-Array.size c.args.alone c.in-Size-Array.array)
+    ∙ (λ i. passes (test_of (sym c.in-Size-Array.is-0 i)) c.args.alone (Some (tree (sym c.in-Size-Array.is-1 i))))
