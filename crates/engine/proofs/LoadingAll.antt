@@ -266,6 +266,7 @@ all_filled (c ∷ cs) kept =
     λ i. ap (λ b. if b then c else emptied c) within i ∷ all_filled cs (λ k d below. kept (suc k) d (omega (arith, below))) i
 
 pub loads_all : (cs : List Collection) → IsLawfulState cs → All IsReadable cs → Loads [] (pairs_of cs) cs
+unfolding pairs_of
 loads_all cs lawful readable =
     let documents : Loads (map emptied cs) (documents_to MOST_COLLECTIONS cs) cs =
     subst (λ (us : List Collection). Loads us (documents_to MOST_COLLECTIONS cs) cs) (sym (none_filled cs lawful.kept))

@@ -178,6 +178,7 @@ first_all (suc n) c cs fits =
     (λ k d below. under_two 0 (suc n) (tree_text (words c.name)) (tree_text (key_of (get_or (documents_numbered (suc n) cs) k d))) (omega arith) (omega (arith, fits))))
 
 pub are_row : (cs : List Collection) → IsLawfulState cs → All IsReadable cs → IsRow (pairs_of cs)
+unfolding pairs_of
 are_row cs lawful h =
     let documents = whole MOST_COLLECTIONS cs (omega arith) lawful.kept h in
     record {
