@@ -1,3 +1,4 @@
 pub mod Measures
 pub mod WalkSteps
 pub mod ReadSteps
+pub mod ProjectSteps

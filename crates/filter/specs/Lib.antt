@@ -8,4 +8,5 @@ pub mod Words
 pub mod Reading
 pub mod Sort
 pub mod Projection
+pub mod Seen
 pub mod Rows

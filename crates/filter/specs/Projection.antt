@@ -12,10 +12,9 @@ use Rattle.filter.specs.Reading.{path_in}
 abbrev pub Path : Type 0
 Path = List (List ℕ)
 
--- whether the paths are kept, or taken away
-pub record Projection : Type 0 where
-  pub includes : Bool
-  pub paths : List Path
+-- whether the paths are kept or taken away, and the paths
+abbrev pub Projection : Type 0
+Projection = Bool × List Path
 
 -- ---- reading
 
@@ -33,7 +32,13 @@ abbrev pub id_path : Path
 id_path = codes "_id" ∷ []
 
 abbrev pub is_id : Path → Bool
-is_id path = is_front path id_path && is_front id_path path
+is_id [] = false
+is_id (name ∷ []) = bytes_eq name (codes "_id")
+is_id (name ∷ next ∷ rest) = false
+
+abbrev pub begins_with_id : Path → Bool
+begins_with_id [] = false
+begins_with_id (name ∷ rest) = bytes_eq name (codes "_id")
 
 -- what was read so far: what the fields but `_id` say, what `_id` says, and the paths of these fields
 pub record Seen : Type 0 where
@@ -53,21 +58,24 @@ agrees (Some false) b = not b
 abbrev pub meets : Path → Path → Bool
 meets a b = is_front a b || is_front b a
 
-abbrev pub id_seen : Option Bool → List Path
-id_seen None = []
-id_seen (Some b) = id_path ∷ []
+abbrev pub is_said : Option Bool → Bool
+is_said None = false
+is_said (Some b) = true
 
 abbrev pub with_field : Path → Bool → Seen → Result Seen Refusal
 with_field path b seen =
-    if list_any (meets path) (id_seen seen.id ++ seen.paths) then Err refusals.BadValue else
+    if is_said seen.id && begins_with_id path then Err refusals.BadValue else
+    if list_any (meets path) seen.paths then Err refusals.BadValue else
     if is_id path then Ok (record { fields = seen.fields; id = Some b; paths = seen.paths }) else
     if agrees seen.fields b then Ok (record { fields = Some b; id = seen.id; paths = seen.paths ++ path ∷ [] }) else
     Err refusals.BadValue
 
+abbrev pub read_field : List ℕ → Tree → Seen → Result Seen Refusal
+read_field name t seen = if_ok (path_in name) (λ path. if_ok (flag_in t) (λ b. with_field path b seen))
+
 abbrev pub read_flags : Seen → Pairs → Result Seen Refusal
 read_flags seen no_pairs = Ok seen
-read_flags seen (pair name t ps) =
-    if_ok (path_in name) (λ path. if_ok (flag_in t) (λ b. if_ok (with_field path b seen) (λ more. read_flags more ps)))
+read_flags seen (pair name t ps) = if_ok (read_field name t seen) (λ more. read_flags more ps)
 
 -- `_id` alone says for itself; an empty projection takes nothing away
 abbrev pub mode : Option Bool → Option Bool → Bool
@@ -75,20 +83,15 @@ mode (Some b) id = b
 mode None (Some b) = b
 mode None None = false
 
--- `_id` is kept, unless the projection says otherwise or names something in it
-abbrev pub kept_id : Option Bool → List Path → List Path
-kept_id (Some true) paths = id_path ∷ []
-kept_id (Some false) paths = []
-kept_id None paths = if list_any (is_front id_path) paths then [] else id_path ∷ []
-
-abbrev pub dropped_id : Option Bool → List Path
-dropped_id (Some false) = id_path ∷ []
-dropped_id (Some true) = []
-dropped_id None = []
+-- whether `_id` is one of the paths: an inclusion keeps it, unless it says otherwise or names something in it
+abbrev pub names_id : Bool → Option Bool → List Path → Bool
+names_id true (Some b) paths = b
+names_id true None paths = not (list_any begins_with_id paths)
+names_id false (Some b) paths = not b
+names_id false None paths = false
 
 abbrev pub projection_of : Bool → Seen → Projection
-projection_of true seen = record { includes = true; paths = kept_id seen.id seen.paths ++ seen.paths }
-projection_of false seen = record { includes = false; paths = dropped_id seen.id ++ seen.paths }
+projection_of includes seen = (includes, if names_id includes seen.id seen.paths then seen.paths ++ id_path ∷ [] else seen.paths)
 
 abbrev pub read_projection : Pairs → Result Projection Refusal
 read_projection ps = if_ok (read_flags nothing_seen ps) (λ seen. Ok (projection_of (mode seen.fields seen.id) seen))
@@ -109,13 +112,13 @@ abbrev pub is_none : List Path → Bool
 is_none [] = true
 is_none (path ∷ paths) = false
 
--- no path says anything of a value: it goes; one ends there: it stays whole; else a part stays
-abbrev pub kept : List Path → Tree → Option Tree → Option Tree
-kept paths whole part = if is_none paths then None else if list_any is_end paths then Some whole else part
+abbrev pub only : Bool → Tree → Option Tree
+only b t = if b then Some t else None
 
--- the other way round
-abbrev pub left : List Path → Tree → Option Tree → Option Tree
-left paths whole part = if is_none paths then Some whole else if list_any is_end paths then None else part
+-- Where no path says anything of a value, an inclusion drops it; where one ends there, it keeps it whole; else a part of
+-- it stays. An exclusion does the opposite.
+abbrev pub pick : Bool → List Path → Tree → Option Tree → Option Tree
+pick includes paths whole part = if is_none paths then only (not includes) whole else if list_any is_end paths then only includes whole else part
 
 abbrev pub add_pair : List ℕ → Option Tree → Pairs → Pairs
 add_pair name None ps = ps
@@ -125,14 +128,14 @@ abbrev pub add_item : Option Tree → Items → Items
 add_item None ts = ts
 add_item (Some t) ts = item t ts
 
--- `pick` is `kept` or `left`, and `scalars` what becomes of a value on the way that is no document and no array. Digits
--- are plain names, and an array is gone through element by element.
-module _ (pick : List Path → Tree → Option Tree → Option Tree) (scalars : Tree → Option Tree) where
+-- A value on the way that is no document and no array is dropped by an inclusion and kept by an exclusion. Digits are
+-- plain names, and an array is gone through element by element.
+module _ (includes : Bool) where
   abbrev mutual
     pub of_tree : List Path → Tree → Option Tree
-    of_tree paths (scalar s) = pick paths (scalar s) (scalars (scalar s))
-    of_tree paths (document ps) = pick paths (document ps) (Some (document (of_pairs paths ps)))
-    of_tree paths (array ts) = pick paths (array ts) (Some (array (of_items paths ts)))
+    of_tree paths (scalar s) = pick includes paths (scalar s) (only (not includes) (scalar s))
+    of_tree paths (document ps) = pick includes paths (document ps) (Some (document (of_pairs paths ps)))
+    of_tree paths (array ts) = pick includes paths (array ts) (Some (array (of_items paths ts)))
 
     pub of_pairs : List Path → Pairs → Pairs
     of_pairs paths no_pairs = no_pairs
@@ -143,4 +146,4 @@ module _ (pick : List Path → Tree → Option Tree → Option Tree) (scalars : 
     of_items paths (item t ts) = add_item (of_tree paths t) (of_items paths ts)
 
 abbrev pub project : Projection → Pairs → Pairs
-project p ps = if p.includes then of_pairs kept (λ t. None) p.paths ps else of_pairs left (λ t. Some t) p.paths ps
+project p ps = of_pairs p.0 p.1 ps

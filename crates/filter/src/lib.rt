@@ -8,8 +8,10 @@ pub mod laws;
 mod matching;
 mod operands;
 mod operator;
+mod projection;
 mod reading;
 mod rule;
 mod testing;
 
+pub use projection::Projection;
 pub use rule::{Comparison, Filter, Rule, Test};

@@ -6,4 +6,6 @@ mod growth;
 #[cfg(test)]
 mod matching;
 #[cfg(test)]
+mod projections;
+#[cfg(test)]
 mod refusals;

@@ -1,15 +1,15 @@
 -- An edit changes nothing else.
-use Rattle.std.proofs.Common.{◌≡◌, ℕ, zero, suc, ◌+◌, ◌<◌, ◌≤◌, Bool, true, false, List, [], ◌∷◌, Option, Some, None, Result, Ok, Err, max, refl, sym, ap, subst, ◌∙◌, arith, inl, inr}
-use Rattle.std.specs.Prelude.{◌≢◌, if◌then◌else◌, nat_lt, nat_le, ◌⊎◌}
+use Rattle.std.proofs.Common.{◌≡◌, ℕ, zero, suc, ◌+◌, ◌<◌, ◌≤◌, Bool, true, false, List, [], ◌∷◌, Option, Some, None, Result, Ok, Err, max, refl, sym, ap, subst, arith, inl, inr}
+use Rattle.std.specs.Prelude.{◌≢◌, if◌then◌else◌, nat_lt, nat_le}
 use Rattle.std.specs.Str.{bytes_eq}
 use Rattle.bson.specs.Tree.{Tree, scalar, null, document, array, Pairs, no_pairs, pair, Items, no_items, item}
 use Rattle.bson.specs.Lawful.{levels, IsTree, IsPairs, IsItems}
 use Rattle.bson.specs.Lookup.{lookup}
-use Rattle.bson.specs.Edits.{put, cut, lookup-put, lookup-put_other, lookup-cut, lookup-cut_other, items_len, item_at, with_item, item_at-with_item, item_at-with_item_other}
+use Rattle.bson.specs.Edits.{put, lookup-put, lookup-put_other, lookup-cut, lookup-cut_other, items_len, item_at, item_at-with_item, item_at-with_item_other}
 use Rattle.path.specs.declared.refusal.Refusal.{Refusal}
 use Rattle.path.specs.declared.refusal.Refusal.TheVariants as refusals
 use Rattle.path.specs.Parts.{index_of}
-use Rattle.path.specs.Edits.{if_ok, within, put_item, set_field, set_item_at, set_item, set, set_at, put_or_cut, cut_found, cut_field, with_found, cut_item, cut_off, cut_at}
+use Rattle.path.specs.Edits.{if_ok, within, put_item, set_field, set_item, set, put_or_cut, cut_found, cut_field, with_found, cut_item, cut_off}
 use Rattle.path.specs.Laws.{names, with_name, WritesField, WritesItem, WritesItemAt, Writes, CutsField, CutsItem, CutsItemAt, Cuts}
 use Rattle.path.proofs.Indexes.{items_len-with_item}
 

@@ -1,12 +1,12 @@
 -- Items of an array by an index, which code counts up to 2^64 - 1.
-use Rattle.std.proofs.Common.{◌≡◌, ℕ, zero, suc, ◌+◌, ◌-◌, ◌<◌, ◌≤◌, Bool, true, false, List, [], ◌∷◌, length, get_or, Option, Some, None, Result, Ok, Err, min, refl, sym, ap, ◌∙◌, arith, inl, inr}
+use Rattle.std.proofs.Common.{◌≡◌, ℕ, zero, suc, ◌+◌, ◌<◌, ◌≤◌, true, false, List, length, get_or, Option, Some, None, Result, Ok, Err, min, refl, sym, ap, ◌∙◌, arith}
 use Rattle.std.specs.Prelude.{option_map, nat_lt}
 use Rattle.std.specs.Option.{option_and_then}
 use Rattle.std.proofs.lemmas.Bool.{lt-ltb, le-ltb}
 use Rattle.bson.specs.Tree.{Tree, scalar, null, Items, no_items, item, append_items}
 use Rattle.bson.specs.Lawful.{levels, items_levels}
 use Rattle.bson.specs.View.{tree, items_of}
-use Rattle.bson.specs.Edits.{items_len, item_at, with_item, item_at-items_of, items_len-items_of, items_len-append, with_item-twice, items_levels-with_item}
+use Rattle.bson.specs.Edits.{items_len, item_at, with_item, item_at-items_of, items_len-items_of}
 use Rattle.bson.specs.declared.value.Value.{Value}
 use Rattle.path.specs.declared.refusal.Refusal.{Refusal}
 use Rattle.path.specs.declared.refusal.Refusal.TheVariants as refusals

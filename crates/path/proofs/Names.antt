@@ -1,5 +1,5 @@
 -- Parts of a path, one after another.
-use Rattle.std.proofs.Common.{◌≡◌, ℕ, zero, suc, ◌+◌, ◌*◌, ◌-◌, ◌<◌, ◌≤◌, Bool, true, false, if◌then◌else◌, List, [], ◌∷◌, length, drop, get_or, map, Option, Some, None, min, refl, sym, ap, ◌∙◌, arith, drop-cons, eq-eqb}
+use Rattle.std.proofs.Common.{◌≡◌, ℕ, suc, ◌+◌, ◌*◌, ◌-◌, ◌<◌, Bool, true, false, if◌then◌else◌, List, [], ◌∷◌, length, drop, get_or, Option, Some, None, min, refl, sym, ap, ◌∙◌, arith, drop-cons, eq-eqb}
 use Rattle.std.proofs.lemmas.Bool.{false≢true}
 use Rattle.std.proofs.lemmas.List.Splits.{length-slice_split}
 use Rattle.std.specs.Prelude.{◌≢◌, ◌==◌, ◌||◌, nat_lt}

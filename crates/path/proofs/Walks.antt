@@ -1,14 +1,14 @@
 -- Going on in a document by a field and in an array by an index.
-use Rattle.std.proofs.Common.{◌≡◌, ℕ, zero, suc, ◌+◌, ◌-◌, ◌<◌, ◌≤◌, Bool, true, false, List, [], ◌∷◌, ◌++◌, length, take, drop, get_or, map, Option, Some, None, Result, Ok, Err, refl, sym, ap, ◌∙◌, arith, append_assoc, append-nil}
+use Rattle.std.proofs.Common.{◌≡◌, ℕ, zero, suc, ◌-◌, ◌<◌, ◌≤◌, Bool, true, false, List, [], ◌∷◌, ◌++◌, length, take, drop, get_or, Option, Some, None, Result, Ok, Err, refl, sym, ap, ◌∙◌, arith, append_assoc, append-nil}
 use Rattle.std.specs.Prelude.{◌≢◌, if◌then◌else◌, option_map}
 use Rattle.std.specs.Str.{bytes_eq}
 use Rattle.std.proofs.lemmas.List.{take_all}
 use Rattle.std.specs.Result.{IsErrAnd, OnOk}
 use Rattle.std.specs.Option.{option_and_then}
-use Rattle.bson.specs.Tree.{Tree, scalar, null, document, array, Pairs, no_pairs, pair, append, Items, no_items, item, append_items}
+use Rattle.bson.specs.Tree.{Tree, scalar, null, document, array, Pairs, no_pairs, pair, Items}
 use Rattle.bson.specs.Lookup.{lookup}
-use Rattle.bson.specs.Lawful.{Lacks, levels, pairs_levels, items_levels, IsDocument, IsArray}
-use Rattle.bson.specs.Edits.{place, pair_at, pairs_len, place-there, place-absent, put, cut, with_value, without_pair, with_value-twice, pairs_len-with_value, put-place, put-absent, cut-place, pairs_levels-put, pairs_levels-cut, items_len, item_at, with_item, items_levels-with_item}
+use Rattle.bson.specs.Lawful.{levels, pairs_levels, items_levels}
+use Rattle.bson.specs.Edits.{place, pair_at, pairs_len, place-there, place-absent, put, with_value, without_pair, pairs_levels-put, pairs_levels-cut, item_at, items_levels-with_item}
 use Rattle.path.specs.declared.refusal.Refusal.{Refusal}
 use Rattle.path.specs.declared.refusal.Refusal.TheVariants as refusals
 use Rattle.path.specs.View.{Gives}

@@ -1,6 +1,6 @@
 -- Writing and removing at a path. Both go on in a document by the part's field and in an array by the element that the
 -- part numbers; unlike reaching, they don't look into the elements.
-use Rattle.std.specs.Prelude.{ℕ, zero, suc, ◌+◌, nat_lt, nat_le, if◌then◌else◌, Option, Some, None, option_map, Result, Ok, Err, List, [], ◌∷◌}
+use Rattle.std.specs.Prelude.{ℕ, zero, suc, ◌+◌, nat_lt, nat_le, if◌then◌else◌, Option, Some, None, Result, Ok, Err, List, [], ◌∷◌}
 use Rattle.std.specs.Option.{unwrap_or}
 use Rattle.bson.specs.Tree.{Tree, scalar, null, document, array, Pairs, no_pairs, Items, no_items, item}
 use Rattle.bson.specs.Lawful.{levels}

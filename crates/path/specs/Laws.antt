@@ -1,12 +1,12 @@
 -- What an edit at a path leaves as it was, said apart from how the edit is made.
-use Rattle.std.specs.Prelude.{◌≡◌, ◌≢◌, ℕ, suc, max, ◌<◌, ◌≤◌, if◌then◌else◌, Option, Some, None, Result, Ok, Err, List, [], ◌∷◌, ◌⊎◌}
+use Rattle.std.specs.Prelude.{◌≡◌, ◌≢◌, ℕ, suc, max, ◌<◌, ◌≤◌, if◌then◌else◌, Option, Some, None, Ok, List, [], ◌∷◌, ◌⊎◌}
 use Rattle.std.specs.Str.{bytes_eq}
 use Rattle.bson.specs.Tree.{Tree, scalar, null, document, array, Pairs, no_pairs, pair, Items}
 use Rattle.bson.specs.Lawful.{IsPairs}
 use Rattle.bson.specs.Lookup.{lookup}
 use Rattle.bson.specs.Edits.{items_len, item_at}
 use Rattle.path.specs.Parts.{index_of}
-use Rattle.path.specs.Edits.{set, set_at, cut_at}
+use Rattle.path.specs.Edits.{set_at, cut_at}
 
 abbrev pub names : Pairs → List (List ℕ)
 names no_pairs = []

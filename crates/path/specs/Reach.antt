@@ -1,7 +1,7 @@
 -- What a path reaches from a value: a list of values and of Missing, which is None here.
-use Rattle.std.specs.Prelude.{ℕ, Bool, if◌then◌else◌, Option, Some, None, List, [], ◌∷◌, ◌++◌}
+use Rattle.std.specs.Prelude.{ℕ, if◌then◌else◌, Option, Some, None, List, [], ◌∷◌, ◌++◌}
 use Rattle.std.specs.Option.{option_and_then}
-use Rattle.bson.specs.Tree.{Tree, scalar, document, array, Pairs, Items, no_items, item}
+use Rattle.bson.specs.Tree.{Tree, scalar, document, array, Items, no_items, item}
 use Rattle.bson.specs.Lookup.{lookup}
 use Rattle.bson.specs.Edits.{item_at}
 use Rattle.path.specs.Parts.{is_digits, index_of}

@@ -1,6 +1,6 @@
 -- Rows worked by hand: what paths reach in small documents, and what a write makes.
-use Rattle.std.specs.Prelude.{◌≡◌, ℕ, pos, List, [], ◌∷◌, codes, Result, Ok, Err, Option, Some, None}
-use Rattle.bson.specs.Tree.{Tree, scalar, null, int32, document, array, Pairs, no_pairs, pair, Items, no_items, item}
+use Rattle.std.specs.Prelude.{◌≡◌, ℕ, pos, List, [], ◌∷◌, codes, Ok, Err, Some, None}
+use Rattle.bson.specs.Tree.{Tree, scalar, null, int32, document, array, Pairs, no_pairs, pair, no_items, item}
 use Rattle.path.specs.declared.fault.PathFault.TheVariants as faults
 use Rattle.path.specs.declared.refusal.Refusal.TheVariants as refusals
 use Rattle.path.specs.Parts.{parts_of, path_of}

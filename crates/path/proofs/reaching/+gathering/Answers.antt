@@ -1,9 +1,8 @@
-use Rattle.std.proofs.Common.{◌≡◌, ◌++◌, List, [], Option, Some, None, map, drop, sym, ap, ◌∙◌, append-nil}
+use Rattle.std.proofs.Common.{◌≡◌, ◌++◌, List, [], Some, None, map, drop, sym, ap, ◌∙◌, append-nil}
 use Rattle.std.proofs.lemmas.List.{drop_all}
-use Rattle.bson.specs.Tree.{Tree}
 use Rattle.bson.specs.View.{tree, items_of}
 use Rattle.bson.specs.declared.value.Value.{Value}
-use Rattle.path.specs.Reach.{Reached, reach, in_elements}
+use Rattle.path.specs.Reach.{reach, in_elements}
 use Rattle.path.specs.View.{reached}
 use Rattle.path.proofs.Walks.{gathered, on_ok}
 use Rattle.path.proofs.reaching.+gathering.Goals as goal

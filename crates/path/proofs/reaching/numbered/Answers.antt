@@ -1,4 +1,4 @@
-use Rattle.std.proofs.Common.{◌≡◌, ◌≤◌, ◌∙◌, length, sym, ap, arith}
+use Rattle.std.proofs.Common.{◌∙◌, sym, arith}
 use Rattle.path.specs.Parts.{index_of}
 use Rattle.path.proofs.Indexes.{there, past}
 use Rattle.path.proofs.reaching.numbered.Goals as goal

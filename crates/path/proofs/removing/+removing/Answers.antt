@@ -1,8 +1,7 @@
-use Rattle.std.proofs.Common.{◌≡◌, ◌≤◌, ◌<◌, ℕ, List, Option, Some, None, min, refl, ap, sym, ◌∙◌, arith}
+use Rattle.std.proofs.Common.{◌≡◌, ◌≤◌, ◌<◌, Some, None, min, ap, sym, ◌∙◌, arith}
 use Rattle.std.specs.Prelude.{option_map}
 use Rattle.bson.specs.Tree.{Tree, scalar, null}
 use Rattle.bson.specs.View.{tree}
-use Rattle.bson.specs.Lawful.{levels}
 use Rattle.bson.specs.Edits.{place, pairs_len, pairs_len-with_value, with_value, with_value-twice, put-place, cut-place, without_pair, items_len, with_item, with_item-twice}
 use Rattle.path.specs.Parts.{index_of}
 use Rattle.path.specs.Edits.{cut_off}

@@ -1,10 +1,10 @@
-use Rattle.std.proofs.Common.{◌≡◌, ◌≤◌, ◌<◌, ◌+◌, ◌-◌, take, drop, ℕ, List, Option, Some, None, Result, Ok, Err, length, min, refl, ap, sym, ◌∙◌, arith}
+use Rattle.std.proofs.Common.{◌≡◌, ◌<◌, ◌+◌, ◌-◌, take, drop, Some, None, Ok, Err, length, min, ap, sym, ◌∙◌, arith}
 use Rattle.std.specs.Prelude.{option_map}
-use Rattle.bson.specs.Tree.{Tree, scalar, null, pair, no_pairs, append, Pairs, item, no_items, append_items, Items}
+use Rattle.bson.specs.Tree.{Tree, scalar, null, Pairs, Items}
 use Rattle.bson.specs.View.{tree}
-use Rattle.bson.specs.Edits.{place, place-absent, pairs_len, pairs_len-with_value, with_value, with_value-twice, put, put-place, put-absent, items_len, items_len-items_of, with_item, with_item-twice}
+use Rattle.bson.specs.Edits.{place, place-absent, pairs_len, pairs_len-with_value, with_value, with_value-twice, put-place, put-absent, items_len, items_len-items_of, with_item, with_item-twice}
 use Rattle.path.specs.Parts.{index_of}
-use Rattle.path.specs.Edits.{set, put_item, if_ok}
+use Rattle.path.specs.Edits.{set}
 use Rattle.path.proofs.Indexes.{set_item-there, set_item-new, set_item-far, put_item-within, put_item-end, items_len-with_item}
 use Rattle.path.proofs.Walks.{place_within, set_field-there, set_field-new, refused, set-refused, first_and_rest}
 use Rattle.path.proofs.setting.+setting.Goals as goal

@@ -1,5 +1,5 @@
-use Rattle.std.proofs.Common.{◌≡◌, ◌<◌, ℕ, ap, sym, ◌∙◌, arith}
-use Rattle.bson.specs.Tree.{Tree, scalar, null, item, no_items}
+use Rattle.std.proofs.Common.{◌<◌, ap, ◌∙◌, arith}
+use Rattle.bson.specs.Tree.{scalar, null, item, no_items}
 use Rattle.bson.specs.Edits.{items_len, items_len-append}
 use Rattle.path.specs.Edits.{put_item}
 use Rattle.path.proofs.Indexes.{put_item-padded}

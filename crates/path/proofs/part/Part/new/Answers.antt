@@ -1,4 +1,4 @@
-use Rattle.std.proofs.Common.{List, ℕ, sym, subst}
+use Rattle.std.proofs.Common.{sym, subst}
 use Rattle.path.specs.Parts.{IsPart}
 use Rattle.path.proofs.Names.{no_zero}
 use Rattle.path.proofs.part.Part.new.Goals as goal
