@@ -18,13 +18,13 @@ use Rattle.bson.specs.Spelling.{items_bytes}
 use Rattle.bson.specs.declared.fault.BsonFault.{BsonFault}
 use Rattle.value_order.specs.Order.{compare}
 use Rattle.value_order.specs.Total.{compare_total}
-use Rattle.engine.specs.World.{World, Collection, Cursor, find_collection, documents_or_none, documents_of, put_collection, count_of}
+use Rattle.engine.specs.World.{World, Collection, Cursor, find_collection, uses, unused, number_or, with_documents, documents_or_none, documents_of, put_collection, count_of}
 use Rattle.engine.specs.Documents.{◌>>=◌, unless, or_refused, id_first, key_of, place, checked, insert_one, insert_all}
 use Rattle.engine.specs.Refusals.{int, ok_reply}
 use Rattle.engine.specs.Command.{Command, ping, insert as insert_of, find as find_of, command_of, IsBounded}
-use Rattle.engine.specs.Lawful.{IsStored, IsRising, AreNamedApart, IsKept, IsLawful}
+use Rattle.engine.specs.Lawful.{IsStored, IsRising, AreNamedApart, AreNumberedApart, IsKept, IsLawfulState, IsLawful}
 use Rattle.engine.specs.Places.{IsGap, collection_at, no_collection}
-use Rattle.engine.specs.Progress.{is_full}
+use Rattle.engine.specs.Progress.{is_full, with_document}
 use Rattle.engine.specs.Step.{items_of_documents, batch_of, cursor_reply, open_cursor, run_insert, run_find, run, answered, step}
 use Rattle.engine.specs.View.{IsSendable}
 use Rattle.engine.specs.declared.refusal.Refusal.{Refusal}
@@ -32,7 +32,8 @@ use Rattle.engine.specs.declared.refusal.Refusal.TheVariants as refusals
 use Rattle.engine.specs.declared.TheConstants.{BATCH_LIMIT, STORED_LIMIT, FIRST_BATCH, MOST_CURSORS, MOST_COLLECTIONS, NAMESPACE_LIMIT}
 use Rattle.engine.proofs.Bounded.{step_of, bounded}
 use Rattle.engine.proofs.Checked.{keeps}
-use Rattle.engine.proofs.Ordered.{Rises, flipped, rises_tail, rises_insert, All-inserted, place_gap, place_there, missing, added, replaced}
+use Rattle.engine.proofs.Ordered.{Rises, flipped, rises_tail, rises_insert, All-inserted, place_gap, place_there, missing, found, added, replaced}
+use Rattle.engine.proofs.Numbers.{unused_unused, number_bounds, numbers_set, numbers_insert}
 use Rattle.engine.proofs.Rewinding.{apart_set}
 use Rattle.engine.proofs.SpelledSizes.{ping-sendable, insert-sendable, refusal-sendable, batch_items, cursor-sendable}
 
@@ -123,11 +124,6 @@ stored_at (c ∷ cs) name h = at (bytes_eq name c.name) (stored_at cs name (λ k
 abbrev ByName : List Collection → Type 0
 ByName cs = Rises (slice_cmp nat_cmp) (λ (c : Collection). c.name) cs
 
-record PutKept (new : Collection) (cs : List Collection) : Type 0 where
-  apart : AreNamedApart (put_collection new cs)
-  kept : All IsKept (put_collection new cs)
-  few : length (put_collection new cs) ≤ MOST_COLLECTIONS
-
 room : (cs : List Collection) (name : List ℕ) → is_full cs name ≡ false → find_collection cs name ≡ None → length cs < MOST_COLLECTIONS
 room cs name e none = at (nat_le MOST_COLLECTIONS (length cs)) refl (ap (λ (o : Option Collection). nat_le MOST_COLLECTIONS (length cs) && not (is_some o)) (sym none) ∙ e)
   where
@@ -135,25 +131,65 @@ room cs name e none = at (nat_le MOST_COLLECTIONS (length cs)) refl (ap (λ (o :
     at true full e = absurd cc
     at false few e = grind (arith, nat_tests)
 
-put_kept : (new : Collection) (cs : List Collection) → AreNamedApart cs → All IsKept cs → length cs ≤ MOST_COLLECTIONS → IsKept new → is_full cs new.name ≡ false → PutKept new cs
-put_kept new cs apart kept few one free = at (located nat_list_cmp_total (λ (c : Collection). c.name) cs new.name apart)
+put_kept : (new : Collection) (cs : List Collection) → IsLawfulState cs → IsKept new → is_full cs new.name ≡ false → new.number ≡ number_or (unused cs) (find_collection cs new.name) → IsLawfulState (put_collection new cs)
+put_kept new cs h one free numbered = at (located nat_list_cmp_total (λ (c : Collection). c.name) cs new.name h.apart)
   where
-    at : Gap (slice_cmp nat_cmp) (λ (c : Collection). c.name) cs new.name ⊎ There (slice_cmp nat_cmp) (λ (c : Collection). c.name) cs new.name → PutKept new cs
+    at : Gap (slice_cmp nat_cmp) (λ (c : Collection). c.name) cs new.name ⊎ There (slice_cmp nat_cmp) (λ (c : Collection). c.name) cs new.name → IsLawfulState (put_collection new cs)
     at (inl g) =
         let put : put_collection new cs ≡ insert cs g.0 new = added cs g.0 new.name new g.1 refl in
-        let less = room cs new.name free (missing cs g.0 new.name g.1) in
+        let none = missing cs g.0 new.name g.1 in
+        let less = room cs new.name free none in
+        let fresh : uses cs new.number ≡ false = ap (uses cs) (numbered ∙ ap (number_or (unused cs)) none) ∙ unused_unused cs in
         record {
-          apart = subst AreNamedApart (sym put) (rises_insert nat_list_cmp_total (λ (c : Collection). c.name) cs g.0 new apart g.1);
-          kept = subst (λ (ds : List Collection). All IsKept ds) (sym put) (All-inserted IsKept cs g.0 new g.1.within kept one);
+          apart = subst AreNamedApart (sym put) (rises_insert nat_list_cmp_total (λ (c : Collection). c.name) cs g.0 new h.apart g.1);
+          numbers = subst AreNumberedApart (sym put) (numbers_insert cs g.0 new g.1.within fresh h.numbers);
+          kept = subst (λ (ds : List Collection). All IsKept ds) (sym put) (All-inserted IsKept cs g.0 new g.1.within h.kept one);
           few = omega (arith, ap length put, length-insert cs g.0 new g.1.within);
         }
     at (inr t) =
-        let put : put_collection new cs ≡ set cs t.place new = replaced cs t.place new.name new apart t.within (t.same no_collection) refl in
+        let put : put_collection new cs ≡ set cs t.place new = replaced cs t.place new.name new h.apart t.within (t.same no_collection) refl in
         let same : new.name ≡ (collection_at cs t.place).name = sym (exact_bytes (collection_at cs t.place).name new.name (t.same no_collection)) in
+        let there = found cs t.place new.name h.apart t.within (t.same no_collection) in
+        let kept_number : new.number ≡ (collection_at cs t.place).number = numbered ∙ ap (number_or (unused cs)) there in
         record {
-          apart = subst AreNamedApart (sym put) (apart_set cs t.place new t.within same apart);
-          kept = subst (λ (ds : List Collection). All IsKept ds) (sym put) (All-set IsKept cs t.place new one kept);
-          few = omega (arith, ap length put, length-set cs t.place new);
+          apart = subst AreNamedApart (sym put) (apart_set cs t.place new t.within same h.apart);
+          numbers = subst AreNumberedApart (sym put) (numbers_set cs t.place new t.within kept_number h.numbers);
+          kept = subst (λ (ds : List Collection). All IsKept ds) (sym put) (All-set IsKept cs t.place new one h.kept);
+          few = omega (arith, ap length put, length-set cs t.place new, h.few);
+        }
+
+-- a collection without documents beside the others
+pub added_lawful : (new : Collection) (cs : List Collection) → IsLawfulState cs → IsKept new → find_collection cs new.name ≡ None → uses cs new.number ≡ false → length cs < MOST_COLLECTIONS → IsLawfulState (put_collection new cs)
+added_lawful new cs h one none fresh room = at (located nat_list_cmp_total (λ (c : Collection). c.name) cs new.name h.apart)
+  where
+    at : Gap (slice_cmp nat_cmp) (λ (c : Collection). c.name) cs new.name ⊎ There (slice_cmp nat_cmp) (λ (c : Collection). c.name) cs new.name → IsLawfulState (put_collection new cs)
+    at (inl g) =
+        let put : put_collection new cs ≡ insert cs g.0 new = added cs g.0 new.name new g.1 refl in
+        record {
+          apart = subst AreNamedApart (sym put) (rises_insert nat_list_cmp_total (λ (c : Collection). c.name) cs g.0 new h.apart g.1);
+          numbers = subst AreNumberedApart (sym put) (numbers_insert cs g.0 new g.1.within fresh h.numbers);
+          kept = subst (λ (ds : List Collection). All IsKept ds) (sym put) (All-inserted IsKept cs g.0 new g.1.within h.kept one);
+          few = omega (arith, ap length put, length-insert cs g.0 new g.1.within, room);
+        }
+    at (inr t) = let there = found cs t.place new.name h.apart t.within (t.same no_collection) in absurd cc
+
+-- one more document in the collection at a place
+pub grown_lawful : (cs : List Collection) (at : ℕ) (d : Pairs) (grown : Collection) → IsLawfulState cs → at < length cs → with_document (collection_at cs at) d ≡ Ok grown → IsLawfulState (set cs at grown)
+grown_lawful cs at d grown h within e = made (insert_one (collection_at cs at).documents d) refl e
+  where
+    made : (r : Result (List Pairs) Refusal) → insert_one (collection_at cs at).documents d ≡ r → (r >>= (λ stored. Ok (record (collection_at cs at) { documents = stored }))) ≡ Ok grown → IsLawfulState (set cs at grown)
+    made (Err f) is e = absurd cc
+    made (Ok ds) is e =
+        let old = collection_at cs at in
+        let now : record old { documents = ds } ≡ grown = cc in
+        let kept = h.kept at no_collection within in
+        let good = kept_one old.documents d ds (kept.lawful.rising, kept.lawful.stored) is in
+        let one : IsKept grown = subst IsKept now (record { lawful = record { rising = good.0; stored = good.1 }; short = kept.short; least = kept.least; most = kept.most }) in
+        record {
+          apart = apart_set cs at grown within (ap (λ (x : Collection). x.name) (sym now)) h.apart;
+          numbers = numbers_set cs at grown within (ap (λ (x : Collection). x.number) (sym now)) h.numbers;
+          kept = All-set IsKept cs at grown one h.kept;
+          few = omega (arith, length-set cs at grown, h.few);
         }
 
 -- ---- one command
@@ -170,17 +206,18 @@ unfolding run_insert
 good_insert w name documents h short = at (is_full w.state name) refl
   where
     put : (r : Result (List Pairs) Refusal) → is_full w.state name ≡ false → insert_all (documents_of w.state name) documents ≡ r
-        → Good (r >>= (λ stored. let x : Result (World × Pairs) Refusal = Ok (record w { state = put_collection (record { name = name; documents = stored }) w.state }, pair (codes "n") (int (length documents)) no_pairs) in x))
+        → Good (r >>= (λ stored. let x : Result (World × Pairs) Refusal = Ok (record w { state = put_collection (with_documents w.state name stored) w.state }, pair (codes "n") (int (length documents)) no_pairs) in x))
     put (Err e) free is = λ x f. absurd cc
     put (Ok stored) free is =
         let kept = kept_all (documents_of w.state name) documents stored (stored_at w.state name h.state.kept) is in
-        let new : Collection = record { name = name; documents = stored } in
-        let one : IsKept new = record { lawful = record { rising = kept.0; stored = kept.1 }; short = short } in
-        let p = put_kept new w.state h.state.apart h.state.kept h.state.few one free in
-        good_one (record w { state = put_collection new w.state }) (pair (codes "n") (int (length documents)) no_pairs) (record { state = record { apart = p.apart; kept = p.kept; few = p.few }; cursors = h.cursors }) (insert-sendable (length documents))
+        let new : Collection = with_documents w.state name stored in
+        let bounds = number_bounds w.state name h.state.kept (room w.state name free) in
+        let one : IsKept new = record { lawful = record { rising = kept.0; stored = kept.1 }; short = short; least = bounds.least; most = bounds.most } in
+        let p = put_kept new w.state h.state one free refl in
+        good_one (record w { state = put_collection new w.state }) (pair (codes "n") (int (length documents)) no_pairs) (record { state = p; cursors = h.cursors }) (insert-sendable (length documents))
 
     at : (b : Bool) → is_full w.state name ≡ b
-        → Good (unless b refusals.TooMany (insert_all (documents_of w.state name) documents >>= (λ stored. let x : Result (World × Pairs) Refusal = Ok (record w { state = put_collection (record { name = name; documents = stored }) w.state }, pair (codes "n") (int (length documents)) no_pairs) in x)))
+        → Good (unless b refusals.TooMany (insert_all (documents_of w.state name) documents >>= (λ stored. let x : Result (World × Pairs) Refusal = Ok (record w { state = put_collection (with_documents w.state name stored) w.state }, pair (codes "n") (int (length documents)) no_pairs) in x)))
     at true full = λ x f. absurd cc
     at false free = put (insert_all (documents_of w.state name) documents) free refl
 

@@ -12,3 +12,14 @@ pub mod LawfulSteps
 pub mod SpelledSizes
 pub mod Replying
 mod Sound
+pub mod Numbers
+pub mod Loops
+pub mod PairSizes
+pub mod Rising
+pub mod Saving
+pub mod Ending
+pub mod LoadingNames
+pub mod LoadingSteps
+pub mod LoadingAll
+pub mod OpenSteps
+pub mod LoadingOnce

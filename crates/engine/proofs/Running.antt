@@ -3,7 +3,7 @@ use Rattle.std.proofs.Common.{◌≡◌, ℕ, ◌<◌, ◌≤◌, Bool, true, fa
 use Rattle.std.specs.Prelude.{nat_le, codes, unwrap_or}
 use Rattle.std.proofs.lemmas.Bool.Decides.{nat_tests}
 use Rattle.bson.specs.Tree.{Pairs, pair, no_pairs}
-use Rattle.engine.specs.World.{World, Collection, documents_of, put_collection, count_of}
+use Rattle.engine.specs.World.{World, Collection, documents_of, with_documents, put_collection, count_of}
 use Rattle.engine.specs.Documents.{◌>>=◌, unless, insert_all}
 use Rattle.engine.specs.Refusals.{int}
 use Rattle.engine.specs.Step.{cursor_reply, open_cursor, batch_of, run_insert, run_find}
@@ -16,7 +16,7 @@ use Rattle.engine.specs.declared.TheConstants.{FIRST_BATCH, MOST_CURSORS}
 
 module _ (w : World) (name : List ℕ) (ds : List Pairs) where
   abbrev put : List Pairs → List Collection
-  put stored = put_collection (record { name = name; documents = stored }) w.state
+  put stored = put_collection (with_documents w.state name stored) w.state
 
   abbrev made : Result (List Pairs) Refusal → Result (List Collection) Refusal
   made r = r >>= (λ stored. Ok (put stored))

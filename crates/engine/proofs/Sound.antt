@@ -1,17 +1,23 @@
 -- What commands, and the ends of turns and connections, keep of an engine.
-use Rattle.std.proofs.Common.{◌≡◌, ℕ, false, List, [], Result, Ok, Err, ap, subst, sym, arith}
+use Rattle.std.proofs.Common.{◌≡◌, ◌⊎◌, inl, inr, ℕ, false, List, [], Result, Ok, Err, refl, ap, subst, sym, ◌∙◌, arith}
+use Rattle.std.specs.Prelude.{All}
 use Rattle.bson.specs.Tree.{Pairs}
 use Rattle.page.specs.History.{History, KeepsWord}
 use Rattle.page.specs.Crash.{LeavesNow}
+use Rattle.roots.specs.Pairs.{pairs_bytes}
 use Rattle.roots.specs.Store as stores
 use Rattle.roots.specs.declared.store.Store.{Store}
 use Rattle.engine.specs.World.{World, Collection}
-use Rattle.engine.specs.Lawful.{IsLawfulState, IsLawful}
+use Rattle.engine.specs.Lawful.{IsReadable, IsLawfulState, IsLawful}
+use Rattle.engine.specs.Stored.{pairs_of}
 use Rattle.engine.specs.Step.{read_and_run, step, answered}
 use Rattle.engine.specs.View.{world, begun, with_ok, Runs}
-use Rattle.engine.specs.Durable.{Holds, spelled, IsSound}
+use Rattle.engine.specs.Durable.{Holds, IsSound}
 use Rattle.engine.specs.declared.engine.Engine.{Engine}
+use Rattle.engine.specs.Refusals.{refusal_reply}
+use Rattle.engine.specs.Outcomes.{Refuses}
 use Rattle.engine.specs.declared.refusal.Refusal.{Refusal}
+use Rattle.engine.specs.declared.refusal.Refusal.TheVariants as refusals
 use Rattle.engine.proofs.LawfulSteps.{steps}
 
 -- the disk stayed as it is, and so did the collections from the beginning of the turn
@@ -20,10 +26,11 @@ keeps_sound {D} history old new h store same lawful = record {
   store = subst (λ (s : Store D). stores.IsSound history s) (sym store) h.store;
   lawful = lawful;
   before = subst (λ (w : World). IsLawfulState w.state) (sym same) h.before;
+  readable = subst (λ (w : World). All IsReadable w.state) (sym same) h.readable;
   holds = subst (λ (s : Store D). stores.is_stopped s ≡ false → LeavesNow (history s.disk) (λ image. Holds image (begun new).state)) (sym store)
     (subst (λ (w : World). stores.is_stopped old.store ≡ false → LeavesNow (history old.store.disk) (λ image. Holds image w.state)) (sym same) h.holds);
-  committed = subst (λ (s : Store D). KeepsWord (history s.disk) → stores.is_stopped s ≡ false → stores.committed history s ≡ spelled (begun new).state) (sym store)
-    (subst (λ (w : World). KeepsWord (history old.store.disk) → stores.is_stopped old.store ≡ false → stores.committed history old.store ≡ spelled w.state) (sym same) h.committed);
+  committed = subst (λ (s : Store D). KeepsWord (history s.disk) → stores.is_stopped s ≡ false → stores.committed history s ≡ pairs_bytes (pairs_of (begun new).state)) (sym store)
+    (subst (λ (w : World). KeepsWord (history old.store.disk) → stores.is_stopped old.store ≡ false → stores.committed history old.store ≡ pairs_bytes (pairs_of w.state)) (sym same) h.committed);
 }
 
 -- a world without cursors
@@ -44,3 +51,18 @@ runs_lawful cs ds connection body (Ok reply) h runs =
     at : (planned : Result (World × Pairs) Refusal) → with_ok planned ≡ Ok (of_state ds, reply) → IsLawful (answered (of_state cs) planned).0 → IsLawfulState ds
     at (Err e) same lawful = absurd cc
     at (Ok x) same lawful = let there : x.0 ≡ of_state ds = ap world_in same in subst (λ (w : World). IsLawfulState w.state) there lawful.state
+
+-- ---- what a command is answered
+
+pub answers_done : (w new : World) (planned : Result (World × Pairs) Refusal) (d : Pairs) → with_ok planned ≡ Ok (new, d) → (new, d) ≡ answered w planned
+answers_done w new (Err e) d h = absurd cc
+answers_done w new (Ok x) d h = sym (ap both h)
+  where
+    both : Result (World × Pairs) Refusal → World × Pairs
+    both (Ok y) = y
+    both (Err e) = (w, d)
+
+pub answers_refused : (w new : World) (planned : Result (World × Pairs) Refusal) (e : Refusal) → new ≡ w → Refuses planned e
+    → ((new, refusal_reply e) ≡ answered w planned) ⊎ ((new ≡ w) × (refusal_reply e ≡ refusal_reply refusals.OutOfMemory))
+answers_refused w new planned refusals.OutOfMemory same refuses = inr (same, refl)
+answers_refused w new planned e same refuses = inl ((λ i. (same i, refusal_reply e)) ∙ ap (answered w) (sym (refuses (λ h. absurd cc))))

@@ -23,7 +23,7 @@ length-array : (ts : Items) → length (tree_bytes (array ts)) ≡ length (items
 unfolding tree_bytes
 length-array ts = framed-length (items_bytes 0 ts)
 
-length-words : (s : List ℕ) → length (tree_bytes (words s)) ≡ length s + 5
+pub length-words : (s : List ℕ) → length (tree_bytes (words s)) ≡ length s + 5
 unfolding tree_bytes
 length-words s = omega (arith, length-append s (0 ∷ []))
 

@@ -2,7 +2,7 @@
 use Rattle.std.proofs.Common.{◌≡◌, ℕ, ◌+◌, ◌<◌, ◌≤◌, true, List, [], ◌∷◌, length, drop, get_or, set, map, Bor, Result, Ok, Err, refl, sym, ap, ◌∙◌, arith}
 use Rattle.std.proofs.lemmas.List.{set-set, set-get_or, length-set, drop_all}
 use Rattle.bson.specs.Tree.{Pairs}
-use Rattle.engine.specs.World.{Collection, documents_of, put_collection}
+use Rattle.engine.specs.World.{Collection, documents_of, with_documents, put_collection}
 use Rattle.engine.specs.Documents.{◌>>=◌, unless, insert_one, insert_all}
 use Rattle.engine.specs.Places.{collection_at, no_collection}
 use Rattle.engine.specs.Progress.{Progress, Extends, Stands, is_full, inserted, with_document}
@@ -17,6 +17,7 @@ pub record SoFar (start now : Progress) (at : ℕ) (left all : List Pairs) : Typ
   pub within : at < length now.now
   pub only : now.now ≡ set start.now at (collection_at now.now at)
   pub named : (collection_at now.now at).name ≡ (collection_at start.now at).name
+  pub numbered : (collection_at now.now at).number ≡ (collection_at start.now at).number
   pub same : insert_all (collection_at now.now at).documents left ≡ insert_all (collection_at start.now at).documents all
 
 pub begins : (start : Progress) (at : ℕ) (all : List Pairs) → at < length start.now → SoFar start start at all all
@@ -25,11 +26,13 @@ begins start at all within = record {
   within = within;
   only = sym (set-get_or start.now at no_collection);
   named = refl;
+  numbered = refl;
   same = refl;
 }
 
 record Done (c d : Collection) (ps : Pairs) : Type 0 where
   named : d.name ≡ c.name
+  numbered : d.number ≡ c.number
   one : insert_one c.documents ps ≡ Ok d.documents
 
 with_done : (c d : Collection) (ps : Pairs) → with_document c ps ≡ Ok d → Done c d ps
@@ -39,7 +42,7 @@ with_done c d ps e = at (insert_one c.documents ps) refl e
     at (Err r) is made = absurd cc
     at (Ok ds) is made =
         let done : record c { documents = ds } ≡ d = cc in
-        record { named = ap (λ (x : Collection). x.name) (sym done); one = is ∙ ap (λ (x : Collection). Ok x.documents) done }
+        record { named = ap (λ (x : Collection). x.name) (sym done); numbered = ap (λ (x : Collection). x.number) (sym done); one = is ∙ ap (λ (x : Collection). Ok x.documents) done }
 
 module _ (start now next : Progress) (at : ℕ) (ps : Pairs) (left all : List Pairs) (far : SoFar start now at (ps ∷ left) all) where
   pub goes_on : Extends now next → with_document (collection_at now.now at) ps ≡ Ok (collection_at next.now at) → next.now ≡ set now.now at (collection_at next.now at) → SoFar start next at left all
@@ -51,6 +54,7 @@ module _ (start now next : Progress) (at : ℕ) (ps : Pairs) (left all : List Pa
         within = omega (arith, far.within, ap length only, length-set now.now at (collection_at next.now at));
         only = only ∙ ap (λ (cs : List Collection). set cs at (collection_at next.now at)) far.only ∙ set-set start.now at (collection_at now.now at) (collection_at next.now at);
         named = done.named ∙ far.named;
+        numbered = done.numbered ∙ far.numbered;
         same = ap (λ (r : Result (List Pairs) Refusal). r >>= (λ ds. insert_all ds left)) (sym done.one) ∙ far.same;
       }
 
@@ -67,7 +71,7 @@ module _ (start now next : Progress) (at : ℕ) (ps : Pairs) (left all : List Pa
 -- what an insert comes to, where a collection stands for it
 module _ (before : List Collection) (start : Progress) (at : ℕ) (name : List ℕ) (all : List Pairs) (stands : Stands name before start.now at) where
   abbrev planned : Result (List Pairs) Refusal → Result (List Collection) Refusal
-  planned r = r >>= (λ ds. Ok (put_collection (record { name = name; documents = ds }) before))
+  planned r = r >>= (λ ds. Ok (put_collection (with_documents before name ds) before))
 
   inserted_there : inserted before name all ≡ planned (insert_all (collection_at start.now at).documents all)
   inserted_there =
@@ -81,13 +85,14 @@ module _ (before : List Collection) (start : Progress) (at : ℕ) (name : List �
   inserted_done now far =
       let c = collection_at now.now at in
       let named : (collection_at now.now at).name ≡ name = far.named ∙ ap (λ (x : Collection). x.name) stands.is in
+      let numbered : c.number ≡ (with_documents before name c.documents).number = far.numbered ∙ ap (λ (x : Collection). x.number) stands.is in
       inserted_there ∙ ap planned (sym far.same)
       ∙ ap (λ (cs : List Collection). Ok cs) (stands.puts (collection_at now.now at).documents
-      ∙ (λ i. set start.now at (record { name = sym named i; documents = (collection_at now.now at).documents })) ∙ sym far.only)
+      ∙ (λ i. set start.now at (record { name = sym named i; number = sym numbered i; documents = (collection_at now.now at).documents })) ∙ sym far.only)
 
 pub inserted_full : (before : List Collection) (name : List ℕ) (all : List Pairs) → is_full before name ≡ true → inserted before name all ≡ Err refusals.TooMany
 inserted_full before name all full =
-    ap (λ b. unless b refusals.TooMany (insert_all (documents_of before name) all >>= (λ ds. Ok (put_collection (record { name = name; documents = ds }) before)))) full
+    ap (λ b. unless b refusals.TooMany (insert_all (documents_of before name) all >>= (λ ds. Ok (put_collection (with_documents before name ds) before)))) full
 
 -- ---- the documents that are left, behind their references
 

@@ -1,21 +1,21 @@
 -- What an engine keeps on its disk.
-use Rattle.std.specs.Prelude.{◌≡◌, ◌⊎◌, ℕ, ◌-◌, ◌^◌, Bool, List, [], length, false}
+use Rattle.std.specs.Prelude.{◌≡◌, ◌⊎◌, ℕ, ◌-◌, ◌^◌, Bool, List, All, length, false}
 use Rattle.page.specs.History.{History, KeepsWord}
 use Rattle.page.specs.Crash.{LeavesNow}
-use Rattle.roots.specs.Image.{StandsFor}
+use Rattle.roots.specs.Image as images
+use Rattle.roots.specs.Pairs.{pairs_bytes}
 use Rattle.roots.specs.Store as stores
 use Rattle.engine.specs.World.{Collection}
-use Rattle.engine.specs.Lawful.{IsLawfulState}
+use Rattle.engine.specs.Lawful.{IsReadable, IsLawfulState}
+use Rattle.engine.specs.Stored.{pairs_of}
 use Rattle.engine.specs.View.{world, begun}
 use Rattle.engine.specs.declared.engine.Engine.{Engine}
 
-abbrev pub spelled : List Collection → List ℕ
-spelled state = []
-
--- The image holds these collections: they are lawful, and its root names their pairs.
+-- The image holds these collections: they are lawful, bytes can spell them, and its root names their pairs and no others.
 pub record Holds (image : ℕ → List ℕ) (state : List Collection) : Type 0 where
   pub lawful : IsLawfulState state
-  pub stands : StandsFor image (spelled state)
+  pub readable : All IsReadable state
+  pub pairs : images.Holds image (pairs_of state)
 
 -- each moment of the engine's disk so far
 abbrev pub past : {D : Type 0} → (D → History) → Engine D → History
@@ -33,9 +33,10 @@ pub record IsSound {D : Type 0} (history : D → History) (engine : Engine D) : 
   pub store : stores.IsSound history engine.store
   pub lawful : IsLawfulState (world engine).state
   pub before : IsLawfulState (begun engine).state
+  pub readable : All IsReadable (begun engine).state
   pub holds : IsRunning engine → LeavesNow (past history engine) (λ image. Holds image (begun engine).state)
-  pub committed : KeepsWord (past history engine) → IsRunning engine → stores.committed history engine.store ≡ spelled (begun engine).state
+  pub committed : KeepsWord (past history engine) → IsRunning engine → stores.committed history engine.store ≡ pairs_bytes (pairs_of (begun engine).state)
 
 -- No commit finds room: the collections are too long for the free pages, or no greater generation is left.
 abbrev pub IsFull : {D : Type 0} → Engine D → Type 0
-IsFull engine = (stores.version_of engine.store ≡ 2 ^ 64 - 1) ⊎ stores.IsTooLong engine.store (length (spelled (world engine).state))
+IsFull engine = (stores.version_of engine.store ≡ 2 ^ 64 - 1) ⊎ stores.IsTooLong engine.store (length (pairs_bytes (pairs_of (world engine).state)))

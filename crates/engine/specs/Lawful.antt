@@ -1,5 +1,5 @@
 -- What is kept of stored documents and of collections.
-use Rattle.std.specs.Prelude.{◌≡◌, ℕ, suc, ◌≤◌, List, length, Some, None, All, refl}
+use Rattle.std.specs.Prelude.{◌≡◌, ℕ, suc, ◌≤◌, false, List, [], ◌∷◌, length, Some, None, All, IsUtf8, refl}
 use Rattle.std.specs.List.{AllPairs}
 use Rattle.std.specs.Ordering.{nat_cmp}
 use Rattle.value_order.specs.Order.{compare}
@@ -10,9 +10,9 @@ use Rattle.std.specs.Coded.{Coded, code_by, coded×, coded_ℕ, coded_list}
 use Rattle.std.specs.declared.cmp.Ordering.TheVariants as orders
 use Rattle.bson.specs.Tree.{Pairs}
 use Rattle.bson.specs.TreeCode.{coded_pairs}
-use Rattle.bson.specs.Lawful.{pairs_levels}
+use Rattle.bson.specs.Lawful.{pairs_levels, IsDocument}
 use Rattle.bson.specs.Spelling.{framed, pairs_bytes}
-use Rattle.engine.specs.World.{World, Collection}
+use Rattle.engine.specs.World.{World, Collection, uses}
 use Rattle.engine.specs.Documents.{pairs_fault, id_first, id_of, key_of}
 use Rattle.engine.specs.declared.TheConstants.{STORED_LIMIT, STORED_LEVELS, NAMESPACE_LIMIT, MOST_COLLECTIONS}
 
@@ -33,6 +33,16 @@ pub record IsCollection (c : Collection) : Type 0 where
   pub rising : IsRising c.documents
   pub stored : All IsStored c.documents
 
+-- bytes spell the name and the documents
+pub record IsReadable (c : Collection) : Type 0 where
+  pub name : IsUtf8 c.name
+  pub documents : All IsDocument c.documents
+
+-- what a collection in memory keeps
+pub record IsHeld (c : Collection) : Type 0 where
+  pub lawful : IsCollection c
+  pub readable : IsReadable c
+
 -- collections in rising order of their namespaces, each once
 abbrev pub AreNamedApart : List Collection → Type 0
 AreNamedApart cs = AllPairs (λ c d. slice_cmp nat_cmp c.name d.name ≡ orders.Less) cs
@@ -41,10 +51,18 @@ AreNamedApart cs = AllPairs (λ c d. slice_cmp nat_cmp c.name d.name ≡ orders.
 pub record IsKept (c : Collection) : Type 0 where
   pub lawful : IsCollection c
   pub short : length c.name ≤ NAMESPACE_LIMIT
+  pub least : 1 ≤ c.number
+  pub most : c.number ≤ MOST_COLLECTIONS
+
+-- no two collections have one number
+abbrev pub AreNumberedApart : List Collection → Type 0
+AreNumberedApart [] = Unit {0}
+AreNumberedApart (c ∷ cs) = (uses cs c.number ≡ false) × AreNumberedApart cs
 
 -- What is kept of the collections: they are in order and within the limits.
 pub record IsLawfulState (state : List Collection) : Type 0 where
   pub apart : AreNamedApart state
+  pub numbers : AreNumberedApart state
   pub kept : All IsKept state
   pub few : length state ≤ MOST_COLLECTIONS
 
@@ -53,6 +71,6 @@ pub record IsLawful (world : World) : Type 0 where
   pub state : IsLawfulState world.state
   pub cursors : All (λ c. All IsStored c.rest) world.cursors
 
--- a collection is told apart by its namespace and its documents
+-- a collection is told apart by its namespace, its number and its documents
 abbrev pub collection_code : Coded Collection
-collection_code = code_by (List ℕ × List Pairs) (coded× (coded_list coded_ℕ) (coded_list coded_pairs)) (λ c. (c.name, c.documents)) (λ p. record { name = p.0; documents = p.1 }) (λ _. refl)
+collection_code = code_by ((List ℕ × ℕ) × List Pairs) (coded× (coded× (coded_list coded_ℕ) coded_ℕ) (coded_list coded_pairs)) (λ c. ((c.name, c.number), c.documents)) (λ p. record { name = p.0.0; number = p.0.1; documents = p.1 }) (λ _. refl)

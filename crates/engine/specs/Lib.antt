@@ -10,4 +10,8 @@ pub mod Progress
 pub mod Reading
 pub mod View
 pub mod Laws
+pub mod Stored
 pub mod Durable
+pub mod Loading
+pub mod Committing
+pub mod Opening

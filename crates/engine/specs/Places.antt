@@ -28,7 +28,7 @@ IsPlace id ds (Ok i) = (new : Pairs) → place id new ds ≡ None
 IsPlace id ds (Err i) = IsGap (by_key id) ds i × ((new : Pairs) → place id new ds ≡ Some (insert ds i new))
 
 abbrev pub no_collection : Collection
-no_collection = record { name = []; documents = [] }
+no_collection = record { name = []; number = 0; documents = [] }
 
 abbrev pub collection_at : List Collection → ℕ → Collection
 collection_at cs i = slice_index_or cs i no_collection

@@ -3,7 +3,7 @@ use Rattle.std.specs.Prelude.{◌≡◌, ◌≢◌, ◌⊎◌, ℕ, Bool, ◌<�
 use Rattle.std.proofs.Common.{inl, inr}
 use Rattle.std.specs.Coded.{Coded, code_by, coded×, coded⊎, coded_ℕ, coded_list}
 use Rattle.bson.specs.Tree.{Pairs}
-use Rattle.engine.specs.World.{Collection, find_collection, documents_of, put_collection}
+use Rattle.engine.specs.World.{Collection, find_collection, documents_of, with_documents, put_collection}
 use Rattle.engine.specs.Documents.{◌>>=◌, unless, insert_one, insert_all}
 use Rattle.engine.specs.Lawful.{AreNamedApart, collection_code}
 use Rattle.engine.specs.Places.{collection_at}
@@ -64,13 +64,13 @@ abbrev pub inserted : List Collection → List ℕ → List Pairs → Result (Li
 inserted cs name documents =
     unless (is_full cs name) refusals.TooMany (do
       stored ← insert_all (documents_of cs name) documents
-      Ok (put_collection (record { name = name; documents = stored }) cs))
+      Ok (put_collection (with_documents cs name stored) cs))
 
 -- A collection stands at a place for this name: an insert into what was before is a change of that one alone.
 pub record Stands (name : List ℕ) (before now : List Collection) (at : ℕ) : Type 0 where
   pub within : at < length now
-  pub is : collection_at now at ≡ record { name = name; documents = documents_of before name }
-  pub puts : (ds : List Pairs) → put_collection (record { name = name; documents = ds }) before ≡ slice_set now at (record { name = name; documents = ds })
+  pub is : collection_at now at ≡ with_documents before name (documents_of before name)
+  pub puts : (ds : List Pairs) → put_collection (with_documents before name ds) before ≡ slice_set now at (with_documents before name ds)
   pub room : is_full before name ≡ false
 
 -- a collection was not made for that reason, or for want of memory

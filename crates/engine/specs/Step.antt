@@ -4,7 +4,7 @@ use Rattle.std.specs.Fmt.{decimal}
 use Rattle.bson.specs.Tree.{document, array, Pairs, no_pairs, pair, Items, no_items, item}
 use Rattle.bson.specs.declared.fault.BsonFault.{BsonFault}
 use Rattle.bson.specs.Spelling.{framed, pairs_bytes, element}
-use Rattle.engine.specs.World.{World, find_collection, documents_of, put_collection, count_of}
+use Rattle.engine.specs.World.{World, find_collection, documents_of, with_documents, put_collection, count_of}
 use Rattle.engine.specs.Documents.{◌>>=◌, unless, insert_all}
 use Rattle.engine.specs.Refusals.{int, long, words, refusal_reply, ok_reply}
 use Rattle.engine.specs.Command.{Command, ping, insert, find, command_of}
@@ -59,7 +59,7 @@ run_insert world namespace documents =
     unless (nat_le MOST_COLLECTIONS (length world.state) && not (is_some (find_collection world.state namespace))) refusals.TooMany (do
       stored ← insert_all (documents_of world.state namespace) documents
       Ok (
-        record world { state = put_collection (record { name = namespace; documents = stored }) world.state },
+        record world { state = put_collection (with_documents world.state namespace stored) world.state },
         pair (codes "n") (int (length documents)) no_pairs,
       ))
 

@@ -1,5 +1,5 @@
 -- What an engine holds: collections, open cursors, the number of the next cursor, and what the running turn did to cursors.
-use Rattle.std.specs.Prelude.{ℕ, suc, ◌==◌, if◌then◌else◌, List, [], ◌∷◌, Option, Some, None}
+use Rattle.std.specs.Prelude.{ℕ, zero, suc, Bool, ◌==◌, if◌then◌else◌, List, [], ◌∷◌, length, Option, Some, None}
 use Rattle.std.specs.Str.{bytes_eq}
 use Rattle.std.specs.List.{list_any}
 use Rattle.std.specs.Ordering.{nat_cmp}
@@ -8,9 +8,10 @@ use Rattle.std.specs.declared.cmp.Ordering.{Ordering}
 use Rattle.std.specs.declared.cmp.Ordering.TheVariants as orders
 use Rattle.bson.specs.Tree.{Pairs}
 
--- a namespace, and its documents in rising order of `_id`
+-- a namespace, the number that its pairs are kept under, and its documents in rising order of `_id`
 pub record Collection : Type 0 where
   pub name : List ℕ
+  pub number : ℕ
   pub documents : List Pairs
 
 -- documents that a connection has not been given yet
@@ -34,6 +35,27 @@ new_world = record { state = []; cursors = []; next = 1; touched = [] }
 abbrev pub find_collection : List Collection → List ℕ → Option Collection
 find_collection [] name = None
 find_collection (c ∷ cs) name = if bytes_eq name c.name then Some c else find_collection cs name
+
+-- a collection has this number
+abbrev pub uses : List Collection → ℕ → Bool
+uses cs n = list_any (λ c. c.number == n) cs
+
+-- the first of the numbers from n on, of which there are so many and one more, that no collection has
+abbrev pub unused_from : ℕ → ℕ → List Collection → ℕ
+unused_from zero n cs = n
+unused_from (suc more) n cs = if uses cs n then unused_from more (suc n) cs else n
+
+-- The least number from 1 on that no collection has. Among one more than there are collections there is one.
+abbrev pub unused : List Collection → ℕ
+unused cs = unused_from (length cs) 1 cs
+
+abbrev pub number_or : ℕ → Option Collection → ℕ
+number_or new None = new
+number_or new (Some c) = c.number
+
+-- the collection of a name with these documents: under its number, or a missing one under the least that is not in use
+abbrev pub with_documents : List Collection → List ℕ → List Pairs → Collection
+with_documents state name stored = record { name = name; number = number_or (unused state) (find_collection state name); documents = stored }
 
 -- a missing collection reads as empty
 abbrev pub documents_or_none : Option Collection → List Pairs

@@ -1,6 +1,7 @@
 //! A namespace with its documents.
 
-ghost use Rattle.std.specs.Prelude.{◌≡◌, [], ◌<◌, IfOk, OnOk, OnErr, All, length, insert, remove};
+ghost use Rattle.std.specs.Prelude.{◌≡◌, [], ◌<◌, IfOk, OnOk, OnErr, All, IsUtf8, length, insert, remove};
+ghost use Rattle.bson.specs.Lawful.{IsDocument};
 ghost use Rattle.engine.specs.Documents.{key_of};
 ghost use Rattle.engine.specs.Lawful.{IsStored};
 ghost use Rattle.engine.specs.Places.{IsPlace, IsGap, by_key};
@@ -10,49 +11,60 @@ use bson::{Document, NoMemory};
 use std::alloc::Global;
 use std::marker::Model;
 
-/// A namespace with its documents, in rising order of `_id`.
+/// A namespace with its documents, in rising order of `_id`, and the number that they are kept under.
 #[derive(Drop)]
 pub(crate) struct Collection {
     namespace: String,
+    number: u32,
     documents: Vec<Document>,
 }
 
 impl Model for Collection {
     ghost use Rattle.std.specs.Prelude.{string_bytes};
     ghost use Rattle.engine.specs.World as worlds;
-    ghost use Rattle.engine.specs.Lawful.{IsCollection, collection_code};
+    ghost use Rattle.engine.specs.Lawful.{IsHeld, collection_code};
 
     ghost Value = { worlds.Collection };
 
     ghost coded = { collection_code };
 
-    ghost view = { λ a. record { name = string_bytes a.namespace; documents = a.documents.items } };
+    ghost view = { λ a. record { name = string_bytes a.namespace; number = a.number; documents = a.documents.items } };
 
-    ghost invariant = { λ a. IsCollection (record {
+    ghost invariant = { λ a. IsHeld (record {
       name = string_bytes a.namespace;
+      number = a.number;
       documents = a.documents.items;
     }) };
 }
 
 impl Collection {
-    pub(crate) fn new(alloc: Global, namespace: &str) -> Result<Collection, NoMemory>
-        ensures { IfOk result (λ c. c ≡ record { name = namespace.now; documents = [] }) }
+    pub(crate) fn new(alloc: Global, namespace: &str, number: u32) -> Result<Collection, NoMemory>
+        ensures { IfOk result (λ c. c ≡ record { name = namespace.now; number = number; documents = [] }) }
     {
         Ok(Collection {
             namespace: String::from_str(alloc, namespace)?,
+            number,
             documents: Vec::new(alloc),
         })
     }
 
     pub(crate) fn namespace(&self) -> &str
-        ensures { result.now ≡ self.now.name }
+        ensures name { result.now ≡ self.now.name }
+        ensures utf8 { IsUtf8 self.now.name }
     {
         self.namespace.as_str()
+    }
+
+    pub(crate) fn number(&self) -> u32
+        ensures { result ≡ self.now.number }
+    {
+        self.number
     }
 
     pub(crate) fn documents(&self) -> &[Document]
         ensures documents { result.now ≡ self.now.documents }
         ensures stored { All IsStored result.now }
+        ensures readable { All IsDocument result.now }
     {
         &self.documents
     }
@@ -68,6 +80,7 @@ impl Collection {
     /// Stores a document at its place. An `Err` leaves all as it was.
     pub(crate) fn insert(&mut self, place: usize, document: Document) -> Result<(), NoMemory>
         requires stored { IsStored document }
+        requires readable { IsDocument document }
         requires gap { IsGap (by_key (key_of document)) self.old.documents place }
         ensures ok { OnOk result
             (self.new ≡ record self.old { documents = insert self.old.documents place document }) }

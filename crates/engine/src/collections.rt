@@ -3,9 +3,11 @@
 //! Room for what undoes a change is made before the change. So a growth that is refused leaves all as
 //! it was, and undoing takes no memory.
 
-ghost use Rattle.std.specs.Prelude.{◌≡◌, ◌<◌, ◌≤◌, ◌+◌, [], length, slice_set, All, OnOk, OnErr, IfOk, IfErr};
-ghost use Rattle.engine.specs.World.{documents_of};
+ghost use Rattle.std.specs.Prelude.{◌≡◌, ◌<◌, ◌≤◌, ◌+◌, false, [], length, slice_set, All, OnOk, OnErr, IfOk, IfErr, IfSome, IfNone, None};
+ghost use Rattle.engine.specs.World.{documents_of, find_collection, uses, unused};
+ghost use Rattle.engine.specs.Loading.{place_numbered, IsAdded};
 ghost use Rattle.engine.specs.Lawful.{IsStored};
+ghost use Rattle.engine.specs.Stored.{documents_numbered};
 ghost use Rattle.engine.specs.Places.{IsNamedAt, collection_at};
 ghost use Rattle.engine.specs.Outcomes.{Does};
 ghost use Rattle.engine.specs.Reading.{documents_at};
@@ -15,7 +17,7 @@ use crate::MOST_COLLECTIONS;
 use crate::collection::Collection;
 use crate::documents::stored;
 use crate::refusal::Refusal;
-use bson::Document;
+use bson::{Document, NoMemory};
 use std::alloc::Global;
 use std::marker::Model;
 
@@ -57,6 +59,26 @@ impl Collections {
         }
     }
 
+    /// The collections, in rising order of their namespaces.
+    pub(crate) fn list(&self) -> &[Collection]
+        ensures { result.now ≡ self.now.now }
+    {
+        &self.list
+    }
+
+    /// The documents of the collection of a number. A missing one reads as empty.
+    pub(crate) fn documents_numbered(&self, number: u32) -> &[Document]
+        ensures documents { result.now ≡ documents_numbered number self.now.now }
+        ensures stored { All IsStored result.now }
+    {
+        'list: for collection in &self.list {
+            if collection.number() == number {
+                return collection.documents();
+            }
+        }
+        &[]
+    }
+
     /// Where the collection of a namespace stands, or where it would stand.
     fn place_of(&self, namespace: &str) -> Result<usize, usize>
         ensures { IsNamedAt namespace.now self.now.now result }
@@ -79,6 +101,30 @@ impl Collections {
         }
     }
 
+    /// Whether a collection has this number.
+    fn uses(&self, number: u32) -> bool
+        ensures { result ≡ uses self.now.now number }
+    {
+        self.list
+            .iter()
+            .any(|collection| collection.number() == number)
+    }
+
+    /// The least number from 1 on that no collection has.
+    fn unused(&self) -> u32
+        requires { length self.now.now < MOST_COLLECTIONS }
+        ensures { result ≡ unused self.now.now }
+    {
+        let mut number = 1;
+        'numbers: for _ in 0..self.list.len() {
+            if !self.uses(number) {
+                return number;
+            }
+            number += 1;
+        }
+        number
+    }
+
     /// Where the collection of a namespace stands, which is made where it is missing; `TooMany` where it
     /// would be one too many.
     fn find_or_make(&mut self, namespace: &str) -> Result<usize, Refusal>
@@ -92,7 +138,8 @@ impl Collections {
                 if MOST_COLLECTIONS <= self.list.len() {
                     return Err(Refusal::TooMany);
                 }
-                let collection = Collection::new(*self.list.allocator(), namespace)?;
+                let number = self.unused();
+                let collection = Collection::new(*self.list.allocator(), namespace, number)?;
                 self.changes.reserve(1)?;
                 self.list.insert(at, collection)?;
                 self.changes.push(Change::Made { at }).unwrap();
@@ -101,9 +148,38 @@ impl Collections {
         }
     }
 
+    /// Where the collection of a number stands.
+    pub(crate) fn place_numbered(&self, number: u32) -> Option<usize>
+        ensures { result ≡ place_numbered number self.now.now }
+    {
+        self.list
+            .iter()
+            .position(|collection| collection.number() == number)
+    }
+
+    /// Makes a collection that was kept under a number; `None` where there is one of that name or that number, or too many.
+    pub(crate) fn add(&mut self, namespace: &str, number: u32) -> Result<Option<()>, NoMemory>
+        requires { self.old.changes ≡ [] }
+        ensures changes { self.new.changes ≡ [] }
+        ensures added { IfOk result (λ made. IfSome made (λ _. IsAdded namespace.now number self.old.now self.new.now)) }
+        ensures none { IfOk result (λ made. IfNone made (find_collection self.old.now namespace.now ≡ None → uses self.old.now number ≡ false → length self.old.now < MOST_COLLECTIONS → ⊥)) }
+        ensures same { IfOk result (λ made. IfNone made (self.new ≡ self.old)) }
+        ensures err { OnErr result (self.new ≡ self.old) }
+    {
+        let Err(at) = self.place_of(namespace) else {
+            return Ok(None);
+        };
+        if MOST_COLLECTIONS <= self.list.len() || self.uses(number) {
+            return Ok(None);
+        }
+        let collection = Collection::new(*self.list.allocator(), namespace, number)?;
+        self.list.insert(at, collection)?;
+        Ok(Some(()))
+    }
+
     /// Stores a document in the collection at a place; the first refusal of the document otherwise, or
     /// `DuplicateKey`.
-    fn store(&mut self, at: usize, document: &Document) -> Result<(), Refusal>
+    pub(crate) fn store(&mut self, at: usize, document: &Document) -> Result<(), Refusal>
         requires { at < length self.old.now }
         ensures extends { Extends self.old self.new }
         ensures does { Does (with_document (collection_at self.old.now at) document.now)
@@ -177,6 +253,13 @@ impl Collections {
             self.undo_to(mark);
         }
         outcome
+    }
+
+    /// Whether the turn has changed anything.
+    pub(crate) fn is_changed(&self) -> bool
+        ensures { result ≡ false → self.now.changes ≡ [] }
+    {
+        !self.changes.is_empty()
     }
 
     /// Keeps what the turn changed.

@@ -1,6 +1,7 @@
 //! What is asked of a document that is to be stored, and how it is stored.
 
 ghost use Rattle.std.specs.Prelude.{◌≡◌, ◌≢◌, Ok, Err, Some, None, IfOk, MatchResult, ◌≤◌, ◌<◌, length, option_map};
+ghost use Rattle.bson.specs.Lawful.{IsDocument};
 ghost use Rattle.bson.specs.Tree.{scalar, null};
 ghost use Rattle.bson.specs.View.{tree, pairs_of, items_of};
 ghost use Rattle.engine.specs.Documents.{name_fault, tree_fault, pairs_fault, items_fault, id_first, id_of, key_of, checked};
@@ -113,7 +114,7 @@ fn check_key(alloc: Global, id: &Value) -> Result<(), Refusal>
 }
 
 /// The `_id` of a document, where it has one that may be stored.
-fn id_of(document: &Document) -> Option<&Value>
+pub(crate) fn id_of(document: &Document) -> Option<&Value>
     ensures { option_map (λ v. tree v.now) result ≡ id_of document.now }
 {
     match document.get(ID) {
@@ -150,9 +151,10 @@ fn copy_id_first(alloc: Global, document: &Document) -> Result<Document, NoMemor
 /// `KeyTooLong` where its key text has more than 500 bytes.
 #[tactic(auto, unfolding(crate::specs::Documents::checked))]
 pub(crate) fn stored(alloc: Global, document: &Document) -> Result<Document, Refusal>
-    ensures { MatchResult result
+    ensures checked { MatchResult result
         (λ d. (checked document.now ≡ Ok (key_of document.now)) × (d ≡ id_first document.now))
         (λ e. e ≢ Refusal.OutOfMemory → checked document.now ≡ Err e) }
+    ensures readable { IfOk result (λ d. IsDocument d) }
 {
     if STORED_LIMIT < document.encoded_len() {
         return Err(Refusal::BSONObjectTooLarge);

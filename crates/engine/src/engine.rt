@@ -2,8 +2,12 @@
 
 ghost use Rattle.std.specs.Prelude.{◌≡◌, ◌≢◌, ◌⊎◌, ◌≤◌, ◌<◌, Ok, Err, Some, true, [], List, IfOk, IfErr, OnOk, OnErr, length};
 ghost use Rattle.page.specs.History.{KeepsWord, now, reads, IsImage};
-ghost use Rattle.page.specs.Crash.{GoesOn, LeavesOnly, LeavesNow};
+ghost use Rattle.page.specs.Crash.{GoesOn, LeavesOnly, LeavesNow, OnlySyncs};
 ghost use Rattle.roots.specs.Root.{root_of};
+ghost use Rattle.roots.specs.Pairs.{spelled};
+ghost use Rattle.roots.specs.Store as stores;
+ghost use Rattle.engine.specs.Committing.{Saves, Commits};
+ghost use Rattle.engine.specs.Opening.{IsOpened, IsRefused};
 ghost use Rattle.engine.specs.World.{Collection, settled, undone, forget};
 ghost use Rattle.engine.specs.Step.{Answers, run_insert, run_find, read_and_run};
 ghost use Rattle.engine.specs.Reading.{documents_at};
@@ -14,12 +18,14 @@ use crate::batch::batch_len;
 use crate::collections::Collections;
 use crate::command::{Command, read_command};
 use crate::connection::ConnId;
+use crate::image::image_of;
+use crate::loading::load;
 use crate::refusal::Refusal;
 use crate::reply::{find_reply, insert_reply, ping_reply};
 use crate::{FIRST_BATCH, MOST_STATEMENTS, NAMESPACE_LIMIT};
 use bson::Document;
 use page::Disk;
-use roots::{CommitFault, Config, OpenFault, Store};
+use roots::{CommitFault, Config, OpenFault, PairList, Store};
 use std::alloc::Global;
 
 /// What a command is answered.
@@ -29,6 +35,17 @@ pub enum Reply {
     Done(Document),
     /// The command was refused and changed nothing. `refusal_document` makes the document that says so.
     Refused(Refusal),
+}
+
+/// Commits these pairs.
+fn save<D: Disk>(store: &mut Store<D>, pairs: &PairList) -> Result<(), CommitFault>
+    requires { stores.IsSound D.history store.old }
+    ensures { Saves D.history (spelled pairs.now) result store.old store.new }
+{
+    match store.write_image(pairs) {
+        Ok(pages) => store.commit(pages),
+        Err(fault) => Err(fault),
+    }
 }
 
 /// Collections of documents, kept on a disk. Commands run in turns: `commit_turn` makes durable what the commands of a
@@ -50,6 +67,8 @@ impl<D: Disk> Engine<D> {
         ensures on { IfOk result (λ engine. GoesOn (D.history disk) (past D.history engine)) }
         ensures on_err { IfErr result (λ e. GoesOn (D.history disk) (D.history e.0)) }
 
+        ensures only { IfOk result (λ engine. OnlySyncs (D.history disk) (past D.history engine)) }
+
         // It gives what was read, and from then on every image holds that alone.
         ensures holds { IfOk result (λ engine. KeepsWord (past D.history engine) → Holds (reads (now (D.history disk))) (world engine).state) }
         ensures alone { IfOk result (λ engine. LeavesNow (past D.history engine) (λ image. Holds image (world engine).state)) }
@@ -57,7 +76,8 @@ impl<D: Disk> Engine<D> {
         // Where reads give one of the images, the images during the call and after it are among those from before.
         ensures any_moment { IfOk result (λ engine. IsImage (now (D.history disk)) (reads (now (D.history disk)))
             → LeavesOnly (D.history disk) (past D.history engine) (IsImage (now (D.history disk)))) }
-        ensures any_moment_err { IfErr result (λ e. LeavesOnly (D.history disk) (D.history e.0) (IsImage (now (D.history disk)))) }
+        ensures any_moment_err { IfErr result (λ e. IsImage (now (D.history disk)) (reads (now (D.history disk)))
+            → LeavesOnly (D.history disk) (D.history e.0) (IsImage (now (D.history disk)))) }
 
         // A fault of the bytes comes only where they hold no collections.
         ensures damaged { IfErr result (λ e. e.1 ≢ OpenFault.Device → e.1 ≢ OpenFault.Memory → KeepsWord (D.history e.0)
@@ -69,8 +89,30 @@ impl<D: Disk> Engine<D> {
         ensures device { IfErr result (λ e. e.1 ≡ OpenFault.Device → KeepsWord (D.history e.0)
             → (D.history disk).failures < (D.history e.0).failures) }
     {
-        let _ = (alloc, config);
-        Err((disk, OpenFault::Memory))
+        Engine::open_collections(alloc, disk, config)
+    }
+
+    /// Opens a disk as `open` does.
+    fn open_collections(
+        alloc: Global,
+        disk: D,
+        config: Config,
+    ) -> Result<Engine<D>, (D, OpenFault)>
+        ensures opened { IfOk result (IsOpened D.history disk) }
+        ensures refused { IfErr result (λ e. IsRefused D.history disk e.0 e.1) }
+    {
+        let (store, pairs) = match Store::open_pairs(alloc, disk, config) {
+            Ok(found) => found,
+            Err(refused) => return Err(refused),
+        };
+        match load(alloc, &pairs) {
+            Ok(collections) => Ok(Engine {
+                alloc,
+                collections,
+                store,
+            }),
+            Err(fault) => Err((store.into_disk(), fault)),
+        }
     }
 
     /// Hands the disk back as it is.
@@ -160,6 +202,41 @@ impl<D: Disk> Engine<D> {
         }
     }
 
+    /// Ends the turn as `commit_turn` does.
+    fn settle(&mut self) -> Result<(), CommitFault>
+        requires { IsSound D.history self.old }
+        ensures { Commits D.history result self.old self.new }
+    {
+        if !self.collections.is_changed() {
+            return Ok(());
+        }
+        let pairs = match image_of(self.alloc, &self.collections) {
+            Ok(pairs) => pairs,
+            Err(_) => {
+                self.collections.undo();
+                return Err(CommitFault::Memory);
+            }
+        };
+        match save(&mut self.store, &pairs) {
+            Ok(()) => {
+                self.collections.commit();
+                Ok(())
+            }
+            Err(CommitFault::Device) => {
+                self.collections.commit();
+                Err(CommitFault::Device)
+            }
+            Err(CommitFault::Memory) => {
+                self.collections.undo();
+                Err(CommitFault::Memory)
+            }
+            Err(CommitFault::Full) => {
+                self.collections.undo();
+                Err(CommitFault::Full)
+            }
+        }
+    }
+
     /// Ends the turn, and makes durable what its commands changed. Where nothing changed, nothing is written. `Memory` and
     /// `Full` undo the turn, as `undo_turn` does. At `Device` the engine has stopped: what the turn changed may be durable
     /// or not.
@@ -189,8 +266,7 @@ impl<D: Disk> Engine<D> {
             → (stopped self.old ≡ true) ⊎ ((past D.history self.old).failures < (past D.history self.new).failures) }
         ensures idle { stopped self.old ≡ true → past D.history self.new ≡ past D.history self.old }
     {
-        self.collections.undo();
-        Err(CommitFault::Memory)
+        self.settle()
     }
 
     /// Ends the turn, and takes back what its commands changed. It takes no memory.

@@ -1,6 +1,6 @@
 //! Laws of the definitions, each the contract of a function that does nothing.
 
-ghost use Rattle.engine.specs.Laws.{BeginsLawful, StaysLawful, RepliesSendable};
+ghost use Rattle.engine.specs.Laws.{BeginsLawful, StaysLawful, HoldsOne, RepliesSendable};
 
 /// The world that an engine begins with is lawful.
 pub fn begins_lawful()
@@ -15,4 +15,9 @@ pub fn stays_lawful()
 /// What a lawful world replies is within `REPLY_LIMIT`.
 pub fn replies_sendable()
     ensures { RepliesSendable }
+{}
+
+/// An image of a disk holds one list of collections at most.
+pub fn holds_one()
+    ensures { HoldsOne }
 {}

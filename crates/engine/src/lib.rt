@@ -8,6 +8,8 @@ mod command;
 mod connection;
 mod documents;
 mod engine;
+mod image;
+mod loading;
 pub mod laws;
 mod namespace;
 mod refusal;

@@ -17,7 +17,7 @@ use bson::{Array, BuildFault, Document, NoMemory, Text, Value};
 use std::alloc::{AllocError, Global};
 
 /// Adds a pair to a reply: of another name than those before, and not nested too deep, so only memory can be wanting.
-fn put(reply: &mut Document, name: &str, value: Value) -> Result<(), NoMemory>
+pub(crate) fn put(reply: &mut Document, name: &str, value: Value) -> Result<(), NoMemory>
     requires name { list_any (λ b. b == 0) name.now ≡ false }
     requires new { lookup reply.old name.now ≡ None }
     requires flat { levels (tree value) ≤ 99 }

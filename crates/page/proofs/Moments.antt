@@ -1,9 +1,9 @@
 -- How a run of device calls goes on.
-use Rattle.std.proofs.Common.{◌≡◌, inl, inr, ℕ, ◌+◌, ◌≤◌, Bool, true, false, List, refl, ◌∙◌, subst, arith}
+use Rattle.std.proofs.Common.{◌≡◌, inl, inr, ℕ, ◌+◌, ◌≤◌, Bool, true, false, List, refl, ap, ◌∙◌, subst, arith}
 use Rattle.std.specs.Prelude.{if◌then◌else◌}
 use Rattle.std.proofs.lemmas.Bool.{cases_lt}
-use Rattle.page.specs.History.{History, Sector, KeepsWord, now, IsImage, LeftSince, Ticks}
-use Rattle.page.specs.Crash.{GoesOn, LeavesOnly, LeavesNow, ReadsOnly}
+use Rattle.page.specs.History.{History, Sector, KeepsWord, now, IsImage, LeftSince, Ticks, Settles}
+use Rattle.page.specs.Crash.{GoesOn, LeavesOnly, LeavesNow, ReadsOnly, OnlySyncs}
 
 -- before the first call
 pub goes_nowhere : (h : History) → GoesOn h h
@@ -79,16 +79,29 @@ leaves_weaker a b P Q to since k image left = to image (since k image left)
 
 -- ---- calls that only read
 
+pub reads_moments : (old new : History) → ReadsOnly old new → LeavesOnly old new (IsImage (now old))
+reads_moments old new only keeps image left = subst (λ (s : ℕ → Sector). IsImage s image) (only.still keeps left.at left.after left.before) left.left
+
 pub reads_nothing : (h : History) → ReadsOnly h h
-reads_nothing h = record { on = goes_nowhere h; same = λ keeps. refl; moments = started h (IsImage (now h)) (λ keeps image is. is) }
+reads_nothing h = record {
+  on = goes_nowhere h;
+  same = λ keeps. refl;
+  still = λ keeps t low high. let now_is : t ≡ h.clock = omega arith in ap h.moment now_is;
+}
+
+-- a moment up to b, or one behind it
+still_further : (a b c : History) → ReadsOnly a b → GoesOn b c → KeepsWord c → (t : ℕ) → a.clock ≤ t → t ≤ b.clock → c.moment t ≡ now a
+still_further a b c first on keeps t low high = on.past keeps t high ∙ first.still (on.kept keeps) t low high
 
 pub reads_further : (a b c : History) → ReadsOnly a b → ReadsOnly b c → ReadsOnly a c
 reads_further a b c first second = record {
   on = goes_further a b c first.on second.on;
   same = λ keeps. second.same keeps ∙ first.same (second.on.kept keeps);
-  moments =
-      leaves_further a b c (IsImage (now a)) second.on first.moments
-      (λ keeps image left. subst (λ (s : ℕ → Sector). IsImage s image) (first.same (second.on.kept keeps)) (second.moments keeps image left));
+  still = λ keeps t low high.
+      elim (cases_lt b.clock t) [
+        | inl late ↦ second.still keeps t (omega arith) high ∙ first.same (second.on.kept keeps)
+        | inr early ↦ still_further a b c first second.on keeps t low early
+      ];
 }
 
 -- one call that left the sectors as they are
@@ -96,7 +109,16 @@ pub reads_one : (old new : History) (ok : Bool) → Ticks old new ok → (KeepsW
 reads_one old new ok tick same = record {
   on = goes_one old new ok tick;
   same = same;
-  moments =
-      leaves_call old old new ok (IsImage (now old)) tick (started old (IsImage (now old)) (λ keeps image is. is))
-      (λ keeps image is. subst (λ (s : ℕ → Sector). IsImage s image) (same keeps) is);
+  still = λ keeps t low high.
+      elim (cases_lt old.clock t) [
+        | inl late ↦ let last : t ≡ new.clock = omega (arith, tick.clock keeps) in ap new.moment last ∙ same keeps
+        | inr early ↦ let first : t ≡ old.clock = omega arith in tick.past keeps t early ∙ ap old.moment first
+      ];
+}
+
+-- a sync after them
+pub then_syncs : (a b c : History) (ok : Bool) → ReadsOnly a b → Ticks b c ok → (KeepsWord c → (k : ℕ) → Settles (now b k) (now c k)) → OnlySyncs a c
+then_syncs a b c ok first tick settles = record {
+  still = λ keeps t low high. still_further a b c first (goes_one b c ok tick) keeps t low (omega (arith, tick.clock keeps));
+  settles = λ keeps k. subst (λ (s : ℕ → Sector). Settles (s k) (now c k)) (first.same (tick.kept keeps)) (settles keeps k);
 }

@@ -1,6 +1,6 @@
 -- What holds of every image that a crash may leave, over several calls.
-use Rattle.std.specs.Prelude.{◌≡◌, ℕ, ◌≤◌, List, if◌then◌else◌, ◌==◌}
-use Rattle.page.specs.History.{History, Sector, KeepsWord, now, MayHold, IsImage, LeftSince, reads}
+use Rattle.std.specs.Prelude.{◌≡◌, ℕ, ◌<◌, ◌≤◌, List, if◌then◌else◌, ◌==◌}
+use Rattle.page.specs.History.{History, Sector, KeepsWord, now, MayHold, IsImage, LeftSince, Settles, reads}
 
 -- the disk went on from old to new
 pub record GoesOn (old new : History) : Type 0 where
@@ -38,8 +38,13 @@ IsSettled sectors = (k : ℕ) → Settled (sectors k)
 abbrev pub IsImageOutside : (ℕ → Sector) → (ℕ → Type 0) → (ℕ → List ℕ) → Type 0
 IsImageOutside sectors Written image = (k : ℕ) → (Written k → ⊥) → MayHold (sectors k) (image k)
 
--- The calls only read: the sectors stayed as they are, at every moment.
+-- The calls only read: at every moment the sectors were as they are.
 pub record ReadsOnly (old new : History) : Type 0 where
   pub on : GoesOn old new
   pub same : KeepsWord new → now new ≡ now old
-  pub moments : LeavesOnly old new (IsImage (now old))
+  pub still : KeepsWord new → (t : ℕ) → old.clock ≤ t → t ≤ new.clock → new.moment t ≡ now old
+
+-- Until the last call, which synced them, the sectors were as they are.
+pub record OnlySyncs (old new : History) : Type 0 where
+  pub still : KeepsWord new → (t : ℕ) → old.clock ≤ t → t < new.clock → new.moment t ≡ now old
+  pub settles : KeepsWord new → (k : ℕ) → Settles (now old k) (now new k)

@@ -2,8 +2,8 @@
 use Rattle.std.specs.Prelude.{◌+◌, if◌then◌else◌}
 use Rattle.page.specs.History.{History}
 use Rattle.page.specs.Memory.{memory_history}
-use Rattle.page.specs.declared.faulty.StopDisk.{StopDisk}
-use Rattle.page.specs.declared.faulty.FailDisk.{FailDisk}
+use Rattle.page.specs.declared.stop.StopDisk.{StopDisk}
+use Rattle.page.specs.declared.fail_once.FailDisk.{FailDisk}
 
 abbrev pub stop_history : StopDisk → History
 stop_history d = memory_history d.disk

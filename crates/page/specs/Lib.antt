@@ -1,6 +1,8 @@
 pub mod Crash
+pub mod FaultNames
 pub mod Faulty
 pub mod History
+pub mod Kept
 pub mod Memory
 pub mod Nothing
 pub mod Page

@@ -7,8 +7,12 @@ ghost use Rattle.page.specs.History.{History, Sector, KeepsWord, now, Ticks, Tak
 pub struct DeviceFault;
 
 impl DeviceFault {
+    ghost use Rattle.page.specs.FaultNames.{device_fault_name};
+
     /// The fault's name, as it is printed.
-    pub fn name(self) -> &'static str {
+    pub fn name(self) -> &'static str
+        ensures { result.now ≡ device_fault_name self }
+    {
         "Device"
     }
 }

@@ -41,8 +41,12 @@ impl From<AllocError> for PageFault {
 }
 
 impl PageFault {
+    ghost use Rattle.page.specs.FaultNames.{page_fault_name};
+
     /// The fault's name, as it is printed.
-    pub fn name(self) -> &'static str {
+    pub fn name(self) -> &'static str
+        ensures { result.now ≡ page_fault_name self }
+    {
         match self {
             PageFault::Kind => "Kind",
             PageFault::Number => "Number",

@@ -1,12 +1,16 @@
-// A disk in memory. It records its writes and its syncs that succeeded, each with the moment that it made.
+// A disk in memory. It records its writes and its syncs that succeeded, each with the moment that it made. Beside the
+// record it keeps what a read of each written sector gives.
 ghost use Rattle.std.specs.Prelude.{◌≡◌, ℕ, ◌≤◌, ◌+◌, All, not, length};
 ghost use Rattle.page.specs.History.{reads, now};
 ghost use Rattle.std.specs.Prelude.{◌<◌, slice_index_or, true};
-ghost use Rattle.page.specs.Replay.{replay, blank, IsWrite};
+ghost use Rattle.page.specs.Replay.{replay, blank, read_after, IsWrite};
+ghost use Rattle.page.specs.Kept.{kept};
+ghost use Rattle.std.specs.Prelude.{OnOk, OnErr, is_ok, ◌++◌, ◌∷◌, [], if◌then◌else◌};
 ghost use Rattle.page.specs.declared.memory.Call.{Call};
 
 use crate::{DeviceFault, Disk};
 use std::alloc::{AllocError, Global};
+use std::collections::BTreeMap;
 
 #[derive(Clone, Copy)]
 enum Step {
@@ -25,25 +29,33 @@ struct Call {
 pub struct MemDisk {
     alloc: Global,
     calls: Vec<Call>,
+    latest: BTreeMap<u64, [u8; 512]>,
     clock: u64,
     failures: u64,
     ended: bool,
     ghost recorded: { All (λ c. c.moment ≤ clock) calls.items },
     ghost counted: { failures ≤ clock },
+    ghost current: { (k : ℕ) → kept latest k ≡ (replay clock calls.items blank k).read },
 }
 
-// What a read of a sector gives after these calls.
-fn read_back(calls: &[Call], sector: u64, bytes: &mut [u8; 512])
-    ensures { (t : ℕ) → All (λ c. c.moment ≤ t) calls.now → bytes.new ≡ (replay t calls.now blank sector).read }
+// Records a call, and what a read gives after it. Without memory nothing changes.
+fn record(
+    calls: &mut Vec<Call>,
+    latest: &mut BTreeMap<u64, [u8; 512]>,
+    call: Call,
+) -> Result<(), AllocError>
+    ensures calls { calls.new.items ≡ (if is_ok result then calls.old.items ++ call ∷ [] else calls.old.items) }
+    ensures latest { OnOk result ((k : ℕ) → kept latest.new k ≡ read_after call.step k (kept latest.old k)) }
+    ensures same { OnErr result ((k : ℕ) → kept latest.new k ≡ kept latest.old k) }
 {
-    *bytes = [0; 512];
-    for call in calls {
-        if let Step::Write(to, written) = call.step {
-            if to == sector {
-                *bytes = written;
-            }
+    calls.reserve(1)?;
+    if let Step::Write(sector, bytes) = call.step {
+        if latest.insert(sector, bytes).is_err() {
+            return Err(AllocError);
         }
     }
+    calls.push(call).unwrap();
+    Ok(())
 }
 
 // After how many of these calls the last sync stands.
@@ -102,6 +114,7 @@ impl MemDisk {
         MemDisk {
             alloc,
             calls: Vec::new(alloc),
+            latest: BTreeMap::new(alloc),
             clock: 0,
             failures: 0,
             ended: false,
@@ -123,21 +136,25 @@ impl MemDisk {
     {
         let after = after_sync(&self.calls);
         let mut calls = Vec::new(self.alloc);
+        let mut latest = BTreeMap::new(self.alloc);
         for (i, call) in self.calls.iter().enumerate() {
             if is_kept(mask, after, self.calls.len(), i) {
-                calls.push(Call {
+                let call = Call {
                     moment: 0,
                     step: call.step,
-                })?;
+                };
+                record(&mut calls, &mut latest, call)?;
             }
         }
-        calls.push(Call {
+        let sync = Call {
             moment: 0,
             step: Step::Sync,
-        })?;
+        };
+        record(&mut calls, &mut latest, sync)?;
         Ok(MemDisk {
             alloc: self.alloc,
             calls,
+            latest,
             clock: 0,
             failures: 0,
             ended: false,
@@ -162,25 +179,27 @@ impl MemDisk {
         ensures time { Ticks (memory_history self.old) (memory_history self.new) (is_ok result) }
         ensures ok { OnOk result (now (memory_history self.new) ≡ apply_some step (now (memory_history self.old))) }
         ensures err { KeepsWord (memory_history self.new) → OnErr result (now (memory_history self.new) ≡ now (memory_history self.old)) }
-        ensures calls { step ≡ None → self.new.calls.items ≡ self.old.calls.items }
     {
         if self.clock == u64::MAX {
             self.ended = true;
             return Err(DeviceFault);
         }
-        self.clock += 1;
+        let moment = self.clock + 1;
         let Some(step) = step else {
+            self.clock = moment;
             return Ok(());
         };
-        let call = Call {
-            moment: self.clock,
-            step,
-        };
-        if self.calls.push(call).is_err() {
-            self.failures += 1;
-            return Err(DeviceFault);
+        match record(&mut self.calls, &mut self.latest, Call { moment, step }) {
+            Ok(()) => {
+                self.clock = moment;
+                Ok(())
+            }
+            Err(_) => {
+                self.clock = moment;
+                self.failures += 1;
+                Err(DeviceFault)
+            }
         }
-        Ok(())
     }
 }
 
@@ -191,7 +210,7 @@ impl Disk for MemDisk {
 
     fn read(&mut self, sector: u64, bytes: &mut [u8; 512]) -> Result<(), DeviceFault> {
         self.advance(None)?;
-        read_back(&self.calls, sector, bytes);
+        *bytes = self.latest.get(&sector).copied().unwrap_or([0; 512]);
         Ok(())
     }
 

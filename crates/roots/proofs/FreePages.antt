@@ -1,13 +1,13 @@
 -- One free page more.
 use Rattle.std.proofs.Common.{◌≡◌, ◌≢◌, ℕ, ◌+◌, ◌<◌, ◌≤◌, Bool, true, false, List, [], ◌∷◌, ◌++◌, inl, inr, refl, arith}
 use Rattle.std.proofs.Common.{suc, ap, ◌∙◌}
-use Rattle.std.specs.Prelude.{nat_lt, if◌then◌else◌, ◌⊎◌, not, ◌&&◌, ◌==◌}
+use Rattle.std.specs.Prelude.{nat_lt, max, if◌then◌else◌, ◌⊎◌, not, ◌&&◌, ◌==◌}
 use Rattle.std.specs.List.{AllByRecursion}
 use Rattle.std.proofs.lemmas.Bool.Decides.{nat_tests}
 use Rattle.std.proofs.lemmas.List.{length-append}
 use Rattle.page.specs.Page.{IsSectorOf}
 use Rattle.roots.specs.Chain.{AreApart, IsSectorIn}
-use Rattle.roots.specs.Free.{is_free, AreFree, free_pages}
+use Rattle.roots.specs.Free.{is_free, AreFree, end_of, free_pages}
 
 all_weaker : (P Q : ℕ → Type 0) → ((page : ℕ) → P page → Q page) → (pages : List ℕ) → AllByRecursion P pages → AllByRecursion Q pages
 all_weaker P Q to [] all = tt
@@ -67,6 +67,13 @@ free_no live n some is =
     let up : n + 1 ≡ suc n = omega arith in
     let above : nat_lt 0 n ≡ true = grind (arith, nat_tests, some) in
     ap (free_pages live) up ∙ ap (λ (b : Bool). if b && is_free live n then free_pages live n ++ n ∷ [] else free_pages live n) above ∙ ap (λ (b : Bool). if b then free_pages live n ++ n ∷ [] else free_pages live n) is
+
+-- a greater page ends them
+pub end_snoc : (pages : List ℕ) (page : ℕ) → AllByRecursion (λ (other : ℕ). other < page) pages → 1 ≤ page → end_of (pages ++ page ∷ []) ≡ page + 1
+end_snoc [] page below some = omega arith
+end_snoc (first ∷ pages) page below some =
+    let rest = end_snoc pages page below.1 some in
+    ap (λ (n : ℕ). max (first + 1) n) rest ∙ omega (arith, below.0)
 
 pub free_first : (live : List ℕ) → free_pages live 1 ≡ []
 unfolding free_pages

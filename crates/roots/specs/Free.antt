@@ -1,5 +1,5 @@
 -- Pages that are free to be written.
-use Rattle.std.specs.Prelude.{ℕ, ◌<◌, zero, suc, Bool, not, ◌&&◌, nat_lt, if◌then◌else◌, [], ◌∷◌, ◌++◌, ◌==◌, List, length}
+use Rattle.std.specs.Prelude.{ℕ, ◌+◌, ◌<◌, max, zero, suc, Bool, not, ◌&&◌, nat_lt, if◌then◌else◌, [], ◌∷◌, ◌++◌, ◌==◌, List, length}
 use Rattle.std.specs.List.{AllByRecursion, list_all}
 use Rattle.roots.specs.Chain.{AreApart, IsSectorIn}
 
@@ -13,6 +13,11 @@ pub record AreFree (live pages : List ℕ) (end : ℕ) : Type 0 where
   pub inside : AllByRecursion (λ page. page < end) pages
   pub few : length pages < end
   pub apart : (k : ℕ) → IsSectorIn live k → IsSectorIn pages k → ⊥
+
+-- one above the greatest of these pages, or 1
+abbrev pub end_of : List ℕ → ℕ
+end_of [] = 1
+end_of (page ∷ pages) = max (page + 1) (end_of pages)
 
 -- the free pages below a number, from page 1 on
 unfoldable pub free_pages : List ℕ → ℕ → List ℕ

@@ -3,6 +3,7 @@ use Rattle.std.specs.Prelude.{◌≡◌, ◌⊎◌, ℕ, ◌<◌, List, length, 
 use Rattle.std.specs.List.{AllByRecursion}
 use Rattle.roots.specs.Root.{root_of}
 use Rattle.roots.specs.Chain.{IsChain, IsSectorIn, path_bytes}
+use Rattle.roots.specs.Pairs.{Pair, IsRow, pairs_bytes}
 use Rattle.roots.specs.declared.root.Root.{Root}
 
 -- the root sectors of the image give this root
@@ -22,6 +23,11 @@ pub record StandsFor (image : ℕ → List ℕ) (bytes : List ℕ) : Type 0 wher
   pub opens : HasRoot image root
   pub has : HasChain image root pages
   pub bytes_are : path_bytes image root.generation pages ≡ bytes
+
+-- The image holds these pairs.
+pub record Holds (image : ℕ → List ℕ) (pairs : List Pair) : Type 0 where
+  pub row : IsRow pairs
+  pub stands : StandsFor image (pairs_bytes pairs)
 
 -- A root that names the chain of these pages reaches this sector: it is a root sector, or one of a page of the chain.
 abbrev pub Kept : List ℕ → ℕ → Type 0

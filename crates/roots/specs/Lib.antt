@@ -1,6 +1,11 @@
 pub mod Chain
+pub mod FaultNames
 pub mod Free
 pub mod Image
+pub mod Opening
+pub mod PairLaws
+pub mod Pairs
+pub mod PairsLeft
 pub mod Reading
 pub mod Replace
 pub mod Root

@@ -1,13 +1,14 @@
 -- What a store keeps on its disk.
-use Rattle.std.specs.Prelude.{◌≡◌, ℕ, ◌+◌, ◌*◌, ◌<◌, ◌≤◌, max, Bool, List, length, false}
+use Rattle.std.specs.Prelude.{◌≡◌, ℕ, ◌+◌, ◌*◌, ◌<◌, ◌≤◌, max, min, Bool, List, length, false}
 use Rattle.std.specs.List.{AllByRecursion}
 use Rattle.page.specs.History.{History, KeepsWord, now, reads}
 use Rattle.page.specs.Crash.{Settled}
 use Rattle.roots.specs.Root.{IsKnown}
 use Rattle.roots.specs.Chain.{IsChain, first_of, path_bytes}
-use Rattle.roots.specs.Free.{free_pages}
+use Rattle.roots.specs.Free.{end_of, free_pages}
 use Rattle.roots.specs.Image.{HasRoot, HasChain, Kept}
 use Rattle.roots.specs.declared.free.ChainPages.{ChainPages}
+use Rattle.roots.specs.declared.store.Config.{Config}
 use Rattle.roots.specs.declared.store.Store.{Store}
 
 -- each moment of the store's disk so far
@@ -47,12 +48,31 @@ version_of store = store.root.generation
 abbrev pub pages_of : {D : Type 0} → Store D → ℕ
 pages_of store = store.root.pages
 
+-- the most pages that its file may have, if it hasn't more already
+abbrev pub limit_of : {D : Type 0} → Store D → ℕ
+limit_of store = store.limit
+
+-- what a configuration asks for: from 16 to 1,048,576 pages
+abbrev pub limit_in : Config → ℕ
+limit_in config = min (max 16 config.max_pages) 1048576
+
 -- These pages hold a chain for the next commit.
 pub record IsWritten {D : Type 0} (history : D → History) (store : Store D) (pages : ChainPages) : Type 0 where
   pub inside : AllByRecursion (λ (page : ℕ). page < pages.end) pages.pages.items
   pub few : length pages.pages.items < pages.end
-  pub most : pages.end ≤ 1048576
+  pub within : pages.end ≤ max store.limit store.root.pages
   pub chain : KeepsWord (history store.disk) → store.stopped ≡ false → IsChain (reads_of history store) (store.root.generation + 1) (first_of pages.pages.items) pages.pages.items
+
+-- These pages are the least free ones, and no more than so many bytes need.
+pub record AreLeast {D : Type 0} (store : Store D) (pages : ChainPages) (bytes : ℕ) : Type 0 where
+  pub least : pages.pages.items ≡ free_pages store.live.items pages.end
+  pub ends : pages.end ≡ end_of pages.pages.items
+  pub enough : bytes ≤ 4076 * length pages.pages.items
+  pub needed : 4076 * length pages.pages.items < bytes + 4076
+
+-- the number of pages of a file that ends behind these, with page 0
+abbrev pub reach : ChainPages → ℕ
+reach pages = pages.end
 
 -- the bytes that these pages hold for the next commit
 abbrev pub handed : {D : Type 0} → (D → History) → Store D → ChainPages → List ℕ

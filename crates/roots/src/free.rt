@@ -1,6 +1,6 @@
 //! The least pages that the durable chain doesn't hold.
-ghost use Rattle.std.specs.Prelude.{◌≡◌, ◌≤◌, IfOk, IfSome, IfNone, ◌<◌, ℕ, length};
-ghost use Rattle.roots.specs.Free.{is_free, AreFree, free_pages};
+ghost use Rattle.std.specs.Prelude.{◌≡◌, ◌≤◌, IfOk, IfSome, IfNone, ◌<◌, length};
+ghost use Rattle.roots.specs.Free.{is_free, AreFree, end_of, free_pages};
 
 use std::alloc::{AllocError, Global};
 
@@ -27,7 +27,8 @@ pub(crate) fn take(
     requires { 1 ≤ limit }
     ensures free { IfOk result (λ found. IfSome found (λ taken. AreFree live.now taken.pages.items taken.end)) }
     ensures count { IfOk result (λ found. IfSome found (λ taken. length taken.pages.items ≡ count)) }
-    ensures least { IfOk result (λ found. IfSome found (λ taken. (n : ℕ) × (taken.pages.items ≡ free_pages live.now n))) }
+    ensures least { IfOk result (λ found. IfSome found (λ taken. taken.pages.items ≡ free_pages live.now taken.end)) }
+    ensures ends { IfOk result (λ found. IfSome found (λ taken. taken.end ≡ end_of taken.pages.items)) }
     ensures none { IfOk result (λ found. IfNone found (length (free_pages live.now limit) < count)) }
     ensures within { IfOk result (λ found. IfSome found (λ taken. taken.end ≤ limit)) }
 {

@@ -26,8 +26,12 @@ pub enum OpenFault {
 }
 
 impl OpenFault {
+    ghost use Rattle.roots.specs.FaultNames.{open_fault_name};
+
     /// The fault's name, as it is printed.
-    pub fn name(self) -> &'static str {
+    pub fn name(self) -> &'static str
+        ensures { result.now ≡ open_fault_name self }
+    {
         match self {
             OpenFault::Device => "Device",
             OpenFault::Memory => "Memory",

@@ -7,12 +7,15 @@ ghost use Rattle.roots.specs.Image.{HasRoot, StandsFor};
 ghost use Rattle.roots.specs.declared.root.Root.{Root};
 ghost use Rattle.roots.specs.declared.store.CommitFault.TheVariants.{Memory};
 ghost use Rattle.roots.specs.Chain.{first_of};
-ghost use Rattle.roots.specs.Store.{IsTooLong, is_stopped, pages_of, IsSound, IsRunning, IsWritten, past, committed, handed, version_of};
+ghost use Rattle.roots.specs.Opening.{IsOpened, IsRefused};
+ghost use Rattle.roots.specs.Pairs.{SpellsRow, spelled};
+ghost use Rattle.roots.specs.Store.{AreLeast, IsTooLong, is_stopped, pages_of, reach, IsSound, IsRunning, IsWritten, limit_in, limit_of, past, committed, handed, version_of};
 
 use crate::chain::write_chain;
 use crate::free::{ChainPages, take};
 use crate::opening::{OpenFault, read_root};
-use crate::reading::read_chain;
+use crate::pairs::{PairList, are_rising};
+use crate::reading::{Chain, read_chain};
 use crate::replace::replace;
 use crate::root::{MAX_PAGES, Root};
 use page::{CHAIN_BYTES, DeviceFault, Disk};
@@ -30,8 +33,7 @@ pub struct Config {
 
 impl Config {
     fn limit(self) -> u32
-        ensures least { 1 ≤ result }
-        ensures most { result ≤ 1048576 }
+        ensures { result ≡ limit_in self }
     {
         if self.max_pages < LEAST_LIMIT {
             LEAST_LIMIT
@@ -55,8 +57,12 @@ pub enum CommitFault {
 }
 
 impl CommitFault {
+    ghost use Rattle.roots.specs.FaultNames.{commit_fault_name};
+
     /// The fault's name, as it is printed.
-    pub fn name(self) -> &'static str {
+    pub fn name(self) -> &'static str
+        ensures { result.now ≡ commit_fault_name self }
+    {
         match self {
             CommitFault::Device => "Device",
             CommitFault::Memory => "Memory",
@@ -76,8 +82,7 @@ impl From<AllocError> for CommitFault {
 /// The pages that hold so many bytes.
 fn pages_for(len: usize) -> usize
     ensures enough { len ≤ 4076 * result }
-    ensures needed { 4076 * (result - 1) ≤ len }
-    ensures strictly { 1 ≤ result → 4076 * (result - 1) < len }
+    ensures needed { 4076 * result < len + 4076 }
 {
     let full = len / CHAIN_BYTES;
     if full * CHAIN_BYTES == len {
@@ -116,47 +121,55 @@ pub struct Store<D> {
 }
 
 impl<D: Disk> Store<D> {
-    /// Opens a disk that a crash may have left. It writes nothing, and syncs before it answers. An `Err` hands the disk
-    /// back.
-    pub fn open(alloc: Global, mut disk: D, config: Config) -> Result<Store<D>, (D, OpenFault)>
-        ensures sound { IfOk result (λ store. IsSound D.history store × IsRunning store) }
-        ensures on { IfOk result (λ store. GoesOn (D.history disk) (past D.history store)) }
-        ensures on_err { IfErr result (λ e. GoesOn (D.history disk) (D.history e.0)) }
-
-        // It gives what was read, and from then on every image stands for that alone.
-        ensures stands { IfOk result (λ store. KeepsWord (past D.history store) → StandsFor (reads (now (D.history disk))) (committed D.history store)) }
-        ensures settled { IfOk result (λ store. LeavesNow (past D.history store) (λ image. image ≡ reads (now (D.history disk)))) }
-        ensures alone { IfOk result (λ store. LeavesNow (past D.history store) (λ image. StandsFor image (committed D.history store))) }
-
-        // Where reads give one of the images, the images during the call and after it are among those from before.
-        ensures any_moment { IfOk result (λ store. IsImage (now (D.history disk)) (reads (now (D.history disk)))
-            → LeavesOnly (D.history disk) (past D.history store) (IsImage (now (D.history disk)))) }
-        ensures any_moment_err { IfErr result (λ e. LeavesOnly (D.history disk) (D.history e.0) (IsImage (now (D.history disk)))) }
-
-        // A fault of the bytes comes only where they stand for nothing.
-        ensures damaged { IfErr result (λ e. e.1 ≢ OpenFault.Device → e.1 ≢ OpenFault.Memory → KeepsWord (D.history e.0) → (bytes : List ℕ) → StandsFor (reads (now (D.history disk))) bytes → ⊥) }
-        ensures foreign { IfErr result (λ e. e.1 ≡ OpenFault.NotADatabase → KeepsWord (D.history e.0) → root_of (reads (now (D.history disk)) 0) (reads (now (D.history disk)) 1) ≡ Err OpenFault.NotADatabase) }
-        ensures later { IfErr result (λ e. e.1 ≡ OpenFault.NewerFormat → KeepsWord (D.history e.0) → root_of (reads (now (D.history disk)) 0) (reads (now (D.history disk)) 1) ≡ Err OpenFault.NewerFormat) }
-        ensures device { IfErr result (λ e. e.1 ≡ OpenFault.Device → KeepsWord (D.history e.0) → (D.history disk).failures < (D.history e.0).failures) }
+    /// Opens a disk that a crash may have left, and hands on the pairs that it holds. It writes nothing, and syncs before
+    /// it answers. An `Err` hands the disk back.
+    pub fn open_pairs(
+        alloc: Global,
+        mut disk: D,
+        config: Config,
+    ) -> Result<(Store<D>, PairList), (D, OpenFault)>
+        ensures opened { IfOk result (λ found. IsOpened D.history disk found.0) }
+        ensures row { IfOk result (λ found. SpellsRow (spelled found.1)) }
+        ensures pairs { IfOk result (λ found. KeepsWord (past D.history found.0) → spelled found.1 ≡ committed D.history found.0) }
+        ensures limit { IfOk result (λ found. limit_of found.0 ≡ limit_in config) }
+        ensures refused { IfErr result (λ e. IsRefused D.history disk e.0 e.1) }
     {
         let root = match read_root(&mut disk) {
             Ok(root) => root,
             Err(fault) => return Err((disk, fault)),
         };
-        let chain = match read_chain(alloc, &mut disk, root) {
+        let Chain { pages, bytes } = match read_chain(alloc, &mut disk, root) {
             Ok(chain) => chain,
             Err(fault) => return Err((disk, fault)),
         };
+        if !are_rising(&bytes) {
+            return Err((disk, OpenFault::Damaged));
+        }
         match disk.sync() {
-            Ok(()) => Ok(Store {
-                alloc,
-                disk,
-                root,
-                live: chain.pages,
-                limit: config.limit(),
-                stopped: false,
-            }),
+            Ok(()) => {
+                let store = Store {
+                    alloc,
+                    disk,
+                    root,
+                    live: pages,
+                    limit: config.limit(),
+                    stopped: false,
+                };
+                Ok((store, PairList::from_bytes(bytes)))
+            }
             Err(DeviceFault) => Err((disk, OpenFault::Device)),
+        }
+    }
+
+    /// Opens a disk as `open_pairs` does.
+    pub fn open(alloc: Global, disk: D, config: Config) -> Result<Store<D>, (D, OpenFault)>
+        ensures opened { IfOk result (IsOpened D.history disk) }
+        ensures limit { IfOk result (λ store. limit_of store ≡ limit_in config) }
+        ensures refused { IfErr result (λ e. IsRefused D.history disk e.0 e.1) }
+    {
+        match Store::open_pairs(alloc, disk, config) {
+            Ok((store, _)) => Ok(store),
+            Err(refused) => Err(refused),
         }
     }
 
@@ -181,29 +194,9 @@ impl<D: Disk> Store<D> {
         self.stopped
     }
 
-    /// Reads the bytes that were committed last.
-    pub fn bytes(&mut self) -> Result<Vec<u8>, OpenFault>
-        requires sound { IsSound D.history self.old }
-
-        ensures sound { IsSound D.history self.new }
-        ensures reads { ReadsOnly (past D.history self.old) (past D.history self.new) }
-        ensures stopped { self.new.stopped ≡ self.old.stopped }
-        ensures version { version_of self.new ≡ version_of self.old }
-        ensures same { KeepsWord (past D.history self.new) → committed D.history self.new ≡ committed D.history self.old }
-        ensures bytes { KeepsWord (past D.history self.new) → IsRunning self.old → IfOk result (λ bytes. bytes.items ≡ committed D.history self.old) }
-
-        // It fails only where a read failed or memory ran out.
-        ensures faults { KeepsWord (past D.history self.new) → IsRunning self.old → IfErr result (λ fault. fault ≢ OpenFault.Device → fault ≢ OpenFault.Memory → ⊥) }
-        ensures device { KeepsWord (past D.history self.new) → IfErr result (λ fault. fault ≡ OpenFault.Device → (past D.history self.old).failures < (past D.history self.new).failures) }
-    {
-        match read_chain(self.alloc, &mut self.disk, self.root) {
-            Ok(chain) => Ok(chain.bytes),
-            Err(fault) => Err(fault),
-        }
-    }
-
-    /// Writes bytes into the least pages that the committed root doesn't reach, for a commit of these pages.
-    pub fn write_bytes(&mut self, bytes: &[u8]) -> Result<ChainPages, CommitFault>
+    /// Writes a row of pairs into the least pages that the committed root doesn't reach, for a commit of these pages. Only
+    /// a row whose keys rise is opened again.
+    pub fn write_image(&mut self, pairs: &PairList) -> Result<ChainPages, CommitFault>
         requires sound { IsSound D.history self.old }
 
         ensures sound { IsSound D.history self.new }
@@ -215,12 +208,16 @@ impl<D: Disk> Store<D> {
         ensures running { OnOk result (IsRunning self.old × IsRunning self.new) }
         ensures same { KeepsWord (past D.history self.new) → OnOk result (committed D.history self.new ≡ committed D.history self.old) }
         ensures written { IfOk result (IsWritten D.history self.new) }
-        ensures bytes { KeepsWord (past D.history self.new) → IfOk result (λ pages. handed D.history self.new pages ≡ bytes.now) }
+        ensures bytes { KeepsWord (past D.history self.new) → IfOk result (λ taken. handed D.history self.new taken ≡ spelled pairs.now) }
 
-        ensures full { result ≡ Err CommitFault.Full → (version_of self.old ≡ 2 ^ 64 - 1) ⊎ IsTooLong self.old (length bytes.now) }
+        ensures least { IfOk result (λ taken. AreLeast self.old taken (length (spelled pairs.now))) }
+        ensures limit { limit_of self.new ≡ limit_of self.old }
+
+        ensures full { result ≡ Err CommitFault.Full → (version_of self.old ≡ 2 ^ 64 - 1) ⊎ IsTooLong self.old (length (spelled pairs.now)) }
         ensures device { result ≡ Err CommitFault.Device → KeepsWord (past D.history self.new)
             → (self.old.stopped ≡ true) ⊎ ((past D.history self.old).failures < (past D.history self.new).failures) }
         ensures stops { result ≡ Err CommitFault.Device → self.new.stopped ≡ true }
+        ensures version { version_of self.new ≡ version_of self.old }
         ensures nothing { result ≢ Err CommitFault.Device → OnErr result (self.new ≡ self.old) }
         ensures idle { self.old.stopped ≡ true → self.new ≡ self.old }
     {
@@ -230,6 +227,7 @@ impl<D: Disk> Store<D> {
         if self.root.generation == u64::MAX {
             return Err(CommitFault::Full);
         }
+        let bytes = pairs.bytes();
         let limit = greater(self.limit, self.root.pages);
         let found = take(self.alloc, &self.live, pages_for(bytes.len()), limit)?;
         let Some(taken) = found else {
@@ -265,7 +263,8 @@ impl<D: Disk> Store<D> {
         ensures acknowledged { OnOk result (LeavesNow (past D.history self.new) (λ image. StandsFor image (handed D.history self.old pages))) }
         ensures same { KeepsWord (past D.history self.new) → OnOk result (committed D.history self.new ≡ handed D.history self.old pages) }
         ensures version { OnOk result (version_of self.new ≡ version_of self.old + 1) }
-        ensures never_fewer { OnOk result (pages_of self.old ≤ pages_of self.new) }
+        ensures pages { OnOk result (pages_of self.new ≡ max (pages_of self.old) (reach pages)) }
+        ensures limit { limit_of self.new ≡ limit_of self.old }
 
         ensures full { result ≡ Err CommitFault.Full → (version_of self.old ≡ 2 ^ 64 - 1) × (self.new ≡ self.old) }
         ensures kept { result ≡ Err CommitFault.Full → LeavesNow (past D.history self.new) (λ image. StandsFor image (committed D.history self.old)) }

@@ -2,19 +2,20 @@
 ghost use Rattle.page.specs.Memory.{memory_history};
 ghost use Rattle.roots.specs.Store.{IsSound};
 
+use crate::rows::{row, value_of};
 use page::{Disk, MemDisk};
-use roots::{CommitFault, Config, Store};
+use roots::{CommitFault, Config, PairList, Store};
 use std::process::Abort;
 use std::test::Fail;
 
 const CONFIG: Config = Config { max_pages: 40 };
 
-fn commit(rt: &impl Abort, store: &mut Store<MemDisk>, bytes: &[u8])
+fn commit(rt: &impl Abort, store: &mut Store<MemDisk>, pairs: &PairList)
     requires { IsSound memory_history store.old }
     ensures { IsSound memory_history store.new }
 {
-    let Ok(pages) = store.write_bytes(bytes) else {
-        panic!(rt; "the bytes aren't written");
+    let Ok(pages) = store.write_image(pairs) else {
+        panic!(rt; "the pairs aren't written");
     };
     assert!(rt; store.commit(pages).is_ok());
 }
@@ -25,6 +26,14 @@ fn new_store(rt: &(impl Abort + AllocGlobal)) -> Store<MemDisk>
     match Store::open(rt.alloc(), MemDisk::new(rt.alloc()), CONFIG) {
         Ok(store) => store,
         Err(_) => panic!(rt; "zeros don't open"),
+    }
+}
+
+/// Opens the disk again. Answers the value of the only pair.
+fn opened_again(rt: &(impl Abort + AllocGlobal), disk: MemDisk) -> (Store<MemDisk>, Vec<u8>) {
+    match Store::open_pairs(rt.alloc(), disk, CONFIG) {
+        Ok((store, pairs)) => (store, value_of(rt, &pairs)),
+        Err(_) => panic!(rt; "what was committed doesn't open"),
     }
 }
 
@@ -42,7 +51,7 @@ fn sector(rt: &impl Abort, disk: &mut MemDisk, number: u64) -> [u8; 512] {
 #[test]
 fn first_commit(rt: HostRuntime) -> Result<(), Fail> {
     let mut store = new_store(&rt);
-    commit(&rt, &mut store, &[7; 77]);
+    commit(&rt, &mut store, &row(&rt, &[7; 70]));
     let mut disk = store.into_disk();
     // two reads and a sync opened it
     assert_eq!(rt; disk.calls(), 3 + 9 + 2);
@@ -58,7 +67,8 @@ fn first_commit(rt: HostRuntime) -> Result<(), Fail> {
     let page = sector(&rt, &mut disk, 8);
     assert!(rt; page[..8] == [3, 0, 77, 0, 1, 0, 0, 0][..]);
     assert!(rt; page[8..20] == [1, 0, 0, 0, 0, 0, 0, 0, 0, 0, 0, 0][..]);
-    assert!(rt; page[20..97] == [7; 77][..]);
+    assert!(rt; page[20..27] == [1, 0, 70, 0, 0, 0, b'k'][..]);
+    assert!(rt; page[27..97] == [7; 70][..]);
     assert!(rt; all_zero(&page[97..]));
     assert!(rt; sector(&rt, &mut disk, 15) == [0; 512]);
     Ok(())
@@ -68,14 +78,13 @@ fn first_commit(rt: HostRuntime) -> Result<(), Fail> {
 #[test]
 fn three_commits(rt: HostRuntime) -> Result<(), Fail> {
     let mut store = new_store(&rt);
-    commit(&rt, &mut store, b"1");
-    commit(&rt, &mut store, b"12");
-    commit(&rt, &mut store, b"123");
+    commit(&rt, &mut store, &row(&rt, b"1"));
+    commit(&rt, &mut store, &row(&rt, b"12"));
+    commit(&rt, &mut store, &row(&rt, b"123"));
     assert_eq!(rt; store.version(), 3);
-    let Ok(bytes) = store.bytes() else {
-        panic!(&rt; "the bytes aren't read");
-    };
-    assert!(rt; bytes[..] == b"123"[..]);
+    let (store, value) = opened_again(&rt, store.into_disk());
+    assert_eq!(rt; store.version(), 3);
+    assert!(rt; value[..] == b"123"[..]);
     let mut disk = store.into_disk();
     assert!(rt;
         sector(&rt, &mut disk, 0)[16..32] == [2, 0, 0, 0, 0, 0, 0, 0, 2, 0, 0, 0, 3, 0, 0, 0][..]
@@ -90,11 +99,9 @@ fn three_commits(rt: HostRuntime) -> Result<(), Fail> {
 #[test]
 fn two_pages(rt: HostRuntime) -> Result<(), Fail> {
     let mut store = new_store(&rt);
-    commit(&rt, &mut store, &[9; 5000]);
-    let Ok(bytes) = store.bytes() else {
-        panic!(&rt; "the bytes aren't read");
-    };
-    assert!(rt; bytes[..] == [9; 5000][..]);
+    commit(&rt, &mut store, &row(&rt, &[9; 4993]));
+    let (store, value) = opened_again(&rt, store.into_disk());
+    assert!(rt; value[..] == [9; 4993][..]);
     let mut disk = store.into_disk();
     assert!(rt;
         sector(&rt, &mut disk, 8)[..20]
@@ -119,12 +126,12 @@ fn limits(rt: HostRuntime) -> Result<(), Fail> {
     ) else {
         panic!(&rt; "zeros don't open");
     };
-    commit(&rt, &mut store, &[]);
-    let Err(fault) = store.write_bytes(&[1; 61_141]) else {
+    commit(&rt, &mut store, &PairList::new(rt.alloc()));
+    let Err(fault) = store.write_image(&row(&rt, &[1; 61_134])) else {
         panic!(&rt; "sixteen pages hold no more than fifteen");
     };
     assert_eq!(rt; fault, CommitFault::Full);
-    commit(&rt, &mut store, &[1; 61_140]);
+    commit(&rt, &mut store, &row(&rt, &[1; 61_133]));
     assert_eq!(rt; store.version(), 2);
     Ok(())
 }

@@ -1,30 +1,32 @@
 //! A store stopped at each write and sync, and failed at each call.
 ghost use Rattle.roots.specs.Store.{IsSound};
 
+use crate::rows::{row, value_of};
 use page::{Disk, FailDisk, MemDisk, StopDisk};
-use roots::{CommitFault, Config, OpenFault, Store};
+use roots::{CommitFault, Config, OpenFault, PairList, Store};
 use std::process::Abort;
 use std::test::Fail;
 
 const CONFIG: Config = Config { max_pages: 40 };
 
-const STATES: [&[u8]; 4] = [&[1; 77], &[2; 5000], &[3; 10], &[4; 4076]];
+/// The values of the states, each of which is one pair. The last fills its page.
+const STATES: [&[u8]; 4] = [&[1; 70], &[2; 4993], &[3; 3], &[4; 4069]];
 
-fn commit<D: Disk>(store: &mut Store<D>, bytes: &[u8]) -> Result<(), CommitFault>
+fn commit<D: Disk>(store: &mut Store<D>, pairs: &PairList) -> Result<(), CommitFault>
     requires { IsSound D.history store.old }
     ensures { IsSound D.history store.new }
 {
-    let pages = store.write_bytes(bytes)?;
+    let pages = store.write_image(pairs)?;
     store.commit(pages)
 }
 
 /// Commits the states up to the first fault. Answers how many were committed.
-fn drive<D: Disk>(store: &mut Store<D>) -> Result<usize, usize>
+fn drive<D: Disk>(rt: &(impl Abort + AllocGlobal), store: &mut Store<D>) -> Result<usize, usize>
     requires { IsSound D.history store.old }
     ensures { IsSound D.history store.new }
 {
     for (i, state) in STATES.iter().enumerate() {
-        if commit(store, state).is_err() {
+        if commit(store, &row(rt, state)).is_err() {
             return Err(i);
         }
     }
@@ -33,16 +35,13 @@ fn drive<D: Disk>(store: &mut Store<D>) -> Result<usize, usize>
 
 /// What an image holds: the number of its commit, whose bytes are that state's.
 fn found(rt: &(impl Abort + AllocGlobal), disk: MemDisk) -> Result<(u64, MemDisk), Fail> {
-    let Ok(mut store) = Store::open(rt.alloc(), disk, CONFIG) else {
+    let Ok((store, pairs)) = Store::open_pairs(rt.alloc(), disk, CONFIG) else {
         panic!(rt; "an image that doesn't open");
-    };
-    let Ok(bytes) = store.bytes() else {
-        panic!(rt; "an image that isn't read");
     };
     let version = store.version();
     match STATES.get((version as usize).wrapping_sub(1)) {
-        Some(state) => assert!(rt; &bytes[..] == *state),
-        None => assert!(rt; version == 0 && bytes.is_empty()),
+        Some(state) => assert!(rt; &value_of(rt, &pairs)[..] == *state),
+        None => assert!(rt; version == 0 && pairs.bytes().is_empty()),
     }
     Ok((version, store.into_disk()))
 }
@@ -75,7 +74,7 @@ fn stop_everywhere(rt: HostRuntime) -> Result<(), Fail> {
                 continue;
             }
         };
-        let done = match drive(&mut store) {
+        let done = match drive(&rt, &mut store) {
             Ok(done) => done,
             Err(done) => done,
         };
@@ -95,7 +94,10 @@ fn both_subsets(rt: HostRuntime) -> Result<(), Fail> {
     ) else {
         panic!(&rt; "zeros don't open");
     };
-    assert_eq!(rt; commit(&mut store, STATES[0]), Err(CommitFault::Device));
+    assert_eq!(rt;
+        commit(&mut store, &row(&rt, STATES[0])),
+        Err(CommitFault::Device)
+    );
     let disk = store.into_disk().into_inner();
     let (without, again) = found(&rt, disk.image(0)?)?;
     assert_eq!(rt; without, 0);
@@ -117,10 +119,13 @@ fn fail_at(rt: &(impl Abort + AllocGlobal), n: u64, lands: bool) -> Result<(), F
             return Ok(());
         }
     };
-    let Err(done) = drive(&mut store) else {
+    let Err(done) = drive(rt, &mut store) else {
         panic!(rt; "no call failed");
     };
-    assert_eq!(rt; commit(&mut store, STATES[0]), Err(CommitFault::Device));
+    assert_eq!(rt;
+        commit(&mut store, &row(rt, STATES[0])),
+        Err(CommitFault::Device)
+    );
     all_images(rt, &store.into_disk().into_inner(), done)
 }
 

@@ -6,4 +6,10 @@ mod bytes;
 #[cfg(test)]
 mod faults;
 #[cfg(test)]
+mod files;
+#[cfg(test)]
+mod growths;
+#[cfg(test)]
 mod opening;
+#[cfg(test)]
+mod rows;

@@ -1,6 +1,7 @@
 //! Disks with roots written by hand.
+use crate::rows::row;
 use page::{Disk, MemDisk};
-use roots::{CommitFault, Config, OpenFault, Root, Store};
+use roots::{CommitFault, Config, OpenFault, PairList, Root, Store};
 use std::process::Abort;
 use std::test::Fail;
 
@@ -32,14 +33,12 @@ fn root(generation: u64) -> [u8; 512] {
 
 #[test]
 fn zeros_are_the_empty_database(rt: HostRuntime) -> Result<(), Fail> {
-    let Ok(mut store) = Store::open(rt.alloc(), MemDisk::new(rt.alloc()), CONFIG) else {
+    let opened = Store::open_pairs(rt.alloc(), MemDisk::new(rt.alloc()), CONFIG);
+    let Ok((store, pairs)) = opened else {
         panic!(&rt; "zeros don't open");
     };
     assert_eq!(rt; store.version(), 0);
-    let Ok(bytes) = store.bytes() else {
-        panic!(&rt; "zeros have no bytes");
-    };
-    assert!(rt; bytes.is_empty());
+    assert!(rt; pairs.bytes().is_empty());
     Ok(())
 }
 
@@ -108,9 +107,40 @@ fn the_greatest_generation_is_full(rt: HostRuntime) -> Result<(), Fail> {
         panic!(&rt; "the greatest generation doesn't open");
     };
     assert_eq!(rt; store.version(), u64::MAX);
-    let Err(fault) = store.write_bytes(b"pair") else {
+    let Err(fault) = store.write_image(&row(&rt, b"pair")) else {
         panic!(&rt; "a generation past the greatest");
     };
     assert_eq!(rt; fault, CommitFault::Full);
+    Ok(())
+}
+
+/// What opening answers where these bytes were committed.
+fn opened_over(rt: &(impl Abort + AllocGlobal), bytes: &[u8]) -> Result<u64, OpenFault> {
+    let Ok(mut store) = Store::open(rt.alloc(), MemDisk::new(rt.alloc()), CONFIG) else {
+        panic!(rt; "zeros don't open");
+    };
+    let Ok(bytes) = Vec::from_slice(rt.alloc(), bytes) else {
+        panic!(rt; "no memory");
+    };
+    let Ok(pages) = store.write_image(&PairList::from_bytes(bytes)) else {
+        panic!(rt; "the bytes aren't written");
+    };
+    assert!(rt; store.commit(pages).is_ok());
+    opened(rt, store.into_disk())
+}
+
+#[test]
+fn bytes_that_are_no_pairs_are_damage(rt: HostRuntime) -> Result<(), Fail> {
+    assert_eq!(rt; opened_over(&rt, &[]), Ok(1));
+    // the pair of no bytes, and behind it one of the key 0 and the value 7
+    let two = [0, 0, 0, 0, 0, 0, 1, 0, 1, 0, 0, 0, 0, 7];
+    assert_eq!(rt; opened_over(&rt, &two), Ok(1));
+    // one byte of it is missing, or one too many
+    assert_eq!(rt; opened_over(&rt, &two[..13]), Err(OpenFault::Damaged));
+    assert_eq!(rt; opened_over(&rt, &two[..7]), Err(OpenFault::Damaged));
+    // the same key again, and a key that falls
+    assert_eq!(rt; opened_over(&rt, &[0; 12]), Err(OpenFault::Damaged));
+    let falls = [1, 0, 0, 0, 0, 0, 9, 1, 0, 0, 0, 0, 0, 8];
+    assert_eq!(rt; opened_over(&rt, &falls), Err(OpenFault::Damaged));
     Ok(())
 }

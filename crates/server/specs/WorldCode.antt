@@ -13,7 +13,7 @@ coded_documents = coded_list coded_pairs
 
 abbrev coded_collection : Coded Collection
 coded_collection =
-    code_by (List ℕ × List Pairs) (coded× coded_bytes coded_documents) (λ c. (c.name, c.documents)) (λ p. record { name = p.0; documents = p.1 }) (λ _. refl)
+    code_by ((List ℕ × ℕ) × List Pairs) (coded× (coded× coded_bytes coded_ℕ) coded_documents) (λ c. ((c.name, c.number), c.documents)) (λ p. record { name = p.0.0; number = p.0.1; documents = p.1 }) (λ _. refl)
 
 abbrev coded_cursor : Coded Cursor
 coded_cursor =

@@ -67,7 +67,7 @@ pub struct Core<D> {
 impl<D: Disk> Core<D> {
     ghost use Rattle.std.specs.Prelude.{◌≢◌, ◌⊎◌, ◌<◌, ℕ, List, [], Ok, Err, true, IfOk, IfErr, OnOk, OnErr, is_err};
     ghost use Rattle.page.specs.History.{KeepsWord, now, reads, IsImage};
-    ghost use Rattle.page.specs.Crash.{GoesOn, LeavesOnly, LeavesNow};
+    ghost use Rattle.page.specs.Crash.{GoesOn, LeavesOnly, LeavesNow, OnlySyncs};
     ghost use Rattle.roots.specs.Root.{root_of};
     ghost use Rattle.engine.specs.World.{Collection, new_world};
     ghost use Rattle.engine.specs.Durable.{Holds};
@@ -85,6 +85,8 @@ impl<D: Disk> Core<D> {
         ensures on { IfOk result (λ core. GoesOn (D.history disk) (past D.history core)) }
         ensures on_err { IfErr result (λ e. GoesOn (D.history disk) (D.history e.0)) }
 
+        ensures only { IfOk result (λ core. OnlySyncs (D.history disk) (past D.history core)) }
+
         // It gives what was read, and from then on every image holds that alone.
         ensures holds { IfOk result (λ core. KeepsWord (past D.history core) → Holds (reads (now (D.history disk))) (state_of core)) }
         ensures alone { IfOk result (λ core. LeavesNow (past D.history core) (λ image. Holds image (state_of core))) }
@@ -92,7 +94,8 @@ impl<D: Disk> Core<D> {
         // Where reads give one of the images, the images during the call and after it are among those from before.
         ensures any_moment { IfOk result (λ core. IsImage (now (D.history disk)) (reads (now (D.history disk)))
             → LeavesOnly (D.history disk) (past D.history core) (IsImage (now (D.history disk)))) }
-        ensures any_moment_err { IfErr result (λ e. LeavesOnly (D.history disk) (D.history e.0) (IsImage (now (D.history disk)))) }
+        ensures any_moment_err { IfErr result (λ e. IsImage (now (D.history disk)) (reads (now (D.history disk)))
+            → LeavesOnly (D.history disk) (D.history e.0) (IsImage (now (D.history disk)))) }
 
         // A fault of the bytes comes only where they hold no collections.
         ensures damaged { IfErr result (λ e. e.1 ≢ OpenFault.Device → e.1 ≢ OpenFault.Memory → KeepsWord (D.history e.0)

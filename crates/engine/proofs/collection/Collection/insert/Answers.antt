@@ -1,6 +1,7 @@
 use Rattle.std.proofs.Common.{List, sym, subst}
 use Rattle.std.proofs.Common.{ap}
 use Rattle.bson.specs.Tree.{Pairs}
+use Rattle.bson.specs.Lawful.{IsDocument}
 use Rattle.value_order.specs.Order.{compare}
 use Rattle.value_order.specs.Total.{compare_total}
 use Rattle.engine.specs.World.{Collection}
@@ -15,7 +16,14 @@ invariant_of-self-2 c =
     let ds = c.self.inside.documents.items in
     let same = ap (λ (x : Collection). x.documents) c.self.view_is in
     let gap : IsGap (by_key (key_of c.args.document)) ds c.args.place = subst (λ (xs : List Pairs). IsGap (by_key (key_of c.args.document)) xs c.args.place) (sym same) c.requires.gap in
+    let before = c.self.invariant in
     rw c.in_ok-insert.ensures.items (record {
-      rising = rises_insert compare_total key_of ds c.args.place c.args.document c.self.invariant.rising gap;
-      stored = All-inserted IsStored ds c.args.place c.args.document gap.within c.self.invariant.stored c.requires.stored;
+      lawful = record {
+        rising = rises_insert compare_total key_of ds c.args.place c.args.document before.lawful.rising gap;
+        stored = All-inserted IsStored ds c.args.place c.args.document gap.within before.lawful.stored c.requires.stored;
+      };
+      readable = record {
+        name = before.readable.name;
+        documents = All-inserted IsDocument ds c.args.place c.args.document gap.within before.readable.documents c.requires.readable;
+      };
     })

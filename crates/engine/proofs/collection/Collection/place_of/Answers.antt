@@ -17,4 +17,4 @@ returns c =
     c.binary_search_by.ensures.position (by_key key) (always_returns_same _ _ _ (λ a r f k. search rules)) in
     let documents : c.deref.result.now ≡ c.args.self.now.documents = c.deref.ensures.value ∙ ap (λ (x : Collection). x.documents) c.self.view_is in
     subst (λ (ds : List Pairs). IsPlace key ds c.binary_search_by.result) documents
-    (place_found key c.deref.result.now c.binary_search_by.result (subst (λ (ds : List Pairs). Rises compare key_of ds) (sym c.deref.ensures.value) c.self.invariant.rising) c.binary_search_by.ensures.bound found)
+    (place_found key c.deref.result.now c.binary_search_by.result (subst (λ (ds : List Pairs). Rises compare key_of ds) (sym c.deref.ensures.value) c.self.invariant.lawful.rising) c.binary_search_by.ensures.bound found)

@@ -1,5 +1,5 @@
-use Rattle.std.proofs.Common.{rules, ◌≡◌, ◌<◌, ℕ, List, ◌∷◌, [], ◌++◌, length, sym, ap, subst, insert, arith}
-use Rattle.engine.specs.World.{Collection}
+use Rattle.std.proofs.Common.{rules, ◌≡◌, ◌<◌, ℕ, List, ◌∷◌, [], ◌++◌, length, sym, ap, subst, ◌∙◌, insert, arith}
+use Rattle.engine.specs.World.{Collection, unused}
 use Rattle.engine.specs.Places.{IsGap, IsMissing, by_name}
 use Rattle.engine.specs.Progress.{Progress, IsProgress, Extends, Stands}
 use Rattle.engine.specs.declared.collections.Change.TheVariants as changes
@@ -26,6 +26,9 @@ module _ (c : After-unwrap) where
 
   few : length cs < MOST_COLLECTIONS
   few = omega (arith, c.len.ensures, c.if-len-ge-MOST_COLLECTIONS.false, c.self.inside.list.ok)
+
+  numbered : new ≡ record { name = c.args.namespace.now; number = unused cs; documents = [] }
+  numbered = c.in_ok-collection-in-Err.ensures ∙ ap (λ (n : ℕ). let x : Collection = record { name = c.args.namespace.now; number = n; documents = [] } in x) (c.unused-number.ensures ∙ ap (λ (p : Progress). unused p.now) (sym c.self.view_is))
 
   put : c.insert.new.self.items ≡ insert cs c.in-Err.at new
   put = c.in_ok-insert-in-Err.ensures.items
@@ -57,4 +60,4 @@ pub returns-in_ok-insert-in-Err-clause-ok : goal.returns-in_ok-insert-in-Err-cla
 returns-in_ok-insert-in-Err-clause-ok c =
     subst (λ (p : Progress). Stands c.args.namespace.now p.now c.insert.new.self.items c.in-Err.at) c.self.view_is
     (subst (λ (us : List Collection). Stands c.args.namespace.now (cs c) us c.in-Err.at) (sym (put c))
-    (Stands-made (cs c) c.in-Err.at c.args.namespace.now (new c) (missing c) c.in_ok-collection-in-Err.ensures (few c)))
+    (Stands-made (cs c) c.in-Err.at c.args.namespace.now (new c) (missing c) (numbered c) (few c)))

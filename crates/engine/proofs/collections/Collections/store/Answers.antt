@@ -15,11 +15,11 @@ use Rattle.engine.proofs.collections.Collections.store.Goals.{In-Err, After-unwr
 pub returns-in_err-document-clause-does : goal.returns-in_err-document-clause-does
 returns-in_err-document-clause-does c =
     let p = err_from_is_err_and c.from_residual.result c.from_residual.ensures.1 in
-    rw (p.1, p.2) (λ other. with_refused (collection_at c.args.self.now.now c.args.at) c.args.document.now c.in_err-document.field-0.0 (c.in_err-document.ensures other))
+    rw (p.1, p.2) (λ other. with_refused (collection_at c.args.self.now.now c.args.at) c.args.document.now c.in_err-document.field-0.0 (c.in_err-document.ensures.checked other))
 
 pub insert-requires-clause-stored : goal.insert-requires-clause-stored
 insert-requires-clause-stored c =
-    subst IsStored (sym c.in_ok-document.ensures.1) (keeps c.args.document.now (key_of c.args.document.now) c.in_ok-document.ensures.0).lawful
+    subst IsStored (sym c.in_ok-document.ensures.checked.1) (keeps c.args.document.now (key_of c.args.document.now) c.in_ok-document.ensures.checked.0).lawful
 
 module _ (c : After-unwrap) where
   abbrev cs : List Collection
@@ -62,11 +62,11 @@ returns-in-Ok-clause-does c = λ _.
     let within : c.args.at < length c.self.inside.list.items = subst (λ (p : Progress). c.args.at < length p.now) (sym c.self.view_is) c.requires in
     let is = at_place c.self.inside.list.items c.args.at c.index_mut-collection.result.now within c.index_mut-collection.ensures.value in
     let now : c.index_mut-collection.result.now ≡ collection_at c.args.self.now.now c.args.at = is ∙ ap (λ (p : Progress). collection_at p.now c.args.at) c.self.view_is in
-    let kept = keeps c.args.document.now (key_of c.args.document.now) c.in_ok-document.ensures.0 in
-    let key : key_of c.in_ok-document.document ≡ key_of c.args.document.now = ap key_of c.in_ok-document.ensures.1 ∙ kept.key in
+    let kept = keeps c.args.document.now (key_of c.args.document.now) c.in_ok-document.ensures.checked.0 in
+    let key : key_of c.in_ok-document.document ≡ key_of c.args.document.now = ap key_of c.in_ok-document.ensures.checked.1 ∙ kept.key in
     let none : place (key_of c.args.document.now) (id_first c.args.document.now) (collection_at c.args.self.now.now c.args.at).documents ≡ None =
     (λ i. place (sym key i) (id_first c.args.document.now) (sym now i).documents) ∙ c.in-Ok.ensures (id_first c.args.document.now) in
-    with_there (collection_at c.args.self.now.now c.args.at) c.args.document.now (key_of c.args.document.now) c.in_ok-document.ensures.0 none
+    with_there (collection_at c.args.self.now.now c.args.at) c.args.document.now (key_of c.args.document.now) c.in_ok-document.ensures.checked.0 none
 
 pub returns-in_ok-insert-in-Err-clause-extends : goal.returns-in_ok-insert-in-Err-clause-extends
 returns-in_ok-insert-in-Err-clause-extends c =
@@ -79,12 +79,12 @@ returns-in_ok-insert-in-Err-clause-extends c =
 
 pub returns-in_ok-insert-in-Err-clause-does : goal.returns-in_ok-insert-in-Err-clause-does
 returns-in_ok-insert-in-Err-clause-does c =
-    let kept = keeps c.args.document.now (key_of c.args.document.now) c.in_ok-document.ensures.0 in
-    let key : key_of c.in_ok-document.document ≡ key_of c.args.document.now = ap key_of c.in_ok-document.ensures.1 ∙ kept.key in
+    let kept = keeps c.args.document.now (key_of c.args.document.now) c.in_ok-document.ensures.checked.0 in
+    let key : key_of c.in_ok-document.document ≡ key_of c.args.document.now = ap key_of c.in_ok-document.ensures.checked.1 ∙ kept.key in
     let now : collection_at (cs c) c.args.at ≡ collection_at c.args.self.now.now c.args.at = ap (λ (p : Progress). collection_at p.now c.args.at) c.self.view_is in
     let ds = insert (collection_at (cs c) c.args.at).documents c.in-Err.place c.in_ok-document.document in
     let found : place (key_of c.args.document.now) (id_first c.args.document.now) (collection_at (cs c) c.args.at).documents ≡ Some ds =
-    (λ i. place (sym key i) (sym c.in_ok-document.ensures.1 i) (sym (is c) i).documents) ∙ c.in-Err.ensures.1 c.in_ok-document.document
+    (λ i. place (sym key i) (sym c.in_ok-document.ensures.checked.1 i) (sym (is c) i).documents) ∙ c.in-Err.ensures.1 c.in_ok-document.document
     ∙ ap (λ (x : Collection). Some (insert x.documents c.in-Err.place c.in_ok-document.document)) (is c) in
-    rw (← now) (with_placed (collection_at (cs c) c.args.at) c.args.document.now (key_of c.args.document.now) ds c.in_ok-document.ensures.0 found
+    rw (← now) (with_placed (collection_at (cs c) c.args.at) c.args.document.now (key_of c.args.document.now) ds c.in_ok-document.ensures.checked.0 found
     ∙ ap (λ (x : Collection). Ok x) (sym (is_next c) ∙ sym (get_or-set_at (cs c) c.args.at c.args.at c.insert.new.self no_collection refl (within c))))

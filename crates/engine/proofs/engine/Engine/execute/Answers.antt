@@ -1,6 +1,8 @@
+use Rattle.std.proofs.Common.{inl}
 use Rattle.engine.proofs.SpelledSizes.{refusal-sendable}
-use Rattle.engine.proofs.Sound.{keeps_sound, runs_lawful}
+use Rattle.engine.proofs.Sound.{keeps_sound, runs_lawful, answers_done, answers_refused}
 use Rattle.engine.specs.View.{world}
+use Rattle.engine.specs.Step.{read_and_run}
 use Rattle.engine.proofs.engine.Engine.execute.Goals as goal
 
 pub returns-in-Err-clause-sendable : goal.returns-in-Err-clause-sendable
@@ -17,3 +19,13 @@ returns-in-Err-clause-sound g c =
     let new = c.run.new.self in
     keeps_sound g.D.Disk.history c.args.self.now new c.requires.sound c.run.ensures.disk c.run.ensures.begun
     (runs_lawful (world c.args.self.now).state (world new).state c.args.connection c.args.body.now c.run.result c.requires.sound.lawful c.run.ensures.runs)
+
+pub returns-in-Ok-clause-answers : goal.returns-in-Ok-clause-answers
+returns-in-Ok-clause-answers g c =
+    let w = world c.args.self.now in
+    inl (answers_done w (world c.run.new.self) (read_and_run w c.args.connection c.args.body.now) c.in-Ok.document c.in-Ok.ensures.runs)
+
+pub returns-in-Err-clause-answers : goal.returns-in-Err-clause-answers
+returns-in-Err-clause-answers g c =
+    let w = world c.args.self.now in
+    answers_refused w (world c.run.new.self) (read_and_run w c.args.connection c.args.body.now) c.in-Err.refusal c.in-Err.ensures.runs.0 c.in-Err.ensures.runs.1

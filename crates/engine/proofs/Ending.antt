@@ -1,0 +1,181 @@
+-- How a turn ends: what it changed is durable, or not.
+use Rattle.std.proofs.Common.{◌≡◌, ◌≢◌, ◌⊎◌, inl, inr, ℕ, true, false, List, Result, Ok, Err, refl, sym, ap, subst, ◌∙◌}
+use Rattle.std.specs.Prelude.{All, OnErr}
+use Rattle.page.specs.History.{History, KeepsWord}
+use Rattle.page.specs.Crash.{GoesOn, LeavesOnly, LeavesNow}
+use Rattle.page.proofs.Moments.{goes_nowhere, started, leaves_now}
+use Rattle.roots.specs.Image.{StandsFor}
+use Rattle.roots.specs.Pairs.{pairs_bytes}
+use Rattle.roots.specs.Store as stores
+use Rattle.roots.specs.declared.store.CommitFault.{CommitFault}
+use Rattle.roots.specs.declared.store.CommitFault.TheVariants as faults
+use Rattle.engine.specs.World.{World, Collection, undone}
+use Rattle.engine.specs.Lawful.{IsReadable, IsLawfulState}
+use Rattle.engine.specs.Stored.{pairs_of}
+use Rattle.engine.specs.View.{world, begun}
+use Rattle.engine.specs.Durable.{Holds, past, stopped, IsRunning, IsSound}
+use Rattle.engine.specs.Committing.{Saves, Commits}
+use Rattle.engine.specs.declared.engine.Engine.{Engine}
+use Rattle.engine.proofs.Rising.{are_row}
+use Rattle.engine.proofs.Saving.{fault_of, not_both}
+
+pub held : (state : List Collection) (image : ℕ → List ℕ) → IsLawfulState state → All IsReadable state → StandsFor image (pairs_bytes (pairs_of state)) → Holds image state
+held state image lawful readable stands = record { lawful = lawful; readable = readable; pairs = record { row = are_row state lawful readable; stands = stands } }
+
+
+module _ {D : Type 0} (history : D → History) (old new : Engine D) (h : IsSound history old) where
+  -- what stood for the bytes that were committed last holds the collections from the beginning of the turn
+  old_held : KeepsWord (past history old) → IsRunning old → (image : ℕ → List ℕ) → StandsFor image (stores.committed history old.store) → Holds image (begun old).state
+  old_held k run image stands = held (begun old).state image h.before h.readable (subst (StandsFor image) (h.committed k run) stands)
+
+  -- nothing was changed
+  pub kept_as_it_is : new ≡ old → begun old ≡ world old → Commits history (Ok tt) old new
+  kept_as_it_is same idle =
+      subst (λ (e : Engine D). Commits history (Ok tt) old e) (sym same) (record {
+        sound = h;
+        on = goes_nowhere (past history old);
+        done = refl;
+        stops = λ e. absurd cc;
+        memory = λ e. absurd cc;
+        full = λ e. absurd cc;
+        ended = idle;
+        running = λ e. refl;
+        any_moment = λ run. started (past history old) (λ image. Holds image (begun old).state ⊎ Holds image (world old).state) (λ k image left. inl (h.holds run k image left));
+        kept = λ run e. tt;
+        acknowledged = λ run. subst (λ (w : World). LeavesNow (past history old) (λ image. Holds image w.state)) idle (h.holds run);
+        device = λ e k. absurd cc;
+        idle = λ e. refl;
+      })
+
+  -- the collections are as they were at the beginning of the turn
+  module _ (back : world new ≡ undone (begun old) (world old)) (ended : begun new ≡ world new) where
+    first_state : (begun new).state ≡ (begun old).state
+    first_state = ap (λ (w : World). w.state) (ended ∙ back)
+
+    now_state : (world new).state ≡ (begun old).state
+    now_state = ap (λ (w : World). w.state) back
+
+    pub sound_again : stores.IsSound history new.store → (IsRunning new → LeavesNow (past history new) (λ image. Holds image (begun old).state))
+        → (KeepsWord (past history new) → IsRunning new → stores.committed history new.store ≡ pairs_bytes (pairs_of (begun old).state)) → IsSound history new
+    sound_again store holds committed = record {
+      store = store;
+      lawful = subst IsLawfulState (sym now_state) h.before;
+      before = subst IsLawfulState (sym first_state) h.before;
+      readable = subst (λ (cs : List Collection). All IsReadable cs) (sym first_state) h.readable;
+      holds = λ run. subst (λ (cs : List Collection). LeavesNow (past history new) (λ image. Holds image cs)) (sym first_state) (holds run);
+      committed = λ k run. committed k run ∙ ap (λ (cs : List Collection). pairs_bytes (pairs_of cs)) (sym first_state);
+    }
+
+    -- there was no memory for the pairs
+    pub undone_before : new.store ≡ old.store → Commits history (Err faults.Memory) old new
+    undone_before same = record {
+      sound = sound_again (subst (stores.IsSound history) (sym same) h.store)
+        (subst (λ s. stores.is_stopped s ≡ false → LeavesNow (history s.disk) (λ image. Holds image (begun old).state)) (sym same) h.holds)
+        (subst (λ s. KeepsWord (history s.disk) → stores.is_stopped s ≡ false → stores.committed history s ≡ pairs_bytes (pairs_of (begun old).state)) (sym same) h.committed);
+      on = subst (λ s. GoesOn (past history old) (history s.disk)) (sym same) (goes_nowhere (past history old));
+      done = tt;
+      stops = λ e. absurd cc;
+      memory = λ e. back;
+      full = λ e. absurd cc;
+      ended = ended;
+      running = λ e. ap stores.is_stopped same;
+      any_moment = λ run. subst (λ s. LeavesOnly (past history old) (history s.disk) (λ image. Holds image (begun old).state ⊎ Holds image (world old).state)) (sym same)
+        (started (past history old) (λ image. Holds image (begun old).state ⊎ Holds image (world old).state) (λ k image left. inl (h.holds run k image left)));
+      kept = λ run e. subst (λ s. LeavesOnly (past history old) (history s.disk) (λ image. Holds image (begun old).state)) (sym same)
+        (started (past history old) (λ image. Holds image (begun old).state) (h.holds run));
+      acknowledged = λ run. tt;
+      device = λ e k. absurd cc;
+      idle = λ e. ap (λ s. history s.disk) same;
+    }
+
+    -- nothing was committed
+    pub undone_after : (fault : CommitFault) → fault ≢ faults.Device → Saves history (pairs_bytes (pairs_of (world old).state)) (Err fault) old.store new.store → Commits history (Err fault) old new
+    undone_after fault other saved =
+        let not_device : (let r : Result (Unit {0}) CommitFault = Err fault in r) ≢ Err faults.Device = λ e. other (ap fault_of e) in
+        let before : IsRunning old → LeavesOnly (past history old) (past history new) (λ image. Holds image (begun old).state) =
+        λ run k image left. old_held (saved.on.kept k) run image (saved.kept run not_device k image left) in
+        let ran : IsRunning new → IsRunning old = λ run. sym (saved.running not_device) ∙ run in
+        record {
+          sound = sound_again saved.sound (λ run. leaves_now (past history old) (past history new) (λ image. Holds image (begun old).state) saved.on (before (ran run)))
+            (λ k run. saved.before not_device k ∙ h.committed (saved.on.kept k) (ran run));
+          on = saved.on;
+          done = tt;
+          stops = λ e. absurd (not_device e);
+          memory = λ e. back;
+          full = λ e. (back, saved.full e);
+          ended = ended;
+          running = λ e. saved.running not_device;
+          any_moment = λ run k image left. inl (before run k image left);
+          kept = λ run e. before run;
+          acknowledged = λ run. tt;
+          device = λ e k. absurd (not_device e);
+          idle = λ e. ap (λ s. history s.disk) (saved.idle e);
+        }
+
+  -- the collections are as they stand
+  module _ (forth : world new ≡ world old) (ended : begun new ≡ world new) (readable : All IsReadable (world old).state) where
+    there : (begun new).state ≡ (world old).state
+    there = ap (λ (w : World). w.state) (ended ∙ forth)
+
+    now_there : (world new).state ≡ (world old).state
+    now_there = ap (λ (w : World). w.state) forth
+
+    abbrev bytes : List ℕ
+    bytes = pairs_bytes (pairs_of (world old).state)
+
+    new_held : (image : ℕ → List ℕ) → StandsFor image bytes → Holds image (world old).state
+    new_held image stands = held (world old).state image h.lawful readable stands
+
+    at_any_moment : (r : Result (Unit {0}) CommitFault) → Saves history bytes r old.store new.store → IsRunning old
+        → LeavesOnly (past history old) (past history new) (λ image. Holds image (begun old).state ⊎ Holds image (world old).state)
+    at_any_moment r saved run k image left = elim (saved.any_moment run k image left) [
+      | inl before ↦ inl (old_held (saved.on.kept k) run image before)
+      | inr after ↦ inr (new_held image after)
+    ]
+
+    sound_now : stores.IsSound history new.store → (IsRunning new → LeavesNow (past history new) (λ image. Holds image (world old).state))
+        → (KeepsWord (past history new) → IsRunning new → stores.committed history new.store ≡ bytes) → IsSound history new
+    sound_now store holds committed = record {
+      store = store;
+      lawful = subst IsLawfulState (sym now_there) h.lawful;
+      before = subst IsLawfulState (sym there) h.lawful;
+      readable = subst (λ (cs : List Collection). All IsReadable cs) (sym there) readable;
+      holds = λ run. subst (λ (cs : List Collection). LeavesNow (past history new) (λ image. Holds image cs)) (sym there) (holds run);
+      committed = λ k run. committed k run ∙ ap (λ (cs : List Collection). pairs_bytes (pairs_of cs)) (sym there);
+    }
+
+    pub committed_now : Saves history bytes (Ok tt) old.store new.store → Commits history (Ok tt) old new
+    committed_now saved = record {
+      sound = sound_now saved.sound (λ run k image left. new_held image (saved.acknowledged k image left)) (λ k run. saved.committed k);
+      on = saved.on;
+      done = forth;
+      stops = λ e. absurd cc;
+      memory = λ e. absurd cc;
+      full = λ e. absurd cc;
+      ended = ended;
+      running = λ e. saved.running (λ d. absurd cc);
+      any_moment = at_any_moment (Ok tt) saved;
+      kept = λ run e. tt;
+      acknowledged = λ run k image left. new_held image (saved.acknowledged k image left);
+      device = λ e k. absurd cc;
+      idle = λ e. ap (λ s. history s.disk) (saved.idle e);
+    }
+
+    pub cut_now : Saves history bytes (Err faults.Device) old.store new.store → Commits history (Err faults.Device) old new
+    cut_now saved =
+        let off = saved.stops refl in
+        record {
+          sound = sound_now saved.sound (λ run. not_both (stopped new) off run) (λ k run. not_both (stopped new) off run);
+          on = saved.on;
+          done = tt;
+          stops = λ e. (forth, off);
+          memory = λ e. absurd cc;
+          full = λ e. absurd cc;
+          ended = ended;
+          running = λ e. absurd (e refl);
+          any_moment = at_any_moment (Err faults.Device) saved;
+          kept = λ run e. absurd (e refl);
+          acknowledged = λ run. tt;
+          device = saved.device;
+          idle = λ e. ap (λ s. history s.disk) (saved.idle e);
+        }

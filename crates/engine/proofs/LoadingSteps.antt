@@ -1,0 +1,110 @@
+-- One pair after another is read.
+use Rattle.std.proofs.Common.{◌≡◌, ◌≢◌, ◌⊎◌, inl, inr, ℕ, zero, suc, ◌+◌, ◌<◌, ◌≤◌, ◌^◌, true, false, List, [], ◌∷◌, ◌++◌, length, set, Option, Some, None, Result, Ok, Err, refl, sym, ap, subst, ◌∙◌, arith, lit≤}
+use Rattle.std.specs.Prelude.{IsUtf8, ◌==◌, codes, slice_index}
+use Rattle.std.specs.Int.{w32}
+use Rattle.std.specs.List.{AllByRecursion}
+use Rattle.std.proofs.lemmas.Str.{IsUtf8-from_ascii}
+use Rattle.std.proofs.lemmas.Int.{ints}
+use Rattle.std.proofs.lemmas.List.Quantifiers.{position-Some}
+use Rattle.bson.specs.Tree.{Pairs, no_pairs, pair, array, no_items}
+use Rattle.bson.specs.Lawful.{IsName, IsPairs, IsDocument}
+use Rattle.bson.specs.Spelling.{Spells, framed, pairs_bytes as document_bytes}
+use Rattle.roots.specs.Pairs.{Pair, IsFit, pair_bytes, pairs_bytes}
+use Rattle.roots.specs.PairLaws.{one_pair}
+use Rattle.roots.specs.declared.opening.OpenFault.{OpenFault}
+use Rattle.roots.specs.declared.opening.OpenFault.TheVariants as faults
+use Rattle.engine.specs.World.{Collection, put_collection}
+use Rattle.engine.specs.Lawful.{IsStored, IsKept, IsLawfulState}
+use Rattle.engine.specs.Places.{collection_at, no_collection}
+use Rattle.engine.specs.Progress.{Progress}
+use Rattle.engine.specs.Refusals.{int}
+use Rattle.engine.specs.Stored.{entry, catalogue_pair, document_pair}
+use Rattle.engine.specs.Loading.{AddsEntry, AddsDocument, Adds, Loads, IsAdded, IsLoading, IsNext, place_numbered}
+use Rattle.engine.specs.declared.refusal.Refusal.{Refusal}
+use Rattle.engine.specs.declared.refusal.Refusal.TheVariants as refusals
+use Rattle.engine.specs.declared.TheConstants.{MOST_COLLECTIONS, NAMESPACE_LIMIT}
+use Rattle.engine.proofs.PairSizes.{entry_size}
+use Rattle.engine.proofs.LawfulSteps.{added_lawful, grown_lawful}
+
+-- ---- the catalogue's entry is a document
+
+one_letter : (b : ℕ) → b < 128 → b ≢ 0 → IsName (b ∷ [])
+one_letter b low some = record { is_text = IsUtf8-from_ascii (b ∷ []) ascii; no_zero = (some, tt) }
+  where
+    ascii : (i : ℕ) → slice_index (b ∷ []) i < 128
+    ascii zero = low
+    ascii (suc i) = omega arith
+
+entry_document : (n : ℕ) → n ≤ MOST_COLLECTIONS → IsDocument (entry n)
+entry_document n most = record {
+  lawful = (one_letter 110 (omega arith) (λ e. omega (arith, e)), omega (arith, ints, most), (other, tt), (one_letter 120 (omega arith) (λ e. omega (arith, e)), tt, tt, tt));
+  depth = lit≤ tt;
+}
+  where
+    other : codes "n" ≢ codes "x"
+    other e = let same : 110 ≡ 120 = ap (λ (bs : List ℕ). slice_index bs 0) e in omega (arith, same)
+
+pub entry_spells : (n : ℕ) → n ≤ MOST_COLLECTIONS → Spells (framed (document_bytes (entry n))) (entry n)
+entry_spells n most = record { lawful = entry_document n most; spelled = refl; size = omega (arith, entry_size n) }
+
+pub document_spells : (d : Pairs) → IsStored d → IsDocument d → Spells (framed (document_bytes d)) d
+document_spells d stored h = record { lawful = h; spelled = refl; size = omega (arith, stored.size) }
+
+-- ---- what was added is lawful
+
+pub new_kept : (name : List ℕ) (number : ℕ) → length name ≤ NAMESPACE_LIMIT → 1 ≤ number → number ≤ MOST_COLLECTIONS → IsKept (record { name = name; number = number; documents = [] })
+new_kept name number short least most = record {
+  lawful = record { rising = λ i j d lt below. absurd (omega arith); stored = λ k d below. absurd (omega arith) };
+  short = short;
+  least = least;
+  most = most;
+}
+
+pub loading_added : (old new : Progress) (name : List ℕ) (number : ℕ) → IsLoading old → IsAdded name number old.now new.now → new.changes ≡ [] → length name ≤ NAMESPACE_LIMIT → 1 ≤ number → number ≤ MOST_COLLECTIONS → IsLoading new
+loading_added old new name number h added idle short least most =
+    let c : Collection = record { name = name; number = number; documents = [] } in
+    record {
+      lawful = subst IsLawfulState (sym added.next_is) (added_lawful c old.now h.lawful (new_kept name number short least most) added.missing added.fresh added.room);
+      idle = idle;
+    }
+
+-- an empty collection is its name and its number
+pub bare : (c : Collection) (name : List ℕ) (number : ℕ) → c.documents ≡ [] → name ≡ c.name → number ≡ c.number → (let made : Collection = record { name = name; number = number; documents = [] } in made) ≡ c
+bare c name number empty named numbered = λ i. record { name = named i; number = numbered i; documents = sym empty i }
+
+pub only_out_of_memory : (e : Refusal) → (e ≢ refusals.OutOfMemory → ⊥) → e ≡ refusals.OutOfMemory
+only_out_of_memory refusals.OutOfMemory h = refl
+only_out_of_memory other h = absurd (h (λ p. absurd cc))
+
+pub inside_numbered : (n : ℕ) (cs : List Collection) (i : ℕ) → place_numbered n cs ≡ Some i → i < length cs
+inside_numbered n cs i e = (position-Some (λ c. c.number == n) cs i no_collection e).0
+
+-- ---- row after row
+
+-- what is left of the row makes the last of what has been made
+pub Left : List ℕ → List Collection → List Collection → Type 0
+Left rest now last = (left : List Pair) × AllByRecursion IsFit left × (rest ≡ pairs_bytes left) × Loads now left last
+
+pub record One (rest : List ℕ) (now last : List Collection) (p : Pair) : Type 0 where
+  pub next : List Collection
+  pub adds : Adds now p next
+  pub left : Left rest next last
+
+pub left_one : (bytes rest : List ℕ) (p : Pair) (now last : List Collection) → IsFit p → bytes ≡ pair_bytes p ++ rest → Left bytes now last → One rest now last p
+unfolding Left
+left_one bytes rest p now last fit is ([], fits, spelled, loads) = let none : pair_bytes p ++ rest ≡ [] = sym is ∙ spelled in absurd cc
+left_one bytes rest p now last fit is (q ∷ qs, fits, spelled, (next, adds, loads)) =
+    let same = one_pair p q rest (pairs_bytes qs) fit fits.0 (sym is ∙ spelled) in
+    record { next = next; adds = subst (λ (r : Pair). Adds now r next) (sym same.0) adds; left = (qs, fits.1, same.1, loads) }
+
+pub left_none : (bytes : List ℕ) (now last : List Collection) → ((p : Pair) (rest : List ℕ) → IsFit p → bytes ≡ pair_bytes p ++ rest → ⊥) → Left bytes now last → now ≡ last
+unfolding Left
+left_none bytes now last none ([], fits, spelled, loads) = loads
+left_none bytes now last none (q ∷ qs, fits, spelled, loads) = absurd (none q (pairs_bytes qs) fits.0 spelled)
+
+pub left_all : (bytes : List ℕ) (pairs : List Pair) (now last : List Collection) → AllByRecursion IsFit pairs → bytes ≡ pairs_bytes pairs → Loads now pairs last → Left bytes now last
+unfolding Left
+left_all bytes pairs now last fit is loads = (pairs, fit, is, loads)
+
+pub none_lawful : IsLawfulState []
+none_lawful = record { apart = λ i j d lt below. absurd (omega arith); numbers = tt; kept = λ k d below. absurd (omega arith); few = omega arith }

@@ -1,0 +1,28 @@
+use Rattle.std.proofs.Common.{◌≡◌, ℕ, ◌+◌, ◌<◌, length, get_or, inl, inr, sym, subst, ◌∙◌, ap, arith}
+use Rattle.std.proofs.lemmas.List.{get_or_default}
+use Rattle.std.proofs.lemmas.Bool.{cases_lt}
+use Rattle.roots.specs.Pairs.{spelled}
+use Rattle.engine.specs.World.{Collection}
+use Rattle.engine.specs.Lawful.{IsReadable}
+use Rattle.engine.specs.Stored.{catalogue_pair}
+use Rattle.engine.proofs.Loops.{added_one}
+use Rattle.engine.proofs.image.push_catalogue.Goals as goal
+
+pub collections-preserved : goal.collections-preserved
+collections-preserved c = record {
+  added = added_one catalogue_pair c.args.collections.now (spelled c.args.list.now) (spelled c.collections.list) (spelled c.push_entry.new.list) c.collections.collection-index c.collection-item.result
+    c.collections-test.true c.collection-item.is c.collections.invariant.added c.in_ok-push_entry.ensures.pushed;
+  readable = readable;
+}
+  where
+    readable : (k : ℕ) (d : Collection) → k < c.collections.collection-index + 1 → k < length c.args.collections.now → IsReadable (get_or c.args.collections.now k d)
+    readable k d below within = elim (cases_lt k c.collections.collection-index) [
+      | inl before ↦ c.collections.invariant.readable k d before within
+      | inr from ↦
+          let e : c.collections.collection-index ≡ k = omega arith in
+          subst (λ (n : ℕ). IsReadable (get_or c.args.collections.now n d)) e
+          (subst IsReadable (c.collection-item.is ∙ get_or_default c.args.collections.now c.collections.collection-index c.collection-item.result d c.collections-test.true) c.in_ok-push_entry.ensures.readable)
+    ]
+
+pub returns-clause-readable : goal.returns-clause-readable
+returns-clause-readable c k d within = c.collections.invariant.readable k d (omega (arith, c.collections-test.false)) within

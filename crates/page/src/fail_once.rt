@@ -1,0 +1,86 @@
+// A disk in memory of which one call fails, for tests.
+ghost use Rattle.std.specs.Prelude.{◌≡◌, true};
+
+use crate::{DeviceFault, Disk, MemDisk};
+
+/// Its n-th call, counted from 1, fails once: a read gives nothing, a sync does nothing, and a write lands or not, as
+/// asked.
+#[derive(Drop)]
+pub struct FailDisk {
+    disk: MemDisk,
+    left: u64,
+    lands: bool,
+    // a write landed and was answered as failed
+    failed: bool,
+    ghost spent: { failed ≡ true → left ≡ 0 },
+}
+
+impl FailDisk {
+    ghost use Rattle.page.specs.History.{now};
+    ghost use Rattle.page.specs.Faulty.{fail_history};
+    ghost use Rattle.page.specs.Memory.{memory_history};
+
+    pub fn new(disk: MemDisk, n: u64, lands: bool) -> Self
+        ensures { fail_history result ≡ memory_history disk }
+    {
+        FailDisk {
+            disk,
+            left: n,
+            lands,
+            failed: false,
+        }
+    }
+
+    pub fn into_inner(self) -> MemDisk
+        ensures { now (memory_history result) ≡ now (fail_history self) }
+    {
+        let FailDisk {
+            disk,
+            left: _,
+            lands: _,
+            failed: _,
+        } = self;
+        disk
+    }
+}
+
+impl Disk for FailDisk {
+    ghost use Rattle.page.specs.Faulty.{fail_history};
+
+    ghost history = { fail_history };
+
+    fn read(&mut self, sector: u64, bytes: &mut [u8; 512]) -> Result<(), DeviceFault> {
+        if self.left == 1 {
+            self.left = 0;
+            self.disk.fail();
+            return Err(DeviceFault);
+        }
+        self.left = self.left.saturating_sub(1);
+        self.disk.read(sector, bytes)
+    }
+
+    fn write(&mut self, sector: u64, bytes: &[u8; 512]) -> Result<(), DeviceFault> {
+        if self.left == 1 {
+            self.left = 0;
+            if !self.lands {
+                self.disk.fail();
+                return Err(DeviceFault);
+            }
+            self.disk.write(sector, bytes)?;
+            self.failed = true;
+            return Err(DeviceFault);
+        }
+        self.left = self.left.saturating_sub(1);
+        self.disk.write(sector, bytes)
+    }
+
+    fn sync(&mut self) -> Result<(), DeviceFault> {
+        if self.left == 1 {
+            self.left = 0;
+            self.disk.fail();
+            return Err(DeviceFault);
+        }
+        self.left = self.left.saturating_sub(1);
+        self.disk.sync()
+    }
+}

@@ -1,0 +1,119 @@
+//! Commits of which one growth of memory is refused: what a store answers is followed, and what it holds is that.
+ghost use Rattle.std.specs.Prelude.{◌<◌, ◌^◌, length};
+ghost use Rattle.page.specs.Memory.{memory_history};
+ghost use Rattle.roots.specs.Store.{IsSound};
+
+use page::MemDisk;
+use roots::{CommitFault, Config, OpenFault, PairList, Store, split_pair};
+use std::process::Abort;
+use std::test::Fail;
+
+const CONFIG: Config = Config { max_pages: 40 };
+
+/// Opens a disk, once more where memory ran out.
+fn opened(rt: &(impl Abort + AllocGlobal), disk: MemDisk) -> (Store<MemDisk>, PairList)
+    ensures { IsSound memory_history result.0 }
+{
+    let (disk, fault) = match Store::open_pairs(rt.alloc(), disk, CONFIG) {
+        Ok(found) => return found,
+        Err(refused) => refused,
+    };
+    // a disk in memory that finds none fails
+    assert!(rt; fault == OpenFault::Memory || fault == OpenFault::Device);
+    match Store::open_pairs(rt.alloc(), disk, CONFIG) {
+        Ok(found) => found,
+        Err(_) => panic!(rt; "a disk that doesn't open"),
+    }
+}
+
+/// A row of one pair, pushed once more where memory ran out.
+fn pushed(rt: &(impl Abort + AllocGlobal), value: &[u8]) -> PairList
+    requires { length value.now < 2 ^ 32 }
+{
+    let mut pairs = PairList::new(rt.alloc());
+    if pairs.push(b"k", value).is_err() {
+        assert!(rt; pairs.bytes().is_empty());
+        assert!(rt; pairs.push(b"k", value).is_ok());
+    }
+    pairs
+}
+
+fn commit(store: &mut Store<MemDisk>, pairs: &PairList) -> Result<(), CommitFault>
+    requires { IsSound memory_history store.old }
+    ensures { IsSound memory_history store.new }
+{
+    let pages = store.write_image(pairs)?;
+    store.commit(pages)
+}
+
+/// Commits a row, unless that was done.
+fn once_more(
+    rt: &impl Abort,
+    mut store: Store<MemDisk>,
+    before: u64,
+    pairs: &PairList,
+) -> Store<MemDisk>
+    requires { IsSound memory_history store }
+    ensures { IsSound memory_history result }
+{
+    if store.version() == before {
+        assert!(rt; commit(&mut store, pairs).is_ok());
+    }
+    store
+}
+
+/// Commits a row, once more where memory ran out, and on the disk opened again where the disk found none.
+fn committed(
+    rt: &(impl Abort + AllocGlobal),
+    mut store: Store<MemDisk>,
+    pairs: &PairList,
+) -> Store<MemDisk>
+    requires { IsSound memory_history store }
+    ensures { IsSound memory_history result }
+{
+    let before = store.version();
+    match commit(&mut store, pairs) {
+        Ok(()) => store,
+        Err(CommitFault::Memory) => {
+            assert!(rt; store.version() == before);
+            once_more(rt, store, before, pairs)
+        }
+        Err(fault) => {
+            assert!(rt; fault == CommitFault::Device);
+            let (store, _) = opened(rt, store.into_disk());
+            once_more(rt, store, before, pairs)
+        }
+    }
+}
+
+/// Commits a value as this version, and finds it on the disk opened again.
+fn held(
+    rt: &(impl Abort + AllocGlobal),
+    store: Store<MemDisk>,
+    value: &[u8],
+    version: u64,
+) -> Store<MemDisk>
+    requires sound { IsSound memory_history store }
+    requires short { length value.now < 2 ^ 32 }
+    ensures { IsSound memory_history result }
+{
+    let store = committed(rt, store, &pushed(rt, value));
+    let (store, pairs) = opened(rt, store.into_disk());
+    assert_eq!(rt; store.version(), version);
+    let Some(found) = split_pair(pairs.bytes()) else {
+        panic!(rt; "no pair");
+    };
+    assert!(rt; found.value == value && found.rest.is_empty());
+    store
+}
+
+#[test]
+fn refused_growths(rt: HostRuntime) -> Result<(), Fail> {
+    let (store, none) = opened(&rt, MemDisk::new(rt.alloc()));
+    assert!(rt; none.bytes().is_empty());
+    let store = held(&rt, store, &[1; 70], 1);
+    let store = held(&rt, store, &[2; 4993], 2);
+    let store = held(&rt, store, &[], 3);
+    drop(store);
+    Ok(())
+}
