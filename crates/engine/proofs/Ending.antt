@@ -1,6 +1,6 @@
 -- How a turn ends: what it changed is durable, or not.
-use Rattle.std.proofs.Common.{◌≡◌, ◌≢◌, ◌⊎◌, inl, inr, ℕ, true, false, List, Result, Ok, Err, refl, sym, ap, subst, ◌∙◌}
-use Rattle.std.specs.Prelude.{All, OnErr}
+use Rattle.std.proofs.Common.{◌≡◌, ◌≢◌, ◌⊎◌, inl, inr, ℕ, false, List, Result, Ok, Err, refl, sym, ap, subst, ◌∙◌}
+use Rattle.std.specs.Prelude.{All}
 use Rattle.page.specs.History.{History, KeepsWord}
 use Rattle.page.specs.Crash.{GoesOn, LeavesOnly, LeavesNow}
 use Rattle.page.proofs.Moments.{goes_nowhere, started, leaves_now}
@@ -21,7 +21,6 @@ use Rattle.engine.proofs.Saving.{fault_of, not_both}
 
 pub held : (state : List Collection) (image : ℕ → List ℕ) → IsLawfulState state → All IsReadable state → StandsFor image (pairs_bytes (pairs_of state)) → Holds image state
 held state image lawful readable stands = record { lawful = lawful; readable = readable; pairs = record { row = are_row state lawful readable; stands = stands } }
-
 
 module _ {D : Type 0} (history : D → History) (old new : Engine D) (h : IsSound history old) where
   -- what stood for the bytes that were committed last holds the collections from the beginning of the turn
@@ -70,8 +69,8 @@ module _ {D : Type 0} (history : D → History) (old new : Engine D) (h : IsSoun
     pub undone_before : new.store ≡ old.store → Commits history (Err faults.Memory) old new
     undone_before same = record {
       sound = sound_again (subst (stores.IsSound history) (sym same) h.store)
-        (subst (λ s. stores.is_stopped s ≡ false → LeavesNow (history s.disk) (λ image. Holds image (begun old).state)) (sym same) h.holds)
-        (subst (λ s. KeepsWord (history s.disk) → stores.is_stopped s ≡ false → stores.committed history s ≡ pairs_bytes (pairs_of (begun old).state)) (sym same) h.committed);
+          (subst (λ s. stores.is_stopped s ≡ false → LeavesNow (history s.disk) (λ image. Holds image (begun old).state)) (sym same) h.holds)
+          (subst (λ s. KeepsWord (history s.disk) → stores.is_stopped s ≡ false → stores.committed history s ≡ pairs_bytes (pairs_of (begun old).state)) (sym same) h.committed);
       on = subst (λ s. GoesOn (past history old) (history s.disk)) (sym same) (goes_nowhere (past history old));
       done = tt;
       stops = λ e. absurd cc;
@@ -80,9 +79,9 @@ module _ {D : Type 0} (history : D → History) (old new : Engine D) (h : IsSoun
       ended = ended;
       running = λ e. ap stores.is_stopped same;
       any_moment = λ run. subst (λ s. LeavesOnly (past history old) (history s.disk) (λ image. Holds image (begun old).state ⊎ Holds image (world old).state)) (sym same)
-        (started (past history old) (λ image. Holds image (begun old).state ⊎ Holds image (world old).state) (λ k image left. inl (h.holds run k image left)));
+          (started (past history old) (λ image. Holds image (begun old).state ⊎ Holds image (world old).state) (λ k image left. inl (h.holds run k image left)));
       kept = λ run e. subst (λ s. LeavesOnly (past history old) (history s.disk) (λ image. Holds image (begun old).state)) (sym same)
-        (started (past history old) (λ image. Holds image (begun old).state) (h.holds run));
+          (started (past history old) (λ image. Holds image (begun old).state) (h.holds run));
       acknowledged = λ run. tt;
       device = λ e k. absurd cc;
       idle = λ e. ap (λ s. history s.disk) same;
@@ -97,7 +96,7 @@ module _ {D : Type 0} (history : D → History) (old new : Engine D) (h : IsSoun
         let ran : IsRunning new → IsRunning old = λ run. sym (saved.running not_device) ∙ run in
         record {
           sound = sound_again saved.sound (λ run. leaves_now (past history old) (past history new) (λ image. Holds image (begun old).state) saved.on (before (ran run)))
-            (λ k run. saved.before not_device k ∙ h.committed (saved.on.kept k) (ran run));
+              (λ k run. saved.before not_device k ∙ h.committed (saved.on.kept k) (ran run));
           on = saved.on;
           done = tt;
           stops = λ e. absurd (not_device e);

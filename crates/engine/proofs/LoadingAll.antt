@@ -1,8 +1,8 @@
 -- The pairs of lawful collections, read one after another, make these collections.
-use Rattle.std.proofs.Common.{◌≡◌, ◌≢◌, inl, inr, ℕ, zero, suc, ◌+◌, ◌-◌, ◌<◌, ◌≤◌, Bool, true, false, List, [], ◌∷◌, ◌++◌, length, get_or, set, insert, map, Option, Some, None, Ok, is_eq, refl, sym, ap, subst, ◌∙◌, arith, append_assoc, length-append}
-use Rattle.std.specs.Prelude.{All, ◌==◌, ◌||◌, not, nat_le, nat_lt, IsUtf8, if◌then◌else◌}
+use Rattle.std.proofs.Common.{◌≡◌, inl, inr, ℕ, zero, suc, ◌≤◌, Bool, true, false, List, [], ◌∷◌, ◌++◌, length, get_or, set, insert, map, Some, None, Ok, is_eq, refl, sym, ap, subst, ◌∙◌, arith, append_assoc, length-append}
+use Rattle.std.specs.Prelude.{All, ◌==◌, ◌||◌, nat_le, nat_lt, if◌then◌else◌}
 use Rattle.std.specs.Str.{bytes_eq}
-use Rattle.std.specs.List.{AllByRecursion, AllPairs, list_any, position, position_or_len, prefix_len}
+use Rattle.std.specs.List.{AllByRecursion, position_or_len}
 use Rattle.std.specs.Ordering.{nat_cmp}
 use Rattle.std.specs.Cmp.Lexicographic.{slice_cmp}
 use Rattle.std.specs.declared.cmp.Ordering.TheVariants as orders
@@ -13,7 +13,7 @@ use Rattle.std.proofs.lemmas.Cmp.{nat_list_cmp_total}
 use Rattle.std.proofs.lemmas.List.{append-nil}
 use Rattle.std.proofs.lemmas.List.Folds.{list_any-append}
 use Rattle.std.proofs.lemmas.Map.Text.{is_eq-slice_cmp}
-use Rattle.bson.specs.Tree.{Tree, Pairs}
+use Rattle.bson.specs.Tree.{Pairs}
 use Rattle.bson.specs.Lawful.{pairs_levels, IsDocument}
 use Rattle.bson.specs.Spelling.{framed, pairs_bytes}
 use Rattle.value_order.specs.KeyText.{tree_text}
@@ -22,10 +22,10 @@ use Rattle.roots.specs.Pairs.{Pair}
 use Rattle.engine.specs.World.{Collection, uses, find_collection, put_collection, by_order}
 use Rattle.engine.specs.Documents.{pairs_fault, id_first, key_of, checked, place}
 use Rattle.engine.specs.Lawful.{IsStored, IsRising, IsReadable, IsKept, IsLawfulState, AreNamedApart, AreNumberedApart}
-use Rattle.engine.specs.Places.{IsGap, by_key, collection_at, no_collection}
+use Rattle.engine.specs.Places.{IsGap, by_key, no_collection}
 use Rattle.engine.specs.Progress.{with_document}
 use Rattle.engine.specs.Stored.{catalogue_pair, document_pair, documents_numbered, documents_to, pairs_of}
-use Rattle.engine.specs.Loading.{Loads, Adds, AddsEntry, AddsDocument, place_numbered}
+use Rattle.engine.specs.Loading.{Loads, AddsEntry, AddsDocument, place_numbered}
 use Rattle.engine.specs.declared.TheConstants.{MOST_COLLECTIONS, STORED_LIMIT, STORED_LEVELS}
 use Rattle.value_order.specs.declared.TheConstants.{KEY_LIMIT}
 use Rattle.engine.proofs.Numbers.{turned, neither}
@@ -106,12 +106,11 @@ entries xs (y ∷ ys) rest last lawful readable later =
       fresh = number_new xs y ys lawful.numbers;
       room = omega (arith, length_map xs, lawful.few, length-append xs (y ∷ ys));
       next_is = map_append xs (y ∷ []) ∙ sym (put_last (emptied y) xs under);
-    } in
-    (
+    } in (
       next,
       inl one,
       entries (xs ++ y ∷ []) ys rest last (subst IsLawfulState (sym assoc) lawful) (λ k d below. readable (suc k) d (omega (arith, below)))
-      (subst (λ (cs : List Collection). Loads (map emptied cs) rest last) (sym assoc) later),
+          (subst (λ (cs : List Collection). Loads (map emptied cs) rest last) (sym assoc) later),
     )
 
 -- ---- the documents of one collection
@@ -182,12 +181,11 @@ module _ (xs ys : List Collection) (c : Collection) (n : ℕ) (free : uses xs n 
         found = place_found n xs now ys free same;
         grows = ap (λ (x : Collection). with_document x d) (get_or-append_seam xs now ys no_collection) ∙ grows;
         next_is = sym (set_seam xs now next ys);
-      } in
-      (
+      } in (
         at_front (front ++ d ∷ []),
         inr adds,
         subst (λ (ds : List Pairs). Loads (at_front (front ++ d ∷ [])) (map (document_pair n) back) (at_front ds)) assoc
-        (stores (front ++ d ∷ []) back (subst IsRising (sym assoc) rising) (λ k e below. stored (suc k) e (omega (arith, below))) (λ k e below. readable (suc k) e (omega (arith, below)))),
+            (stores (front ++ d ∷ []) back (subst IsRising (sym assoc) rising) (λ k e below. stored (suc k) e (omega (arith, below))) (λ k e below. readable (suc k) e (omega (arith, below)))),
       )
 
 -- ---- number after number
@@ -222,7 +220,7 @@ numbered : (n : ℕ) (front cs : List Collection) → suc n ≤ MOST_COLLECTIONS
     → Loads (front ++ filled n cs) (map (document_pair (suc n)) (documents_numbered (suc n) cs)) (front ++ filled (suc n) cs)
 numbered n front [] most free apart kept readable = refl
 numbered n front (c ∷ cs) most free apart kept readable =
-    at (c.number == suc n) refl (numbered n (front ++ up_to n c ∷ []) cs most) 
+    at (c.number == suc n) refl (numbered n (front ++ up_to n c ∷ []) cs most)
   where
     at : (b : Bool) → (c.number == suc n) ≡ b
         → (uses (front ++ up_to n c ∷ []) (suc n) ≡ false → AreNumberedApart cs → All IsKept cs → All IsReadable cs → Loads ((front ++ up_to n c ∷ []) ++ filled n cs) (map (document_pair (suc n)) (documents_numbered (suc n) cs)) ((front ++ up_to n c ∷ []) ++ filled (suc n) cs))
@@ -268,6 +266,7 @@ all_filled (c ∷ cs) kept =
     λ i. ap (λ b. if b then c else emptied c) within i ∷ all_filled cs (λ k d below. kept (suc k) d (omega (arith, below))) i
 
 pub loads_all : (cs : List Collection) → IsLawfulState cs → All IsReadable cs → Loads [] (pairs_of cs) cs
+unfolding pairs_of
 loads_all cs lawful readable =
     let documents : Loads (map emptied cs) (documents_to MOST_COLLECTIONS cs) cs =
     subst (λ (us : List Collection). Loads us (documents_to MOST_COLLECTIONS cs) cs) (sym (none_filled cs lawful.kept))

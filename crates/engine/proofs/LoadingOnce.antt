@@ -1,12 +1,12 @@
 -- Pairs make one list of collections at most.
-use Rattle.std.proofs.Common.{◌≡◌, ◌≢◌, ◌⊎◌, inl, inr, ℕ, zero, suc, ◌<◌, ◌≤◌, ◌^◌, false, List, [], ◌∷◌, ◌++◌, drop, set, Some, Ok, refl, sym, ap, subst, ◌∙◌, arith}
+use Rattle.std.proofs.Common.{◌≡◌, inl, inr, ℕ, ◌<◌, ◌≤◌, ◌^◌, false, List, [], ◌∷◌, ◌++◌, drop, set, Some, sym, ap, subst, ◌∙◌, arith}
 use Rattle.std.specs.Prelude.{pos, All}
-use Rattle.std.specs.Int.{w32, from_be_bytes, to_be_bytes}
+use Rattle.std.specs.Int.{w32, from_be_bytes}
 use Rattle.std.proofs.lemmas.Nat.{from_be_bytes-to_be_bytes_4}
-use Rattle.bson.specs.Tree.{Tree, scalar, int32, Pairs, no_pairs, pair}
-use Rattle.bson.specs.Spelling.{Spells, framed, pairs_bytes}
+use Rattle.bson.specs.Tree.{scalar, int32, Pairs, pair}
+use Rattle.bson.specs.Spelling.{framed, pairs_bytes}
 use Rattle.bson.proofs.TreeLaws.{one_spelling}
-use Rattle.value_order.specs.KeyText.{escaped, tree_text}
+use Rattle.value_order.specs.KeyText.{tree_text}
 use Rattle.roots.specs.Pairs.{Pair}
 use Rattle.engine.specs.World.{Collection, put_collection}
 use Rattle.engine.specs.Documents.{key_of}
@@ -14,11 +14,11 @@ use Rattle.engine.specs.Refusals.{words}
 use Rattle.engine.specs.Places.{collection_at}
 use Rattle.engine.specs.Progress.{with_document}
 use Rattle.engine.specs.Lawful.{IsReadable, IsLawfulState}
-use Rattle.engine.specs.Stored.{key_under, entry, catalogue_pair, document_pair, pairs_of}
+use Rattle.engine.specs.Stored.{key_under, entry, pairs_of}
 use Rattle.engine.specs.Loading.{unescaped, place_numbered, AddsEntry, AddsDocument, Adds, Loads}
 use Rattle.engine.specs.declared.TheConstants.{MOST_COLLECTIONS}
 use Rattle.engine.proofs.LoadingNames.{unescaped-escaped}
-use Rattle.engine.proofs.LoadingSteps.{entry_spells, document_spells, bare}
+use Rattle.engine.proofs.LoadingSteps.{entry_spells, document_spells}
 use Rattle.engine.proofs.LoadingAll.{loads_all}
 
 -- ---- what a key tells

@@ -1,30 +1,26 @@
 -- One pair after another is read.
-use Rattle.std.proofs.Common.{◌≡◌, ◌≢◌, ◌⊎◌, inl, inr, ℕ, zero, suc, ◌+◌, ◌<◌, ◌≤◌, ◌^◌, true, false, List, [], ◌∷◌, ◌++◌, length, set, Option, Some, None, Result, Ok, Err, refl, sym, ap, subst, ◌∙◌, arith, lit≤}
-use Rattle.std.specs.Prelude.{IsUtf8, ◌==◌, codes, slice_index}
-use Rattle.std.specs.Int.{w32}
+use Rattle.std.proofs.Common.{◌≡◌, ◌≢◌, ℕ, zero, suc, ◌<◌, ◌≤◌, List, [], ◌∷◌, ◌++◌, length, Some, refl, sym, ap, subst, ◌∙◌, arith, lit≤}
+use Rattle.std.specs.Prelude.{◌==◌, codes, slice_index}
 use Rattle.std.specs.List.{AllByRecursion}
 use Rattle.std.proofs.lemmas.Str.{IsUtf8-from_ascii}
 use Rattle.std.proofs.lemmas.Int.{ints}
 use Rattle.std.proofs.lemmas.List.Quantifiers.{position-Some}
-use Rattle.bson.specs.Tree.{Pairs, no_pairs, pair, array, no_items}
-use Rattle.bson.specs.Lawful.{IsName, IsPairs, IsDocument}
+use Rattle.bson.specs.Tree.{Pairs}
+use Rattle.bson.specs.Lawful.{IsName, IsDocument}
 use Rattle.bson.specs.Spelling.{Spells, framed, pairs_bytes as document_bytes}
 use Rattle.roots.specs.Pairs.{Pair, IsFit, pair_bytes, pairs_bytes}
 use Rattle.roots.specs.PairLaws.{one_pair}
-use Rattle.roots.specs.declared.opening.OpenFault.{OpenFault}
-use Rattle.roots.specs.declared.opening.OpenFault.TheVariants as faults
-use Rattle.engine.specs.World.{Collection, put_collection}
+use Rattle.engine.specs.World.{Collection}
 use Rattle.engine.specs.Lawful.{IsStored, IsKept, IsLawfulState}
-use Rattle.engine.specs.Places.{collection_at, no_collection}
+use Rattle.engine.specs.Places.{no_collection}
 use Rattle.engine.specs.Progress.{Progress}
-use Rattle.engine.specs.Refusals.{int}
-use Rattle.engine.specs.Stored.{entry, catalogue_pair, document_pair}
-use Rattle.engine.specs.Loading.{AddsEntry, AddsDocument, Adds, Loads, IsAdded, IsLoading, IsNext, place_numbered}
+use Rattle.engine.specs.Stored.{entry}
+use Rattle.engine.specs.Loading.{Adds, Loads, IsAdded, IsLoading, place_numbered}
 use Rattle.engine.specs.declared.refusal.Refusal.{Refusal}
 use Rattle.engine.specs.declared.refusal.Refusal.TheVariants as refusals
 use Rattle.engine.specs.declared.TheConstants.{MOST_COLLECTIONS, NAMESPACE_LIMIT}
 use Rattle.engine.proofs.PairSizes.{entry_size}
-use Rattle.engine.proofs.LawfulSteps.{added_lawful, grown_lawful}
+use Rattle.engine.proofs.LawfulSteps.{added_lawful}
 
 -- ---- the catalogue's entry is a document
 

@@ -3,7 +3,7 @@ use Rattle.std.proofs.Common.{◌≡◌, ℕ, zero, suc, ◌+◌, ◌-◌, ◌<�
 use Rattle.std.specs.Prelude.{◌==◌, ◌||◌, ◌&&◌, nat_le, if◌then◌else◌}
 use Rattle.std.specs.Str.{bytes_eq}
 use Rattle.std.proofs.lemmas.Bool.Decides.{nat_tests}
-use Rattle.engine.specs.World.{Collection, find_collection, uses, unused_from, unused, number_or, with_documents}
+use Rattle.engine.specs.World.{Collection, find_collection, uses, unused_from, unused, number_or}
 use Rattle.engine.specs.Lawful.{AreNumberedApart, IsKept}
 use Rattle.engine.specs.Places.{collection_at}
 use Rattle.engine.specs.declared.TheConstants.{MOST_COLLECTIONS}
@@ -163,7 +163,7 @@ searched_one cs end counter number h within used =
       whole = h.whole;
       number_is = ap (λ (n : ℕ). n + 1) h.number_is;
       left = ap (λ (n : ℕ). unused_from (end - (counter + 1)) n cs) next
-        ∙ sym (unused_further (end - (counter + 1)) number cs used) ∙ ap (λ (n : ℕ). unused_from n number cs) (sym more) ∙ h.left;
+          ∙ sym (unused_further (end - (counter + 1)) number cs used) ∙ ap (λ (n : ℕ). unused_from n number cs) (sym more) ∙ h.left;
     }
 
 pub searched_found : (cs : List Collection) (end counter number : ℕ) → Searched cs end counter number → uses cs number ≡ false → number ≡ unused cs

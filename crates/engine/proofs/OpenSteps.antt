@@ -1,5 +1,5 @@
 -- A store is opened, and then its pairs are read.
-use Rattle.std.proofs.Common.{◌≡◌, ◌≢◌, ℕ, List, [], refl, sym, ap, subst, ◌∙◌}
+use Rattle.std.proofs.Common.{◌≡◌, ◌≢◌, ℕ, List, [], sym, ap, subst, ◌∙◌}
 use Rattle.std.specs.Prelude.{All}
 use Rattle.page.specs.History.{History, KeepsWord, now, reads, IsImage}
 use Rattle.page.specs.Crash.{GoesOn, LeavesOnly}
@@ -16,7 +16,6 @@ use Rattle.engine.specs.World.{World, Collection}
 use Rattle.engine.specs.Lawful.{IsReadable, IsLawfulState}
 use Rattle.engine.specs.Progress.{Progress, begun_of}
 use Rattle.engine.specs.Stored.{pairs_of}
-use Rattle.engine.specs.View.{world, begun}
 use Rattle.engine.specs.Durable.{Holds, past}
 use Rattle.engine.specs.Loading.{IsLoading, IsOfBytes}
 use Rattle.engine.specs.Opening.{IsOpened, IsRefused}

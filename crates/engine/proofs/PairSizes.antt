@@ -1,7 +1,6 @@
 -- Keys and values are short enough for a pair.
-use Rattle.std.proofs.Common.{◌≡◌, ℕ, zero, suc, ◌+◌, ◌*◌, ◌<◌, ◌≤◌, ◌^◌, List, [], ◌∷◌, ◌++◌, length, refl, arith, length-append, lit≤}
-use Rattle.bson.specs.Spelling.{Spells, tree_bytes, pairs_bytes, items_bytes, framed}
-use Rattle.bson.specs.Tree.{Pairs}
+use Rattle.std.proofs.Common.{◌≡◌, ℕ, zero, suc, ◌+◌, ◌*◌, ◌≤◌, List, [], ◌∷◌, ◌++◌, length, refl, arith, length-append}
+use Rattle.bson.specs.Spelling.{tree_bytes, pairs_bytes, items_bytes, framed}
 use Rattle.value_order.specs.KeyText.{escaped, tree_text}
 use Rattle.std.specs.Int.{w32, to_be_bytes}
 use Rattle.engine.specs.Refusals.{words}

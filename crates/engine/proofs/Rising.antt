@@ -1,23 +1,21 @@
 -- The pairs of lawful collections that bytes can spell have rising keys, and find room in a chain.
-use Rattle.std.proofs.Common.{◌≡◌, ℕ, zero, suc, ◌+◌, ◌*◌, ◌^◌, ◌%◌, ◌<◌, ◌≤◌, Bool, true, false, List, [], ◌∷◌, ◌++◌, length, get_or, map, Option, Some, None, refl, sym, ap, subst, ◌∙◌, arith}
+use Rattle.std.proofs.Common.{◌≡◌, ℕ, zero, suc, ◌^◌, ◌%◌, ◌<◌, ◌≤◌, Bool, true, false, List, [], ◌∷◌, ◌++◌, length, get_or, map, Some, refl, sym, ap, ◌∙◌, arith}
 use Rattle.std.specs.Prelude.{All, unwrap_or, if◌then◌else◌, ◌==◌}
 use Rattle.std.specs.Str.{bytes_eq}
-use Rattle.std.specs.List.{AllByRecursion, AllPairs}
+use Rattle.std.specs.List.{AllByRecursion}
 use Rattle.std.specs.Int.{w32, to_be_bytes}
 use Rattle.std.specs.Ordering.{nat_cmp, ordering_then}
 use Rattle.std.specs.Cmp.{nat_cmp_is}
 use Rattle.std.specs.Cmp.Lexicographic.{slice_cmp}
 use Rattle.std.specs.declared.cmp.Ordering.{Ordering}
 use Rattle.std.specs.declared.cmp.Ordering.TheVariants as orders
-use Rattle.std.proofs.lemmas.Bool.Decides.{nat_tests}
 use Rattle.std.proofs.lemmas.Cmp.{nat_cmp_total, tied_itself}
 use Rattle.std.proofs.Math.Nat.{mod-eq_of_lt}
-use Rattle.bson.specs.Tree.{Tree, scalar, null, Pairs, no_pairs, pair}
+use Rattle.bson.specs.Tree.{scalar, null, Pairs, no_pairs, pair}
 use Rattle.bson.specs.Lookup.{lookup}
 use Rattle.bson.specs.Lawful.{IsTree, IsPairs, IsDocument}
 use Rattle.bson.specs.Sizing.{framed-length, pairs_size-pair}
-use Rattle.bson.specs.Spelling.{tree_bytes, pairs_bytes, framed}
-use Rattle.bson.specs.declared.TheConstants.{MESSAGE_LIMIT}
+use Rattle.bson.specs.Spelling.{tree_bytes, pairs_bytes}
 use Rattle.value_order.specs.Laws.{IsKey}
 use Rattle.value_order.specs.Order.{value, compare}
 use Rattle.value_order.specs.KeyText.{tree_text}
@@ -25,12 +23,12 @@ use Rattle.value_order.specs.declared.texts.Direction.TheVariants as directions
 use Rattle.value_order.proofs.KeyLaws.{texts_order}
 use Rattle.value_order.proofs.Numbers.{SortsAs-bytes}
 use Rattle.roots.specs.Pairs.{Pair, IsFit, IsBelow, Rise, IsRow}
-use Rattle.engine.specs.World.{Collection, uses}
+use Rattle.engine.specs.World.{Collection}
 use Rattle.engine.specs.Documents.{id_name, key_of}
 use Rattle.engine.specs.Refusals.{words}
-use Rattle.engine.specs.Lawful.{IsStored, IsRising, IsReadable, IsKept, IsLawfulState, AreNamedApart}
-use Rattle.engine.specs.Stored.{key_under, entry, catalogue_pair, document_pair, documents_numbered, documents_to, pairs_of}
-use Rattle.engine.specs.declared.TheConstants.{MOST_COLLECTIONS, NAMESPACE_LIMIT, STORED_LIMIT}
+use Rattle.engine.specs.Lawful.{IsStored, IsRising, IsReadable, IsKept, IsLawfulState}
+use Rattle.engine.specs.Stored.{key_under, catalogue_pair, document_pair, documents_numbered, documents_to, pairs_of}
+use Rattle.engine.specs.declared.TheConstants.{MOST_COLLECTIONS}
 use Rattle.engine.proofs.PairSizes.{entry_size, name_size, key_size}
 use Rattle.engine.proofs.SpelledSizes.{length-words}
 
@@ -168,7 +166,7 @@ whole (suc n) cs fits kept h = at (whole n cs (omega (arith, fits)) kept h) (num
           fit = all_append IsFit (documents_to n cs) now before.fit (numbered_fit (suc n) ds fine.stored);
           rise = rise_append (documents_to n cs) now before.rise (numbered_rise (suc n) ds fine) (below_all n (documents_to n cs) ds (omega (arith, fits)) before.above);
           above = all_append (Above (suc n)) (documents_to n cs) now (later_number n (documents_to n cs) before.above)
-            (all_map (Above (suc n)) (document_pair (suc n)) ds (λ k d below j ps lt small. under_two (suc n) j (tree_text (key_of (get_or ds k d))) (tree_text (key_of ps)) lt small));
+              (all_map (Above (suc n)) (document_pair (suc n)) ds (λ k d below j ps lt small. under_two (suc n) j (tree_text (key_of (get_or ds k d))) (tree_text (key_of ps)) lt small));
         }
 
 -- the catalogue stands below all documents
@@ -180,15 +178,16 @@ first_all (suc n) c cs fits =
     (λ k d below. under_two 0 (suc n) (tree_text (words c.name)) (tree_text (key_of (get_or (documents_numbered (suc n) cs) k d))) (omega arith) (omega (arith, fits))))
 
 pub are_row : (cs : List Collection) → IsLawfulState cs → All IsReadable cs → IsRow (pairs_of cs)
+unfolding pairs_of
 are_row cs lawful h =
     let documents = whole MOST_COLLECTIONS cs (omega arith) lawful.kept h in
     record {
       fit = all_append IsFit (map catalogue_pair cs) (documents_to MOST_COLLECTIONS cs)
-        (all_map IsFit catalogue_pair cs (λ k d below. fits (get_or cs k d) (lawful.kept k d below))) documents.fit;
+          (all_map IsFit catalogue_pair cs (λ k d below. fits (get_or cs k d) (lawful.kept k d below))) documents.fit;
       rise = rise_append (map catalogue_pair cs) (documents_to MOST_COLLECTIONS cs)
-        (rise_map catalogue_pair cs (λ i j d lt below. names_rise (get_or cs i d) (get_or cs j d) (lawful.kept i d (omega (arith, lt, below))) (lawful.kept j d below) (h i d (omega (arith, lt, below))) (h j d below) (lawful.apart i j d lt below)))
-        documents.rise
-        (all_map (λ (x : Pair). AllByRecursion (λ (y : Pair). IsBelow x.key y.key) (documents_to MOST_COLLECTIONS cs)) catalogue_pair cs (λ k d below. first_all MOST_COLLECTIONS (get_or cs k d) cs (omega arith)));
+          (rise_map catalogue_pair cs (λ i j d lt below. names_rise (get_or cs i d) (get_or cs j d) (lawful.kept i d (omega (arith, lt, below))) (lawful.kept j d below) (h i d (omega (arith, lt, below))) (h j d below) (lawful.apart i j d lt below)))
+          documents.rise
+          (all_map (λ (x : Pair). AllByRecursion (λ (y : Pair). IsBelow x.key y.key) (documents_to MOST_COLLECTIONS cs)) catalogue_pair cs (λ k d below. first_all MOST_COLLECTIONS (get_or cs k d) cs (omega arith)));
     }
   where
     fits : (c : Collection) → IsKept c → IsFit (catalogue_pair c)

@@ -10,7 +10,7 @@ use Rattle.roots.specs.declared.store.Store.{Store}
 use Rattle.engine.specs.World.{World, Collection}
 use Rattle.engine.specs.Lawful.{IsReadable, IsLawfulState, IsLawful}
 use Rattle.engine.specs.Stored.{pairs_of}
-use Rattle.engine.specs.Step.{read_and_run, step, answered}
+use Rattle.engine.specs.Step.{read_and_run, answered}
 use Rattle.engine.specs.View.{world, begun, with_ok, Runs}
 use Rattle.engine.specs.Durable.{Holds, IsSound}
 use Rattle.engine.specs.declared.engine.Engine.{Engine}
@@ -28,9 +28,9 @@ keeps_sound {D} history old new h store same lawful = record {
   before = subst (λ (w : World). IsLawfulState w.state) (sym same) h.before;
   readable = subst (λ (w : World). All IsReadable w.state) (sym same) h.readable;
   holds = subst (λ (s : Store D). stores.is_stopped s ≡ false → LeavesNow (history s.disk) (λ image. Holds image (begun new).state)) (sym store)
-    (subst (λ (w : World). stores.is_stopped old.store ≡ false → LeavesNow (history old.store.disk) (λ image. Holds image w.state)) (sym same) h.holds);
+      (subst (λ (w : World). stores.is_stopped old.store ≡ false → LeavesNow (history old.store.disk) (λ image. Holds image w.state)) (sym same) h.holds);
   committed = subst (λ (s : Store D). KeepsWord (history s.disk) → stores.is_stopped s ≡ false → stores.committed history s ≡ pairs_bytes (pairs_of (begun new).state)) (sym store)
-    (subst (λ (w : World). KeepsWord (history old.store.disk) → stores.is_stopped old.store ≡ false → stores.committed history old.store ≡ pairs_bytes (pairs_of w.state)) (sym same) h.committed);
+      (subst (λ (w : World). KeepsWord (history old.store.disk) → stores.is_stopped old.store ≡ false → stores.committed history old.store ≡ pairs_bytes (pairs_of w.state)) (sym same) h.committed);
 }
 
 -- a world without cursors

@@ -1,5 +1,5 @@
 -- How pairs are read: one after the other, each makes a collection or stores a document in one.
-use Rattle.std.specs.Prelude.{◌≡◌, ◌≢◌, ◌⊎◌, ℕ, suc, ◌<◌, ◌≤◌, Bool, true, false, ◌==◌, List, [], ◌∷◌, length, slice_set, if◌then◌else◌, Result, Ok, Err, Option, Some, None, IsUtf8}
+use Rattle.std.specs.Prelude.{◌≡◌, ◌≢◌, ◌⊎◌, ℕ, ◌<◌, ◌≤◌, Bool, true, false, ◌==◌, List, [], ◌∷◌, length, slice_set, if◌then◌else◌, Result, Ok, Err, Option, Some, None, IsUtf8}
 use Rattle.std.specs.List.{position}
 use Rattle.bson.specs.Tree.{Pairs}
 use Rattle.bson.specs.Lawful.{IsDocument}

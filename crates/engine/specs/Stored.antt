@@ -37,5 +37,5 @@ documents_to zero cs = []
 documents_to (suc n) cs = documents_to n cs ++ map (document_pair (suc n)) (documents_numbered (suc n) cs)
 
 -- the catalogue, and then all documents
-abbrev pub pairs_of : List Collection → List Pair
+unfoldable pub pairs_of : List Collection → List Pair
 pairs_of cs = map catalogue_pair cs ++ documents_to MOST_COLLECTIONS cs

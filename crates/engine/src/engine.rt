@@ -93,11 +93,7 @@ impl<D: Disk> Engine<D> {
     }
 
     /// Opens a disk as `open` does.
-    fn open_collections(
-        alloc: Global,
-        disk: D,
-        config: Config,
-    ) -> Result<Engine<D>, (D, OpenFault)>
+    fn open_collections(alloc: Global, disk: D, config: Config) -> Result<Engine<D>, (D, OpenFault)>
         ensures opened { IfOk result (IsOpened D.history disk) }
         ensures refused { IfErr result (λ e. IsRefused D.history disk e.0 e.1) }
     {

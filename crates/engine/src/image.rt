@@ -103,11 +103,7 @@ fn push_document(list: &mut PairList, number: u32, document: &Document) -> Resul
 }
 
 /// Adds the documents of a collection.
-fn push_documents(
-    list: &mut PairList,
-    number: u32,
-    documents: &[Document],
-) -> Result<(), NoMemory>
+fn push_documents(list: &mut PairList, number: u32, documents: &[Document]) -> Result<(), NoMemory>
     requires { All IsStored documents.now }
     ensures { OnOk result (spelled list.new ≡ spelled list.old ++ pairs_bytes (map (document_pair number) documents.now)) }
 {

@@ -1,5 +1,5 @@
-use Rattle.std.proofs.Common.{◌≡◌, ◌<◌, ◌≤◌, ◌⊎◌, inl, inr, ℕ, true, false, List, sym, ap, subst, ◌∙◌, arith}
-use Rattle.page.specs.History.{KeepsWord, LeftSince}
+use Rattle.std.proofs.Common.{◌≡◌, ◌⊎◌, inl, inr, sym, ap, subst, ◌∙◌, arith}
+use Rattle.page.specs.History.{KeepsWord}
 use Rattle.page.specs.Crash.{LeavesOnly}
 use Rattle.page.proofs.Moments.{goes_further, leaves_further}
 use Rattle.roots.specs.Image.{StandsFor}

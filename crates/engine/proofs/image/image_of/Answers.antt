@@ -7,7 +7,7 @@ use Rattle.engine.specs.World.{Collection}
 use Rattle.engine.specs.Lawful.{IsReadable}
 use Rattle.engine.specs.Stored.{catalogue_pair, document_pair, documents_numbered, documents_to}
 use Rattle.engine.specs.declared.TheConstants.{MOST_COLLECTIONS}
-use Rattle.engine.proofs.Loops.{pairs_bytes-append, numbers_one}
+use Rattle.engine.proofs.Loops.{whole_image, numbers_one}
 use Rattle.engine.proofs.image.image_of.Goals as goal
 
 pub numbers-init : goal.numbers-init
@@ -31,7 +31,7 @@ returns-clause-spelled c =
     let start : spelled c.push_catalogue.new.list ≡ pairs_bytes (map catalogue_pair cs) =
     c.in_ok-push_catalogue.ensures.pushed ∙ ap (λ (bs : List ℕ). bs ++ pairs_bytes (map catalogue_pair c.list.result.now)) c.new-list.ensures ∙ ap (λ (ds : List Collection). pairs_bytes (map catalogue_pair ds)) c.list.ensures in
     c.numbers.invariant ∙ (λ i. start i ++ pairs_bytes (documents_to (whole i) cs))
-    ∙ sym (pairs_bytes-append (map catalogue_pair cs) (documents_to MOST_COLLECTIONS cs))
+    ∙ whole_image cs
 
 pub returns-clause-readable : goal.returns-clause-readable
 returns-clause-readable c = subst (λ (cs : List Collection). All IsReadable cs) c.list.ensures c.in_ok-push_catalogue.ensures.readable

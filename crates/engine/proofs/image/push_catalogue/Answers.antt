@@ -1,4 +1,4 @@
-use Rattle.std.proofs.Common.{◌≡◌, ℕ, ◌+◌, ◌<◌, length, get_or, inl, inr, sym, subst, ◌∙◌, ap, arith}
+use Rattle.std.proofs.Common.{◌≡◌, ℕ, ◌+◌, ◌<◌, length, get_or, inl, inr, subst, ◌∙◌, arith}
 use Rattle.std.proofs.lemmas.List.{get_or_default}
 use Rattle.std.proofs.lemmas.Bool.{cases_lt}
 use Rattle.roots.specs.Pairs.{spelled}
@@ -11,7 +11,7 @@ use Rattle.engine.proofs.image.push_catalogue.Goals as goal
 pub collections-preserved : goal.collections-preserved
 collections-preserved c = record {
   added = added_one catalogue_pair c.args.collections.now (spelled c.args.list.now) (spelled c.collections.list) (spelled c.push_entry.new.list) c.collections.collection-index c.collection-item.result
-    c.collections-test.true c.collection-item.is c.collections.invariant.added c.in_ok-push_entry.ensures.pushed;
+      c.collections-test.true c.collection-item.is c.collections.invariant.added c.in_ok-push_entry.ensures.pushed;
   readable = readable;
 }
   where

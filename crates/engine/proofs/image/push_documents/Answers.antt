@@ -1,5 +1,4 @@
-use Rattle.roots.specs.Pairs.{spelled, pair_bytes}
-use Rattle.std.proofs.Common.{ap, ◌∙◌}
+use Rattle.roots.specs.Pairs.{spelled}
 use Rattle.engine.specs.Stored.{document_pair}
 use Rattle.engine.proofs.Loops.{added_one}
 use Rattle.engine.proofs.image.push_documents.Goals as goal

@@ -1,8 +1,6 @@
-use Rattle.std.proofs.Common.{◌≡◌, ◌≤◌, ℕ, List, length, sym, ap, subst, ◌∙◌, arith}
+use Rattle.std.proofs.Common.{◌≤◌, length, sym, ap, subst, arith}
 use Rattle.bson.specs.Tree.{Pairs}
 use Rattle.bson.specs.Spelling.{framed, pairs_bytes}
-use Rattle.value_order.specs.KeyText.{tree_text}
-use Rattle.engine.specs.Refusals.{words}
 use Rattle.engine.specs.declared.TheConstants.{STORED_LIMIT}
 use Rattle.engine.proofs.PairSizes.{entry_small, name_size, key_size}
 use Rattle.engine.proofs.image.push_entry.Goals as goal

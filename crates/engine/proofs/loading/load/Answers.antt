@@ -1,4 +1,4 @@
-use Rattle.std.proofs.Common.{◌≡◌, ℕ, List, refl, sym, ap, ◌∙◌}
+use Rattle.std.proofs.Common.{◌≡◌, List, sym, ap, ◌∙◌}
 use Rattle.roots.specs.Pairs.{pairs_bytes}
 use Rattle.engine.specs.World.{Collection}
 use Rattle.engine.specs.Stored.{pairs_of}

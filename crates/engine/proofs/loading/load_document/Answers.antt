@@ -1,5 +1,4 @@
-use Rattle.std.proofs.Common.{◌≡◌, ℕ, List, [], length, set, Some, Ok, Err, sym, ap, subst, ◌∙◌, refl}
-use Rattle.bson.specs.Tree.{Pairs}
+use Rattle.std.proofs.Common.{◌≡◌, ℕ, List, set, Some, Ok, sym, ap, subst, ◌∙◌}
 use Rattle.bson.specs.Spelling.{Spells}
 use Rattle.roots.specs.Pairs.{Pair}
 use Rattle.engine.specs.World.{Collection}
@@ -7,7 +6,6 @@ use Rattle.engine.specs.Lawful.{IsLawfulState}
 use Rattle.engine.specs.Places.{collection_at}
 use Rattle.engine.specs.Progress.{Progress, with_document}
 use Rattle.engine.specs.Loading.{AddsDocument, place_numbered}
-use Rattle.engine.specs.declared.refusal.Refusal.{Refusal}
 use Rattle.engine.proofs.LawfulSteps.{grown_lawful}
 use Rattle.engine.proofs.LoadingSteps.{document_spells, inside_numbered, only_out_of_memory}
 use Rattle.engine.proofs.loading.load_document.Goals as goal

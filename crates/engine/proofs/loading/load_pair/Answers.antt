@@ -1,11 +1,11 @@
-use Rattle.std.proofs.Common.{◌≡◌, ◌⊎◌, inl, inr, ℕ, ◌<◌, ◌≤◌, ◌^◌, List, refl, ap, arith}
+use Rattle.std.proofs.Common.{◌≡◌, inl, inr, ℕ, ◌<◌, ◌≤◌, ◌^◌, List, refl, ap, arith}
 use Rattle.value_order.specs.KeyText.{tree_text}
 use Rattle.roots.specs.Pairs.{Pair}
 use Rattle.engine.specs.World.{Collection}
 use Rattle.engine.specs.Documents.{key_of}
 use Rattle.engine.specs.Refusals.{words}
 use Rattle.engine.specs.Stored.{key_under}
-use Rattle.engine.specs.Loading.{Adds, AddsEntry, AddsDocument, IsNext}
+use Rattle.engine.specs.Loading.{AddsEntry, AddsDocument}
 use Rattle.engine.specs.declared.TheConstants.{MOST_COLLECTIONS}
 use Rattle.engine.proofs.loading.load_pair.Goals as goal
 

@@ -1,9 +1,8 @@
 use Rattle.std.proofs.Common.{◌≡◌, List, [], refl, subst, sym}
-use Rattle.roots.specs.Pairs.{Pair, pairs_bytes}
+use Rattle.roots.specs.Pairs.{Pair}
 use Rattle.engine.specs.World.{Collection}
-use Rattle.engine.specs.Lawful.{IsLawfulState}
 use Rattle.engine.specs.Progress.{Progress}
-use Rattle.engine.specs.Loading.{Loads, IsLoading}
+use Rattle.engine.specs.Loading.{IsLoading}
 use Rattle.engine.proofs.LoadingSteps.{Left, left_one, left_none, left_all, none_lawful}
 use Rattle.engine.proofs.loading.load_pairs.Goals as goal
 

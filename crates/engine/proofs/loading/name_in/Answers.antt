@@ -1,7 +1,5 @@
-use Rattle.std.proofs.Common.{◌≡◌, ℕ, List, sym, ap, subst, ◌∙◌}
+use Rattle.std.proofs.Common.{sym, ap, subst, ◌∙◌}
 use Rattle.std.specs.Prelude.{IsUtf8}
-use Rattle.value_order.specs.KeyText.{tree_text}
-use Rattle.engine.specs.Refusals.{words}
 use Rattle.engine.proofs.LoadingNames.{name_behind}
 use Rattle.engine.proofs.loading.name_in.Goals as goal
 

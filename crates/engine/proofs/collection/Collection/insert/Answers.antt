@@ -2,7 +2,6 @@ use Rattle.std.proofs.Common.{List, sym, subst}
 use Rattle.std.proofs.Common.{ap}
 use Rattle.bson.specs.Tree.{Pairs}
 use Rattle.bson.specs.Lawful.{IsDocument}
-use Rattle.value_order.specs.Order.{compare}
 use Rattle.value_order.specs.Total.{compare_total}
 use Rattle.engine.specs.World.{Collection}
 use Rattle.engine.specs.Documents.{key_of}

@@ -1,7 +1,7 @@
 use Rattle.std.proofs.Common.{◌≡◌, ℕ, List, [], sym, ap, subst, ◌∙◌, insert}
 use Rattle.engine.specs.World.{Collection}
 use Rattle.engine.specs.Places.{IsGap, IsMissing, by_name}
-use Rattle.engine.specs.Progress.{Progress, IsProgress, CanRewind}
+use Rattle.engine.specs.Progress.{Progress, CanRewind}
 use Rattle.engine.specs.declared.collections.Change.{Change}
 use Rattle.engine.proofs.Rewinding.{apart-made}
 use Rattle.engine.proofs.collections.Collections.add.Goals as goal

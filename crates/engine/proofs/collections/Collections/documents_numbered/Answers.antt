@@ -1,7 +1,6 @@
-use Rattle.std.proofs.Common.{List, sym, ap, ◌∙◌}
+use Rattle.std.proofs.Common.{sym, ap, ◌∙◌}
 use Rattle.engine.specs.Progress.{Progress}
 use Rattle.engine.specs.Stored.{documents_numbered}
-use Rattle.engine.specs.World.{Collection}
 use Rattle.engine.proofs.Loops.{numbered_here, numbered_later, numbered_none}
 use Rattle.engine.proofs.collections.Collections.documents_numbered.Goals as goal
 

@@ -1,6 +1,5 @@
 use Rattle.std.proofs.Common.{length, ap, ◌∙◌, sym, arith}
 use Rattle.engine.specs.Progress.{Progress}
-use Rattle.engine.specs.World.{unused}
 use Rattle.engine.proofs.Numbers.{searched_none, searched_one, searched_found, searched_all}
 use Rattle.engine.proofs.collections.Collections.unused.Goals as goal
 

@@ -1,11 +1,11 @@
-use Rattle.std.proofs.Common.{◌≡◌, ℕ, List, [], Result, Ok, Err, refl, sym, ap, subst, ◌∙◌}
+use Rattle.std.proofs.Common.{[], Ok, Err, refl, sym, ap, subst, ◌∙◌}
 use Rattle.roots.specs.Pairs.{pairs_bytes}
 use Rattle.roots.specs.declared.store.CommitFault.{CommitFault}
 use Rattle.roots.specs.declared.store.CommitFault.TheVariants as faults
-use Rattle.engine.specs.World.{World, settled, undone}
+use Rattle.engine.specs.World.{World}
 use Rattle.engine.specs.Progress.{Progress, begun_of}
 use Rattle.engine.specs.Stored.{pairs_of}
-use Rattle.engine.specs.View.{world, begun}
+use Rattle.engine.specs.View.{world}
 use Rattle.engine.specs.Committing.{Saves}
 use Rattle.engine.specs.declared.engine.Engine.{Engine}
 use Rattle.engine.proofs.Ending.{kept_as_it_is, undone_before, undone_after, committed_now, cut_now}

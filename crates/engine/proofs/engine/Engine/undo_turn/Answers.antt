@@ -1,4 +1,4 @@
-use Rattle.std.proofs.Common.{List, [], ◌∷◌, ap, subst, sym, ◌∙◌, refl}
+use Rattle.std.proofs.Common.{[], ap, subst, sym, refl}
 use Rattle.engine.specs.World.{World}
 use Rattle.engine.specs.Lawful.{IsLawfulState}
 use Rattle.engine.specs.Progress.{Progress, begun_of}

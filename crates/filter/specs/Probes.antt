@@ -1,0 +1,26 @@
+-- What the walk of a path looks for, and what rules are asked of.
+use Rattle.std.specs.Prelude.{Bool, if◌then◌else◌, Option, None, List, [], ◌∷◌}
+use Rattle.std.specs.List.{list_any}
+use Rattle.bson.specs.Tree.{Tree, document}
+use Rattle.bson.specs.View.{tree}
+use Rattle.path.specs.Reach.{Reached, reach, onwards}
+use Rattle.filter.specs.Matches.{passes, Subject, whole, along, alone, some_element, of_document, all_hold}
+use Rattle.filter.specs.View.{test_of}
+use Rattle.filter.specs.declared.matching.Subject.{Subject as Asked}
+use Rattle.filter.specs.declared.matching.Subject.TheVariants as subjects
+use Rattle.filter.specs.declared.matching.Probe.{Probe}
+use Rattle.filter.specs.declared.matching.Probe.TheVariants as probes
+
+abbrev pub subject_of : Asked → Subject
+subject_of (subjects.Whole d) = whole d.now
+subject_of (subjects.Along d path) = along (reach path.now (document d.now))
+subject_of (subjects.Alone v) = alone (tree v.now)
+
+abbrev pub probe_passes : Probe → Bool → Reached → Bool
+probe_passes (probes.Test test) one r = passes (test_of test.now) one r
+probe_passes (probes.Element filter) one r = some_element (λ t. all_hold filter.now (alone t)) r
+probe_passes (probes.ElementDocument filter) one r = some_element (of_document (all_hold filter.now)) r
+
+-- one of what a document's field leads to passes, or Missing does where it lacks the field and isn't passed over
+abbrev pub field_passes : (Reached → Bool) → (Tree → List Reached) → Option Tree → Bool → Bool
+field_passes pass go found passes_over = list_any pass (onwards go found (if passes_over then [] else None ∷ []))

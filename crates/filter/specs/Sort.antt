@@ -1,0 +1,97 @@
+-- Sorts: what one is, the keys of a document, and the order that it gives to documents.
+use Rattle.std.specs.Prelude.{ℕ, ℤ, pos, negsuc, zero, suc, ◌==◌, Bool, true, false, if◌then◌else◌, Some, None, Result, Ok, Err, List, [], ◌∷◌, map}
+use Rattle.std.specs.List.{flat_map}
+use Rattle.std.specs.declared.cmp.Ordering.{Ordering}
+use Rattle.std.specs.declared.cmp.Ordering.TheVariants.{Less, Equal, Greater}
+use Rattle.std.specs.Ordering.{ordering_then}
+use Rattle.bson.specs.Tree.{Tree, scalar, null, int32, int64, document, array, Pairs, no_pairs, pair, Items, no_items, item}
+use Rattle.value_order.specs.Order.{Key, empty_array, value, key_cmp}
+use Rattle.path.specs.declared.refusal.Refusal.{Refusal}
+use Rattle.path.specs.declared.refusal.Refusal.TheVariants as refusals
+use Rattle.path.specs.Edits.{if_ok}
+use Rattle.path.specs.Reach.{Reached, reach, items_list}
+use Rattle.filter.specs.Reading.{path_in}
+
+-- ---- reading
+
+-- a path, and whether it is descending
+abbrev pub SortField : Type 0
+SortField = List (List ℕ) × Bool
+
+abbrev pub direction_of : ℤ → Result Bool Refusal
+direction_of (pos n) = if n == 1 then Ok false else Err refusals.BadValue
+direction_of (negsuc zero) = Ok true
+direction_of (negsuc (suc n)) = Err refusals.BadValue
+
+abbrev pub direction_in : Tree → Result Bool Refusal
+direction_in (scalar (int32 z)) = direction_of z
+direction_in (scalar (int64 z)) = direction_of z
+direction_in t = Err refusals.TypeMismatch
+
+-- at most so many more fields; of one too many nothing is looked at
+abbrev pub read_fields : ℕ → Pairs → Result (List SortField) Refusal
+read_fields more no_pairs = Ok []
+read_fields zero (pair name t ps) = Err refusals.BadValue
+read_fields (suc more) (pair name t ps) =
+    if_ok (path_in name) (λ path. if_ok (direction_in t) (λ descending. if_ok (read_fields more ps) (λ fields. Ok ((path, descending) ∷ fields))))
+
+abbrev pub read_sort : Pairs → Result (List SortField) Refusal
+read_sort ps = read_fields 32 ps
+
+-- ---- keys
+
+abbrev pub array_keys : Items → List Key
+array_keys no_items = empty_array ∷ []
+array_keys (item t ts) = map value (items_list (item t ts))
+
+-- null for Missing, the elements of an array, the class EmptyArray for an empty one, else the value
+abbrev pub keys_of : Reached → List Key
+keys_of None = value (scalar null) ∷ []
+keys_of (Some (array ts)) = array_keys ts
+keys_of (Some t) = value t ∷ []
+
+abbrev pub precedes : Bool → Ordering → Bool
+precedes true Greater = true
+precedes false Less = true
+precedes descending o = false
+
+-- the first of the keys, in the direction of the sort
+abbrev pub first_key : Bool → Key → List Key → Key
+first_key descending k [] = k
+first_key descending k (l ∷ ls) = first_key descending (if precedes descending (key_cmp l k) then l else k) ls
+
+-- null, where nothing was reached
+abbrev pub key_among : Bool → List Key → Key
+key_among descending [] = value (scalar null)
+key_among descending (k ∷ ks) = first_key descending k ks
+
+abbrev pub sort_key : SortField → Pairs → Key
+sort_key field ps = key_among field.1 (flat_map keys_of (reach field.0 (document ps)))
+
+-- ---- order
+
+abbrev pub directed : Bool → Ordering → Ordering
+directed false o = o
+directed true Less = Greater
+directed true Equal = Equal
+directed true Greater = Less
+
+abbrev pub compare_by : List SortField → Pairs → Pairs → Ordering
+compare_by [] a b = Equal
+compare_by (field ∷ fields) a b = ordering_then (directed field.1 (key_cmp (sort_key field a) (sort_key field b))) (compare_by fields a b)
+
+abbrev pub put_before : {A : Type 0} → Ordering → A → A → List A → List A → List A
+put_before Greater x y inserted ys = y ∷ inserted
+put_before o x y inserted ys = x ∷ y ∷ ys
+
+-- before the first that it isn't above, so that equals keep their order
+abbrev pub insert_in_order : (Pairs → Pairs → Ordering) → Pairs → List Pairs → List Pairs
+insert_in_order cmp x [] = x ∷ []
+insert_in_order cmp x (y ∷ ys) = put_before (cmp x y) x y (insert_in_order cmp x ys) ys
+
+abbrev pub sorted : (Pairs → Pairs → Ordering) → List Pairs → List Pairs
+sorted cmp [] = []
+sorted cmp (x ∷ xs) = insert_in_order cmp x (sorted cmp xs)
+
+abbrev pub order : List SortField → List Pairs → List Pairs
+order fields documents = sorted (compare_by fields) documents

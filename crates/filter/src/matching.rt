@@ -1,0 +1,215 @@
+//! Whether a filter holds of a document.
+//!
+//! A path is followed without a list of what it reaches: the walk ends with the first value that passes. It copies no
+//! value and takes no memory.
+
+ghost use Rattle.std.specs.Prelude.{◌≡◌, ◌||◌, false, Ok, None, Some};
+ghost use Rattle.std.specs.List.{list_any};
+ghost use Rattle.bson.specs.Tree.{document};
+ghost use Rattle.bson.specs.Lookup.{lookup};
+ghost use Rattle.bson.specs.View.{tree};
+ghost use Rattle.path.specs.Reach.{reach, onwards, in_elements, in_place, items_list};
+ghost use Rattle.filter.specs.Matches.{holds, all_hold, any_holds, matches, some_reached, some_element, of_document, alone};
+ghost use Rattle.filter.specs.View.{rule_of};
+ghost use Rattle.filter.specs.Probes.{subject_of, probe_passes, field_passes};
+
+use crate::rule::{Filter, Rule, Test};
+use crate::testing;
+use bson::{Array, Document, NoMemory, Value};
+use path::{Part, Path, numbered};
+
+/// What rules are asked of.
+#[derive(Clone, Copy)]
+enum Subject<'a> {
+    /// A document.
+    Whole(&'a Document),
+    /// What a path reaches in a document.
+    Along(&'a Document, &'a Path),
+    /// One element of an array, as it stands.
+    Alone(&'a Value),
+}
+
+/// What a walk looks for.
+#[derive(Clone, Copy)]
+enum Probe<'a> {
+    /// A value that passes a test.
+    Test(&'a Test),
+    /// An array with an element of which rules hold.
+    Element(&'a Filter),
+    /// An array with a document of which rules hold.
+    ElementDocument(&'a Filter),
+}
+
+impl Filter {
+    /// Whether all of it holds of a document.
+    pub fn matches(&self, document: &Document) -> Result<bool, NoMemory>
+        ensures { result ≡ Ok (matches self.now document.now) }
+    {
+        Ok(all_hold(self, Subject::Whole(document)))
+    }
+}
+
+#[cycle(matching)]
+fn all_hold(filter: &Filter, subject: Subject<'_>) -> bool
+    ensures { result ≡ all_hold filter.now (subject_of subject.entry) }
+{
+    'rules: for rule in filter.rules() {
+        if !holds(rule, subject) {
+            return false;
+        }
+    }
+    true
+}
+
+#[cycle(matching)]
+fn any_holds(filter: &Filter, subject: Subject<'_>) -> bool
+    ensures { result ≡ any_holds filter.now (subject_of subject.entry) }
+{
+    'rules: for rule in filter.rules() {
+        if holds(rule, subject) {
+            return true;
+        }
+    }
+    false
+}
+
+#[cycle(matching)]
+fn holds(rule: &Rule, subject: Subject<'_>) -> bool
+    ensures { result ≡ holds (rule_of rule.now) (subject_of subject.entry) }
+{
+    match rule {
+        Rule::All(filter) => all_hold(filter, subject),
+        Rule::Any(filter) => any_holds(filter, subject),
+        Rule::NotAll(filter) => !all_hold(filter, subject),
+        Rule::NotAny(filter) => !any_holds(filter, subject),
+        Rule::At(path, filter) => match subject {
+            Subject::Whole(document) => all_hold(filter, Subject::Along(document, path)),
+            _ => false,
+        },
+        Rule::Is(test) => finds(Probe::Test(test), subject),
+        Rule::Element(filter) => finds(Probe::Element(filter), subject),
+        Rule::ElementDocument(filter) => finds(Probe::ElementDocument(filter), subject),
+    }
+}
+
+/// Whether something that was reached is what the walk looks for.
+#[cycle(matching)]
+fn finds(probe: Probe<'_>, subject: Subject<'_>) -> bool
+    ensures { result ≡ some_reached (probe_passes probe.entry) (subject_of subject.entry) }
+{
+    match subject {
+        Subject::Whole(_) => false,
+        Subject::Along(document, path) => {
+            let (part, rest) = path.split_first();
+            finds_in_field(probe, document, part, rest, false)
+        }
+        Subject::Alone(value) => passes(probe, true, value),
+    }
+}
+
+/// Whether the parts reach it from a value.
+#[cycle(matching)]
+fn finds_from(probe: Probe<'_>, value: &Value, parts: &[Part]) -> bool
+    ensures { result ≡ list_any (probe_passes probe.entry false) (reach parts.now (tree value.now)) }
+{
+    let [part, rest @ ..] = parts else {
+        return passes(probe, false, value);
+    };
+    match value {
+        Value::Document(document) => finds_in_field(probe, document, part, rest, false),
+        Value::Array(array) => finds_in_array(probe, array, part, rest),
+        _ => missing_passes(probe),
+    }
+}
+
+/// Whether a part and the rest reach it from a document. One that lacks the part's field may be passed over.
+#[cycle(matching)]
+fn finds_in_field(
+    probe: Probe<'_>,
+    document: &Document,
+    part: &Part,
+    rest: &[Part],
+    passes_over: bool,
+) -> bool
+    ensures { result ≡ field_passes (probe_passes probe.entry false) (reach rest.now) (lookup document.now part.now) passes_over }
+{
+    match document.get(part.as_str()) {
+        Some(value) => finds_from(probe, value, rest),
+        None => !passes_over && missing_passes(probe),
+    }
+}
+
+/// Whether a part and the rest reach it from an array.
+#[cycle(matching)]
+fn finds_in_array(probe: Probe<'_>, array: &Array, part: &Part, rest: &[Part]) -> bool
+    ensures { result ≡ (list_any (probe_passes probe.entry false) (in_elements (reach rest.now) part.now array.now)
+        || list_any (probe_passes probe.entry false) (in_place (reach rest.now) part.now array.now)) }
+{
+    let items = array.items();
+    let is_digits = part.is_digits();
+    'items: for item in items {
+        if let Value::Document(document) = item {
+            if finds_in_field(probe, document, part, rest, is_digits) {
+                return true;
+            }
+        }
+    }
+    match numbered(items, part) {
+        Some(item) => finds_from(probe, item, rest),
+        None => false,
+    }
+}
+
+/// Whether Missing is what the walk looks for.
+fn missing_passes(probe: Probe<'_>) -> bool
+    ensures { result ≡ probe_passes probe.entry false None }
+{
+    match probe {
+        Probe::Test(test) => testing::missing_passes(test),
+        _ => false,
+    }
+}
+
+/// Whether a value is what the walk looks for.
+#[cycle(matching)]
+fn passes(probe: Probe<'_>, alone: bool, value: &Value) -> bool
+    ensures { result ≡ probe_passes probe.entry alone (Some (tree value.now)) }
+{
+    match probe {
+        Probe::Test(test) => testing::passes(test, alone, value),
+        Probe::Element(filter) => match value {
+            Value::Array(array) => has_element(filter, array),
+            _ => false,
+        },
+        Probe::ElementDocument(filter) => match value {
+            Value::Array(array) => has_document(filter, array),
+            _ => false,
+        },
+    }
+}
+
+#[cycle(matching)]
+fn has_element(filter: &Filter, array: &Array) -> bool
+    ensures { result ≡ list_any (λ t. all_hold filter.now (alone t)) (items_list array.now) }
+{
+    'items: for item in array.items() {
+        if all_hold(filter, Subject::Alone(item)) {
+            return true;
+        }
+    }
+    false
+}
+
+#[cycle(matching)]
+fn has_document(filter: &Filter, array: &Array) -> bool
+    ensures { result ≡ list_any (of_document (all_hold filter.now)) (items_list array.now) }
+{
+    'items: for item in array.items() {
+        if let Value::Document(document) = item {
+            if all_hold(filter, Subject::Whole(document)) {
+                return true;
+            }
+        }
+    }
+    false
+}

@@ -1,0 +1,178 @@
+//! The operators that look at values, and the kinds that `$type` knows.
+
+ghost use Rattle.std.specs.Prelude.{◌≡◌};
+ghost use Rattle.bson.specs.View.{tree, items_of};
+ghost use Rattle.path.specs.View.{Gives};
+ghost use Rattle.filter.specs.Words.{operator_of, kind_named, kind_counted, kind_numbered, kinds_named, known, kinds_in, each_kind, all_kinds, counted, size_in};
+
+use bson::{Array, Kind, Value};
+use path::Refusal;
+use std::alloc::Global;
+
+/// An operator that looks at values.
+#[derive(Clone, Copy, Debug, PartialEq, Eq)]
+pub(crate) enum Operator {
+    Equal,
+    Above,
+    AtLeast,
+    Below,
+    AtMost,
+    In,
+    Exists,
+    Type,
+    All,
+    Size,
+    NotEqual,
+    NotIn,
+}
+
+/// The operator of a name.
+pub(crate) fn operator_of(name: &str) -> Option<Operator>
+    ensures { result ≡ operator_of name.now }
+{
+    match name {
+        _ if name == "$eq" => Some(Operator::Equal),
+        _ if name == "$gt" => Some(Operator::Above),
+        _ if name == "$gte" => Some(Operator::AtLeast),
+        _ if name == "$lt" => Some(Operator::Below),
+        _ if name == "$lte" => Some(Operator::AtMost),
+        _ if name == "$in" => Some(Operator::In),
+        _ if name == "$exists" => Some(Operator::Exists),
+        _ if name == "$type" => Some(Operator::Type),
+        _ if name == "$all" => Some(Operator::All),
+        _ if name == "$size" => Some(Operator::Size),
+        _ if name == "$ne" => Some(Operator::NotEqual),
+        _ if name == "$nin" => Some(Operator::NotIn),
+        _ => None,
+    }
+}
+
+fn kind_named(name: &str) -> Option<Kind>
+    ensures { result ≡ kind_named name.now }
+{
+    match name {
+        _ if name == "string" => Some(Kind::String),
+        _ if name == "object" => Some(Kind::Document),
+        _ if name == "array" => Some(Kind::Array),
+        _ if name == "binData" => Some(Kind::Binary),
+        _ if name == "objectId" => Some(Kind::ObjectId),
+        _ if name == "bool" => Some(Kind::Bool),
+        _ if name == "date" => Some(Kind::Date),
+        _ if name == "null" => Some(Kind::Null),
+        _ if name == "int" => Some(Kind::Int32),
+        _ if name == "timestamp" => Some(Kind::Timestamp),
+        _ if name == "long" => Some(Kind::Int64),
+        _ if name == "minKey" => Some(Kind::MinKey),
+        _ if name == "maxKey" => Some(Kind::MaxKey),
+        _ => None,
+    }
+}
+
+fn kind_counted(number: u64) -> Option<Kind>
+    ensures { result ≡ kind_counted number }
+{
+    match number {
+        2 => Some(Kind::String),
+        3 => Some(Kind::Document),
+        4 => Some(Kind::Array),
+        5 => Some(Kind::Binary),
+        7 => Some(Kind::ObjectId),
+        8 => Some(Kind::Bool),
+        9 => Some(Kind::Date),
+        10 => Some(Kind::Null),
+        16 => Some(Kind::Int32),
+        17 => Some(Kind::Timestamp),
+        18 => Some(Kind::Int64),
+        127 => Some(Kind::MaxKey),
+        _ => None,
+    }
+}
+
+fn kind_numbered(number: i64) -> Option<Kind>
+    ensures { result ≡ kind_numbered number }
+{
+    if 0 <= number {
+        return kind_counted(number as u64);
+    }
+    if number == -1 {
+        return Some(Kind::MinKey);
+    }
+    None
+}
+
+/// The one kind that was found.
+fn known(alloc: Global, kind: Option<Kind>) -> Result<Vec<Kind>, Refusal>
+    ensures { Gives (λ v. v.items) (known kind) result }
+{
+    let Some(kind) = kind else {
+        return Err(Refusal::BadValue);
+    };
+    let mut kinds = Vec::with_capacity(alloc, 1)?;
+    kinds.push(kind)?;
+    Ok(kinds)
+}
+
+fn kinds_named(alloc: Global, name: &str) -> Result<Vec<Kind>, Refusal>
+    ensures { Gives (λ v. v.items) (kinds_named name.now) result }
+{
+    if name == "number" {
+        let mut kinds = Vec::with_capacity(alloc, 2)?;
+        kinds.push(Kind::Int32)?;
+        kinds.push(Kind::Int64)?;
+        return Ok(kinds);
+    }
+    known(alloc, kind_named(name))
+}
+
+/// The kinds that a name or a number stands for.
+fn kinds_in(alloc: Global, value: &Value) -> Result<Vec<Kind>, Refusal>
+    ensures { Gives (λ v. v.items) (kinds_in (tree value.now)) result }
+{
+    match value {
+        Value::String(name) => kinds_named(alloc, name.as_str()),
+        Value::Int32(number) => known(alloc, kind_numbered(i64::from(*number))),
+        Value::Int64(number) => known(alloc, kind_numbered(*number)),
+        _ => Err(Refusal::TypeMismatch),
+    }
+}
+
+fn each_kind(alloc: Global, array: &Array) -> Result<Vec<Kind>, Refusal>
+    ensures { Gives (λ v. v.items) (each_kind array.now) result }
+{
+    let mut kinds = Vec::new(alloc);
+    'items: for item in array.items() {
+        let more = kinds_in(alloc, item)?;
+        kinds.extend_from_slice(&more)?;
+    }
+    Ok(kinds)
+}
+
+/// The kinds that `$type` asks for: one, or each of an array.
+pub(crate) fn all_kinds(alloc: Global, value: &Value) -> Result<Vec<Kind>, Refusal>
+    ensures { Gives (λ v. v.items) (all_kinds (tree value.now)) result }
+{
+    match value {
+        Value::Array(array) => each_kind(alloc, array),
+        _ => kinds_in(alloc, value),
+    }
+}
+
+fn counted(number: i64) -> Result<usize, Refusal>
+    ensures { Gives (λ n. n) (counted number) result }
+{
+    if number < 0 {
+        return Err(Refusal::BadValue);
+    }
+    Ok(number as usize)
+}
+
+/// A size: a whole number that isn't negative.
+pub(crate) fn size_in(value: &Value) -> Result<usize, Refusal>
+    ensures { Gives (λ n. n) (size_in (tree value.now)) result }
+{
+    match value {
+        Value::Int32(number) => counted(i64::from(*number)),
+        Value::Int64(number) => counted(*number),
+        _ => Err(Refusal::BadValue),
+    }
+}

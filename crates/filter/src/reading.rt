@@ -1,0 +1,154 @@
+//! Reading of filters.
+
+ghost use Rattle.std.specs.Prelude.{◌≡◌};
+ghost use Rattle.bson.specs.View.{tree};
+ghost use Rattle.path.specs.View.{Gives};
+ghost use Rattle.filter.specs.Reading.{condition, operation, read_filter, read_members, read_filters, read_member, read_operand, read_operators, read_element, read_not};
+ghost use Rattle.filter.specs.View.{rule_of};
+
+use crate::operands::{equal, has_operators, just, path_in, read_operation};
+use crate::operator::operator_of;
+use crate::rule::{Filter, Rule};
+use bson::{Array, Document, Value};
+use path::Refusal;
+use std::alloc::Global;
+
+impl Filter {
+    /// The filter that a document spells, or the first misuse from the left.
+    pub fn read(alloc: Global, document: &Document) -> Result<Filter, Refusal>
+        ensures { Gives (λ f. f) (read_filter document.now) result }
+    {
+        read_filter(alloc, document)
+    }
+}
+
+/// All pairs of a filter.
+#[cycle(reading)]
+fn read_filter(alloc: Global, document: &Document) -> Result<Filter, Refusal>
+    ensures { Gives (λ f. f) (read_filter document.now) result }
+{
+    let mut rules = Vec::with_capacity(alloc, document.len())?;
+    'pairs: for pair in document.pairs() {
+        let rule = read_condition(alloc, pair.name.as_str(), &pair.value)?;
+        rules.push(rule)?;
+    }
+    Ok(Filter { rules })
+}
+
+/// One pair: a list of filters, or a path and what is asked there.
+#[cycle(reading)]
+fn read_condition(alloc: Global, name: &str, value: &Value) -> Result<Rule, Refusal>
+    ensures { Gives rule_of (condition name.now (read_members (tree value.now)) (read_operand (tree value.now))) result }
+{
+    if name == "$and" {
+        return Ok(Rule::All(read_members(alloc, value)?));
+    }
+    if name == "$or" {
+        return Ok(Rule::Any(read_members(alloc, value)?));
+    }
+    if name == "$nor" {
+        return Ok(Rule::NotAny(read_members(alloc, value)?));
+    }
+    let path = path_in(alloc, name)?;
+    Ok(Rule::At(path, read_operand(alloc, value)?))
+}
+
+/// A list of filters that isn't empty.
+#[cycle(reading)]
+fn read_members(alloc: Global, value: &Value) -> Result<Filter, Refusal>
+    ensures { Gives (λ f. f) (read_members (tree value.now)) result }
+{
+    match value {
+        Value::Array(array) if array.is_empty() => Err(Refusal::BadValue),
+        Value::Array(array) => read_filters(alloc, array),
+        _ => Err(Refusal::TypeMismatch),
+    }
+}
+
+#[cycle(reading)]
+fn read_filters(alloc: Global, array: &Array) -> Result<Filter, Refusal>
+    ensures { Gives (λ f. f) (read_filters array.now) result }
+{
+    let mut rules = Vec::with_capacity(alloc, array.len())?;
+    'items: for item in array.items() {
+        let rule = read_member(alloc, item)?;
+        rules.push(rule)?;
+    }
+    Ok(Filter { rules })
+}
+
+#[cycle(reading)]
+fn read_member(alloc: Global, value: &Value) -> Result<Rule, Refusal>
+    ensures { Gives rule_of (read_member (tree value.now)) result }
+{
+    match value {
+        Value::Document(document) => Ok(Rule::All(read_filter(alloc, document)?)),
+        _ => Err(Refusal::TypeMismatch),
+    }
+}
+
+/// What is asked at a path: an operator document, or a value to be equal to.
+#[cycle(reading)]
+fn read_operand(alloc: Global, value: &Value) -> Result<Filter, Refusal>
+    ensures { Gives (λ f. f) (read_operand (tree value.now)) result }
+{
+    match value {
+        Value::Document(document) if has_operators(document) => read_operators(alloc, document),
+        _ => Ok(just(alloc, equal(value)?)?),
+    }
+}
+
+#[cycle(reading)]
+fn read_operators(alloc: Global, document: &Document) -> Result<Filter, Refusal>
+    ensures { Gives (λ f. f) (read_operators document.now) result }
+{
+    let mut rules = Vec::with_capacity(alloc, document.len())?;
+    'pairs: for pair in document.pairs() {
+        let rule = read_operator(alloc, pair.name.as_str(), &pair.value)?;
+        rules.push(rule)?;
+    }
+    Ok(Filter { rules })
+}
+
+#[cycle(reading)]
+fn read_operator(alloc: Global, name: &str, value: &Value) -> Result<Rule, Refusal>
+    ensures { Gives rule_of (operation name.now (read_element (tree value.now)) (read_not (tree value.now)) (tree value.now)) result }
+{
+    if name == "$elemMatch" {
+        return read_element(alloc, value);
+    }
+    if name == "$not" {
+        return read_not(alloc, value);
+    }
+    match operator_of(name) {
+        Some(operator) => read_operation(alloc, operator, value),
+        None => Err(Refusal::BadValue),
+    }
+}
+
+/// What `$elemMatch` asks of one element.
+#[cycle(reading)]
+fn read_element(alloc: Global, value: &Value) -> Result<Rule, Refusal>
+    ensures { Gives rule_of (read_element (tree value.now)) result }
+{
+    match value {
+        Value::Document(document) if has_operators(document) => {
+            Ok(Rule::Element(read_operators(alloc, document)?))
+        }
+        Value::Document(document) => Ok(Rule::ElementDocument(read_filter(alloc, document)?)),
+        _ => Err(Refusal::TypeMismatch),
+    }
+}
+
+#[cycle(reading)]
+fn read_not(alloc: Global, value: &Value) -> Result<Rule, Refusal>
+    ensures { Gives rule_of (read_not (tree value.now)) result }
+{
+    match value {
+        Value::Document(document) if has_operators(document) => {
+            Ok(Rule::NotAll(read_operators(alloc, document)?))
+        }
+        Value::Document(_) => Err(Refusal::BadValue),
+        _ => Err(Refusal::TypeMismatch),
+    }
+}

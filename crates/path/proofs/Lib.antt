@@ -1,0 +1,4 @@
+pub mod Names
+pub mod Indexes
+pub mod Walks
+pub mod EditLaws

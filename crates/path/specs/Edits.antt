@@ -1,0 +1,92 @@
+-- Writing and removing at a path. Both go on in a document by the part's field and in an array by the element that the
+-- part numbers; unlike reaching, they don't look into the elements.
+use Rattle.std.specs.Prelude.{ℕ, zero, suc, ◌+◌, nat_lt, nat_le, if◌then◌else◌, Option, Some, None, option_map, Result, Ok, Err, List, [], ◌∷◌}
+use Rattle.std.specs.Option.{unwrap_or}
+use Rattle.bson.specs.Tree.{Tree, scalar, null, document, array, Pairs, no_pairs, Items, no_items, item}
+use Rattle.bson.specs.Lawful.{levels}
+use Rattle.bson.specs.Lookup.{lookup}
+use Rattle.bson.specs.Edits.{items_len, item_at, with_item, put, cut}
+use Rattle.path.specs.Parts.{index_of}
+use Rattle.path.specs.declared.TheConstants.{MOST_NULLS}
+use Rattle.path.specs.declared.refusal.Refusal.{Refusal}
+use Rattle.path.specs.declared.refusal.Refusal.TheVariants as refusals
+
+abbrev pub if_ok : {A B : Type 0} → Result A Refusal → (A → Result B Refusal) → Result B Refusal
+if_ok (Ok a) f = f a
+if_ok (Err e) f = Err e
+
+-- ---- writing
+
+-- with this value at an index; where it lies past the end, nulls come before it
+abbrev pub put_item : Items → ℕ → Tree → Items
+put_item no_items zero u = item u no_items
+put_item no_items (suc i) u = item (scalar null) (put_item no_items i u)
+put_item (item t ts) zero u = item u ts
+put_item (item t ts) (suc i) u = item t (put_item ts i u)
+
+-- what may stand in a document or an array: it nests at most so many levels
+abbrev pub within : ℕ → Result Tree Refusal → Result Tree Refusal
+within most (Ok u) = if nat_le (levels u) most then Ok u else Err refusals.BadValue
+within most (Err e) = Err e
+
+-- `made` gives what is to stand at the field from what stands there, if anything does. A document is at level 1 at
+-- least, and no document nests more than 100 levels.
+abbrev pub set_field : (Option Tree → Result Tree Refusal) → List ℕ → Pairs → Result Pairs Refusal
+set_field made name ps = if_ok (within 99 (made (lookup ps name))) (λ u. Ok (put ps name u))
+
+-- an array is at level 2 at least
+abbrev pub set_item_at : (Option Tree → Result Tree Refusal) → ℕ → Items → Result Items Refusal
+set_item_at made i ts =
+    if nat_lt (items_len ts + MOST_NULLS) i then Err refusals.BadValue else
+    if_ok (within 98 (made (item_at ts i))) (λ u. Ok (put_item ts i u))
+
+abbrev pub set_item : (Option Tree → Result Tree Refusal) → Option ℕ → Items → Result Items Refusal
+set_item made None ts = Err refusals.PathNotViable
+set_item made (Some i) ts = set_item_at made i ts
+
+-- What stands at the front of these parts once `new` stands at their end. Where nothing stands there, documents are
+-- made on the way. An array needs a part that is an index. Any other value on the way is refused.
+abbrev pub set : List (List ℕ) → Tree → Option Tree → Result Tree Refusal
+set [] new old = Ok new
+set (name ∷ rest) new None = if_ok (set_field (set rest new) name no_pairs) (λ ps. Ok (document ps))
+set (name ∷ rest) new (Some (scalar s)) = Err refusals.PathNotViable
+set (name ∷ rest) new (Some (document ps)) = if_ok (set_field (set rest new) name ps) (λ qs. Ok (document qs))
+set (name ∷ rest) new (Some (array ts)) = if_ok (set_item (set rest new) (index_of name) ts) (λ us. Ok (array us))
+
+abbrev pub set_at : List (List ℕ) → Tree → Pairs → Result Pairs Refusal
+set_at [] new ps = Ok ps
+set_at (name ∷ rest) new ps = set_field (set rest new) name ps
+
+-- ---- removing
+
+abbrev pub put_or_cut : List ℕ → Pairs → Option Tree → Pairs
+put_or_cut name ps None = cut ps name
+put_or_cut name ps (Some w) = put ps name w
+
+abbrev pub cut_found : (Tree → Option Tree) → List ℕ → Pairs → Option Tree → Pairs
+cut_found left name ps None = ps
+cut_found left name ps (Some u) = put_or_cut name ps (left u)
+
+-- `left` gives what is left of what stands at the field, if anything is
+abbrev pub cut_field : (Tree → Option Tree) → List ℕ → Pairs → Pairs
+cut_field left name ps = cut_found left name ps (lookup ps name)
+
+abbrev pub with_found : (Tree → Option Tree) → ℕ → Items → Option Tree → Items
+with_found left i ts None = ts
+with_found left i ts (Some u) = with_item ts i (unwrap_or (left u) (scalar null))
+
+abbrev pub cut_item : (Tree → Option Tree) → Option ℕ → Items → Items
+cut_item left None ts = ts
+cut_item left (Some i) ts = with_found left i ts (item_at ts i)
+
+-- What is left of a value without what stands at the end of these parts: None where it is the value itself. A field
+-- goes, an element becomes null, and where the way ends before, nothing changes.
+abbrev pub cut_off : List (List ℕ) → Tree → Option Tree
+cut_off [] t = None
+cut_off (name ∷ rest) (scalar s) = Some (scalar s)
+cut_off (name ∷ rest) (document ps) = Some (document (cut_field (cut_off rest) name ps))
+cut_off (name ∷ rest) (array ts) = Some (array (cut_item (cut_off rest) (index_of name) ts))
+
+abbrev pub cut_at : List (List ℕ) → Pairs → Pairs
+cut_at [] ps = ps
+cut_at (name ∷ rest) ps = cut_field (cut_off rest) name ps

@@ -1,0 +1,29 @@
+//! Paths: what a path reaches in a document, and writing and removing at one.
+//!
+//! `part` has a path's names, `parsing` reads a path, `reaching` finds what it reaches, `setting` and `removing`
+//! change a document at it; `refusal` is the table of all refusals of commands.
+#![tactic(auto)]
+
+mod fault;
+mod holding;
+pub mod laws;
+mod parsing;
+mod part;
+mod reaching;
+mod refusal;
+mod removing;
+mod setting;
+
+pub use fault::PathFault;
+pub use parsing::Path;
+pub use part::Part;
+pub use reaching::{Reached, numbered, reach};
+pub use refusal::Refusal;
+pub use removing::{remove_at, without};
+pub use setting::{with, write_at};
+
+/// The most bytes of a path.
+pub const PATH_LIMIT: usize = 255;
+
+/// The most nulls that a write past the end of an array puts before its value.
+pub const MOST_NULLS: usize = 1000;

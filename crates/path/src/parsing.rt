@@ -1,0 +1,175 @@
+//! Paths and their reading.
+
+ghost use Rattle.std.specs.Prelude.{◌≡◌, ◌∷◌, IfOk, map};
+ghost use Rattle.std.specs.List.{list_any};
+ghost use Rattle.path.specs.Parts.{parts_of, path_fault, path_of, is_empty, begins_with_dollar, has_zero, is_front};
+ghost use Rattle.path.specs.View.{ReadsAs};
+
+use crate::PATH_LIMIT;
+use crate::fault::PathFault;
+use crate::part::Part;
+use bson::NoMemory;
+use std::alloc::Global;
+use std::marker::Model;
+
+/// A path: one part or more.
+#[derive(Debug, Drop)]
+pub struct Path {
+    parts: Vec<Part>,
+}
+
+impl Model for Path {
+    ghost use Rattle.std.specs.Prelude.{◌≢◌, ℕ, List, []};
+
+    ghost Value = { List (List ℕ) };
+
+    ghost view = { λ a. a.parts.items };
+
+    ghost invariant = { λ a. a.parts.items ≢ [] };
+}
+
+/// What stands before, between and behind the dots.
+fn split(alloc: Global, text: &str) -> Result<Vec<&str>, NoMemory>
+    ensures { IfOk result (λ v. map (λ n. n.now) v.items ≡ parts_of text.now) }
+{
+    text.split('.').collect(alloc)
+}
+
+/// The first of the faults that a text with these parts has.
+fn fault_of(text: &str, parts: &[&str]) -> Option<PathFault>
+    ensures { result ≡ path_fault text.now (map (λ n. n.now) parts.now) }
+{
+    if is_empty(text) {
+        return Some(PathFault::Empty);
+    }
+    if any_is_empty(parts) {
+        return Some(PathFault::EmptyPart);
+    }
+    if any_begins_with_dollar(parts) {
+        return Some(PathFault::Dollar);
+    }
+    if PATH_LIMIT < text.len() {
+        return Some(PathFault::TooLong);
+    }
+    if any_has_zero(parts) {
+        return Some(PathFault::Zero);
+    }
+    None
+}
+
+fn any_is_empty(parts: &[&str]) -> bool
+    ensures { result ≡ list_any is_empty (map (λ n. n.now) parts.now) }
+{
+    'parts: for part in parts {
+        if is_empty(part) {
+            return true;
+        }
+    }
+    false
+}
+
+fn any_begins_with_dollar(parts: &[&str]) -> bool
+    ensures { result ≡ list_any begins_with_dollar (map (λ n. n.now) parts.now) }
+{
+    'parts: for part in parts {
+        if begins_with_dollar(part) {
+            return true;
+        }
+    }
+    false
+}
+
+fn any_has_zero(parts: &[&str]) -> bool
+    ensures { result ≡ list_any has_zero (map (λ n. n.now) parts.now) }
+{
+    'parts: for part in parts {
+        if has_zero(part) {
+            return true;
+        }
+    }
+    false
+}
+
+fn is_empty(part: &str) -> bool
+    ensures { result ≡ is_empty part.now }
+{
+    match part.as_bytes() {
+        [] => true,
+        _ => false,
+    }
+}
+
+fn begins_with_dollar(part: &str) -> bool
+    ensures { result ≡ begins_with_dollar part.now }
+{
+    match part.as_bytes() {
+        [first, ..] => *first == b'$',
+        [] => false,
+    }
+}
+
+fn has_zero(part: &str) -> bool
+    ensures { result ≡ has_zero part.now }
+{
+    part.as_bytes().contains(&0)
+}
+
+impl Path {
+    /// The path that a text writes, or the first of the faults that it has.
+    pub fn parse(alloc: Global, text: &str) -> Result<Path, PathFault>
+        ensures { ReadsAs (path_of text.now) result }
+    {
+        let names = split(alloc, text)?;
+        if let Some(fault) = fault_of(text, &names) {
+            return Err(fault);
+        }
+        let mut parts = Vec::with_capacity(alloc, names.len())?;
+        'names: for name in &names {
+            parts.push(Part::new(alloc, name)?)?;
+        }
+        Ok(Path { parts })
+    }
+
+    /// The parts, in order.
+    pub fn parts(&self) -> &[Part]
+        ensures { result.now ≡ self.now }
+    {
+        &self.parts
+    }
+
+    /// The first part and those behind it.
+    pub fn split_first(&self) -> (&Part, &[Part])
+        ensures { result.0.now ∷ result.1.now ≡ self.now }
+    {
+        match self.parts.as_slice() {
+            [part, rest @ ..] => (part, rest),
+            [] => unreachable!(),
+        }
+    }
+
+    /// An equal path of its own.
+    pub fn copy(&self) -> Result<Path, NoMemory>
+        ensures { IfOk result (λ p. p ≡ self.now) }
+    {
+        let mut parts = Vec::with_capacity(*self.parts.allocator(), self.parts.len())?;
+        'parts: for part in &self.parts {
+            parts.push(part.copy()?)?;
+        }
+        Ok(Path { parts })
+    }
+
+    /// Whether it is the other path or leads to it.
+    pub fn is_front_of(&self, other: &Path) -> bool
+        ensures { result ≡ is_front self.now other.now }
+    {
+        'parts: for (i, part) in self.parts.iter().enumerate() {
+            let Some(second) = other.parts.get(i) else {
+                return false;
+            };
+            if part.as_str() != second.as_str() {
+                return false;
+            }
+        }
+        true
+    }
+}
