@@ -17,6 +17,7 @@ fn words(code: i32) -> (&'static str, &'static str) {
         73 => ("InvalidNamespace", "bad collection name"),
         9001 => ("KeyTooLong", "key too long"),
         9002 => ("TooMany", "too many"),
+        9003 => ("Full", "file is full"),
         9004 => ("OutOfMemory", "out of memory"),
         10334 => ("BSONObjectTooLarge", "document too large"),
         11000 => ("DuplicateKey", "duplicate key"),

@@ -4,3 +4,5 @@
 
 #[cfg(test)]
 mod growths;
+#[cfg(test)]
+mod stops;

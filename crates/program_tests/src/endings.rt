@@ -4,6 +4,7 @@ use crate::devices::Broken;
 use by_hand::*;
 use server::program::run;
 use std::alloc::{AllocError, Global};
+use std::fs;
 use std::test::*;
 
 /// How the program ended, and what it wrote.
@@ -38,6 +39,14 @@ fn ended(rt: &HostRuntime, all: &[&str], input: &[u8]) -> Result<Ending, AllocEr
     })
 }
 
+/// `docpage exec FILE` over this input, where there is no such file yet. It takes the file away again.
+fn new_file(rt: &HostRuntime, file: &str, input: &[u8]) -> Result<Ending, AllocError> {
+    let _ = fs::remove_file(rt, file);
+    let all = ended(rt, &["docpage", "exec", file], input);
+    let _ = fs::remove_file(rt, file);
+    all
+}
+
 /// A frame of `ping`.
 fn ping(alloc: Global) -> Result<Vec<u8>, AllocError> {
     let body = Bytes::new(alloc).int32("ping", 1).text("$db", "t");
@@ -49,10 +58,34 @@ fn pong(alloc: Global) -> Result<Vec<u8>, AllocError> {
     frame(alloc, 1, 7, &Bytes::new(alloc).int32("ok", 1))
 }
 
+fn insert(alloc: Global) -> Result<Vec<u8>, AllocError> {
+    let documents = [Bytes::new(alloc).int32("_id", 1)];
+    let body = Bytes::new(alloc)
+        .text("insert", "c")
+        .documents("documents", &documents)
+        .text("$db", "t");
+    frame(alloc, 7, 0, &body)
+}
+
+fn find(alloc: Global) -> Result<Vec<u8>, AllocError> {
+    let body = Bytes::new(alloc).text("find", "c").text("$db", "t");
+    frame(alloc, 7, 0, &body)
+}
+
+/// The first reply, to a find of these documents.
+fn found(alloc: Global, documents: &[Bytes]) -> Result<Vec<u8>, AllocError> {
+    let cursor = Bytes::new(alloc)
+        .documents("firstBatch", documents)
+        .int64("id", 0)
+        .text("ns", "t.c");
+    let body = Bytes::new(alloc).document("cursor", &cursor).int32("ok", 1);
+    frame(alloc, 1, 7, &body)
+}
+
 #[test]
 fn the_end_of_the_input(rt: HostRuntime) -> Result<(), Fail> {
     let alloc = rt.alloc();
-    let all = ended(&rt, &["docpage", "exec"], &ping(alloc)?)?;
+    let all = new_file(&rt, "end.docpage", &ping(alloc)?)?;
     assert_eq!(rt; all.status, 0);
     assert_eq!(rt; all.output.as_slice(), pong(alloc)?.as_slice());
     assert!(rt; all.errors.is_empty());
@@ -64,7 +97,7 @@ fn the_end_within_a_message(rt: HostRuntime) -> Result<(), Fail> {
     let alloc = rt.alloc();
     let mut input = ping(alloc)?;
     input.extend_from_slice(&[60, 0, 0, 0, 1])?;
-    let all = ended(&rt, &["docpage", "exec"], &input)?;
+    let all = new_file(&rt, "within.docpage", &input)?;
     assert_eq!(rt; all.status, 0);
     assert_eq!(rt; all.output.as_slice(), pong(alloc)?.as_slice());
     assert!(rt; all.errors.is_empty());
@@ -72,12 +105,71 @@ fn the_end_within_a_message(rt: HostRuntime) -> Result<(), Fail> {
 }
 
 #[test]
+fn documents_stay_in_the_file(rt: HostRuntime) -> Result<(), Fail> {
+    let alloc = rt.alloc();
+    let file = "stay.docpage";
+    let _ = fs::remove_file(&rt, file);
+    let first = ended(&rt, &["docpage", "exec", file], &insert(alloc)?)?;
+    assert_eq!(rt; first.status, 0);
+    assert_eq!(rt; first.output.len(), 41);
+    let second = ended(&rt, &["docpage", "exec", file], &find(alloc)?)?;
+    let _ = fs::remove_file(&rt, file);
+    assert_eq!(rt; second.status, 0);
+    let wanted = found(alloc, &[Bytes::new(alloc).int32("_id", 1)])?;
+    assert_eq!(rt; second.output.as_slice(), wanted.as_slice());
+    Ok(())
+}
+
+#[test]
+fn an_empty_file(rt: HostRuntime) -> Result<(), Fail> {
+    let alloc = rt.alloc();
+    let file = "empty.docpage";
+    let none: [u8; 0] = [];
+    fs::write(&rt, file, none.as_slice())?;
+    let all = ended(&rt, &["docpage", "exec", file], &find(alloc)?)?;
+    let left = fs::metadata(&rt, file)?.len();
+    let _ = fs::remove_file(&rt, file);
+    assert_eq!(rt; all.status, 0);
+    let nothing: [Bytes; 0] = [];
+    assert_eq!(rt; all.output.as_slice(), found(alloc, &nothing)?.as_slice());
+    assert_eq!(rt; left, 0);
+    Ok(())
+}
+
+#[test]
+fn a_file_of_other_bytes(rt: HostRuntime) -> Result<(), Fail> {
+    let file = "other.docpage";
+    fs::write(&rt, file, [0x41u8; 1_024].as_slice())?;
+    let all = ended(&rt, &["docpage", "exec", file], &[25, 0, 0, 0])?;
+    let _ = fs::remove_file(&rt, file);
+    assert_eq!(rt; all.status, 1);
+    assert!(rt; all.output.is_empty());
+    assert_eq!(rt; all.errors.as_slice(), b"docpage: NotADatabase\n".as_slice());
+    Ok(())
+}
+
+#[test]
+fn a_file_in_no_folder(rt: HostRuntime) -> Result<(), Fail> {
+    let all = ended(
+        &rt,
+        &["docpage", "exec", "no_such_folder/file.docpage"],
+        &[25, 0, 0, 0],
+    )?;
+    assert_eq!(rt; all.status, 1);
+    assert!(rt; all.output.is_empty());
+    assert_eq!(rt; all.errors.as_slice(), b"docpage: Device\n".as_slice());
+    Ok(())
+}
+
+#[test]
 fn words_of_no_program(rt: HostRuntime) -> Result<(), Fail> {
-    let cases: [&[&str]; 5] = [
+    let cases: [&[&str]; 7] = [
         &["docpage"],
         &["docpage", "dump"],
-        &["docpage", "exec", "more"],
+        &["docpage", "exec"],
+        &["docpage", "exec", "a.docpage", "more"],
         &["docpage", "exec", "--more"],
+        &["docpage", "exec", "no_such_folder/file.docpage", "more"],
         &["docpage", "--help"],
     ];
     for all in cases {
@@ -94,7 +186,7 @@ fn a_fault_after_a_message(rt: HostRuntime) -> Result<(), Fail> {
     let alloc = rt.alloc();
     let mut input = ping(alloc)?;
     input.extend_from_slice(&[25, 0, 0, 0])?;
-    let all = ended(&rt, &["docpage", "exec"], &input)?;
+    let all = new_file(&rt, "fault.docpage", &input)?;
     assert_eq!(rt; all.status, 1);
     assert_eq!(rt; all.output.as_slice(), pong(alloc)?.as_slice());
     assert_eq!(rt; all.errors.as_slice(), b"docpage: Length\n".as_slice());
@@ -104,10 +196,12 @@ fn a_fault_after_a_message(rt: HostRuntime) -> Result<(), Fail> {
 #[test]
 fn an_input_that_fails(rt: HostRuntime) -> Result<(), Fail> {
     let alloc = rt.alloc();
-    let words = words(alloc, &["docpage", "exec"])?;
+    let words = words(alloc, &["docpage", "exec", "input.docpage"])?;
     let mut output = Vec::new(alloc);
     let mut errors = Vec::new(alloc);
-    assert_eq!(rt; run(&rt, &words, &mut Broken, &mut output, &mut errors), 1);
+    let status = run(&rt, &words, &mut Broken, &mut output, &mut errors);
+    let _ = fs::remove_file(&rt, "input.docpage");
+    assert_eq!(rt; status, 1);
     assert!(rt; output.is_empty());
     assert_eq!(rt; errors.as_slice(), b"docpage: Device\n".as_slice());
     Ok(())
@@ -116,10 +210,11 @@ fn an_input_that_fails(rt: HostRuntime) -> Result<(), Fail> {
 #[test]
 fn an_output_that_fails(rt: HostRuntime) -> Result<(), Fail> {
     let alloc = rt.alloc();
-    let words = words(alloc, &["docpage", "exec"])?;
+    let words = words(alloc, &["docpage", "exec", "output.docpage"])?;
     let input = ping(alloc)?;
     let mut errors = Vec::new(alloc);
     let status = run(&rt, &words, &mut input.as_slice(), &mut Broken, &mut errors);
+    let _ = fs::remove_file(&rt, "output.docpage");
     assert_eq!(rt; status, 1);
     assert_eq!(rt; errors.as_slice(), b"docpage: Device\n".as_slice());
     Ok(())

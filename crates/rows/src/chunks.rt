@@ -1,7 +1,9 @@
 //! A stream that is cut anywhere.
 
+use crate::session::CONFIG;
 use by_hand::*;
 use engine::ConnId;
+use page::MemDisk;
 use server::*;
 use std::alloc::{AllocError, Global};
 use std::test::*;
@@ -15,7 +17,9 @@ fn find(alloc: Global) -> Result<Vec<u8>, AllocError> {
 fn answers_cut(alloc: Global, message: &[u8], at: usize, wanted: &[u8]) -> Result<bool, Fail> {
     let connection = ConnId::new(0).ok_or("connection 0")?;
     let (front, rest) = message.split_at_checked(at).ok_or("no such cut")?;
-    let mut core = Core::new(alloc);
+    let Ok(mut core) = Core::open(alloc, MemDisk::new(alloc), CONFIG) else {
+        return Err(Fail::from("zeros don't open"));
+    };
     core.feed(connection, front)?;
     if core.waiting(connection) {
         return Ok(false);
@@ -56,7 +60,9 @@ fn every_cut(rt: HostRuntime) -> Result<(), Fail> {
 fn a_turn_takes_one_message(rt: HostRuntime) -> Result<(), Fail> {
     let alloc = rt.alloc();
     let connection = ConnId::new(0).ok_or("connection 0")?;
-    let mut core = Core::new(alloc);
+    let Ok(mut core) = Core::open(alloc, MemDisk::new(alloc), CONFIG) else {
+        return Err(Fail::from("zeros don't open"));
+    };
     let message = find(alloc)?;
     core.feed(connection, &message)?;
     core.feed(connection, &message)?;
@@ -72,7 +78,9 @@ fn a_turn_takes_one_message(rt: HostRuntime) -> Result<(), Fail> {
 fn a_fault_closes_until_the_end(rt: HostRuntime) -> Result<(), Fail> {
     let alloc = rt.alloc();
     let connection = ConnId::new(0).ok_or("connection 0")?;
-    let mut core = Core::new(alloc);
+    let Ok(mut core) = Core::open(alloc, MemDisk::new(alloc), CONFIG) else {
+        return Err(Fail::from("zeros don't open"));
+    };
     core.feed(connection, &[0x19, 0, 0, 0])?;
     assert!(rt; core.waiting(connection));
     assert_eq!(rt; core.turn()?.closed.len(), 1);

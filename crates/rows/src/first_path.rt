@@ -1,8 +1,9 @@
 //! ping, insert and find over one collection.
 
-use crate::session::Session;
+use crate::session::{CONFIG, Session};
 use by_hand::*;
 use engine::ConnId;
+use page::MemDisk;
 use server::*;
 use std::alloc::{AllocError, Global};
 use std::test::*;
@@ -59,7 +60,10 @@ fn driven(rt: &HostRuntime, size: usize) -> Result<DriveOut, Fail> {
     for _ in 0..4 {
         steps.push(Step::Turn)?;
     }
-    Ok(Core::new(rt.alloc()).drive(rt.alloc(), &steps))
+    let Ok(mut core) = Core::open(rt.alloc(), MemDisk::new(rt.alloc()), CONFIG) else {
+        return Err(Fail::from("zeros don't open"));
+    };
+    Ok(core.drive(rt.alloc(), &steps))
 }
 
 fn is_first_path(rt: &HostRuntime, out: &DriveOut) -> Result<bool, Fail> {

@@ -1,9 +1,10 @@
 //! Sizes, levels and counts at their limits.
 
-use crate::session::Session;
+use crate::session::{CONFIG, Session};
 use by_hand::*;
 use engine::ConnId;
 use op_msg::FrameFault;
+use page::MemDisk;
 use server::*;
 use std::alloc::{AllocError, Global};
 use std::test::*;
@@ -146,7 +147,9 @@ fn the_longest_message(rt: HostRuntime) -> Result<(), Fail> {
 /// The fault for which a turn closes a connection that these bytes came on.
 fn fault(alloc: Global, bytes: &[u8]) -> Result<Option<FrameFault>, Fail> {
     let connection = ConnId::new(0).ok_or("connection 0")?;
-    let mut core = Core::new(alloc);
+    let Ok(mut core) = Core::open(alloc, MemDisk::new(alloc), CONFIG) else {
+        return Err(Fail::from("zeros don't open"));
+    };
     core.feed(connection, bytes)?;
     let out = core.turn()?;
     if !out.replies.is_empty() {

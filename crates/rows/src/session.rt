@@ -1,30 +1,67 @@
 //! A server with one connection, asked command by command.
 
+ghost use Rattle.std.specs.Prelude.{IfSome};
+ghost use Rattle.page.specs.Memory.{memory_history};
+ghost use Rattle.server.specs.Durable.{IsSound};
+
 use by_hand::*;
 use engine::ConnId;
+use page::MemDisk;
 use server::*;
 use std::alloc::Global;
+
+/// A file has at most the pages that the format allows.
+pub const CONFIG: Config = Config {
+    max_pages: 1_048_576,
+};
 
 #[derive(Drop)]
 pub struct Session {
     alloc: Global,
-    core: Core,
+    pub core: Core<MemDisk>,
     connection: ConnId,
     asked: u32,
 }
 
 impl Session {
-    pub fn new(alloc: Global) -> Option<Session> {
-        Some(Session {
-            alloc,
-            core: Core::new(alloc),
-            connection: ConnId::new(0)?,
-            asked: 0,
-        })
+    /// A session over a disk of zeros.
+    pub fn new(alloc: Global) -> Option<Session>
+        ensures { IfSome result (λ session. IsSound memory_history session.core) }
+    {
+        Session::over(alloc, MemDisk::new(alloc))
+    }
+
+    /// A session over a disk.
+    pub fn over(alloc: Global, disk: MemDisk) -> Option<Session>
+        ensures { IfSome result (λ session. IsSound memory_history session.core) }
+    {
+        let connection = ConnId::new(0)?;
+        match Core::open(alloc, disk, CONFIG) {
+            Ok(core) => Some(Session {
+                alloc,
+                core,
+                connection,
+                asked: 0,
+            }),
+            Err(_) => None,
+        }
+    }
+
+    pub fn into_disk(self) -> MemDisk {
+        let Session {
+            alloc: _,
+            core,
+            connection: _,
+            asked: _,
+        } = self;
+        core.into_disk()
     }
 
     /// The document that a command is answered with, in a frame with the next reply number.
-    fn ask(&mut self, body: &Bytes) -> Option<Vec<u8>> {
+    fn ask(&mut self, body: &Bytes) -> Option<Vec<u8>>
+        requires { IsSound memory_history self.old.core }
+        ensures { IsSound memory_history self.new.core }
+    {
         let message = frame(self.alloc, 1_000, 0, body).ok()?;
         let reply = self.send(&message)?;
         self.asked = self.asked.saturating_add(1);
@@ -36,12 +73,18 @@ impl Session {
     }
 
     /// The length of the document that a command is answered with.
-    pub fn answer_len(&mut self, body: &Bytes) -> usize {
+    pub fn answer_len(&mut self, body: &Bytes) -> usize
+        requires { IsSound memory_history self.old.core }
+        ensures { IsSound memory_history self.new.core }
+    {
         self.ask(body).map_or(0, |document| document.len())
     }
 
     /// The one frame that these bytes are answered with, in one turn.
-    pub fn send(&mut self, bytes: &[u8]) -> Option<Vec<u8>> {
+    pub fn send(&mut self, bytes: &[u8]) -> Option<Vec<u8>>
+        requires { IsSound memory_history self.old.core }
+        ensures { IsSound memory_history self.new.core }
+    {
         self.core.feed(self.connection, bytes).ok()?;
         let mut out = self.core.turn().ok()?;
         if out.replies.len() > 1 || !out.closed.is_empty() {
@@ -52,7 +95,10 @@ impl Session {
     }
 
     /// Whether a command is answered with this document.
-    pub fn answers(&mut self, body: &Bytes, wanted: &Bytes) -> bool {
+    pub fn answers(&mut self, body: &Bytes, wanted: &Bytes) -> bool
+        requires { IsSound memory_history self.old.core }
+        ensures { IsSound memory_history self.new.core }
+    {
         let reply = self.ask(body);
         match (reply, wanted.whole()) {
             (Some(reply), Ok(wanted)) => reply.as_slice() == wanted.as_slice(),
@@ -61,7 +107,10 @@ impl Session {
     }
 
     /// Whether a command is refused with this number.
-    pub fn refuses(&mut self, body: &Bytes, code: i32) -> bool {
+    pub fn refuses(&mut self, body: &Bytes, code: i32) -> bool
+        requires { IsSound memory_history self.old.core }
+        ensures { IsSound memory_history self.new.core }
+    {
         let wanted = refusal(self.alloc, code);
         self.answers(body, &wanted)
     }

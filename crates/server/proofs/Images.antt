@@ -1,11 +1,13 @@
 -- What images hold, and which states stand among which.
-use Rattle.std.proofs.Common.{◌≡◌, inl, ℕ, List, [], ◌∷◌, ◌++◌, refl, sym, subst, arith}
+use Rattle.std.proofs.Common.{⊎_elim, inr, ap, ◌∙◌, ◌≡◌, inl, ℕ, List, [], ◌∷◌, ◌++◌, refl, sym, subst, arith}
 use Rattle.std.proofs.lemmas.List.Elements.{Contains-append_left, Contains-append_right}
 use Rattle.std.specs.Prelude.{◌⊎◌, Contains}
 use Rattle.page.specs.History.{History}
 use Rattle.page.specs.Crash.{GoesOn, LeavesOnly, LeavesNow}
-use Rattle.page.proofs.Moments.{goes_nowhere, started}
-use Rattle.engine.specs.World.{Collection, World}
+use Rattle.page.proofs.Moments.{goes_nowhere, started, leaves_weaker}
+use Rattle.engine.specs.World.{Collection, World, settled, forget}
+use Rattle.op_msg.specs.declared.fault.FrameFault.{FrameFault}
+use Rattle.server.specs.Turn.{forget_all}
 use Rattle.engine.specs.Durable.{Holds}
 use Rattle.engine.specs.Durable as engines
 use Rattle.engine.specs.View.{world, begun}
@@ -25,6 +27,45 @@ stays history old new Q sound idle same running =
     subst (λ (h : History). LeavesOnly (engines.past history old) h (λ image. Holds image (world old).state ⊎ Q image)) (sym same)
     (started (engines.past history old) (λ image. Holds image (world old).state ⊎ Q image)
     (λ k image is. inl (subst (λ (w : World). Holds image w.state) idle (sound.holds running k image is))))
+
+-- a turn that is committed, or that the device cut
+pub moved : {D : Type 0} (history : D → History) (old mid new : Engine D) → engines.past history mid ≡ engines.past history old → begun mid ≡ world old → world new ≡ settled (world mid)
+    → LeavesOnly (engines.past history mid) (engines.past history new) (λ image. Holds image (begun mid).state ⊎ Holds image (world mid).state)
+    → LeavesOnly (engines.past history old) (engines.past history new) (λ image. Holds image (world old).state ⊎ Holds image (world new).state)
+moved history old mid new same before after leaves =
+    subst (λ (h : History). LeavesOnly h (engines.past history new) (λ image. Holds image (world old).state ⊎ Holds image (world new).state)) same
+    (leaves_weaker (engines.past history mid) (engines.past history new) (λ image. Holds image (begun mid).state ⊎ Holds image (world mid).state) (λ image. Holds image (world old).state ⊎ Holds image (world new).state)
+    (λ image. ⊎_elim
+    (λ holds. inl (subst (λ (w : World). Holds image w.state) before holds))
+    (λ holds. inr (subst (λ (w : World). Holds image w.state) (sym after) holds)))
+    leaves)
+
+-- a turn that is undone by its commit
+pub moved_back : {D : Type 0} (history : D → History) (old mid new : Engine D) → engines.past history mid ≡ engines.past history old → begun mid ≡ world old
+    → LeavesOnly (engines.past history mid) (engines.past history new) (λ image. Holds image (begun mid).state)
+    → LeavesOnly (engines.past history old) (engines.past history new) (λ image. Holds image (world old).state ⊎ Holds image (world new).state)
+moved_back history old mid new same before leaves =
+    subst (λ (h : History). LeavesOnly h (engines.past history new) (λ image. Holds image (world old).state ⊎ Holds image (world new).state)) same
+    (leaves_weaker (engines.past history mid) (engines.past history new) (λ image. Holds image (begun mid).state) (λ image. Holds image (world old).state ⊎ Holds image (world new).state)
+    (λ image holds. inl (subst (λ (w : World). Holds image w.state) before holds))
+    leaves)
+
+-- a disk that stays as it is goes on
+pub on_same : (old new : History) → new ≡ old → GoesOn old new
+on_same old new same = subst (λ (h : History). GoesOn old h) (sym same) (goes_nowhere old)
+
+forget_all_state : (w : World) (closed : List (ℕ × FrameFault)) → (forget_all w closed).state ≡ w.state
+forget_all_state w [] = refl
+forget_all_state w (f ∷ fs) = forget_all_state (forget w f.0) fs
+
+-- the cursors of closed connections end
+pub forgotten : {D : Type 0} (history : D → History) (old mid new : Engine D) (closed : List (ℕ × FrameFault)) → engines.past history new ≡ engines.past history mid → world new ≡ forget_all (world mid) closed
+    → LeavesOnly (engines.past history old) (engines.past history mid) (λ image. Holds image (world old).state ⊎ Holds image (world mid).state)
+    → LeavesOnly (engines.past history old) (engines.past history new) (λ image. Holds image (world old).state ⊎ Holds image (world new).state)
+forgotten history old mid new closed same is leaves =
+    let state : (world new).state ≡ (world mid).state = ap (λ (w : World). w.state) is ∙ forget_all_state (world mid) closed in
+    subst (λ (h : History). LeavesOnly (engines.past history old) h (λ image. Holds image (world old).state ⊎ Holds image (world new).state)) (sym same)
+    (subst (λ (x : List Collection). LeavesOnly (engines.past history old) (engines.past history mid) (λ image. Holds image (world old).state ⊎ Holds image x)) (sym state) leaves)
 
 pub unmoved : {D : Type 0} (history : D → History) (old new : Core D) → IsSound history old → past history new ≡ past history old → GoesSafely history old new
 unmoved history old new sound same = record {

@@ -1,4 +1,5 @@
 pub mod Refusing
+pub mod BodyAnswers
 pub mod TurnParts
 pub mod Images
 pub mod Histories

@@ -1,18 +1,25 @@
-use Rattle.std.proofs.Common.{◌≡◌, List, length, inr, refl, sym, subst, ap, ◌∙◌, rules}
+use Rattle.std.proofs.Common.{◌≡◌, ◌<◌, ℕ, List, [], ◌++◌, length, inl, inr, ⊎_elim, refl, sym, subst, ap, ◌∙◌, rules}
 use Rattle.std.proofs.lemmas.List.{length-map}
-use Rattle.engine.specs.View.{world}
-use Rattle.engine.specs.World.{undone}
+use Rattle.std.specs.Prelude.{Result, Err, Vec}
+use Rattle.std.specs.Global.{Global}
+use Rattle.roots.specs.declared.store.CommitFault.{CommitFault}
+use Rattle.engine.specs.View.{world, begun}
+use Rattle.engine.specs.World.{World, undone}
+use Rattle.page.specs.History.{History}
 use Rattle.op_msg.specs.Request.{respelled}
 use Rattle.server.specs.declared.link.Link.{Link}
-use Rattle.engine.specs.Durable.{Holds}
-use Rattle.server.specs.Turn.{Runs, calls, refused_frames}
+use Rattle.engine.specs.Durable.{Holds, past}
+use Rattle.server.specs.Turn.{Runs, calls, frames_of, refused_frames}
 use Rattle.server.specs.Taking.{HaveRoom, full_body, respelled_frames}
 use Rattle.server.specs.Durable.{HasNoRoom}
 use Rattle.server.specs.View.{frames_in}
 use Rattle.engine.specs.declared.refusal.Refusal.TheVariants.{OutOfMemory, Full}
-use Rattle.server.proofs.Images.{stays}
+use Rattle.server.proofs.Images.{stays, moved, moved_back, on_same}
 use Rattle.server.proofs.Refusing.{refused_room, refused_respelled, whole}
 use Rattle.server.proofs.serving.run_messages.Goals as goal
+
+abbrev failed : CommitFault → Result (Unit {0}) CommitFault
+failed fault = Err fault
 
 pub returns-then-not-serve_links-clause-any_moment : goal.returns-then-not-serve_links-clause-any_moment
 returns-then-not-serve_links-clause-any_moment g c =
@@ -34,14 +41,15 @@ returns-in-Err-Full-clause-settles g c =
     ∙ length-map (frames_in before) (λ f. (f.0, respelled f.1 full_body)) ∙ length-map before (λ f. (f.0, f.1.items)) in
     let long : length new ≡ c.args.refusals.len = search rules in
     let taken : c.deref_mut.result.now ≡ links = search rules in
-    let world_is : world c.commit_turn.new.self ≡ undone (world c.args.engine.now) (world c.serve_links.new.engine) = search rules in
+    let world_is : world c.commit_turn.new.self ≡ undone (world c.args.engine.now) (world c.serve_links.new.engine) =
+    (c.in-Err-Full.ensures.full (ap failed c.in-Err-Full.field-0-is)).0 ∙ ap (λ (w : World). undone w (world c.serve_links.new.engine)) (c.serve_links.ensures.begun ∙ c.requires.idle) in
     let serves = c.serve_links.ensures.serves in
     let no_room : HasNoRoom g.D.Disk.history c.args.engine.now (world c.serve_links.new.engine) = record {
       engine = c.serve_links.new.engine;
       sound = c.serve_links.ensures.sound;
       same = c.serve_links.ensures.disk;
       ran = refl;
-      full = search rules;
+      full = (c.in-Err-Full.ensures.full (ap failed c.in-Err-Full.field-0-is)).1;
     } in
     record {
       replies = serves.replies;
@@ -49,3 +57,120 @@ returns-in-Err-Full-clause-settles g c =
       runs = subst (λ (ls : List Link). Runs (world c.args.engine.now) (calls ls) serves.replies (world c.serve_links.new.engine)) taken serves.runs;
       ends = inr (inr (ap frames_in (whole new _ c.args.refusals.len long) ∙ given, no_room), world_is);
     }
+
+pub returns-then-not-serve_links-clause-on : goal.returns-then-not-serve_links-clause-on
+returns-then-not-serve_links-clause-on g c = on_same (past g.D.Disk.history c.args.engine.now) (past g.D.Disk.history c.undo_turn.new.self) (c.undo_turn.ensures.disk ∙ c.serve_links.ensures.disk)
+
+pub returns-in-Ok-clause-settles : goal.returns-in-Ok-clause-settles
+returns-in-Ok-clause-settles g c =
+    let e0 = c.args.engine.now in
+    let e1 = c.serve_links.new.engine in
+    let e2 = c.commit_turn.new.self in
+    let serve = c.serve_links.ensures in
+    let before : begun e1 ≡ world e0 = serve.begun ∙ c.requires.idle in
+    let taken : c.deref_mut.result.now ≡ c.args.links.now.items = search rules in
+    let ran = subst (λ (ls : List Link). Runs (world e0) (calls ls) serve.serves.replies (world e1)) taken serve.serves.runs in
+    let same = ap (λ (ls : List Link). frames_of (calls ls) serve.serves.replies) taken in
+    let none : c.new-replies.result.items ≡ [] = search rules in
+    let given : List (ℕ × Vec ℕ Global) → List (ℕ × List ℕ) = λ vs. frames_in vs ++ frames_of (calls c.deref_mut.result.now) serve.serves.replies in
+    record {
+      replies = serve.serves.replies;
+      last = world e1;
+      runs = ran;
+      ends = inl (serve.serves.frames (search rules) ∙ ap given none ∙ same, c.in-Ok.ensures.done);
+    }
+
+pub returns-in-Ok-clause-any_moment : goal.returns-in-Ok-clause-any_moment
+returns-in-Ok-clause-any_moment g c running =
+    let e0 = c.args.engine.now in
+    let e1 = c.serve_links.new.engine in
+    let e2 = c.commit_turn.new.self in
+    let serve = c.serve_links.ensures in
+    let before : begun e1 ≡ world e0 = serve.begun ∙ c.requires.idle in
+    moved g.D.Disk.history e0 e1 e2 serve.disk before c.in-Ok.ensures.done (c.commit_turn.ensures.any_moment (serve.running ∙ running))
+
+pub returns-in-Ok-clause-running : goal.returns-in-Ok-clause-running
+returns-in-Ok-clause-running g c = c.in-Ok.ensures.running (λ e. absurd cc) ∙ c.serve_links.ensures.running
+
+pub returns-in-Ok-clause-unchanged : goal.returns-in-Ok-clause-unchanged
+returns-in-Ok-clause-unchanged g c stop = c.commit_turn.ensures.idle (c.serve_links.ensures.running ∙ stop) ∙ c.serve_links.ensures.disk
+
+pub returns-in-Err-Memory-clause-settles : goal.returns-in-Err-Memory-clause-settles
+returns-in-Err-Memory-clause-settles g c =
+    let e0 = c.args.engine.now in
+    let e1 = c.serve_links.new.engine in
+    let e2 = c.commit_turn.new.self in
+    let serve = c.serve_links.ensures in
+    let before : begun e1 ≡ world e0 = serve.begun ∙ c.requires.idle in
+    let taken : c.deref_mut.result.now ≡ c.args.links.now.items = search rules in
+    let ran = subst (λ (ls : List Link). Runs (world e0) (calls ls) serve.serves.replies (world e1)) taken serve.serves.runs in
+    record {
+      replies = serve.serves.replies;
+      last = world e1;
+      runs = ran;
+      ends = inr (inl c.requires.refusals, c.in-Err-Memory.ensures.memory (ap failed c.in-Err-Memory.field-0-is) ∙ ap (λ (w : World). undone w (world e1)) before);
+    }
+
+pub returns-in-Err-Memory-clause-any_moment : goal.returns-in-Err-Memory-clause-any_moment
+returns-in-Err-Memory-clause-any_moment g c running =
+    let e0 = c.args.engine.now in
+    let e1 = c.serve_links.new.engine in
+    let e2 = c.commit_turn.new.self in
+    let serve = c.serve_links.ensures in
+    let before : begun e1 ≡ world e0 = serve.begun ∙ c.requires.idle in
+    moved_back g.D.Disk.history e0 e1 e2 serve.disk before (c.in-Err-Memory.ensures.kept (serve.running ∙ running) (λ e. absurd cc))
+
+pub returns-in-Err-Memory-clause-running : goal.returns-in-Err-Memory-clause-running
+returns-in-Err-Memory-clause-running g c = c.in-Err-Memory.ensures.running (λ e. absurd cc) ∙ c.serve_links.ensures.running
+
+pub returns-in-Err-Full-clause-any_moment : goal.returns-in-Err-Full-clause-any_moment
+returns-in-Err-Full-clause-any_moment g c running =
+    let e0 = c.args.engine.now in
+    let e1 = c.serve_links.new.engine in
+    let e2 = c.commit_turn.new.self in
+    let serve = c.serve_links.ensures in
+    let before : begun e1 ≡ world e0 = serve.begun ∙ c.requires.idle in
+    moved_back g.D.Disk.history e0 e1 e2 serve.disk before (c.in-Err-Full.ensures.kept (serve.running ∙ running) (λ e. absurd cc))
+
+pub returns-in-Err-Full-clause-running : goal.returns-in-Err-Full-clause-running
+returns-in-Err-Full-clause-running g c = c.in-Err-Full.ensures.running (λ e. absurd cc) ∙ c.serve_links.ensures.running
+
+pub returns-in-Err-Device-clause-breaks : goal.returns-in-Err-Device-clause-breaks
+returns-in-Err-Device-clause-breaks g c _ =
+    let e0 = c.args.engine.now in
+    let e1 = c.serve_links.new.engine in
+    let e2 = c.commit_turn.new.self in
+    let serve = c.serve_links.ensures in
+    let before : begun e1 ≡ world e0 = serve.begun ∙ c.requires.idle in
+    let taken : c.deref_mut.result.now ≡ c.args.links.now.items = search rules in
+    let ran = subst (λ (ls : List Link). Runs (world e0) (calls ls) serve.serves.replies (world e1)) taken serve.serves.runs in
+    record {
+      replies = serve.serves.replies;
+      last = world e1;
+      runs = ran;
+      ends = (c.in-Err-Device.ensures.stops (ap failed c.in-Err-Device.field-0-is)).0;
+    }
+
+pub returns-in-Err-Device-clause-any_moment : goal.returns-in-Err-Device-clause-any_moment
+returns-in-Err-Device-clause-any_moment g c running =
+    let e0 = c.args.engine.now in
+    let e1 = c.serve_links.new.engine in
+    let e2 = c.commit_turn.new.self in
+    let serve = c.serve_links.ensures in
+    let before : begun e1 ≡ world e0 = serve.begun ∙ c.requires.idle in
+    moved g.D.Disk.history e0 e1 e2 serve.disk before (c.in-Err-Device.ensures.stops (ap failed c.in-Err-Device.field-0-is)).0 (c.commit_turn.ensures.any_moment (serve.running ∙ running))
+
+pub returns-in-Err-Device-clause-stops : goal.returns-in-Err-Device-clause-stops
+returns-in-Err-Device-clause-stops g c _ = (c.in-Err-Device.ensures.stops (ap failed c.in-Err-Device.field-0-is)).1
+
+pub returns-in-Err-Device-clause-device : goal.returns-in-Err-Device-clause-device
+returns-in-Err-Device-clause-device g c _ k =
+    let e0 = c.args.engine.now in
+    let e1 = c.serve_links.new.engine in
+    let e2 = c.commit_turn.new.self in
+    let serve = c.serve_links.ensures in
+    let before : begun e1 ≡ world e0 = serve.begun ∙ c.requires.idle in
+    ⊎_elim
+    (λ stop. inl (sym serve.running ∙ stop))
+    (λ failed. inr (subst (λ (h : History). h.failures < (past g.D.Disk.history e2).failures) serve.disk failed))
+    (c.in-Err-Device.ensures.device (ap failed c.in-Err-Device.field-0-is) k)

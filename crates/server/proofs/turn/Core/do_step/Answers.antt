@@ -1,4 +1,11 @@
 use Rattle.std.proofs.Common.{◌≡◌, [], ◌∷◌, ◌++◌, ◌+◌, sym, ap, subst, ◌∙◌, rules, refl}
+use Rattle.std.specs.Prelude.{Result, Err}
+use Rattle.server.specs.Site.{fed}
+use Rattle.server.specs.declared.turn.TurnOut.{TurnOut}
+use Rattle.server.specs.declared.turn.TurnFault.{TurnFault}
+use Rattle.server.specs.declared.turn.TurnFault.TheVariants as turns
+use Rattle.server.specs.declared.drive.DriveFault.{DriveFault}
+use Rattle.server.specs.declared.drive.DriveFault.TheVariants as stops
 use Rattle.server.specs.History.{Happens, turns_in}
 use Rattle.server.specs.OneStep.{Adds}
 use Rattle.server.specs.View.{site, frames_in, out_of}
@@ -26,13 +33,13 @@ pub returns-in-Err-Memory-clause-disk : goal.returns-in-Err-Memory-clause-disk
 returns-in-Err-Memory-clause-disk g c = unmoved g.D.Disk.history c.args.self.now c.feed.new.self c.requires.sound c.feed.ensures.disk
 
 pub returns-in-Err-Closed-clause-does : goal.returns-in-Err-Closed-clause-does
-returns-in-Err-Closed-clause-does g c = bytes_on c.args.step.now c.in-Bytes.connection c.in-Bytes.chunk c.args.out.now (site c.args.self.now) (site c.feed.new.self) c.in-Bytes.is (search rules)
+returns-in-Err-Closed-clause-does g c = bytes_on c.args.step.now c.in-Bytes.connection c.in-Bytes.chunk c.args.out.now (site c.args.self.now) (site c.feed.new.self) c.in-Bytes.is (c.in-Err-Closed.ensures.fed (λ e. absurd cc) ∙ ap (fed (site c.args.self.now) c.in-Bytes.connection) c.deref.ensures.value)
 
 pub returns-in-Err-Closed-clause-disk : goal.returns-in-Err-Closed-clause-disk
 returns-in-Err-Closed-clause-disk g c = unmoved g.D.Disk.history c.args.self.now c.feed.new.self c.requires.sound c.feed.ensures.disk
 
 pub returns-in-Ok-clause-does : goal.returns-in-Ok-clause-does
-returns-in-Ok-clause-does g c = bytes_on c.args.step.now c.in-Bytes.connection c.in-Bytes.chunk c.args.out.now (site c.args.self.now) (site c.feed.new.self) c.in-Bytes.is (search rules)
+returns-in-Ok-clause-does g c = bytes_on c.args.step.now c.in-Bytes.connection c.in-Bytes.chunk c.args.out.now (site c.args.self.now) (site c.feed.new.self) c.in-Bytes.is (c.in-Ok.ensures.fed (λ e. absurd cc) ∙ ap (fed (site c.args.self.now) c.in-Bytes.connection) c.deref.ensures.value)
 
 pub returns-in-Ok-clause-disk : goal.returns-in-Ok-clause-disk
 returns-in-Ok-clause-disk g c = unmoved g.D.Disk.history c.args.self.now c.feed.new.self c.requires.sound c.feed.ensures.disk
@@ -42,3 +49,50 @@ returns-in-Gone-clause-does g c = gone_on c.args.step.now c.in-Gone.connection c
 
 pub returns-in-Gone-clause-disk : goal.returns-in-Gone-clause-disk
 returns-in-Gone-clause-disk g c = unmoved g.D.Disk.history c.args.self.now c.gone.new.self c.requires.sound c.gone.ensures.disk
+
+pub returns-then-is_err-clause-disk : goal.returns-then-is_err-clause-disk
+returns-then-is_err-clause-disk g c = record {
+  on = c.turn.ensures.on;
+  any_moment = c.turn.ensures.any_moment;
+  idle = λ stop. (c.turn.ensures.idle stop).1;
+}
+
+pub returns-else-is_err-clause-disk : goal.returns-else-is_err-clause-disk
+returns-else-is_err-clause-disk g c = record {
+  on = c.turn.ensures.on;
+  any_moment = c.turn.ensures.any_moment;
+  idle = λ stop. (c.turn.ensures.idle stop).1;
+}
+
+pub returns-in-Err-clause-disk : goal.returns-in-Err-clause-disk
+returns-in-Err-clause-disk g c = record {
+  on = c.turn.ensures.on;
+  any_moment = c.turn.ensures.any_moment;
+  idle = λ stop. (c.turn.ensures.idle stop).1;
+}
+
+pub returns-then-is_err-clause-running : goal.returns-then-is_err-clause-running
+returns-then-is_err-clause-running g c _ = c.in-Ok-turn.ensures.running (λ e. absurd cc)
+
+pub returns-else-is_err-clause-running : goal.returns-else-is_err-clause-running
+returns-else-is_err-clause-running g c _ = c.in-Ok-turn.ensures.running (λ e. absurd cc)
+
+abbrev handed : TurnFault → Result TurnOut TurnFault
+handed fault = Err fault
+
+abbrev failed : DriveFault → Result (Unit {0}) DriveFault
+failed fault = Err fault
+
+inner : (fault : TurnFault) → failed (stops.Turn fault) ≡ failed (stops.Turn turns.Stopped) → handed fault ≡ handed turns.Stopped
+inner turns.Stopped e = refl
+inner turns.Memory e = absurd cc
+
+outer : (fault : TurnFault) → handed fault ≡ handed turns.Stopped → failed (stops.Turn fault) ≡ failed (stops.Turn turns.Stopped)
+outer turns.Stopped e = refl
+outer turns.Memory e = absurd cc
+
+pub returns-in-Err-clause-device : goal.returns-in-Err-clause-device
+returns-in-Err-clause-device g c is = c.in-Err.ensures.device (inner c.in-Err.fault is)
+
+pub returns-in-Err-clause-running : goal.returns-in-Err-clause-running
+returns-in-Err-clause-running g c other = c.in-Err.ensures.running (λ is. other (outer c.in-Err.fault is))

@@ -1,9 +1,13 @@
-use Rattle.std.proofs.Common.{◌≡◌, length, ◌∙◌, rules}
+use Rattle.std.proofs.Common.{◌≡◌, length, false, refl, sym, subst, ◌∙◌, rules}
+use Rattle.std.specs.Prelude.{Bool}
 use Rattle.engine.specs.View.{world}
-use Rattle.server.specs.Turn.{faults, forget_all, links_taken}
+use Rattle.engine.specs.Durable.{Holds}
+use Rattle.server.specs.Durable.{stopped}
+use Rattle.server.specs.declared.turn.TurnFault.TheVariants as turns
+use Rattle.server.specs.Turn.{Cut, TurnFails, faults, forget_all, links_taken}
 use Rattle.server.specs.Taking.{closed_links, faults_in}
-use Rattle.server.specs.View.{frames_in}
-use Rattle.server.proofs.Images.{engine_holds}
+use Rattle.server.specs.View.{site, frames_in}
+use Rattle.server.proofs.Images.{engine_holds, stays, forgotten}
 use Rattle.server.proofs.LinksServed.{all_closed}
 use Rattle.server.proofs.Refusing.{whole}
 use Rattle.server.proofs.TurnParts.{turned, turned_for}
@@ -37,3 +41,30 @@ returns-clause-full g c =
 
 pub returns-clause-acknowledged : goal.returns-clause-acknowledged
 returns-clause-acknowledged g c running = engine_holds g.D.Disk.history c.forget_closed.new.engine c.forget_closed.ensures.sound c.forget_closed.ensures.idle (c.forget_closed.ensures.running ∙ c.in-Some.ensures.running ∙ running)
+
+pub returns-in_err-refusals-clause-any_moment : goal.returns-in_err-refusals-clause-any_moment
+returns-in_err-refusals-clause-any_moment g c =
+    let engine = c.args.self.now.engine in
+    stays g.D.Disk.history engine engine (λ image. Holds image (world engine).state) c.requires.sound c.args.self.now.idle refl
+
+pub returns-clause-any_moment : goal.returns-clause-any_moment
+returns-clause-any_moment g c running =
+    let closed = c.in_ok-refusals.field-0.closed.items in
+    let forgets : world c.forget_closed.new.engine ≡ forget_all (world c.run_messages.new.engine) closed = search rules in
+    forgotten g.D.Disk.history c.args.self.now.engine c.run_messages.new.engine c.forget_closed.new.engine closed c.forget_closed.ensures.disk forgets (c.in-Some.ensures.any_moment running)
+
+pub returns-in_default-clause-fails : goal.returns-in_default-clause-fails
+returns-in_default-clause-fails g c =
+    let core = c.args.self.now in
+    let runs : stopped core ≡ false = sym c.is_stopped.ensures ∙ c.if-is_stopped.false in
+    let broke = c.in_default.ensures.breaks refl in
+    let cut : Cut (site core) (record { world = world c.run_messages.new.engine; links = c.run_messages.new.links.items }) = record {
+      replies = broke.replies;
+      last = broke.last;
+      runs = broke.runs;
+      leaves = λ i. record { world = broke.ends i; links = c.run_messages.ensures.links i };
+    } in
+    subst (λ (b : Bool). TurnFails (site core) turns.Stopped b (record { world = world c.run_messages.new.engine; links = c.run_messages.new.links.items })) (sym runs) cut
+
+pub returns-in_default-clause-device : goal.returns-in_default-clause-device
+returns-in_default-clause-device g c _ k = c.in_default.ensures.device refl k
