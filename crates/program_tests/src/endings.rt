@@ -144,7 +144,10 @@ fn a_file_of_other_bytes(rt: HostRuntime) -> Result<(), Fail> {
     let _ = fs::remove_file(&rt, file);
     assert_eq!(rt; all.status, 1);
     assert!(rt; all.output.is_empty());
-    assert_eq!(rt; all.errors.as_slice(), b"docpage: NotADatabase\n".as_slice());
+    assert_eq!(rt;
+        all.errors.as_slice(),
+        b"docpage: NotADatabase\n".as_slice()
+    );
     Ok(())
 }
 
