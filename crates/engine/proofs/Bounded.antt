@@ -1,15 +1,16 @@
 -- A command that was read has a namespace and documents within their limits.
 use Rattle.std.proofs.Common.{◌≡◌, ℕ, ◌+◌, ◌≤◌, Bool, true, false, List, [], ◌∷◌, ◌++◌, length, Option, Some, None, Result, Ok, Err, refl, ap, subst, arith, length-append}
-use Rattle.std.specs.Prelude.{◌||◌, ◌==◌, nat_lt, if◌then◌else◌, codes, IfOk}
+use Rattle.std.specs.Prelude.{◌||◌, ◌==◌, nat_lt, if◌then◌else◌, codes, unwrap_or, IfOk}
 use Rattle.std.specs.Str.{bytes_eq}
 use Rattle.std.proofs.lemmas.Bool.{ltb-false}
 use Rattle.bson.specs.Tree.{Tree, scalar, document, array, Pairs, no_pairs, pair, Items, no_items, item}
 use Rattle.bson.specs.Edits.{items_len}
+use Rattle.filter.specs.Rule.{no_rules}
 use Rattle.engine.specs.Documents.{◌>>=◌, unless, or_refused}
-use Rattle.engine.specs.Command.{Command, ping, insert, find, Fields, no_fields, text_in, items_in, all_documents, documents_in, common_field, insert_field, find_field, read_fields, is_bad_database, is_bad_collection, namespace_of, read_ping, read_insert, read_find, command_of, IsBounded}
-use Rattle.engine.specs.Outcomes.{Gives}
-use Rattle.engine.specs.declared.refusal.Refusal.{Refusal}
-use Rattle.engine.specs.declared.refusal.Refusal.TheVariants as refusals
+use Rattle.engine.specs.Command.{Command, ping, insert, find, count, delete, Fields, no_fields, text_in, items_in, document_in, statements_in, each_of, documents_in, common_field, insert_field, delete_field, count_field, find_field, read_fields, is_bad_database, is_bad_collection, namespace_of, query_of, read_ping, read_insert, read_find, read_count, read_delete, command_of, IsBounded}
+use Rattle.path.specs.View.{Gives}
+use Rattle.path.specs.declared.refusal.Refusal.{Refusal}
+use Rattle.path.specs.declared.refusal.Refusal.TheVariants as refusals
 use Rattle.engine.specs.declared.TheConstants.{MOST_STATEMENTS, NAMESPACE_LIMIT}
 
 -- a step that led to a value had one
@@ -36,22 +37,27 @@ short database name namespace e =
 
 -- ---- documents
 
-as_many : (ts : Items) (ds : List Pairs) → all_documents ts ≡ Ok ds → length ds ≡ items_len ts
-as_many no_items ds e = let none : ds ≡ [] = cc in ap length none
-as_many (item (scalar s) ts) ds e = absurd cc
-as_many (item (array us) ts) ds e = absurd cc
-as_many (item (document ps) ts) ds e =
-    let more : Pairs → List Pairs → Result (List Pairs) Refusal = λ p others. Ok (p ∷ others) in
-    let s = step_of (all_documents ts) (more ps) ds e in
-    let same : ps ∷ s.0 ≡ ds = cc in
-    omega (arith, as_many ts s.0 s.1, ap length same)
+as_many : {X : Type 0} (read : Tree → Result X Refusal) (ts : Items) (xs : List X) → each_of read ts ≡ Ok xs → length xs ≡ items_len ts
+as_many read no_items xs e = let none : xs ≡ [] = cc in ap length none
+as_many {X} read (item t ts) xs e =
+    let s = step_of (read t) (λ x. each_of read ts >>= (λ others. let r : Result (List X) Refusal = Ok (x ∷ others) in r)) xs e in
+    let more : List X → Result (List X) Refusal = λ others. Ok (s.0 ∷ others) in
+    let o = step_of (each_of read ts) more xs s.2 in
+    let same : s.0 ∷ o.0 ≡ xs = cc in
+    omega (arith, as_many read ts o.0 o.1, ap length same)
+
+few_items : (t : Tree) (ts : Items) → statements_in t ≡ Ok ts → items_len ts ≤ MOST_STATEMENTS
+few_items t ts e =
+    let s = step_of (or_refused (items_in t) refusals.TypeMismatch) (λ us. unless (nat_lt MOST_STATEMENTS (items_len us)) refusals.TooMany (unless (items_len us == 0) refusals.BadValue (Ok us))) ts e in
+    let p = passed (nat_lt MOST_STATEMENTS (items_len s.0)) refusals.TooMany (unless (items_len s.0 == 0) refusals.BadValue (Ok s.0)) ts s.2 in
+    let q = passed (items_len s.0 == 0) refusals.BadValue (Ok s.0) ts p.1 in
+    let same : s.0 ≡ ts = cc in
+    omega (arith, ap items_len same, ltb-false MOST_STATEMENTS (items_len s.0) p.0)
 
 few : (t : Tree) (ds : List Pairs) → documents_in t ≡ Ok ds → length ds ≤ MOST_STATEMENTS
 few t ds e =
-    let s = step_of (or_refused (items_in t) refusals.TypeMismatch) (λ ts. unless (nat_lt MOST_STATEMENTS (items_len ts)) refusals.TooMany (unless (items_len ts == 0) refusals.BadValue (all_documents ts))) ds e in
-    let p = passed (nat_lt MOST_STATEMENTS (items_len s.0)) refusals.TooMany (unless (items_len s.0 == 0) refusals.BadValue (all_documents s.0)) ds s.2 in
-    let q = passed (items_len s.0 == 0) refusals.BadValue (all_documents s.0) ds p.1 in
-    omega (arith, as_many s.0 ds q.1, ltb-false MOST_STATEMENTS (items_len s.0) p.0)
+    let s = step_of (statements_in t) (each_of document_in) ds e in
+    omega (arith, as_many document_in s.0 ds s.2, few_items t s.0 s.1)
 
 abbrev FewAt : Option (List Pairs) → Type 0
 FewAt None = Unit {0}
@@ -117,19 +123,41 @@ finds t ps c e =
     let s = step_of (read_fields find_field no_fields ps) _ c n.2 in
     let b = step_of (or_refused s.0.database refusals.FailedToParse) _ c s.2 in
     let m = step_of (namespace_of b.0 n.0) _ c b.2 in
-    let same : find m.0 s.0.batch_size ≡ c = cc in
+    let same : find m.0 (query_of s.0) s.0.batch_size ≡ c = cc in
     subst IsBounded same (short b.0 n.0 m.0 m.1)
+
+pub counts : (t : Tree) (ps : Pairs) (c : Command) → read_count t ps ≡ Ok c → IsBounded c
+counts t ps c e =
+    let n = step_of (or_refused (text_in t) refusals.TypeMismatch) _ c e in
+    let s = step_of (read_fields count_field no_fields ps) _ c n.2 in
+    let b = step_of (or_refused s.0.database refusals.FailedToParse) _ c s.2 in
+    let m = step_of (namespace_of b.0 n.0) _ c b.2 in
+    let same : count m.0 (unwrap_or s.0.filter no_rules) (unwrap_or s.0.skip 0) (unwrap_or s.0.limit 0) ≡ c = cc in
+    subst IsBounded same tt
+
+pub deletes : (t : Tree) (ps : Pairs) (c : Command) → read_delete t ps ≡ Ok c → IsBounded c
+deletes t ps c e =
+    let n = step_of (or_refused (text_in t) refusals.TypeMismatch) _ c e in
+    let s = step_of (read_fields delete_field no_fields ps) _ c n.2 in
+    let b = step_of (or_refused s.0.database refusals.FailedToParse) _ c s.2 in
+    let d = step_of (or_refused s.0.deletions refusals.FailedToParse) _ c b.2 in
+    let m = step_of (namespace_of b.0 n.0) _ c d.2 in
+    let same : delete m.0 d.0 ≡ c = cc in
+    subst IsBounded same tt
 
 pub bounded : (ps : Pairs) (c : Command) → command_of ps ≡ Ok c → IsBounded c
 unfolding command_of
 bounded no_pairs c e = absurd cc
-bounded (pair name t ps) c e = at (bytes_eq name (codes "ping")) (bytes_eq name (codes "insert")) (bytes_eq name (codes "find")) e
+bounded (pair name t ps) c e = at (bytes_eq name (codes "ping")) (bytes_eq name (codes "insert")) (bytes_eq name (codes "find")) (bytes_eq name (codes "count")) (bytes_eq name (codes "delete")) e
   where
-    at : (is_ping is_insert is_find : Bool) → (if is_ping then read_ping ps else (if is_insert then read_insert t ps else (if is_find then read_find t ps else Err refusals.CommandNotFound))) ≡ Ok c → IsBounded c
-    at true is_insert is_find e = pinged ps c e
-    at false true is_find e = inserts t ps c e
-    at false false true e = finds t ps c e
-    at false false false e = absurd cc
+    at : (is_ping is_insert is_find is_count is_delete : Bool)
+        → (if is_ping then read_ping ps else (if is_insert then read_insert t ps else (if is_find then read_find t ps else (if is_count then read_count t ps else (if is_delete then read_delete t ps else Err refusals.CommandNotFound))))) ≡ Ok c → IsBounded c
+    at true is_insert is_find is_count is_delete e = pinged ps c e
+    at false true is_find is_count is_delete e = inserts t ps c e
+    at false false true is_count is_delete e = finds t ps c e
+    at false false false true is_delete e = counts t ps c e
+    at false false false false true e = deletes t ps c e
+    at false false false false false e = absurd cc
 
 -- a reader that gives what was planned gives a bounded command
 pub gives-bounded : {X : Type 0} (view : X → Command) (planned : Result Command Refusal) (r : Result X Refusal) → Gives view planned r → ((c : Command) → planned ≡ Ok c → IsBounded c) → IfOk r (λ x. IsBounded (view x))

@@ -13,8 +13,8 @@ use Rattle.value_order.specs.KeyText.{tree_text}
 use Rattle.value_order.specs.declared.TheConstants.{KEY_LIMIT}
 use Rattle.engine.specs.Documents.{◌>>=◌, unless, refused_if, or_refused, pairs_fault, without, first_pair, id_name, id_first, no_array, id_of, key_of, checked}
 use Rattle.engine.specs.Lawful.{IsStored}
-use Rattle.engine.specs.declared.refusal.Refusal.{Refusal}
-use Rattle.engine.specs.declared.refusal.Refusal.TheVariants as refusals
+use Rattle.path.specs.declared.refusal.Refusal.{Refusal}
+use Rattle.path.specs.declared.refusal.Refusal.TheVariants as refusals
 use Rattle.engine.specs.declared.TheConstants.{STORED_LIMIT, STORED_LEVELS}
 use Rattle.engine.proofs.IdFirst.{pairs_levels-without}
 

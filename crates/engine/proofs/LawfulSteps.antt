@@ -27,8 +27,8 @@ use Rattle.engine.specs.Places.{IsGap, collection_at, no_collection}
 use Rattle.engine.specs.Progress.{is_full, with_document}
 use Rattle.engine.specs.Step.{items_of_documents, batch_of, cursor_reply, open_cursor, run_insert, run_find, run, answered, step}
 use Rattle.engine.specs.View.{IsSendable}
-use Rattle.engine.specs.declared.refusal.Refusal.{Refusal}
-use Rattle.engine.specs.declared.refusal.Refusal.TheVariants as refusals
+use Rattle.path.specs.declared.refusal.Refusal.{Refusal}
+use Rattle.path.specs.declared.refusal.Refusal.TheVariants as refusals
 use Rattle.engine.specs.declared.TheConstants.{BATCH_LIMIT, STORED_LIMIT, FIRST_BATCH, MOST_CURSORS, MOST_COLLECTIONS, NAMESPACE_LIMIT}
 use Rattle.engine.proofs.Bounded.{step_of, bounded}
 use Rattle.engine.proofs.Checked.{keeps}

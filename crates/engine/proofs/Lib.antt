@@ -23,3 +23,5 @@ pub mod LoadingSteps
 pub mod LoadingAll
 pub mod OpenSteps
 pub mod LoadingOnce
+pub mod Deleting
+pub mod Finding

@@ -16,8 +16,8 @@ use Rattle.engine.specs.Places.{no_collection}
 use Rattle.engine.specs.Progress.{Progress}
 use Rattle.engine.specs.Stored.{entry}
 use Rattle.engine.specs.Loading.{Adds, Loads, IsAdded, IsLoading, place_numbered}
-use Rattle.engine.specs.declared.refusal.Refusal.{Refusal}
-use Rattle.engine.specs.declared.refusal.Refusal.TheVariants as refusals
+use Rattle.path.specs.declared.refusal.Refusal.{Refusal}
+use Rattle.path.specs.declared.refusal.Refusal.TheVariants as refusals
 use Rattle.engine.specs.declared.TheConstants.{MOST_COLLECTIONS, NAMESPACE_LIMIT}
 use Rattle.engine.proofs.PairSizes.{entry_size}
 use Rattle.engine.proofs.LawfulSteps.{added_lawful}

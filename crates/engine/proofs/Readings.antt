@@ -1,9 +1,42 @@
--- Reading the documents of a command, one after another.
-use Rattle.std.proofs.Common.{List, ◌++◌, Result, Ok}
-use Rattle.bson.specs.Tree.{Pairs}
+-- Reading the items of an array, one after another.
+use Rattle.std.proofs.Common.{◌≡◌, ℕ, ◌+◌, ◌<◌, ◌≤◌, List, [], ◌∷◌, ◌++◌, length, drop, get_or, Result, Ok, Err, refl, sym, ap, ◌∙◌, append_assoc}
+use Rattle.std.proofs.lemmas.List.{append-nil, drop_all}
+use Rattle.bson.specs.Tree.{Tree, Items}
+use Rattle.bson.specs.View.{tree, items_of}
+use Rattle.bson.specs.declared.value.Value.{Value}
+use Rattle.engine.specs.Command.{each_of}
 use Rattle.engine.specs.Documents.{◌>>=◌}
-use Rattle.engine.specs.declared.refusal.Refusal.{Refusal}
+use Rattle.engine.proofs.Steps.{drop_step}
+use Rattle.path.specs.declared.refusal.Refusal.{Refusal}
 
 -- these, and then what is read
-abbrev pub and_then : List Pairs → Result (List Pairs) Refusal → Result (List Pairs) Refusal
-and_then ps r = r >>= (λ rest. Ok (ps ++ rest))
+abbrev pub and_then : {X : Type 0} → List X → Result (List X) Refusal → Result (List X) Refusal
+and_then xs r = r >>= (λ rest. Ok (xs ++ rest))
+
+module _ {X : Type 0} (read : Tree → Result X Refusal) (vs : List Value) (i : ℕ) (xs : List X) where
+  -- so many items were read
+  abbrev pub Read : Type 0
+  Read = each_of read (items_of vs) ≡ and_then xs (each_of read (items_of (drop i vs)))
+
+  pub read_all : length vs ≤ i → Read → each_of read (items_of vs) ≡ Ok xs
+  read_all whole h = h ∙ ap (λ (us : List Value). and_then xs (each_of read (items_of us))) (drop_all i vs whole) ∙ ap (λ (ys : List X). Ok ys) (append-nil xs)
+
+  module _ (v : Value) (within : i < length vs) (is : v ≡ get_or vs i v) where
+    abbrev rest : Result (List X) Refusal
+    rest = each_of read (items_of (drop (i + 1) vs))
+
+    abbrev one_more : Result X Refusal → Result (List X) Refusal
+    one_more r = and_then xs (r >>= (λ x. rest >>= (λ others. Ok (x ∷ others))))
+
+    next : Read → each_of read (items_of vs) ≡ one_more (read (tree v))
+    next h = h ∙ ap (λ (us : List Value). and_then xs (each_of read (items_of us))) (drop_step vs i v within is)
+
+    pub read_stops : (e : Refusal) → read (tree v) ≡ Err e → Read → each_of read (items_of vs) ≡ Err e
+    read_stops e err h = next h ∙ ap one_more err
+
+    added : (x : X) (r : Result (List X) Refusal) → and_then xs (r >>= (λ others. Ok (x ∷ others))) ≡ and_then (xs ++ x ∷ []) r
+    added x (Ok others) = ap (λ (ys : List X). Ok ys) (sym (append_assoc xs (x ∷ []) others))
+    added x (Err e) = refl
+
+    pub read_one : (x : X) → read (tree v) ≡ Ok x → Read → each_of read (items_of vs) ≡ and_then (xs ++ x ∷ []) (each_of read (items_of (drop (i + 1) vs)))
+    read_one x ok h = next h ∙ ap one_more ok ∙ added x rest

@@ -7,7 +7,7 @@ use Rattle.std.proofs.lemmas.Bool.Decides.{nat_tests}
 use Rattle.bson.specs.Tree.{Pairs, no_pairs, pair}
 use Rattle.bson.specs.Lookup.{lookup}
 use Rattle.bson.specs.Lawful.{items_levels, NoZero, Lacks}
-use Rattle.engine.specs.Lawful.{IsStored}
+use Rattle.engine.specs.Lawful.{IsWithin}
 use Rattle.engine.specs.Step.{items_of_documents}
 use Rattle.engine.proofs.IdFirst.{bytes_differ}
 
@@ -27,6 +27,6 @@ lacks (pair other t ps) name e = at (bytes_eq name other) refl e (λ f. lacks ps
     at true is e rest = absurd cc
     at false is e rest = (bytes_differ name other is, rest e)
 
-pub items_levels-stored : (ds : List Pairs) → All IsStored ds → items_levels (items_of_documents ds) ≤ 90
-items_levels-stored [] h = omega arith
-items_levels-stored (d ∷ ds) h = omega (arith, (h 0 d (omega arith)).depth, items_levels-stored ds (λ k e below. h (suc k) e (omega arith)))
+pub items_levels-within : (ds : List Pairs) → All IsWithin ds → items_levels (items_of_documents ds) ≤ 90
+items_levels-within [] h = omega arith
+items_levels-within (d ∷ ds) h = omega (arith, (h 0 d (omega arith)).depth, items_levels-within ds (λ k e below. h (suc k) e (omega arith)))

@@ -12,13 +12,13 @@ use Rattle.std.proofs.lemmas.List.Edits.{length-insert, get_or-insert_at}
 use Rattle.std.proofs.lemmas.Cmp.{nat_list_cmp_total}
 use Rattle.bson.specs.Tree.{Tree, Pairs}
 use Rattle.engine.specs.World.{Collection, documents_or_none, number_or, unused, with_documents}
-use Rattle.engine.specs.Lawful.{AreNamedApart}
+use Rattle.engine.specs.Lawful.{IsHeld, AreNamedApart}
 use Rattle.engine.specs.Places.{IsGap, IsMissing, by_name, collection_at, no_collection}
 use Rattle.engine.specs.Documents.{id_first, checked, place, insert_one}
 use Rattle.engine.specs.Progress.{Progress, IsProgress, without_document, undo, rewind, begun_of, CanUndo, CanRewind, Extends, is_full, Stands, with_document}
 use Rattle.engine.specs.declared.TheConstants.{MOST_COLLECTIONS}
-use Rattle.engine.specs.declared.refusal.Refusal.{Refusal}
-use Rattle.engine.specs.declared.refusal.Refusal.TheVariants as refusals
+use Rattle.path.specs.declared.refusal.Refusal.{Refusal}
+use Rattle.path.specs.declared.refusal.Refusal.TheVariants as refusals
 use Rattle.engine.specs.declared.collections.Change.{Change}
 use Rattle.engine.specs.declared.collections.Change.TheVariants as changes
 use Rattle.engine.proofs.Ordered.{rises_insert}
@@ -140,6 +140,27 @@ module _ (cs : List Collection) (at place : ℕ) (d : Pairs) (within : at < leng
 
   pub apart-stored : AreNamedApart cs → AreNamedApart (set cs at grown)
   apart-stored h = apart_set cs at grown within refl h
+
+-- documents of a collection are deleted
+module _ (cs : List Collection) (at : ℕ) (left : List Pairs) (within : at < length cs) where
+  abbrev pub cut : Collection
+  cut = record (collection_at cs at) { documents = left }
+
+  there-cut : collection_at (set cs at cut) at ≡ cut
+  there-cut = get_or-set_at cs at at cut no_collection refl within
+
+  pub undo-deleted : undo (changes.Deleted at (collection_at cs at).documents) (set cs at cut) ≡ cs
+  undo-deleted =
+      ap (λ (c : Collection). set (set cs at cut) at (record c { documents = (collection_at cs at).documents })) there-cut
+      ∙ set-set cs at cut (collection_at cs at)
+      ∙ set-get_or cs at no_collection
+
+  pub CanUndo-deleted : IsHeld (collection_at cs at) → CanUndo (changes.Deleted at (collection_at cs at).documents) (set cs at cut)
+  CanUndo-deleted held =
+      (omega (arith, length-set cs at cut), subst (λ (c : Collection). IsHeld (record c { documents = (collection_at cs at).documents })) (sym there-cut) held)
+
+  pub apart-deleted : AreNamedApart cs → AreNamedApart (set cs at cut)
+  apart-deleted h = apart_set cs at cut within refl h
 
 -- a collection is made
 module _ (cs : List Collection) (at : ℕ) (c : Collection) (gap : IsGap (by_name c.name) cs at) where

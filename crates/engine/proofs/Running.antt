@@ -8,8 +8,8 @@ use Rattle.engine.specs.Documents.{◌>>=◌, unless, insert_all}
 use Rattle.engine.specs.Refusals.{int}
 use Rattle.engine.specs.Step.{cursor_reply, open_cursor, batch_of, run_insert, run_find}
 use Rattle.engine.specs.Progress.{is_full, inserted}
-use Rattle.engine.specs.declared.refusal.Refusal.{Refusal}
-use Rattle.engine.specs.declared.refusal.Refusal.TheVariants as refusals
+use Rattle.path.specs.declared.refusal.Refusal.{Refusal}
+use Rattle.path.specs.declared.refusal.Refusal.TheVariants as refusals
 use Rattle.engine.specs.declared.TheConstants.{FIRST_BATCH, MOST_CURSORS}
 
 -- ---- insert

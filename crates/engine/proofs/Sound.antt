@@ -16,8 +16,8 @@ use Rattle.engine.specs.Durable.{Holds, IsSound}
 use Rattle.engine.specs.declared.engine.Engine.{Engine}
 use Rattle.engine.specs.Refusals.{refusal_reply}
 use Rattle.engine.specs.Outcomes.{Refuses}
-use Rattle.engine.specs.declared.refusal.Refusal.{Refusal}
-use Rattle.engine.specs.declared.refusal.Refusal.TheVariants as refusals
+use Rattle.path.specs.declared.refusal.Refusal.{Refusal}
+use Rattle.path.specs.declared.refusal.Refusal.TheVariants as refusals
 use Rattle.engine.proofs.LawfulSteps.{steps}
 
 -- the disk stayed as it is, and so did the collections from the beginning of the turn

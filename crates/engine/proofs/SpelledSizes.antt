@@ -9,10 +9,10 @@ use Rattle.bson.specs.Sizing.{framed-length, pairs_bytes-none, pairs_size-pair, 
 use Rattle.bson.specs.Spelling.{tree_bytes, pairs_bytes, items_bytes, framed}
 use Rattle.engine.specs.Refusals.{int, long, words, refusal_reply, ok_reply}
 use Rattle.engine.specs.Step.{item_size, batch_len, items_of_documents, cursor_reply}
-use Rattle.engine.specs.Lawful.{IsStored}
+use Rattle.engine.specs.Lawful.{IsWithin}
 use Rattle.engine.specs.View.{IsSendable}
-use Rattle.engine.specs.declared.refusal.Refusal.{Refusal}
-use Rattle.engine.specs.declared.refusal.Refusal.TheVariants as refusals
+use Rattle.path.specs.declared.refusal.Refusal.{Refusal}
+use Rattle.path.specs.declared.refusal.Refusal.TheVariants as refusals
 use Rattle.engine.specs.declared.TheConstants.{BATCH_LIMIT, STORED_LIMIT, NAMESPACE_LIMIT}
 
 length-document : (ps : Pairs) → length (tree_bytes (document ps)) ≡ length (pairs_bytes ps) + 5
@@ -74,7 +74,7 @@ later_items i (suc most) room (d ∷ ds) h =
     at false false e f later = omega (arith, ap length (items_bytes-none i))
 
 -- a batch is within its room, unless its first document alone is not
-pub batch_items : (most room : ℕ) (ds : List Pairs) → All IsStored ds → taken 0 ds (batch_len 0 most room ds) ≤ max room (STORED_LIMIT + 3)
+pub batch_items : (most room : ℕ) (ds : List Pairs) → All IsWithin ds → taken 0 ds (batch_len 0 most room ds) ≤ max room (STORED_LIMIT + 3)
 batch_items most room [] h = omega (arith, ap length (items_bytes-none 0))
 batch_items zero room (d ∷ ds) h = omega (arith, ap length (items_bytes-none 0))
 batch_items (suc most) room (d ∷ ds) h =

@@ -6,8 +6,8 @@ use Rattle.engine.specs.World.{Collection, documents_of, with_documents, put_col
 use Rattle.engine.specs.Documents.{◌>>=◌, unless, insert_one, insert_all}
 use Rattle.engine.specs.Places.{collection_at, no_collection}
 use Rattle.engine.specs.Progress.{Progress, Extends, Stands, is_full, inserted, with_document}
-use Rattle.engine.specs.declared.refusal.Refusal.{Refusal}
-use Rattle.engine.specs.declared.refusal.Refusal.TheVariants as refusals
+use Rattle.path.specs.declared.refusal.Refusal.{Refusal}
+use Rattle.path.specs.declared.refusal.Refusal.TheVariants as refusals
 use Rattle.engine.proofs.Rewinding.{Extends-refl, Extends-trans}
 use Rattle.engine.proofs.Steps.{drop_step}
 

@@ -25,6 +25,11 @@ pub record IsStored (ps : Pairs) : Type 0 where
   pub short : length (tree_text (key_of ps)) ≤ KEY_LIMIT
   pub first : id_first ps ≡ ps
 
+-- a document within the limits of those that are stored or given
+pub record IsWithin (ps : Pairs) : Type 0 where
+  pub size : length (framed (pairs_bytes ps)) ≤ STORED_LIMIT
+  pub depth : suc (pairs_levels ps) ≤ STORED_LEVELS
+
 -- documents in rising order of `_id`, each once
 abbrev pub IsRising : List Pairs → Type 0
 IsRising ds = AllPairs (λ d e. compare (key_of d) (key_of e) ≡ orders.Less) ds
@@ -66,10 +71,10 @@ pub record IsLawfulState (state : List Collection) : Type 0 where
   pub kept : All IsKept state
   pub few : length state ≤ MOST_COLLECTIONS
 
--- What is kept of a world: its collections are lawful, and a cursor holds stored documents.
+-- What is kept of a world: its collections are lawful, and a cursor holds documents within the limits.
 pub record IsLawful (world : World) : Type 0 where
   pub state : IsLawfulState world.state
-  pub cursors : All (λ c. All IsStored c.rest) world.cursors
+  pub cursors : All (λ c. All IsWithin c.rest) world.cursors
 
 -- a collection is told apart by its namespace, its number and its documents
 abbrev pub collection_code : Coded Collection

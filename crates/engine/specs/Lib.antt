@@ -1,6 +1,7 @@
 pub mod World
 pub mod Documents
 pub mod Refusals
+pub mod Query
 pub mod Command
 pub mod Step
 pub mod Outcomes

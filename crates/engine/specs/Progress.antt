@@ -1,15 +1,18 @@
 -- The collections during a turn: as they stand, and what undoes each change of the turn.
-use Rattle.std.specs.Prelude.{◌≡◌, ◌≢◌, ◌⊎◌, ℕ, Bool, ◌<◌, ◌&&◌, not, nat_le, true, false, List, [], ◌∷◌, ◌++◌, length, slice_set, remove, Result, Ok, is_some, refl}
+use Rattle.std.specs.Prelude.{◌≡◌, ◌≢◌, ◌⊎◌, ℕ, Bool, ◌<◌, ◌-◌, ◌&&◌, not, nat_le, true, false, List, [], ◌∷◌, ◌++◌, length, slice_set, remove, Result, Ok, is_some, refl}
 use Rattle.std.proofs.Common.{inl, inr}
 use Rattle.std.specs.Coded.{Coded, code_by, coded×, coded⊎, coded_ℕ, coded_list}
 use Rattle.bson.specs.Tree.{Pairs}
+use Rattle.bson.specs.TreeCode.{coded_pairs}
 use Rattle.engine.specs.World.{Collection, find_collection, documents_of, with_documents, put_collection}
 use Rattle.engine.specs.Documents.{◌>>=◌, unless, insert_one, insert_all}
-use Rattle.engine.specs.Lawful.{AreNamedApart, collection_code}
+use Rattle.engine.specs.Query.{Deletion, left}
+use Rattle.engine.specs.Step.{deleted_in}
+use Rattle.engine.specs.Lawful.{IsHeld, AreNamedApart, collection_code}
 use Rattle.engine.specs.Places.{collection_at}
 use Rattle.engine.specs.declared.TheConstants.{MOST_COLLECTIONS}
-use Rattle.engine.specs.declared.refusal.Refusal.{Refusal}
-use Rattle.engine.specs.declared.refusal.Refusal.TheVariants as refusals
+use Rattle.path.specs.declared.refusal.Refusal.{Refusal}
+use Rattle.path.specs.declared.refusal.Refusal.TheVariants as refusals
 use Rattle.engine.specs.declared.collections.Change.{Change}
 use Rattle.engine.specs.declared.collections.Change.TheVariants as changes
 
@@ -21,16 +24,18 @@ without_document c i = record c { documents = remove c.documents i }
 abbrev pub undo : Change → List Collection → List Collection
 undo (changes.Made at) cs = remove cs at
 undo (changes.Stored at place) cs = slice_set cs at (without_document (collection_at cs at) place)
+undo (changes.Deleted at before) cs = slice_set cs at (record (collection_at cs at) { documents = before })
 
 -- the collections as they were before these changes, of which the last is undone first
 abbrev pub rewind : List Change → List Collection → List Collection
 rewind [] cs = cs
 rewind (change ∷ later) cs = undo change (rewind later cs)
 
--- what a change names is there
+-- what a change names is there, and what it brings back may be there
 abbrev pub CanUndo : Change → List Collection → Type 0
 CanUndo (changes.Made at) cs = at < length cs
 CanUndo (changes.Stored at place) cs = (at < length cs) × (place < length (collection_at cs at).documents)
+CanUndo (changes.Deleted at before) cs = (at < length cs) × IsHeld (record (collection_at cs at) { documents = before })
 
 abbrev pub CanRewind : List Change → List Collection → Type 0
 CanRewind [] cs = Unit {0}
@@ -83,22 +88,37 @@ with_document c ps = do
   stored ← insert_one c.documents ps
   Ok (record c { documents = stored })
 
+-- What a delete leaves a collection, which loses so many documents.
+pub record Leaves (name : List ℕ) (deletions : List Deletion) (cs : List Collection) (at : ℕ) (documents : List Pairs) (gone : ℕ) : Type 0 where
+  pub within : at < length cs
+  pub held : IsHeld (record (collection_at cs at) { documents = documents })
+  pub is : deleted_in (find_collection cs name) deletions cs ≡ slice_set cs at (record (collection_at cs at) { documents = documents })
+  pub count : gone ≡ length (documents_of cs name) - length (left deletions (documents_of cs name))
+
+-- a delete takes no document away
+pub record LeavesAll (name : List ℕ) (deletions : List Deletion) (cs : List Collection) : Type 0 where
+  pub is : deleted_in (find_collection cs name) deletions cs ≡ cs
+  pub count : 0 ≡ length (documents_of cs name) - length (left deletions (documents_of cs name))
+
 -- ---- a progress is told apart by its collections and its changes
 
-abbrev pub change_sum : Change → ℕ ⊎ (ℕ × ℕ)
+abbrev pub change_sum : Change → ℕ ⊎ ((ℕ × ℕ) ⊎ (ℕ × List Pairs))
 change_sum (changes.Made at) = inl at
-change_sum (changes.Stored at place) = inr (at, place)
+change_sum (changes.Stored at place) = inr (inl (at, place))
+change_sum (changes.Deleted at before) = inr (inr (at, before))
 
-abbrev pub sum_change : ℕ ⊎ (ℕ × ℕ) → Change
+abbrev pub sum_change : ℕ ⊎ ((ℕ × ℕ) ⊎ (ℕ × List Pairs)) → Change
 sum_change (inl at) = changes.Made at
-sum_change (inr x) = changes.Stored x.0 x.1
+sum_change (inr (inl x)) = changes.Stored x.0 x.1
+sum_change (inr (inr x)) = changes.Deleted x.0 x.1
 
 pub sum_change-change_sum : (change : Change) → sum_change (change_sum change) ≡ change
 sum_change-change_sum (changes.Made at) = refl
 sum_change-change_sum (changes.Stored at place) = refl
+sum_change-change_sum (changes.Deleted at before) = refl
 
 abbrev pub change_code : Coded Change
-change_code = code_by (ℕ ⊎ (ℕ × ℕ)) (coded⊎ coded_ℕ (coded× coded_ℕ coded_ℕ)) change_sum sum_change sum_change-change_sum
+change_code = code_by (ℕ ⊎ ((ℕ × ℕ) ⊎ (ℕ × List Pairs))) (coded⊎ coded_ℕ (coded⊎ (coded× coded_ℕ coded_ℕ) (coded× coded_ℕ (coded_list coded_pairs)))) change_sum sum_change sum_change-change_sum
 
 abbrev pub progress_code : Coded Progress
 progress_code = code_by (List Collection × List Change) (coded× (coded_list collection_code) (coded_list change_code)) (λ p. (p.now, p.changes)) (λ x. record { now = x.0; changes = x.1 }) (λ _. refl)

@@ -1,15 +1,17 @@
 -- What a command does to the world, and its reply.
-use Rattle.std.specs.Prelude.{◌≡◌, ◌⊎◌, ℕ, zero, suc, ◌+◌, ◌-◌, ◌^◌, ◌||◌, ◌&&◌, not, ◌==◌, nat_le, if◌then◌else◌, List, [], ◌∷◌, length, take, drop, codes, Result, Ok, Err, Option, unwrap_or, is_some}
+use Rattle.std.specs.Prelude.{◌≡◌, ◌⊎◌, ℕ, zero, suc, ◌+◌, ◌-◌, ◌^◌, ◌||◌, ◌&&◌, not, ◌==◌, nat_le, if◌then◌else◌, List, [], ◌∷◌, length, take, drop, codes, Result, Ok, Err, Option, Some, None, unwrap_or, is_some}
 use Rattle.std.specs.Fmt.{decimal}
 use Rattle.bson.specs.Tree.{document, array, Pairs, no_pairs, pair, Items, no_items, item}
 use Rattle.bson.specs.declared.fault.BsonFault.{BsonFault}
 use Rattle.bson.specs.Spelling.{framed, pairs_bytes, element}
-use Rattle.engine.specs.World.{World, find_collection, documents_of, with_documents, put_collection, count_of}
+use Rattle.engine.specs.World.{World, Collection, find_collection, documents_of, with_documents, put_collection, count_of}
 use Rattle.engine.specs.Documents.{◌>>=◌, unless, insert_all}
-use Rattle.engine.specs.Refusals.{int, long, words, refusal_reply, ok_reply}
-use Rattle.engine.specs.Command.{Command, ping, insert, find, command_of}
-use Rattle.engine.specs.declared.refusal.Refusal.{Refusal}
-use Rattle.engine.specs.declared.refusal.Refusal.TheVariants as refusals
+use Rattle.engine.specs.Refusals.{int, long, total, words, refusal_reply, ok_reply}
+use Rattle.filter.specs.Rule.{Rules}
+use Rattle.engine.specs.Query.{Query, found, matching, window, Deletion, left}
+use Rattle.engine.specs.Command.{Command, ping, insert, find, count, delete, command_of}
+use Rattle.path.specs.declared.refusal.Refusal.{Refusal}
+use Rattle.path.specs.declared.refusal.Refusal.TheVariants as refusals
 use Rattle.engine.specs.declared.TheConstants.{BATCH_LIMIT, FIRST_BATCH, MOST_CURSORS, MOST_COLLECTIONS}
 
 -- ---- find
@@ -63,15 +65,34 @@ run_insert world namespace documents =
         pair (codes "n") (int (length documents)) no_pairs,
       ))
 
-unfoldable pub run_find : World → ℕ → List ℕ → Option ℕ → Result (World × Pairs) Refusal
-run_find world connection namespace batch_size =
-    first_batch world connection namespace (documents_of world.state namespace)
-    (batch_of (unwrap_or batch_size FIRST_BATCH) (documents_of world.state namespace))
+unfoldable pub run_find : World → ℕ → List ℕ → Query → Option ℕ → Result (World × Pairs) Refusal
+run_find world connection namespace query batch_size =
+    first_batch world connection namespace (found query (documents_of world.state namespace))
+    (batch_of (unwrap_or batch_size FIRST_BATCH) (found query (documents_of world.state namespace)))
+
+-- the number of documents that match, after what is skipped and up to the limit
+unfoldable pub run_count : World → List ℕ → Rules → ℕ → ℕ → Result (World × Pairs) Refusal
+run_count world namespace rules skip limit =
+    Ok (world, pair (codes "n") (total (length (window skip limit (matching rules (documents_of world.state namespace))))) no_pairs)
+
+-- the collections after a delete from the one of a name; a missing one is not made
+abbrev pub deleted_in : Option Collection → List Deletion → List Collection → List Collection
+deleted_in None deletions cs = cs
+deleted_in (Some c) deletions cs = put_collection (record c { documents = left deletions c.documents }) cs
+
+unfoldable pub run_delete : World → List ℕ → List Deletion → Result (World × Pairs) Refusal
+run_delete world namespace deletions =
+    Ok (
+      record world { state = deleted_in (find_collection world.state namespace) deletions world.state },
+      pair (codes "n") (total (length (documents_of world.state namespace) - length (left deletions (documents_of world.state namespace)))) no_pairs,
+    )
 
 abbrev pub run : World → ℕ → Command → Result (World × Pairs) Refusal
 run world connection ping = Ok (world, no_pairs)
 run world connection (insert namespace documents) = run_insert world namespace documents
-run world connection (find namespace batch_size) = run_find world connection namespace batch_size
+run world connection (find namespace query batch_size) = run_find world connection namespace query batch_size
+run world connection (count namespace rules skip limit) = run_count world namespace rules skip limit
+run world connection (delete namespace deletions) = run_delete world namespace deletions
 
 -- a refusal leaves the world as it was
 abbrev pub answered : World → Result (World × Pairs) Refusal → World × Pairs

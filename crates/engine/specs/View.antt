@@ -7,7 +7,7 @@ use Rattle.engine.specs.World.{World}
 use Rattle.engine.specs.Refusals.{refusal_reply, ok_reply}
 use Rattle.engine.specs.Outcomes.{Refuses}
 use Rattle.engine.specs.Progress.{begun_of}
-use Rattle.engine.specs.declared.refusal.Refusal.{Refusal}
+use Rattle.path.specs.declared.refusal.Refusal.{Refusal}
 use Rattle.engine.specs.declared.engine.Reply.{Reply}
 use Rattle.engine.specs.declared.engine.Reply.TheVariants as replies
 use Rattle.engine.specs.declared.engine.Engine.{Engine}

@@ -3,10 +3,11 @@
 ghost use Rattle.std.specs.Prelude.{◌≡◌, [], ◌<◌, IfOk, OnOk, OnErr, All, IsUtf8, length, insert, remove};
 ghost use Rattle.bson.specs.Lawful.{IsDocument};
 ghost use Rattle.engine.specs.Documents.{key_of};
-ghost use Rattle.engine.specs.Lawful.{IsStored};
+ghost use Rattle.engine.specs.Lawful.{IsStored, IsHeld};
 ghost use Rattle.engine.specs.Places.{IsPlace, IsGap, by_key};
 
 use crate::documents::compare_ids;
+use crate::shared::Shared;
 use bson::{Document, NoMemory};
 use std::alloc::Global;
 use std::marker::Model;
@@ -16,7 +17,7 @@ use std::marker::Model;
 pub(crate) struct Collection {
     namespace: String,
     number: u32,
-    documents: Vec<Document>,
+    documents: Vec<Shared>,
 }
 
 impl Model for Collection {
@@ -61,7 +62,7 @@ impl Collection {
         self.number
     }
 
-    pub(crate) fn documents(&self) -> &[Document]
+    pub(crate) fn documents(&self) -> &[Shared]
         ensures documents { result.now ≡ self.now.documents }
         ensures stored { All IsStored result.now }
         ensures readable { All IsDocument result.now }
@@ -74,11 +75,11 @@ impl Collection {
         ensures { IsPlace (key_of document.now) self.now.documents result }
     {
         self.documents
-            .binary_search_by(|other| compare_ids(other, document))
+            .binary_search_by(|other| compare_ids(other.document(), document))
     }
 
     /// Stores a document at its place. An `Err` leaves all as it was.
-    pub(crate) fn insert(&mut self, place: usize, document: Document) -> Result<(), NoMemory>
+    pub(crate) fn insert(&mut self, place: usize, document: Shared) -> Result<(), NoMemory>
         requires stored { IsStored document }
         requires readable { IsDocument document }
         requires gap { IsGap (by_key (key_of document)) self.old.documents place }
@@ -96,5 +97,14 @@ impl Collection {
         ensures { self.new ≡ record self.old { documents = remove self.old.documents place } }
     {
         let _document = self.documents.remove(place);
+    }
+
+    /// Gives it other documents, and hands out those that it had.
+    pub(crate) fn replace(&mut self, documents: Vec<Shared>) -> Vec<Shared>
+        requires { IsHeld (record self.old { documents = documents.items }) }
+        ensures new { self.new ≡ record self.old { documents = documents.items } }
+        ensures old { result.items ≡ self.old.documents }
+    {
+        std::mem::replace(&mut self.documents, documents)
     }
 }

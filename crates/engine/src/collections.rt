@@ -6,28 +6,60 @@
 ghost use Rattle.std.specs.Prelude.{◌≡◌, ◌<◌, ◌≤◌, ◌+◌, false, [], length, slice_set, All, OnOk, OnErr, IfOk, IfErr, IfSome, IfNone, None};
 ghost use Rattle.engine.specs.World.{documents_of, find_collection, uses, unused};
 ghost use Rattle.engine.specs.Loading.{place_numbered, IsAdded};
-ghost use Rattle.engine.specs.Lawful.{IsStored};
+ghost use Rattle.engine.specs.Lawful.{IsStored, IsHeld};
 ghost use Rattle.engine.specs.Stored.{documents_numbered};
 ghost use Rattle.engine.specs.Places.{IsNamedAt, collection_at};
 ghost use Rattle.engine.specs.Outcomes.{Does};
 ghost use Rattle.engine.specs.Reading.{documents_at};
-ghost use Rattle.engine.specs.Progress.{begun_of, Extends, Stands, IsFull, with_document, inserted};
+ghost use Rattle.engine.specs.Progress.{begun_of, Extends, Stands, IsFull, with_document, inserted, Leaves, LeavesAll};
 
 use crate::MOST_COLLECTIONS;
 use crate::collection::Collection;
+use crate::deletion::{Deletion, left};
 use crate::documents::stored;
-use crate::refusal::Refusal;
+use crate::shared::Shared;
+use path::Refusal;
 use bson::{Document, NoMemory};
 use std::alloc::Global;
 use std::marker::Model;
 
+/// The documents that a collection had.
+#[derive(Drop)]
+struct Before {
+    documents: Vec<Shared>,
+}
+
+impl Model for Before {
+    ghost use Rattle.std.specs.Prelude.{List};
+    ghost use Rattle.std.specs.Coded.{coded_list};
+    ghost use Rattle.bson.specs.Tree.{Pairs};
+    ghost use Rattle.bson.specs.TreeCode.{coded_pairs};
+
+    ghost Value = { List Pairs };
+
+    ghost coded = { coded_list coded_pairs };
+
+    ghost view = { λ a. a.documents.items };
+}
+
 /// A change of the running turn, as undoing it needs it.
-#[derive(Clone, Copy)]
+#[derive(Drop)]
 enum Change {
     /// A collection was made at this place.
     Made { at: usize },
     /// A document was stored at a place of the collection at another.
     Stored { at: usize, place: usize },
+    /// Documents of the collection at this place were deleted.
+    Deleted { at: usize, before: Before },
+}
+
+/// What a delete leaves the collection at a place.
+#[derive(Drop)]
+pub(crate) struct Rest {
+    at: usize,
+    documents: Vec<Shared>,
+    /// How many documents are deleted.
+    pub(crate) gone: usize,
 }
 
 /// The collections in rising order of their namespaces, and the changes of the running turn.
@@ -67,7 +99,7 @@ impl Collections {
     }
 
     /// The documents of the collection of a number. A missing one reads as empty.
-    pub(crate) fn documents_numbered(&self, number: u32) -> &[Document]
+    pub(crate) fn documents_numbered(&self, number: u32) -> &[Shared]
         ensures documents { result.now ≡ documents_numbered number self.now.now }
         ensures stored { All IsStored result.now }
     {
@@ -88,7 +120,7 @@ impl Collections {
     }
 
     /// The documents of a collection. A missing one reads as empty.
-    pub(crate) fn documents(&self, namespace: &str) -> &[Document]
+    pub(crate) fn documents(&self, namespace: &str) -> &[Shared]
         ensures documents { result.now ≡ documents_of self.now.now namespace.now }
         ensures stored { All IsStored result.now }
     {
@@ -186,13 +218,14 @@ impl Collections {
             (collection_at self.new.now at) result }
         ensures ok { OnOk result (self.new.now ≡ slice_set self.old.now at (collection_at self.new.now at)) }
     {
-        let document = stored(*self.list.allocator(), document)?;
+        let alloc = *self.list.allocator();
+        let document = stored(alloc, document)?;
         self.changes.reserve(1)?;
         let collection = &mut self.list[at];
         match collection.place_of(&document) {
             Ok(_) => Err(Refusal::DuplicateKey),
             Err(place) => {
-                collection.insert(place, document)?;
+                collection.insert(place, Shared::new(alloc, document)?)?;
                 self.changes.push(Change::Stored { at, place }).unwrap();
                 Ok(())
             }
@@ -225,6 +258,10 @@ impl Collections {
                 let collection = &mut self.list[at];
                 collection.remove(place);
             }
+            Some(Change::Deleted { at, before }) => {
+                let collection = &mut self.list[at];
+                let _documents = collection.replace(before.documents);
+            }
             None => unreachable!(),
         }
     }
@@ -253,6 +290,45 @@ impl Collections {
             self.undo_to(mark);
         }
         outcome
+    }
+
+    /// What a delete would leave, statement by statement; `None` where it would take nothing away.
+    pub(crate) fn without(&self, namespace: &str, deletions: &[Deletion]) -> Result<Option<Rest>, NoMemory>
+        ensures some { IfOk result (λ found. IfSome found (λ rest. Leaves namespace.now deletions.now self.now.now rest.at rest.documents.items rest.gone)) }
+        ensures none { IfOk result (λ found. IfNone found (LeavesAll namespace.now deletions.now self.now.now)) }
+    {
+        let Ok(at) = self.place_of(namespace) else {
+            return Ok(None);
+        };
+        let collection = &self.list[at];
+        let before = collection.documents();
+        let documents = left(*self.list.allocator(), before, deletions)?;
+        let gone = before.len() - documents.len();
+        if gone == 0 {
+            return Ok(None);
+        }
+        Ok(Some(Rest {
+            at,
+            documents,
+            gone,
+        }))
+    }
+
+    /// Leaves a collection the rest of its documents. An `Err` leaves all as it was.
+    pub(crate) fn keep(&mut self, rest: Rest) -> Result<(), NoMemory>
+        requires within { rest.at < length self.old.now }
+        requires held { IsHeld (record (collection_at self.old.now rest.at) { documents = rest.documents.items }) }
+        ensures begun { begun_of self.new ≡ begun_of self.old }
+        ensures ok { OnOk result (self.new.now ≡ slice_set self.old.now rest.at (record (collection_at self.old.now rest.at) { documents = rest.documents.items })) }
+        ensures err { OnErr result (self.new ≡ self.old) }
+    {
+        self.changes.reserve(1)?;
+        let at = rest.at;
+        let collection = &mut self.list[at];
+        let documents = collection.replace(rest.documents);
+        let before = Before { documents };
+        self.changes.push(Change::Deleted { at, before }).unwrap();
+        Ok(())
     }
 
     /// Whether the turn has changed anything.

@@ -1,16 +1,18 @@
 //! The command that a body spells, or its first refusal.
 
-ghost use Rattle.std.specs.Prelude.{IfOk};
-ghost use Rattle.engine.specs.Documents.{or_refused};
-ghost use Rattle.bson.specs.View.{tree, pairs_of, items_of};
-ghost use Rattle.engine.specs.Command.{no_fields, text_in, count_in, all_documents, documents_in, read_fields, read_ping, read_insert, read_find, command_of, IsBounded};
-ghost use Rattle.engine.specs.Outcomes.{Gives, Does};
-ghost use Rattle.engine.specs.Reading.{command_read, fields_read, field_of, documents_at};
+ghost use Rattle.std.specs.Prelude.{◌≡◌, IfOk};
+ghost use Rattle.bson.specs.View.{tree, pairs_of};
+ghost use Rattle.path.specs.View.{Gives};
+ghost use Rattle.engine.specs.Command.{query_of, read_ping, read_insert, read_find, read_count, read_delete, command_of, IsBounded};
+ghost use Rattle.engine.specs.Reading.{command_read, fields_read};
 
-use crate::MOST_STATEMENTS;
+use crate::deletion::Deletion;
+use crate::fields::{Fields, Verb, read_fields, text_in};
 use crate::namespace::{is_bad_database, namespace_of};
-use crate::refusal::Refusal;
+use crate::query::Query;
 use bson::{Document, Pair, Value};
+use filter::{Filter, Projection, Sort};
+use path::Refusal;
 use std::alloc::Global;
 
 /// A command that was read.
@@ -23,114 +25,19 @@ pub(crate) enum Command<'a> {
     },
     Find {
         namespace: String,
+        query: Query,
         batch_size: Option<usize>,
     },
-}
-
-/// Which command it is, and so which fields it has.
-#[derive(Clone, Copy)]
-enum Verb {
-    Ping,
-    Insert,
-    Find,
-}
-
-/// The fields of a command that were met so far.
-#[derive(Drop)]
-struct Fields<'a> {
-    database: Option<&'a str>,
-    documents: Option<Vec<&'a Document>>,
-    batch_size: Option<usize>,
-}
-
-/// The text that a value is, if it is one.
-fn text_in(value: &Value) -> Result<&str, Refusal>
-    ensures { Gives (λ s. s.now) (or_refused (text_in (tree value.now)) Refusal.TypeMismatch) result }
-{
-    match value {
-        Value::String(text) => Ok(text.as_str()),
-        _ => Err(Refusal::TypeMismatch),
-    }
-}
-
-/// The count that a value is: a number that is not negative.
-fn count_in(value: &Value) -> Result<usize, Refusal>
-    ensures { Gives (λ n. n) (count_in (tree value.now)) result }
-{
-    let number = match value {
-        Value::Int32(number) => i64::from(*number),
-        Value::Int64(number) => *number,
-        _ => return Err(Refusal::TypeMismatch),
-    };
-    if number < 0 {
-        return Err(Refusal::BadValue);
-    }
-    Ok(number as usize)
-}
-
-/// The documents that the items of an array are, all of which have to be some.
-fn all_documents(alloc: Global, items: &[Value]) -> Result<Vec<&Document>, Refusal>
-    ensures { Gives (λ v. documents_at v.items) (all_documents (items_of items.now)) result }
-{
-    let mut documents = Vec::with_capacity(alloc, items.len())?;
-    'items: for item in items {
-        let Value::Document(document) = item else {
-            return Err(Refusal::TypeMismatch);
-        };
-        documents.push(document)?;
-    }
-    Ok(documents)
-}
-
-/// The documents of an insert: at least one, and at most `MOST_STATEMENTS`.
-fn documents_in(alloc: Global, value: &Value) -> Result<Vec<&Document>, Refusal>
-    ensures { Gives (λ v. documents_at v.items) (documents_in (tree value.now)) result }
-{
-    let Value::Array(array) = value else {
-        return Err(Refusal::TypeMismatch);
-    };
-    if MOST_STATEMENTS < array.len() {
-        return Err(Refusal::TooMany);
-    }
-    if array.is_empty() {
-        return Err(Refusal::BadValue);
-    }
-    all_documents(alloc, array.items())
-}
-
-/// Reads one field of a command.
-fn read_field<'a>(
-    alloc: Global,
-    verb: Verb,
-    found: &mut Fields<'a>,
-    name: &str,
-    value: &'a Value,
-) -> Result<(), Refusal>
-    ensures { Does (field_of verb (fields_read found.old) name.now (tree value.now)) (fields_read found.new) result }
-{
-    match verb {
-        Verb::Insert if name == "documents" => found.documents = Some(documents_in(alloc, value)?),
-        Verb::Find if name == "batchSize" => found.batch_size = Some(count_in(value)?),
-        _ if name == "$db" => found.database = Some(text_in(value)?),
-        _ if name == "comment" => {}
-        _ => return Err(Refusal::FailedToParse),
-    }
-    Ok(())
-}
-
-/// Reads the fields of a command in the order written, up to the first that is refused.
-fn read_fields<'a>(alloc: Global, verb: Verb, pairs: &'a [Pair]) -> Result<Fields<'a>, Refusal>
-    ensures { Gives fields_read (read_fields (field_of verb) no_fields (pairs_of pairs.now)) result }
-{
-    let mut found = Fields {
-        database: None,
-        documents: None,
-        batch_size: None,
-    };
-    'pairs: for pair in pairs {
-        read_field(alloc, verb, &mut found, pair.name.as_str(), &pair.value)?;
-    }
-    Ok(found)
+    Count {
+        namespace: String,
+        filter: Filter,
+        skip: usize,
+        limit: usize,
+    },
+    Delete {
+        namespace: String,
+        deletions: Vec<Deletion>,
+    },
 }
 
 fn read_ping<'a>(alloc: Global, pairs: &'a [Pair]) -> Result<Command<'a>, Refusal>
@@ -161,6 +68,20 @@ fn read_insert<'a>(
     })
 }
 
+/// What is asked for by the fields that were found. A missing filter holds of all documents, a missing sort changes no
+/// order, and a missing projection leaves all.
+fn query_of(alloc: Global, found: Fields<'_>) -> Query
+    ensures { result ≡ query_of (fields_read found.entry) }
+{
+    Query {
+        filter: found.filter.unwrap_or(Filter::new(alloc)),
+        sort: found.sort.unwrap_or(Sort::new(alloc)),
+        skip: found.skip.unwrap_or(0),
+        limit: found.limit.unwrap_or(0),
+        projection: found.projection.unwrap_or(Projection::new(alloc)),
+    }
+}
+
 fn read_find<'a>(
     alloc: Global,
     collection: &Value,
@@ -171,17 +92,53 @@ fn read_find<'a>(
     let name = text_in(collection)?;
     let found = read_fields(alloc, Verb::Find, pairs)?;
     let database = found.database.ok_or(Refusal::FailedToParse)?;
+    let batch_size = found.batch_size;
     Ok(Command::Find {
         namespace: namespace_of(alloc, database, name)?,
-        batch_size: found.batch_size,
+        query: query_of(alloc, found),
+        batch_size,
+    })
+}
+
+fn read_count<'a>(
+    alloc: Global,
+    collection: &Value,
+    pairs: &'a [Pair],
+) -> Result<Command<'a>, Refusal>
+    ensures { Gives command_read (read_count (tree collection.now) (pairs_of pairs.now)) result }
+{
+    let name = text_in(collection)?;
+    let found = read_fields(alloc, Verb::Count, pairs)?;
+    let database = found.database.ok_or(Refusal::FailedToParse)?;
+    Ok(Command::Count {
+        namespace: namespace_of(alloc, database, name)?,
+        filter: found.filter.unwrap_or(Filter::new(alloc)),
+        skip: found.skip.unwrap_or(0),
+        limit: found.limit.unwrap_or(0),
+    })
+}
+
+fn read_delete<'a>(
+    alloc: Global,
+    collection: &Value,
+    pairs: &'a [Pair],
+) -> Result<Command<'a>, Refusal>
+    ensures { Gives command_read (read_delete (tree collection.now) (pairs_of pairs.now)) result }
+{
+    let name = text_in(collection)?;
+    let found = read_fields(alloc, Verb::Delete, pairs)?;
+    let database = found.database.ok_or(Refusal::FailedToParse)?;
+    let deletions = found.deletions.ok_or(Refusal::FailedToParse)?;
+    Ok(Command::Delete {
+        namespace: namespace_of(alloc, database, name)?,
+        deletions,
     })
 }
 
 /// The command that a body spells, which its first name says.
 ///
 /// The first of these refusals: `CommandNotFound`; `TypeMismatch` where the collection's name is no
-/// string; what is wrong with a field, in the order written (`FailedToParse` where the command has none of
-/// that name, `TypeMismatch`, `BadValue` out of range, `TooMany` documents); `FailedToParse` where a field
+/// string; what is wrong with a field, in the order written; `FailedToParse` where a field
 /// is missing; `InvalidNamespace`.
 #[tactic(auto, unfolding(crate::specs::Command::command_of))]
 pub(crate) fn read_command(alloc: Global, body: &Document) -> Result<Command<'_>, Refusal>
@@ -198,6 +155,10 @@ pub(crate) fn read_command(alloc: Global, body: &Document) -> Result<Command<'_>
         read_insert(alloc, &first.value, rest)
     } else if name == "find" {
         read_find(alloc, &first.value, rest)
+    } else if name == "count" {
+        read_count(alloc, &first.value, rest)
+    } else if name == "delete" {
+        read_delete(alloc, &first.value, rest)
     } else {
         Err(Refusal::CommandNotFound)
     }

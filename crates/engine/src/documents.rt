@@ -9,7 +9,7 @@ ghost use Rattle.value_order.specs.Order.{compare};
 ghost use Rattle.value_order.specs.KeyText.{tree_text};
 ghost use Rattle.value_order.specs.declared.TheConstants.{KEY_LIMIT};
 
-use crate::refusal::Refusal;
+use path::Refusal;
 use crate::{STORED_LEVELS, STORED_LIMIT};
 use bson::{Document, NoMemory, Pair, Text, Value};
 use std::alloc::Global;

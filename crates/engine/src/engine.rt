@@ -1,6 +1,6 @@
 //! Commands, turn by turn, over a disk.
 
-ghost use Rattle.std.specs.Prelude.{◌≡◌, ◌≢◌, ◌⊎◌, ◌≤◌, ◌<◌, Ok, Err, Some, true, [], List, IfOk, IfErr, OnOk, OnErr, length};
+ghost use Rattle.std.specs.Prelude.{◌≡◌, ◌≢◌, ◌⊎◌, ◌≤◌, ◌<◌, Ok, Err, Some, true, [], List, IfOk, IfErr, OnOk, OnErr, All, length};
 ghost use Rattle.page.specs.History.{KeepsWord, now, reads, IsImage};
 ghost use Rattle.page.specs.Crash.{GoesOn, LeavesOnly, LeavesNow, OnlySyncs};
 ghost use Rattle.roots.specs.Root.{root_of};
@@ -8,8 +8,10 @@ ghost use Rattle.roots.specs.Pairs.{spelled};
 ghost use Rattle.roots.specs.Store as stores;
 ghost use Rattle.engine.specs.Committing.{Saves, Commits};
 ghost use Rattle.engine.specs.Opening.{IsOpened, IsRefused};
-ghost use Rattle.engine.specs.World.{Collection, settled, undone, forget};
-ghost use Rattle.engine.specs.Step.{Answers, run_insert, run_find, read_and_run};
+ghost use Rattle.engine.specs.Lawful.{IsWithin};
+ghost use Rattle.engine.specs.Query.{found};
+ghost use Rattle.engine.specs.World.{Collection, documents_of, settled, undone, forget};
+ghost use Rattle.engine.specs.Step.{Answers, run_insert, run_find, run_count, run_delete, read_and_run};
 ghost use Rattle.engine.specs.Reading.{documents_at};
 ghost use Rattle.engine.specs.View.{world, begun, reply_of, IsSendable, Runs};
 ghost use Rattle.engine.specs.Durable.{Holds, past, stopped, IsRunning, IsSound, IsFull};
@@ -18,13 +20,16 @@ use crate::batch::batch_len;
 use crate::collections::Collections;
 use crate::command::{Command, read_command};
 use crate::connection::ConnId;
+use crate::deletion::Deletion;
 use crate::image::image_of;
 use crate::loading::load;
-use crate::refusal::Refusal;
-use crate::reply::{find_reply, insert_reply, ping_reply};
+use crate::query::{Query, count};
+use crate::reply::{find_reply, insert_reply, ping_reply, total_reply};
 use crate::{FIRST_BATCH, MOST_STATEMENTS, NAMESPACE_LIMIT};
 use bson::Document;
+use filter::Filter;
 use page::Disk;
+use path::Refusal;
 use roots::{CommitFault, Config, OpenFault, PairList, Store};
 use std::alloc::Global;
 
@@ -139,21 +144,60 @@ impl<D: Disk> Engine<D> {
         Ok(reply)
     }
 
-    /// Finds all documents, where they go into one batch. A cursor on the others may not be opened yet:
-    /// `TooMany`.
-    fn find(&self, connection: ConnId, namespace: &str, most: usize) -> Result<Document, Refusal>
+    /// What a query gives, where there is not more of it than may go into a batch. A cursor on the others may not be opened
+    /// yet: `TooMany`.
+    fn found(&self, namespace: &str, query: &Query, most: usize) -> Result<Vec<Document>, Refusal>
+        ensures given { IfOk result (λ v. v.items ≡ found query.now (documents_of (world self.now).state namespace.now)) }
+        ensures within { IfOk result (λ v. All IsWithin v.items) }
+        ensures over { IfErr result (λ e. e ≢ Refusal.OutOfMemory → (e ≡ Refusal.TooMany) × (most < length (found query.now (documents_of (world self.now).state namespace.now)))) }
+    {
+        let documents = self.collections.documents(namespace);
+        let ordered = query.ordered(self.alloc, documents)?;
+        let chosen = query.within(&ordered);
+        if most < chosen.len() {
+            return Err(Refusal::TooMany);
+        }
+        Ok(query.give(self.alloc, chosen)?)
+    }
+
+    /// Finds documents, where they all go into one batch. A cursor on the others may not be opened yet: `TooMany`.
+    fn find(&self, connection: ConnId, namespace: &str, query: &Query, most: usize) -> Result<Document, Refusal>
         requires { length namespace.now ≤ NAMESPACE_LIMIT }
-        ensures runs { Runs (world self.now) (run_find (world self.now) connection namespace.now (Some most))
+        ensures runs { Runs (world self.now) (run_find (world self.now) connection namespace.now query.now (Some most))
             (world self.now) result }
         ensures sendable { IfOk result (λ d. IsSendable d) }
     {
         // It would own the cursor.
         let _ = connection;
-        let documents = self.collections.documents(namespace);
-        if batch_len(documents, most) < documents.len() {
+        let found = self.found(namespace, query, most)?;
+        if batch_len(&found, most) < found.len() {
             return Err(Refusal::TooMany);
         }
-        Ok(find_reply(self.alloc, namespace, documents)?)
+        Ok(find_reply(self.alloc, namespace, found)?)
+    }
+
+    /// Counts the documents that a filter holds of, after those that are skipped and up to the limit.
+    fn count(&self, namespace: &str, filter: &Filter, skip: usize, limit: usize) -> Result<Document, Refusal>
+        ensures runs { Runs (world self.now) (run_count (world self.now) namespace.now filter.now skip limit) (world self.now) result }
+        ensures sendable { IfOk result (λ d. IsSendable d) }
+    {
+        let number = count(self.collections.documents(namespace), filter, skip, limit);
+        Ok(total_reply(self.alloc, number)?)
+    }
+
+    /// Deletes documents, statement by statement.
+    fn delete(&mut self, namespace: &str, deletions: &[Deletion]) -> Result<Document, Refusal>
+        ensures disk { self.new.store ≡ self.old.store }
+        ensures runs { Runs (world self.old) (run_delete (world self.old) namespace.now deletions.now) (world self.new) result }
+        ensures begun { begun self.new ≡ begun self.old }
+        ensures sendable { IfOk result (λ d. IsSendable d) }
+    {
+        let Some(rest) = self.collections.without(namespace, deletions)? else {
+            return Ok(total_reply(self.alloc, 0)?);
+        };
+        let reply = total_reply(self.alloc, rest.gone)?;
+        self.collections.keep(rest)?;
+        Ok(reply)
     }
 
     /// Reads a command and runs it.
@@ -172,12 +216,24 @@ impl<D: Disk> Engine<D> {
             } => self.insert(namespace.as_str(), &documents),
             Command::Find {
                 namespace,
+                query,
                 batch_size,
             } => self.find(
                 connection,
                 namespace.as_str(),
+                &query,
                 batch_size.unwrap_or(FIRST_BATCH),
             ),
+            Command::Count {
+                namespace,
+                filter,
+                skip,
+                limit,
+            } => self.count(namespace.as_str(), &filter, skip, limit),
+            Command::Delete {
+                namespace,
+                deletions,
+            } => self.delete(namespace.as_str(), &deletions),
         }
     }
 

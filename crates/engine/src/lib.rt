@@ -6,18 +6,23 @@ mod collection;
 mod collections;
 mod command;
 mod connection;
+mod deletion;
 mod documents;
 mod engine;
+mod fields;
 mod image;
 pub mod laws;
 mod loading;
 mod namespace;
+mod query;
 mod refusal;
 mod reply;
+mod shared;
 
 pub use connection::{CONNECTIONS, ConnId};
 pub use engine::{Engine, Reply};
-pub use refusal::{Refusal, body_refusal};
+pub use path::Refusal;
+pub use refusal::body_refusal;
 pub use reply::{full_bytes, out_of_memory_bytes, refusal_document};
 
 /// The most bytes of a stored document.

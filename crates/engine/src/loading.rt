@@ -15,7 +15,7 @@ ghost use Rattle.engine.specs.Loading.{IsReadAs, IsNext, IsOfBytes, IsLoading, u
 
 use crate::collections::Collections;
 use crate::image::image_of;
-use crate::refusal::Refusal;
+use path::Refusal;
 use crate::{MOST_COLLECTIONS, NAMESPACE_LIMIT};
 use bson::{BsonFault, Document, NoMemory, Value, decode};
 use roots::{OpenFault, PairList, split_pair};

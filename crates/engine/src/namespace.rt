@@ -3,10 +3,10 @@
 ghost use Rattle.std.specs.Prelude.{◌≡◌, ◌==◌, ◌||◌, string_bytes};
 ghost use Rattle.std.specs.List.{list_any};
 ghost use Rattle.engine.specs.Command.{is_bad_byte, is_bad_database, is_bad_collection, namespace_of};
-ghost use Rattle.engine.specs.Outcomes.{Gives};
+ghost use Rattle.path.specs.View.{Gives};
 
 use crate::NAMESPACE_LIMIT;
-use crate::refusal::Refusal;
+use path::Refusal;
 use std::alloc::Global;
 
 /// The most bytes of a database's name.

@@ -7,12 +7,12 @@ ghost use Rattle.bson.specs.View.{tree};
 ghost use Rattle.bson.specs.Lookup.{lookup};
 ghost use Rattle.bson.specs.Spelling.{framed, pairs_bytes};
 ghost use Rattle.bson.specs.Lawful.{levels};
-ghost use Rattle.engine.specs.Lawful.{IsStored};
-ghost use Rattle.engine.specs.Refusals.{int, words, ok_reply, refusal_reply};
+ghost use Rattle.engine.specs.Lawful.{IsWithin};
+ghost use Rattle.engine.specs.Refusals.{int, total, words, ok_reply, refusal_reply};
 ghost use Rattle.engine.specs.Step.{items_of_documents, cursor_reply};
 
 use crate::MOST_STATEMENTS;
-use crate::refusal::Refusal;
+use path::Refusal;
 use bson::{Array, BuildFault, Document, NoMemory, Text, Value};
 use std::alloc::{AllocError, Global};
 
@@ -77,14 +77,24 @@ pub(crate) fn insert_reply(alloc: Global, count: usize) -> Result<Document, NoMe
     done(reply)
 }
 
-/// Copies of documents as an array.
-fn array_of(alloc: Global, documents: &[Document]) -> Result<Array, NoMemory>
-    requires { All IsStored documents.now }
-    ensures { IfOk result (λ a. a ≡ items_of_documents documents.now) }
+/// The reply that says a number of documents.
+pub(crate) fn total_reply(alloc: Global, number: usize) -> Result<Document, NoMemory>
+    ensures { IfOk result (λ d. d ≡ ok_reply (pair (codes "n") (total number) no_pairs)) }
+{
+    let mut reply = Document::new(alloc);
+    let number = number.min(i32::MAX as usize);
+    put(&mut reply, "n", Value::Int32(number as i32))?;
+    done(reply)
+}
+
+/// Documents as an array.
+fn array_of(alloc: Global, documents: Vec<Document>) -> Result<Array, NoMemory>
+    requires { All IsWithin documents.items }
+    ensures { IfOk result (λ a. a ≡ items_of_documents documents.items) }
 {
     let mut array = Array::new(alloc);
     'documents: for document in documents {
-        add(&mut array, Value::Document(document.copy()?))?;
+        add(&mut array, Value::Document(document))?;
     }
     Ok(array)
 }
@@ -93,10 +103,10 @@ fn array_of(alloc: Global, documents: &[Document]) -> Result<Array, NoMemory>
 pub(crate) fn find_reply(
     alloc: Global,
     namespace: &str,
-    documents: &[Document],
+    documents: Vec<Document>,
 ) -> Result<Document, NoMemory>
-    requires { All IsStored documents.now }
-    ensures { IfOk result (λ d. d ≡ ok_reply (cursor_reply (codes "firstBatch") documents.now 0 namespace.now)) }
+    requires { All IsWithin documents.items }
+    ensures { IfOk result (λ d. d ≡ ok_reply (cursor_reply (codes "firstBatch") documents.items 0 namespace.now)) }
 {
     let mut cursor = Document::new(alloc);
     put(

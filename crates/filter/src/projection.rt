@@ -1,6 +1,6 @@
 //! Projections: which fields of a document are left.
 
-ghost use Rattle.std.specs.Prelude.{◌≡◌, Ok, IfOk, OnOk, if◌then◌else◌, Some, None, option_map, map, not};
+ghost use Rattle.std.specs.Prelude.{◌≡◌, Ok, IfOk, OnOk, if◌then◌else◌, false, [], Some, None, option_map, map, not};
 ghost use Rattle.std.specs.List.{list_any};
 ghost use Rattle.bson.specs.Tree.{no_pairs, append, no_items, append_items};
 ghost use Rattle.bson.specs.View.{tree, pairs_of, items_of};
@@ -192,6 +192,16 @@ fn projection_of(alloc: Global, includes: bool, seen: Seen) -> Result<Projection
 }
 
 impl Projection {
+    /// The projection that leaves all.
+    pub fn new(alloc: Global) -> Projection
+        ensures { result ≡ (false, []) }
+    {
+        Projection {
+            includes: false,
+            paths: Vec::new(alloc),
+        }
+    }
+
     /// The projection that a document spells, or the first misuse from the left.
     pub fn read(alloc: Global, document: &Document) -> Result<Projection, Refusal>
         ensures { Gives (λ p. p) (read_projection document.now) result }

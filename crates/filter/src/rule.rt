@@ -5,6 +5,7 @@ ghost use Rattle.filter.specs.Matches.{allows};
 
 use bson::{Kind, Value};
 use path::Path;
+use std::alloc::Global;
 use std::cmp::Ordering;
 use std::marker::Model;
 
@@ -96,7 +97,17 @@ impl Model for Filter {
 }
 
 impl Filter {
+    ghost use Rattle.filter.specs.Rule.{no_rules};
     ghost use Rattle.filter.specs.View.{rules_of};
+
+    /// The filter without rules, which holds of every document.
+    pub fn new(alloc: Global) -> Filter
+        ensures { result ≡ no_rules }
+    {
+        Filter {
+            rules: Vec::new(alloc),
+        }
+    }
 
     /// The rules, in the order written.
     pub fn rules(&self) -> &[Rule]

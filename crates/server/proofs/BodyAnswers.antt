@@ -8,8 +8,8 @@ use Rattle.bson.specs.declared.fault.BsonFault.TheVariants as faults
 use Rattle.engine.specs.World.{World}
 use Rattle.engine.specs.Refusals.{refusal_reply}
 use Rattle.engine.specs.Step.{Answers}
-use Rattle.engine.specs.declared.refusal.Refusal.{Refusal}
-use Rattle.engine.specs.declared.refusal.Refusal.TheVariants as refusals
+use Rattle.path.specs.declared.refusal.Refusal.{Refusal}
+use Rattle.path.specs.declared.refusal.Refusal.TheVariants as refusals
 
 module _ (w : World) (connection : ℕ) (fault : BsonFault) (refusal : Refusal) (read : Result Pairs BsonFault) where
   no_memory : refusal ≡ refusals.OutOfMemory → Answers w connection read w (refusal_reply refusal)

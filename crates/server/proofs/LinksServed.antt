@@ -5,7 +5,7 @@ use Rattle.std.specs.Prelude.{Bool, true, false, ◌&&◌, Option, Result, Ok, E
 use Rattle.bson.specs.Tree.{Pairs}
 use Rattle.engine.specs.World.{World, forget}
 use Rattle.engine.specs.Refusals.{refusal_reply}
-use Rattle.engine.specs.declared.refusal.Refusal.{Refusal}
+use Rattle.path.specs.declared.refusal.Refusal.{Refusal}
 use Rattle.op_msg.specs.Frame.{Frame}
 use Rattle.op_msg.specs.declared.fault.FrameFault.{FrameFault}
 use Rattle.server.specs.Turn.{Call, Runs, frames_of, frame_for, calls, call_at, front_of, link_at, links_after, taken_at, links_taken, forget_all, refused_calls, refused_frames, faults, fault_at}

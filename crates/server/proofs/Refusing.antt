@@ -10,7 +10,7 @@ use Rattle.bson.specs.Spelling.{tree_bytes, pairs_bytes, items_bytes, framed}
 use Rattle.op_msg.specs.Request.{reply_bytes, respelled}
 use Rattle.op_msg.proofs.Respelling.{respelled_frame}
 use Rattle.engine.specs.Refusals.{refusal_reply}
-use Rattle.engine.specs.declared.refusal.Refusal.TheVariants.{OutOfMemory, Full}
+use Rattle.path.specs.declared.refusal.Refusal.TheVariants.{OutOfMemory, Full}
 use Rattle.server.specs.Turn.{Call, calls, frame_unless, frame_for, frames_of, refused_calls, refused_frames, next_number}
 use Rattle.server.specs.Taking.{full_body, respelled_frames, HaveRoom}
 use Rattle.server.specs.View.{frames_in}

@@ -4,7 +4,7 @@ use Rattle.std.specs.Prelude.{◌⊎◌}
 use Rattle.page.specs.History.{History}
 use Rattle.engine.specs.World.{World}
 use Rattle.engine.specs.View.{world}
-use Rattle.engine.specs.declared.refusal.Refusal.TheVariants.{OutOfMemory}
+use Rattle.path.specs.declared.refusal.Refusal.TheVariants.{OutOfMemory}
 use Rattle.op_msg.specs.declared.fault.FrameFault.{FrameFault}
 use Rattle.server.specs.Site.{Site}
 use Rattle.server.specs.Turn.{Out, Done, Undone, Turns, faults, forget_all, links_after}

@@ -6,7 +6,7 @@ use Rattle.engine.specs.World.{Collection, World}
 use Rattle.engine.specs.Durable as engines
 use Rattle.engine.specs.View.{world}
 use Rattle.engine.specs.declared.engine.Engine.{Engine}
-use Rattle.engine.specs.declared.refusal.Refusal.TheVariants as refusals
+use Rattle.path.specs.declared.refusal.Refusal.TheVariants as refusals
 use Rattle.server.specs.Site.{Site}
 use Rattle.server.specs.Turn.{Out, Undone}
 use Rattle.server.specs.View.{site}

@@ -11,8 +11,8 @@ use Rattle.bson.specs.declared.fault.BsonFault.{BsonFault}
 use Rattle.engine.specs.World.{World, settled, undone}
 use Rattle.engine.specs.Refusals.{refusal_reply}
 use Rattle.engine.specs.Step.{Answers}
-use Rattle.engine.specs.declared.refusal.Refusal.{Refusal}
-use Rattle.engine.specs.declared.refusal.Refusal.TheVariants as refusals
+use Rattle.path.specs.declared.refusal.Refusal.{Refusal}
+use Rattle.path.specs.declared.refusal.Refusal.TheVariants as refusals
 use Rattle.server.specs.Turn.{Call, Runs, calls, call_at, frames_of, front_of, refused_calls, refused_frames, taken_at, next_number}
 use Rattle.server.specs.declared.link.Link.{Link}
 use Rattle.server.specs.declared.link.Taken.{Taken}

@@ -12,8 +12,8 @@ use Rattle.op_msg.specs.declared.fault.FrameFault.{FrameFault}
 use Rattle.engine.specs.World.{World, forget, settled, undone}
 use Rattle.engine.specs.Refusals.{refusal_reply}
 use Rattle.engine.specs.Step.{Answers}
-use Rattle.engine.specs.declared.refusal.Refusal.{Refusal}
-use Rattle.engine.specs.declared.refusal.Refusal.TheVariants as refusals
+use Rattle.path.specs.declared.refusal.Refusal.{Refusal}
+use Rattle.path.specs.declared.refusal.Refusal.TheVariants as refusals
 use Rattle.server.specs.Site.{Site}
 use Rattle.server.specs.declared.link.Link.{Link}
 use Rattle.server.specs.declared.turn.TurnFault.{TurnFault}

@@ -2,7 +2,7 @@
 
 ghost use Rattle.std.specs.Prelude.{◌≡◌, ◌++◌, [], ◌∷◌, IfOk, OnOk};
 ghost use Rattle.engine.specs.Refusals.{refusal_reply};
-ghost use Rattle.engine.specs.declared.refusal.Refusal.TheVariants.{OutOfMemory};
+ghost use Rattle.path.specs.declared.refusal.Refusal.TheVariants.{OutOfMemory};
 ghost use Rattle.op_msg.specs.Request.{head_of, reply_bytes};
 ghost use Rattle.server.specs.Turn.{front_of, faults, fault_at, frame_unless, next_number, refused_frames};
 ghost use Rattle.server.specs.Taking.{refused_at, fault_in, faults_in, HaveRoom, respelled_frames};

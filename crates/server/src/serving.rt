@@ -6,7 +6,7 @@ ghost use Rattle.page.specs.Crash.{GoesOn, LeavesOnly, LeavesNow};
 ghost use Rattle.op_msg.specs.Request.{reply_bytes};
 ghost use Rattle.engine.specs.View.{world, begun, reply_of, IsSendable};
 ghost use Rattle.engine.specs.Durable.{Holds, past, stopped, IsRunning, IsSound};
-ghost use Rattle.engine.specs.declared.refusal.Refusal.TheVariants.{OutOfMemory};
+ghost use Rattle.path.specs.declared.refusal.Refusal.TheVariants.{OutOfMemory};
 ghost use Rattle.server.specs.Turn.{front_of, links_taken, taken_at, call_at, calls, refused_frames, forget_all};
 ghost use Rattle.server.specs.Taking.{Serves, IsAnswer, Settles, Breaks};
 ghost use Rattle.server.specs.Durable.{HasNoRoom};

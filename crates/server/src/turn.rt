@@ -71,7 +71,7 @@ impl<D: Disk> Core<D> {
     ghost use Rattle.roots.specs.Root.{root_of};
     ghost use Rattle.engine.specs.World.{Collection, new_world};
     ghost use Rattle.engine.specs.Durable.{Holds};
-    ghost use Rattle.engine.specs.declared.refusal.Refusal.TheVariants as refusals;
+    ghost use Rattle.path.specs.declared.refusal.Refusal.TheVariants as refusals;
     ghost use Rattle.server.specs.Site.{fed, ended, find_link, is_closed_in};
     ghost use Rattle.server.specs.Turn.{Done, Undone, Turns, TurnFails, is_waiting_in};
     ghost use Rattle.server.specs.View.{site, out_of};

@@ -1,7 +1,7 @@
 use Rattle.std.proofs.Common.{◌≡◌, ℕ, List, length, ap, subst, arith}
 use Rattle.std.specs.Prelude.{IfOk}
 use Rattle.op_msg.specs.Request.{frame_bytes, reply_bytes}
-use Rattle.engine.specs.declared.refusal.Refusal.TheVariants as refusals
+use Rattle.path.specs.declared.refusal.Refusal.TheVariants as refusals
 use Rattle.engine.proofs.SpelledSizes.{refusal-sendable}
 use Rattle.server.proofs.preparing.no_memory_frame.Goals as goal
 

@@ -1,6 +1,6 @@
 use Rattle.std.proofs.Common.{ℕ, List, [], ◌∷◌, ◌++◌, take, sym, ap, ◌∙◌}
 use Rattle.std.specs.Prelude.{Option}
-use Rattle.engine.specs.declared.refusal.Refusal.TheVariants.{OutOfMemory}
+use Rattle.path.specs.declared.refusal.Refusal.TheVariants.{OutOfMemory}
 use Rattle.op_msg.specs.declared.fault.FrameFault.{FrameFault}
 use Rattle.server.specs.Turn.{front_of, faults, fault_at, refused_frames}
 use Rattle.server.specs.Taking.{refused_at, fault_in, faults_in}

@@ -1,5 +1,5 @@
 use Rattle.std.proofs.Common.{◌≡◌, take}
-use Rattle.engine.specs.declared.refusal.Refusal.TheVariants.{OutOfMemory}
+use Rattle.path.specs.declared.refusal.Refusal.TheVariants.{OutOfMemory}
 use Rattle.server.specs.Turn.{faults, refused_frames}
 use Rattle.server.specs.Taking.{faults_in}
 use Rattle.server.specs.View.{frames_in}

@@ -13,7 +13,7 @@ use Rattle.server.specs.Turn.{Runs, calls, frames_of, refused_frames}
 use Rattle.server.specs.Taking.{HaveRoom, full_body, respelled_frames}
 use Rattle.server.specs.Durable.{HasNoRoom}
 use Rattle.server.specs.View.{frames_in}
-use Rattle.engine.specs.declared.refusal.Refusal.TheVariants.{OutOfMemory, Full}
+use Rattle.path.specs.declared.refusal.Refusal.TheVariants.{OutOfMemory, Full}
 use Rattle.server.proofs.Images.{stays, moved, moved_back, on_same}
 use Rattle.server.proofs.Refusing.{refused_room, refused_respelled, whole}
 use Rattle.server.proofs.serving.run_messages.Goals as goal

@@ -1,6 +1,7 @@
 use Rattle.std.proofs.Common.{rules, ◌≡◌, ◌<◌, ◌≤◌, List, ◌∷◌, [], ◌++◌, length, Some, None, Ok, refl, sym, ap, subst, ◌∙◌, insert, set}
 use Rattle.std.proofs.lemmas.Grind.{get_or-set_at}
 use Rattle.std.proofs.lemmas.Result.{err_from_is_err_and}
+use Rattle.bson.specs.Tree.{Pairs}
 use Rattle.engine.specs.World.{Collection}
 use Rattle.engine.specs.Documents.{key_of, id_first, place}
 use Rattle.engine.specs.Lawful.{IsStored}
@@ -19,7 +20,7 @@ returns-in_err-document-clause-does c =
 
 pub insert-requires-clause-stored : goal.insert-requires-clause-stored
 insert-requires-clause-stored c =
-    subst IsStored (sym c.in_ok-document.ensures.checked.1) (keeps c.args.document.now (key_of c.args.document.now) c.in_ok-document.ensures.checked.0).lawful
+    subst IsStored (sym (c.in_ok-new-in-Err.ensures ∙ c.in_ok-document.ensures.checked.1)) (keeps c.args.document.now (key_of c.args.document.now) c.in_ok-document.ensures.checked.0).lawful
 
 module _ (c : After-unwrap) where
   abbrev cs : List Collection
@@ -38,7 +39,10 @@ module _ (c : After-unwrap) where
   next = grown cs c.args.at c.in-Err.place c.in_ok-document.document within gap
 
   is_next : c.insert.new.self ≡ next
-  is_next = c.in_ok-insert-in-Err.ensures.ok ∙ ap (λ (x : Collection). record x { documents = insert x.documents c.in-Err.place c.in_ok-document.document }) is
+  is_next =
+      let found : Collection = c.index_mut-collection.result.now in
+      c.in_ok-insert-in-Err.ensures.ok ∙ ap (λ (d : Pairs). record found { documents = insert found.documents c.in-Err.place d }) c.in_ok-new-in-Err.ensures
+      ∙ ap (λ (x : Collection). record x { documents = insert x.documents c.in-Err.place c.in_ok-document.document }) is
 
   pushed : c.push.new.self.items ≡ c.self.inside.changes.items ++ changes.Stored c.args.at c.in-Err.place ∷ []
   pushed = search rules

@@ -6,7 +6,7 @@ use Rattle.bson.specs.Spelling.{items_bytes}
 use Rattle.engine.specs.Step.{batch_of, items_of_documents, cursor_reply}
 use Rattle.engine.specs.World.{World}
 use Rattle.engine.specs.Refusals.{ok_reply}
-use Rattle.engine.specs.declared.refusal.Refusal.{Refusal}
+use Rattle.path.specs.declared.refusal.Refusal.{Refusal}
 use Rattle.engine.specs.View.{world, with_ok, IsSendable}
 use Rattle.engine.specs.declared.TheConstants.{BATCH_LIMIT, STORED_LIMIT}
 use Rattle.engine.proofs.Running.{run_find-over, run_find-whole}

@@ -8,7 +8,7 @@ use Rattle.engine.specs.Refusals.{int, ok_reply}
 use Rattle.engine.specs.Progress.{Progress}
 use Rattle.engine.specs.Reading.{documents_at}
 use Rattle.engine.specs.View.{world, with_ok, IsSendable}
-use Rattle.engine.specs.declared.refusal.Refusal.{Refusal}
+use Rattle.path.specs.declared.refusal.Refusal.{Refusal}
 use Rattle.engine.proofs.Running.{run_insert-done, run_insert-refused}
 use Rattle.engine.proofs.SpelledSizes.{insert-sendable}
 use Rattle.engine.proofs.engine.Engine.insert.Goals as goal

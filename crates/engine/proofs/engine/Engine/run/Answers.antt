@@ -9,7 +9,7 @@ use Rattle.engine.specs.Reading.{command_read}
 use Rattle.engine.specs.View.{world, IsSendable, Runs}
 use Rattle.engine.specs.declared.TheConstants.{FIRST_BATCH}
 use Rattle.engine.specs.declared.command.Command.{Command}
-use Rattle.engine.specs.declared.refusal.Refusal.{Refusal}
+use Rattle.path.specs.declared.refusal.Refusal.{Refusal}
 use Rattle.engine.proofs.Running.{run_find-default}
 use Rattle.engine.proofs.SpelledSizes.{ping-sendable}
 use Rattle.engine.proofs.engine.Engine.run.Goals as goal

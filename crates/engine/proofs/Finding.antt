@@ -1,0 +1,93 @@
+-- What a find chooses keeps what was kept of the documents.
+use Rattle.std.proofs.Common.{◌≡◌, ◌≢◌, ℕ, zero, suc, min, ◌+◌, ◌-◌, ◌<◌, ◌≤◌, Bool, true, false, List, [], ◌∷◌, ◌++◌, length, get_or, take, drop, map, refl, sym, ap, ◌∙◌, append_assoc, arith}
+use Rattle.std.specs.Prelude.{All}
+use Rattle.std.specs.List.{filter}
+use Rattle.std.specs.declared.cmp.Ordering.{Ordering}
+use Rattle.std.specs.declared.cmp.Ordering.TheVariants.{Less, Equal, Greater}
+use Rattle.std.proofs.lemmas.List.Elements.{All-filter, All-take, All-drop, All-cons}
+use Rattle.std.proofs.lemmas.List.{append-nil, drop_all, length-take, length-drop, take-map, drop-map}
+use Rattle.bson.specs.Tree.{Pairs}
+use Rattle.filter.specs.Matches.{matches}
+use Rattle.filter.specs.Sort.{SortField, insert_in_order, put_before, sorted, order}
+use Rattle.engine.proofs.Steps.{drop_step}
+use Rattle.engine.specs.Query.{Query, matching, limited, window, chosen}
+
+module _ (P : Pairs → Type 0) (cmp : Pairs → Pairs → Ordering) where
+  head_of : (x : Pairs) (xs : List Pairs) → All P (x ∷ xs) → P x
+  head_of x xs h = h 0 x (omega arith)
+
+  tail_of : (x : Pairs) (xs : List Pairs) → All P (x ∷ xs) → All P xs
+  tail_of x xs h = λ k d below. h (suc k) d (omega arith)
+
+  inserted_kept : (x : Pairs) (ys : List Pairs) → P x → All P ys → All P (insert_in_order cmp x ys)
+  inserted_kept x [] one h = All-cons P x [] one h
+  inserted_kept x (y ∷ ys) one h = at (cmp x y) (inserted_kept x ys one (tail_of y ys h))
+    where
+      at : (o : Ordering) → All P (insert_in_order cmp x ys) → All P (put_before o x y (insert_in_order cmp x ys) ys)
+      at Greater later = All-cons P y (insert_in_order cmp x ys) (head_of y ys h) later
+      at Less later = All-cons P x (y ∷ ys) one h
+      at Equal later = All-cons P x (y ∷ ys) one h
+
+  sorted_kept : (xs : List Pairs) → All P xs → All P (sorted cmp xs)
+  sorted_kept [] h = h
+  sorted_kept (x ∷ xs) h = inserted_kept x (sorted cmp xs) (head_of x xs h) (sorted_kept xs (tail_of x xs h))
+
+limited_kept : {X : Type 0} (P : X → Type 0) (limit : ℕ) (xs : List X) → All P xs → All P (limited limit xs)
+limited_kept P zero xs h = h
+limited_kept P (suc n) xs h = All-take P (suc n) xs h
+
+pub window_kept : {X : Type 0} (P : X → Type 0) (skip limit : ℕ) (xs : List X) → All P xs → All P (window skip limit xs)
+window_kept P skip limit xs h = limited_kept P limit (drop skip xs) (All-drop P skip xs h)
+
+pub chosen_kept : (P : Pairs → Type 0) (q : Query) (ds : List Pairs) → All P ds → All P (chosen q ds)
+chosen_kept P q ds h = window_kept P q.skip q.limit (order q.sort (matching q.filter ds)) (sorted_kept P _ (matching q.filter ds) (All-filter (matches q.filter) P ds h))
+
+-- ---- a window
+
+limited-map : {X Y : Type 0} (f : X → Y) (limit : ℕ) (xs : List X) → map f (limited limit xs) ≡ limited limit (map f xs)
+limited-map f zero xs = refl
+limited-map f (suc n) xs = sym (take-map f (suc n) xs)
+
+pub window-map : {X Y : Type 0} (f : X → Y) (skip limit : ℕ) (xs : List X) → map f (window skip limit xs) ≡ window skip limit (map f xs)
+window-map {X} {Y} f skip limit xs = limited-map f limit (drop skip xs) ∙ ap (λ (ys : List Y). limited limit ys) (sym (drop-map f skip xs))
+
+pub window-length : {X : Type 0} (skip limit : ℕ) (xs : List X) → limit ≢ 0 → length (window skip limit xs) ≡ min limit (length xs - skip)
+window-length skip zero xs some = absurd (some refl)
+window-length skip (suc n) xs some = length-take (suc n) (drop skip xs) ∙ ap (λ (m : ℕ). min (suc n) m) (length-drop skip xs)
+
+pub map-map : {X Y Z : Type 0} (g : Y → Z) (f : X → Y) (xs : List X) → map (λ x. g (f x)) xs ≡ map g (map f xs)
+map-map g f [] = refl
+map-map {X} {Y} {Z} g f (x ∷ xs) = ap (λ (zs : List Z). g (f x) ∷ zs) (map-map g f xs)
+
+-- ---- loops
+
+-- what f makes of the elements up to an index
+abbrev pub IsMade : {X Y : Type 0} → (X → Y) → List X → ℕ → List Y → Type 0
+IsMade f all i made = made ++ map f (drop i all) ≡ map f all
+
+pub made_one : {X Y : Type 0} (f : X → Y) (all : List X) (i : ℕ) (x : X) (made next : List Y) → i < length all → x ≡ get_or all i x → next ≡ made ++ f x ∷ [] → IsMade f all i made → IsMade f all (i + 1) next
+made_one {X} {Y} f all i x made next within is pushed h =
+    ap (λ (ys : List Y). ys ++ map f (drop (i + 1) all)) pushed ∙ append_assoc made (f x ∷ []) (map f (drop (i + 1) all))
+    ∙ ap (λ (ys : List X). made ++ map f ys) (sym (drop_step all i x within is)) ∙ h
+
+pub made_all : {X Y : Type 0} (f : X → Y) (all : List X) (i : ℕ) (made : List Y) → length all ≤ i → IsMade f all i made → made ≡ map f all
+made_all {X} f all i made whole h = sym (append-nil made) ∙ ap (λ (ys : List X). made ++ map f ys) (sym (drop_all i all whole)) ∙ h
+
+-- the elements up to an index that pass
+abbrev pub ArePassed : {X : Type 0} → (X → Bool) → List X → ℕ → List X → Type 0
+ArePassed p all i passed = passed ++ filter p (drop i all) ≡ filter p all
+
+pub passed_one : {X : Type 0} (p : X → Bool) (all : List X) (i : ℕ) (x : X) (passed next : List X) → i < length all → x ≡ get_or all i x → p x ≡ true → next ≡ passed ++ x ∷ [] → ArePassed p all i passed → ArePassed p all (i + 1) next
+passed_one {X} p all i x passed next within is holds pushed h =
+    let rest = filter p (drop (i + 1) all) in
+    let step : filter p (x ∷ drop (i + 1) all) ≡ x ∷ rest = rw holds refl in
+    ap (λ (ys : List X). ys ++ rest) pushed ∙ append_assoc passed (x ∷ []) rest
+    ∙ ap (λ (ys : List X). passed ++ ys) (sym step ∙ ap (filter p) (sym (drop_step all i x within is))) ∙ h
+
+pub passed_none : {X : Type 0} (p : X → Bool) (all : List X) (i : ℕ) (x : X) (passed : List X) → i < length all → x ≡ get_or all i x → p x ≡ false → ArePassed p all i passed → ArePassed p all (i + 1) passed
+passed_none {X} p all i x passed within is fails h =
+    let step : filter p (x ∷ drop (i + 1) all) ≡ filter p (drop (i + 1) all) = rw fails refl in
+    ap (λ (ys : List X). passed ++ ys) (sym step ∙ ap (filter p) (sym (drop_step all i x within is))) ∙ h
+
+pub passed_all : {X : Type 0} (p : X → Bool) (all : List X) (i : ℕ) (passed : List X) → length all ≤ i → ArePassed p all i passed → passed ≡ filter p all
+passed_all {X} p all i passed whole h = sym (append-nil passed) ∙ ap (λ (ys : List X). passed ++ filter p ys) (sym (drop_all i all whole)) ∙ h
