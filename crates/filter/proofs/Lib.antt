@@ -4,3 +4,4 @@ pub mod ReadSteps
 pub mod ProjectSteps
 pub mod StableSort
 pub mod SortSteps
+pub mod TakenOut

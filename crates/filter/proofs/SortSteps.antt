@@ -158,7 +158,7 @@ map-ranked : (rs : List Ranked) → map (λ x. x.1) (map ranked_of rs) ≡ map a
 map-ranked [] = refl
 map-ranked (r ∷ rs) = ap (λ (qs : List (Pairs × ℕ)). at_place r ∷ qs) (map-ranked rs)
 
-pub ranked_in_order : (fields : List SortField) (rs sorts : List Ranked) (documents : List Pairs) → map ranked_of rs ≡ map (with_keys fields) (numbered 0 documents)
+ranked_in_order : (fields : List SortField) (rs sorts : List Ranked) (documents : List Pairs) → map ranked_of rs ≡ map (with_keys fields) (numbered 0 documents)
     → sorts ≡ sorted (ranked_cmp fields) rs → map at_place sorts ≡ arranged fields documents
 ranked_in_order fields rs sorts documents made is =
     sym (map-ranked sorts)
@@ -185,3 +185,11 @@ pub shared_in_order : (fields : List SortField) (rs sorts : List Ranked) (docume
     → sorts ≡ sorted (ranked_cmp fields) rs → map (λ r. r.document.now) sorts ≡ order fields documents
 shared_in_order fields rs sorts documents made is =
     sym (map-places sorts) ∙ ap (map (λ p. p.0)) (ranked_in_order fields rs sorts documents made is) ∙ arranged-documents fields documents
+
+map-place : (rs : List Ranked) → map (λ p. p.1) (map at_place rs) ≡ map (λ r. r.place) rs
+map-place [] = refl
+map-place (r ∷ rs) = ap (λ (ns : List ℕ). r.place ∷ ns) (map-place rs)
+
+pub places_in_order : (fields : List SortField) (rs sorts : List Ranked) (documents : List Pairs) → map ranked_of rs ≡ map (with_keys fields) (numbered 0 documents)
+    → sorts ≡ sorted (ranked_cmp fields) rs → map (λ r. r.place) sorts ≡ map (λ p. p.1) (arranged fields documents)
+places_in_order fields rs sorts documents made is = sym (map-place sorts) ∙ ap (map (λ p. p.1)) (ranked_in_order fields rs sorts documents made is)

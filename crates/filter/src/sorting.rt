@@ -1,7 +1,7 @@
 //! Ordering documents: each one's keys are looked up once, and no value is copied.
 
-ghost use Rattle.std.specs.Prelude.{◌≡◌, ◌∷◌, [], IfOk, OnOk, Some, map, drop, option_map};
-ghost use Rattle.bson.specs.View.{tree, items_of};
+ghost use Rattle.std.specs.Prelude.{◌≡◌, ◌<◌, IfOk, OnOk, length, map, drop, slice_index_or, slice_set, option_map};
+ghost use Rattle.bson.specs.Tree.{no_pairs};
 ghost use Rattle.path.specs.View.{reached};
 ghost use Rattle.value_order.specs.View.{key_of};
 ghost use Rattle.filter.specs.Sort.{precedes, directed, keys_of, array_keys, sort_key, sorted, order};
@@ -136,6 +136,15 @@ fn compare_ranked(fields: &[Field], a: &Ranked<'_>, b: &Ranked<'_>) -> Ordering
     compare_lists(fields, &a.keys, &b.keys)
 }
 
+/// Takes a document out, and leaves an empty one.
+fn take_out(alloc: Global, documents: &mut Vec<Document>, place: usize) -> Document
+    requires { place < length documents.old.items }
+    ensures taken { (d : _) → result ≡ slice_index_or documents.old.items place d }
+    ensures left { documents.new.items ≡ slice_set documents.old.items place no_pairs }
+{
+    mem::replace(&mut documents[place], Document::new(alloc))
+}
+
 impl Sort {
     /// A document's keys, one for each field.
     fn keys<'a>(&self, document: &'a Document) -> Result<Vec<KeyPart<'a>>, NoMemory>
@@ -172,6 +181,17 @@ impl Sort {
         Ok(all)
     }
 
+    fn rank_all<'a>(&self, documents: &'a [Document]) -> Result<Vec<Ranked<'a>>, NoMemory>
+        ensures { IfOk result (λ v. map ranked_of v.items ≡ map (with_keys self.now) (numbered 0 documents.now)) }
+    {
+        let mut all = Vec::with_capacity(*self.fields.allocator(), documents.len())?;
+        'documents: for document in documents {
+            let ranked = self.rank(document, all.len())?;
+            all.push(ranked)?;
+        }
+        Ok(all)
+    }
+
     /// Sorts by keys. What ties keeps its order.
     fn sort_ranked(&self, all: &mut Vec<Ranked<'_>>) -> Result<(), NoMemory>
         ensures { OnOk result (all.new.items ≡ sorted (ranked_cmp self.now) all.old.items) }
@@ -196,5 +216,33 @@ impl Sort {
             documents.push(ranked.document)?;
         }
         Ok(documents)
+    }
+
+    /// The places of documents in the order of the sort.
+    fn places(&self, documents: &[Document]) -> Result<Vec<usize>, NoMemory>
+        ensures { IfOk result (λ v. v.items ≡ map (λ p. p.1) (arranged self.now documents.now)) }
+    {
+        let mut all = self.rank_all(documents)?;
+        self.sort_ranked(&mut all)?;
+        let mut places = Vec::with_capacity(*self.fields.allocator(), all.len())?;
+        'all: for ranked in &all {
+            places.push(ranked.place)?;
+        }
+        Ok(places)
+    }
+
+    /// The same for documents by value, which are moved and not copied.
+    pub fn order(&self, documents: Vec<Document>) -> Result<Vec<Document>, NoMemory>
+        ensures { IfOk result (λ v. v.items ≡ order self.now documents.items) }
+    {
+        let places = self.places(&documents)?;
+        let alloc = *self.fields.allocator();
+        let mut documents = documents;
+        let mut ordered = Vec::with_capacity(alloc, documents.len())?;
+        'places: for place in &places {
+            let document = take_out(alloc, &mut documents, *place);
+            ordered.push(document)?;
+        }
+        Ok(ordered)
     }
 }
