@@ -9,5 +9,6 @@ pub mod Reading
 pub mod Sort
 pub mod SortKeys
 pub mod Projection
+pub mod ProjectionLaws
 pub mod Seen
 pub mod Rows
