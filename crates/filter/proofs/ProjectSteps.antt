@@ -1,6 +1,6 @@
 -- What a projection leaves is a document, and one pair or one item more of it.
-use Rattle.std.proofs.Common.{◌≡◌, ℕ, zero, suc, ◌+◌, ◌<◌, ◌≤◌, max, Bool, true, false, List, [], ◌∷◌, ◌++◌, length, drop, get_or, map, Option, Some, None, refl, sym, ap, subst, ◌∙◌, arith, inl, inr}
-use Rattle.std.specs.Prelude.{◌⊎◌, ◌≢◌, not, if◌then◌else◌, option_map}
+use Rattle.std.proofs.Common.{◌≡◌, ℕ, ◌+◌, ◌<◌, ◌≤◌, max, Bool, true, false, List, length, drop, get_or, Option, Some, None, refl, sym, ap, subst, ◌∙◌, arith, inl, inr}
+use Rattle.std.specs.Prelude.{◌⊎◌, not, if◌then◌else◌, option_map}
 use Rattle.std.specs.List.{list_any}
 use Rattle.bson.specs.Tree.{Tree, scalar, document, array, Pairs, no_pairs, pair, append, Items, no_items, item, append_items}
 use Rattle.bson.specs.View.{tree, pairs_of, items_of}

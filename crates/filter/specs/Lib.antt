@@ -7,6 +7,8 @@ pub mod Probes
 pub mod Words
 pub mod Reading
 pub mod Sort
+pub mod SortKeys
 pub mod Projection
+pub mod ProjectionLaws
 pub mod Seen
 pub mod Rows

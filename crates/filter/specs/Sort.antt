@@ -28,12 +28,15 @@ direction_in (scalar (int32 z)) = direction_of z
 direction_in (scalar (int64 z)) = direction_of z
 direction_in t = Err refusals.TypeMismatch
 
+abbrev pub read_field : List ℕ → Tree → Result SortField Refusal
+read_field name t = if_ok (path_in name) (λ path. if_ok (direction_in t) (λ descending. Ok (path, descending)))
+
 -- at most so many more fields; of one too many nothing is looked at
 abbrev pub read_fields : ℕ → Pairs → Result (List SortField) Refusal
 read_fields more no_pairs = Ok []
 read_fields zero (pair name t ps) = Err refusals.BadValue
 read_fields (suc more) (pair name t ps) =
-    if_ok (path_in name) (λ path. if_ok (direction_in t) (λ descending. if_ok (read_fields more ps) (λ fields. Ok ((path, descending) ∷ fields))))
+    if_ok (read_field name t) (λ field. if_ok (read_fields more ps) (λ fields. Ok (field ∷ fields)))
 
 abbrev pub read_sort : Pairs → Result (List SortField) Refusal
 read_sort ps = read_fields 32 ps
@@ -84,12 +87,12 @@ abbrev pub put_before : {A : Type 0} → Ordering → A → A → List A → Lis
 put_before Greater x y inserted ys = y ∷ inserted
 put_before o x y inserted ys = x ∷ y ∷ ys
 
--- before the first that it isn't above, so that equals keep their order
-abbrev pub insert_in_order : (Pairs → Pairs → Ordering) → Pairs → List Pairs → List Pairs
+-- before the first that it isn't above, so that what ties keeps its order
+abbrev pub insert_in_order : {A : Type 0} → (A → A → Ordering) → A → List A → List A
 insert_in_order cmp x [] = x ∷ []
 insert_in_order cmp x (y ∷ ys) = put_before (cmp x y) x y (insert_in_order cmp x ys) ys
 
-abbrev pub sorted : (Pairs → Pairs → Ordering) → List Pairs → List Pairs
+abbrev pub sorted : {A : Type 0} → (A → A → Ordering) → List A → List A
 sorted cmp [] = []
 sorted cmp (x ∷ xs) = insert_in_order cmp x (sorted cmp xs)
 

@@ -1,5 +1,6 @@
-//! Rows worked by hand, as contracts of the definitions.
+//! Laws of the definitions and rows worked by hand, as contracts.
 
+ghost use Rattle.filter.specs.ProjectionLaws.{NoLarger};
 ghost use Rattle.filter.specs.Rows.{MatchRows, RefusalRows, SortRows, ProjectionRows};
 
 /// What filters hold of.
@@ -20,4 +21,9 @@ pub fn sort_rows()
 /// What projections leave.
 pub fn projection_rows()
     ensures { ProjectionRows }
+{}
+
+/// What a projection leaves is spelled in no more bytes and nests no deeper.
+pub fn leaves_no_more()
+    ensures { NoLarger }
 {}

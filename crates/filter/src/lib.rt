@@ -11,7 +11,10 @@ mod operator;
 mod projection;
 mod reading;
 mod rule;
+mod sort;
+mod sorting;
 mod testing;
 
 pub use projection::Projection;
 pub use rule::{Comparison, Filter, Rule, Test};
+pub use sort::Sort;

@@ -7,4 +7,5 @@ pub mod Wrapped
 pub mod Sorting
 pub mod Coding
 pub mod Total
+pub mod Keys
 pub mod FaultNames

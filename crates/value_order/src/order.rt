@@ -3,9 +3,11 @@
 ghost use Rattle.std.specs.Prelude.{◌≡◌};
 ghost use Rattle.std.specs.Ordering.{ordering_then, nat_cmp};
 ghost use Rattle.bson.specs.View.{tree, pairs_of, items_of};
-ghost use Rattle.value_order.specs.Order.{class, leaf, leaf_cmp, bytes_cmp, compare, content_cmp, pairs_cmp, items_cmp};
+ghost use Rattle.value_order.specs.Order.{class, leaf, leaf_cmp, bytes_cmp, compare, content_cmp, pairs_cmp, items_cmp, key_class, key_cmp};
+ghost use Rattle.value_order.specs.View.{key_of};
 
 use crate::class::{class, parts};
+use crate::texts::KeyPart;
 use bson::{Pair, Value};
 use std::cmp::Ordering;
 
@@ -83,5 +85,26 @@ pub fn compare(a: &Value, b: &Value) -> Ordering
     match class(a).cmp(&class(b)) {
         Ordering::Equal => compare_content(a, b),
         order => order,
+    }
+}
+
+/// The class of a key. An empty array has one of its own, between MinKey and null.
+fn key_class(key: &KeyPart<'_>) -> u8
+    ensures { result ≡ key_class (key_of key.now) }
+{
+    match key {
+        KeyPart::Nothing => 0x20,
+        KeyPart::EmptyArray => 0x18,
+        KeyPart::Value(value) => class(value),
+    }
+}
+
+/// The order of two keys: of two values as `compare` has it, else by class.
+pub fn compare_keys(a: &KeyPart<'_>, b: &KeyPart<'_>) -> Ordering
+    ensures { result ≡ key_cmp (key_of a.now) (key_of b.now) }
+{
+    match (a, b) {
+        (KeyPart::Value(a), KeyPart::Value(b)) => compare(a, b),
+        _ => key_class(a).cmp(&key_class(b)),
     }
 }

@@ -20,9 +20,11 @@ pub enum Direction {
     Descending,
 }
 
-/// What a sort or an index has for a document: a value, or that an empty array stands there.
+/// What a sort or an index has for a document: a value, or that an empty array or nothing stands there. Nothing
+/// counts as null.
 #[derive(Clone, Copy)]
 pub enum KeyPart<'a> {
+    Nothing,
     EmptyArray,
     Value(&'a Value),
 }
@@ -181,6 +183,7 @@ fn put_key(out: &mut Vec<u8>, limit: usize, key: &KeyPart<'_>) -> Result<(), Key
     ensures { IsPut limit (key_text (key_of key.now)) out.old.items out.new.items result }
 {
     match key {
+        KeyPart::Nothing => put(out, limit, &[0x20]),
         KeyPart::EmptyArray => put(out, limit, &[0x18]),
         KeyPart::Value(value) => put_value(out, limit, value),
     }

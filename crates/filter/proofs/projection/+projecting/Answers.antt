@@ -1,4 +1,4 @@
-use Rattle.std.proofs.Common.{◌≡◌, map, sym, ap, subst, ◌∙◌, arith}
+use Rattle.std.proofs.Common.{map, sym, ap, subst, ◌∙◌, arith}
 use Rattle.bson.specs.Tree.{count_pairs, count_items}
 use Rattle.bson.specs.View.{pairs_of, items_of}
 use Rattle.bson.specs.Lawful.{IsDocument, IsArray}

@@ -1,0 +1,11 @@
+use Rattle.std.proofs.Common.{map, ap, ◌∙◌}
+use Rattle.std.proofs.lemmas.List.{take_all}
+use Rattle.filter.specs.declared.sorting.Ranked.{Ranked}
+use Rattle.filter.proofs.SortSteps.{places_in_order}
+use Rattle.filter.proofs.sort.Sort.places.Goals as goal
+
+pub returns : goal.returns
+returns c =
+    c.all.invariant
+    ∙ ap (map (λ (r : Ranked). r.place)) (take_all c.all.ranked-index c.deref-ranked-items.result.now c.all-test.false ∙ c.deref-ranked-items.ensures.value)
+    ∙ places_in_order c.args.self.now c.in_ok-all.all.items c.sort_ranked.new.all.items c.args.documents.now c.in_ok-all.ensures c.in_ok-sort_ranked.ensures
