@@ -45,7 +45,3 @@ pub record IsSound {D : Type 0} (history : D → History) (engine : Engine D) : 
 -- No commit of these collections finds room: they are too long for the free pages, or no greater generation is left.
 abbrev pub HasNoRoom : {D : Type 0} → Store D → List Collection → Type 0
 HasNoRoom store state = (stores.version_of store ≡ 2 ^ 64 - 1) ⊎ stores.IsTooLong store (length (pairs_bytes (pairs_of state)))
-
--- no commit finds room
-abbrev pub IsFull : {D : Type 0} → Engine D → Type 0
-IsFull engine = HasNoRoom (store_of engine) (world engine).state
