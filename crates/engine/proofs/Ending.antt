@@ -38,16 +38,18 @@ module _ {D : Type 0} (history : D → History) (old new : Engine D) (h : IsSoun
         memory = λ e. absurd cc;
         full = λ e. absurd cc;
         ended = idle;
+        limit = refl;
         running = λ e. refl;
         any_moment = λ run. started (past history old) (λ image. Holds image (begun old).state ⊎ Holds image (world old).state) (λ k image left. inl (h.holds run k image left));
         kept = λ run e. tt;
         acknowledged = λ run. subst (λ (w : World). LeavesNow (past history old) (λ image. Holds image w.state)) idle (h.holds run);
         device = λ e k. absurd cc;
         idle = λ e. refl;
+        quiet = λ e. (refl, refl);
       })
 
   -- the collections are as they were at the beginning of the turn
-  module _ (back : world new ≡ undone (begun old) (world old)) (ended : begun new ≡ world new) where
+  module _ (moved : (begun old).state ≢ (world old).state) (back : world new ≡ undone (begun old) (world old)) (ended : begun new ≡ world new) where
     first_state : (begun new).state ≡ (begun old).state
     first_state = ap (λ (w : World). w.state) (ended ∙ back)
 
@@ -77,6 +79,7 @@ module _ {D : Type 0} (history : D → History) (old new : Engine D) (h : IsSoun
       memory = λ e. back;
       full = λ e. absurd cc;
       ended = ended;
+      limit = ap stores.limit_of same;
       running = λ e. ap stores.is_stopped same;
       any_moment = λ run. subst (λ s. LeavesOnly (past history old) (history s.disk) (λ image. Holds image (begun old).state ⊎ Holds image (world old).state)) (sym same)
           (started (past history old) (λ image. Holds image (begun old).state ⊎ Holds image (world old).state) (λ k image left. inl (h.holds run k image left)));
@@ -85,6 +88,7 @@ module _ {D : Type 0} (history : D → History) (old new : Engine D) (h : IsSoun
       acknowledged = λ run. tt;
       device = λ e k. absurd cc;
       idle = λ e. ap (λ s. history s.disk) same;
+      quiet = λ e. absurd (moved e);
     }
 
     -- nothing was committed
@@ -103,16 +107,18 @@ module _ {D : Type 0} (history : D → History) (old new : Engine D) (h : IsSoun
           memory = λ e. back;
           full = λ e. (back, saved.full e);
           ended = ended;
+          limit = saved.limit;
           running = λ e. saved.running not_device;
           any_moment = λ run k image left. inl (before run k image left);
           kept = λ run e. before run;
           acknowledged = λ run. tt;
           device = λ e k. absurd (not_device e);
           idle = λ e. ap (λ s. history s.disk) (saved.idle e);
+          quiet = λ e. absurd (moved e);
         }
 
   -- the collections are as they stand
-  module _ (forth : world new ≡ world old) (ended : begun new ≡ world new) (readable : All IsReadable (world old).state) where
+  module _ (moved : (begun old).state ≢ (world old).state) (forth : world new ≡ world old) (ended : begun new ≡ world new) (readable : All IsReadable (world old).state) where
     there : (begun new).state ≡ (world old).state
     there = ap (λ (w : World). w.state) (ended ∙ forth)
 
@@ -152,12 +158,14 @@ module _ {D : Type 0} (history : D → History) (old new : Engine D) (h : IsSoun
       memory = λ e. absurd cc;
       full = λ e. absurd cc;
       ended = ended;
+      limit = saved.limit;
       running = λ e. saved.running (λ d. absurd cc);
       any_moment = at_any_moment (Ok tt) saved;
       kept = λ run e. tt;
       acknowledged = λ run k image left. new_held image (saved.acknowledged k image left);
       device = λ e k. absurd cc;
       idle = λ e. ap (λ s. history s.disk) (saved.idle e);
+      quiet = λ e. absurd (moved e);
     }
 
     pub cut_now : Saves history bytes (Err faults.Device) old.store new.store → Commits history (Err faults.Device) old new
@@ -171,10 +179,12 @@ module _ {D : Type 0} (history : D → History) (old new : Engine D) (h : IsSoun
           memory = λ e. absurd cc;
           full = λ e. absurd cc;
           ended = ended;
+          limit = saved.limit;
           running = λ e. absurd (e refl);
           any_moment = at_any_moment (Err faults.Device) saved;
           kept = λ run e. absurd (e refl);
           acknowledged = λ run. tt;
           device = saved.device;
           idle = λ e. ap (λ s. history s.disk) (saved.idle e);
+          quiet = λ e. absurd (moved e);
         }

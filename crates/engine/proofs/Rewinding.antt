@@ -1,5 +1,5 @@
 -- Changes that lead back, one after another.
-use Rattle.std.proofs.Common.{◌≡◌, ℕ, zero, suc, ◌<◌, ◌≤◌, List, [], ◌∷◌, ◌++◌, length, get_or, set, insert, remove, refl, sym, ap, subst, ◌∙◌, append_assoc, arith, inl, inr, false, Option, Some, None, Ok, Err}
+use Rattle.std.proofs.Common.{◌≡◌, ℕ, zero, suc, ◌+◌, ◌<◌, ◌≤◌, List, [], ◌∷◌, ◌++◌, length, get_or, set, insert, remove, refl, sym, ap, subst, ◌∙◌, append_assoc, arith, inl, inr, false, Option, Some, None, Ok, Err}
 use Rattle.std.specs.Prelude.{nat_le}
 use Rattle.std.proofs.lemmas.Bool.Decides.{nat_tests}
 use Rattle.std.specs.Cmp.Lexicographic.{slice_cmp}
@@ -8,7 +8,7 @@ use Rattle.std.specs.declared.cmp.Ordering.TheVariants as orders
 use Rattle.std.proofs.lemmas.Bool.{cases_eq}
 use Rattle.std.proofs.lemmas.Grind.{get_or-set_at}
 use Rattle.std.proofs.lemmas.List.{append-nil, get_or_default, get_or-set_other, set-set, set-get_or, length-set}
-use Rattle.std.proofs.lemmas.List.Edits.{length-insert, get_or-insert_at}
+use Rattle.std.proofs.lemmas.List.Edits.{length-insert, length-remove, get_or-insert_at}
 use Rattle.std.proofs.lemmas.Cmp.{nat_list_cmp_total}
 use Rattle.bson.specs.Tree.{Tree, Pairs}
 use Rattle.engine.specs.World.{Collection, documents_or_none, number_or, unused, with_documents}
@@ -92,16 +92,49 @@ Extends-same p q r first second n =
     let now : p.now ≡ q.now = sym first.back ∙ ap (λ (xs : List Change). rewind xs r.now) parts.1 ∙ second.back in
     λ i. record { now = now i; changes = parts.0 i }
 
+empty : (xs : List Change) → length xs ≡ 0 → xs ≡ []
+empty [] h = refl
+empty (x ∷ xs) h = absurd (omega (arith, h))
+
 -- nothing is before the beginning
 pub Extends-none : (p q : Progress) → Extends p q → length p.changes ≡ 0 → p ≡ record { now = begun_of q; changes = [] }
 Extends-none p q e n =
     let none : p.changes ≡ [] = empty p.changes n in
     let back : p.now ≡ begun_of q = ap (λ (xs : List Change). rewind xs p.now) (sym none) ∙ sym (begun-extends p q e) in
     λ i. record { now = back i; changes = none i }
-  where
-    empty : (xs : List Change) → length xs ≡ 0 → xs ≡ []
-    empty [] h = refl
-    empty (x ∷ xs) h = absurd (omega (arith, h))
+
+-- ---- a change is never for nothing
+
+-- how many collections and documents there are
+abbrev weight : List Collection → ℕ
+weight [] = 0
+weight (c ∷ cs) = suc (length c.documents) + weight cs
+
+removed_lighter : (cs : List Collection) (i : ℕ) → i < length cs → weight (remove cs i) < weight cs
+removed_lighter [] i h = absurd (omega arith)
+removed_lighter (c ∷ cs) zero h = let less : weight cs < suc (length c.documents) + weight cs = omega arith in less
+removed_lighter (c ∷ cs) (suc i) h =
+    let less : suc (length c.documents) + weight (remove cs i) < suc (length c.documents) + weight cs = omega (arith, removed_lighter cs i (omega arith)) in less
+
+without_lighter : (cs : List Collection) (i place : ℕ) → i < length cs → place < length (collection_at cs i).documents → weight (set cs i (without_document (collection_at cs i) place)) < weight cs
+without_lighter [] i k h there = absurd (omega arith)
+without_lighter (c ∷ cs) zero k h there =
+    let less : suc (length (remove c.documents k)) + weight cs < suc (length c.documents) + weight cs = omega (arith, length-remove c.documents k there) in less
+without_lighter (c ∷ cs) (suc i) k h there =
+    let lighter = without_lighter cs i k (omega arith) there in
+    let less : suc (length c.documents) + weight (set cs i (without_document (collection_at cs i) k)) < suc (length c.documents) + weight cs = omega (arith, lighter) in less
+
+undone_lighter : (x : Change) (cs : List Collection) → CanUndo x cs → weight (undo x cs) < weight cs
+undone_lighter (changes.Made at) cs can = removed_lighter cs at can
+undone_lighter (changes.Stored at place) cs can = without_lighter cs at place can.0 can.1
+
+rewound_lighter : (xs : List Change) (cs : List Collection) → CanRewind xs cs → weight (rewind xs cs) + length xs ≤ weight cs
+rewound_lighter [] cs can = omega arith
+rewound_lighter (x ∷ xs) cs can = omega (arith, undone_lighter x (rewind xs cs) can.0, rewound_lighter xs cs can.1)
+
+-- collections that are those from the beginning of the turn were not changed
+pub never_changed : (p : Progress) → IsProgress p → begun_of p ≡ p.now → length p.changes ≡ 0
+never_changed p h same = omega (arith, rewound_lighter p.changes p.now h.undoable, ap weight same)
 
 -- ---- one more change
 

@@ -1,5 +1,5 @@
 -- What a commit does to a store and to an engine.
-use Rattle.std.specs.Prelude.{◌≡◌, ◌≢◌, ◌⊎◌, ℕ, ◌<◌, ◌-◌, ◌^◌, List, length, true, Result, Err, OnOk, OnErr}
+use Rattle.std.specs.Prelude.{◌≡◌, ◌≢◌, ◌⊎◌, ℕ, ◌<◌, ◌-◌, ◌^◌, List, length, true, Result, Ok, Err, OnOk, OnErr}
 use Rattle.page.specs.History.{History, KeepsWord}
 use Rattle.page.specs.Crash.{GoesOn, LeavesOnly, LeavesNow}
 use Rattle.roots.specs.Image.{StandsFor}
@@ -9,7 +9,7 @@ use Rattle.roots.specs.declared.store.CommitFault.{CommitFault}
 use Rattle.roots.specs.declared.store.CommitFault.TheVariants as faults
 use Rattle.engine.specs.World.{settled, undone}
 use Rattle.engine.specs.View.{world, begun}
-use Rattle.engine.specs.Durable.{Holds, past, stopped, IsRunning, IsSound, IsFull}
+use Rattle.engine.specs.Durable.{Holds, past, stopped, IsRunning, store_of, IsSound, HasNoRoom}
 use Rattle.engine.specs.declared.engine.Engine.{Engine}
 
 -- These bytes were saved, or not.
@@ -21,6 +21,7 @@ pub record Saves {D : Type 0} (history : D → History) (bytes : List ℕ) (resu
   pub acknowledged : OnOk result (LeavesNow (stores.past history new) (λ image. StandsFor image bytes))
   pub committed : KeepsWord (stores.past history new) → OnOk result (stores.committed history new ≡ bytes)
   pub before : result ≢ Err faults.Device → OnErr result (KeepsWord (stores.past history new) → stores.committed history new ≡ stores.committed history old)
+  pub limit : stores.limit_of new ≡ stores.limit_of old
   pub running : result ≢ Err faults.Device → stores.is_stopped new ≡ stores.is_stopped old
   pub stops : result ≡ Err faults.Device → stores.is_stopped new ≡ true
   pub full : result ≡ Err faults.Full → (stores.version_of old ≡ 2 ^ 64 - 1) ⊎ stores.IsTooLong old (length bytes)
@@ -34,8 +35,9 @@ pub record Commits {D : Type 0} (history : D → History) (result : Result (Unit
   pub done : OnOk result (world new ≡ settled (world old))
   pub stops : result ≡ Err faults.Device → (world new ≡ settled (world old)) × (stopped new ≡ true)
   pub memory : result ≡ Err faults.Memory → world new ≡ undone (begun old) (world old)
-  pub full : result ≡ Err faults.Full → (world new ≡ undone (begun old) (world old)) × IsFull old
+  pub full : result ≡ Err faults.Full → (world new ≡ undone (begun old) (world old)) × HasNoRoom (store_of old) (world old).state
   pub ended : begun new ≡ world new
+  pub limit : stores.limit_of (store_of new) ≡ stores.limit_of (store_of old)
   pub running : result ≢ Err faults.Device → stopped new ≡ stopped old
   -- a crash at any moment of the call leaves the collections as they were before the turn or as they are after it
   pub any_moment : IsRunning old → LeavesOnly (past history old) (past history new) (λ image. Holds image (begun old).state ⊎ Holds image (world old).state)
@@ -45,3 +47,5 @@ pub record Commits {D : Type 0} (history : D → History) (result : Result (Unit
   pub acknowledged : IsRunning old → OnOk result (LeavesNow (past history new) (λ image. Holds image (world old).state))
   pub device : result ≡ Err faults.Device → KeepsWord (past history new) → (stopped old ≡ true) ⊎ ((past history old).failures < (past history new).failures)
   pub idle : stopped old ≡ true → past history new ≡ past history old
+  -- where the commands changed nothing, there is nothing to write
+  pub quiet : (begun old).state ≡ (world old).state → (result ≡ Ok tt) × (store_of new ≡ store_of old)

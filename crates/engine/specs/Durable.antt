@@ -5,6 +5,7 @@ use Rattle.page.specs.Crash.{LeavesNow}
 use Rattle.roots.specs.Image as images
 use Rattle.roots.specs.Pairs.{pairs_bytes}
 use Rattle.roots.specs.Store as stores
+use Rattle.roots.specs.declared.store.Store.{Store}
 use Rattle.engine.specs.World.{Collection}
 use Rattle.engine.specs.Lawful.{IsReadable, IsLawfulState}
 use Rattle.engine.specs.Stored.{pairs_of}
@@ -20,6 +21,10 @@ pub record Holds (image : ℕ → List ℕ) (state : List Collection) : Type 0 w
 -- each moment of the engine's disk so far
 abbrev pub past : {D : Type 0} → (D → History) → Engine D → History
 past history engine = history engine.store.disk
+
+-- its store: the disk with all its moments, the root in force, the live pages and the limit of pages
+abbrev pub store_of : {D : Type 0} → Engine D → Store D
+store_of engine = engine.store
 
 -- a write or a sync of the engine's has failed
 abbrev pub stopped : {D : Type 0} → Engine D → Bool
@@ -37,6 +42,6 @@ pub record IsSound {D : Type 0} (history : D → History) (engine : Engine D) : 
   pub holds : IsRunning engine → LeavesNow (past history engine) (λ image. Holds image (begun engine).state)
   pub committed : KeepsWord (past history engine) → IsRunning engine → stores.committed history engine.store ≡ pairs_bytes (pairs_of (begun engine).state)
 
--- No commit finds room: the collections are too long for the free pages, or no greater generation is left.
-abbrev pub IsFull : {D : Type 0} → Engine D → Type 0
-IsFull engine = (stores.version_of engine.store ≡ 2 ^ 64 - 1) ⊎ stores.IsTooLong engine.store (length (pairs_bytes (pairs_of (world engine).state)))
+-- No commit of these collections finds room: they are too long for the free pages, or no greater generation is left.
+abbrev pub HasNoRoom : {D : Type 0} → Store D → List Collection → Type 0
+HasNoRoom store state = (stores.version_of store ≡ 2 ^ 64 - 1) ⊎ stores.IsTooLong store (length (pairs_bytes (pairs_of state)))

@@ -3,7 +3,7 @@
 //! Room for what undoes a change is made before the change. So a growth that is refused leaves all as
 //! it was, and undoing takes no memory.
 
-ghost use Rattle.std.specs.Prelude.{◌≡◌, ◌<◌, ◌≤◌, ◌+◌, false, [], length, slice_set, All, OnOk, OnErr, IfOk, IfErr, IfSome, IfNone, None};
+ghost use Rattle.std.specs.Prelude.{◌≡◌, ◌≢◌, ◌<◌, ◌≤◌, ◌+◌, true, false, [], length, slice_set, All, OnOk, OnErr, IfOk, IfErr, IfSome, IfNone, None};
 ghost use Rattle.engine.specs.World.{documents_of, find_collection, uses, unused};
 ghost use Rattle.engine.specs.Loading.{place_numbered, IsAdded};
 ghost use Rattle.engine.specs.Lawful.{IsStored, IsHeld};
@@ -333,7 +333,8 @@ impl Collections {
 
     /// Whether the turn has changed anything.
     pub(crate) fn is_changed(&self) -> bool
-        ensures { result ≡ false → self.now.changes ≡ [] }
+        ensures same { result ≡ false → begun_of self.now ≡ self.now.now }
+        ensures changed { result ≡ true → begun_of self.now ≢ self.now.now }
     {
         !self.changes.is_empty()
     }

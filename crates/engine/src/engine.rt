@@ -14,7 +14,7 @@ ghost use Rattle.engine.specs.World.{Collection, documents_of, settled, undone, 
 ghost use Rattle.engine.specs.Step.{Answers, run_insert, run_find, run_count, run_delete, read_and_run};
 ghost use Rattle.engine.specs.Reading.{documents_at};
 ghost use Rattle.engine.specs.View.{world, begun, reply_of, IsSendable, Runs};
-ghost use Rattle.engine.specs.Durable.{Holds, past, stopped, IsRunning, IsSound, IsFull};
+ghost use Rattle.engine.specs.Durable.{Holds, past, stopped, IsRunning, store_of, IsSound, HasNoRoom};
 
 use crate::batch::batch_len;
 use crate::collections::Collections;
@@ -71,6 +71,7 @@ impl<D: Disk> Engine<D> {
         ensures world { IfOk result (λ engine. world engine ≡ record { state = (world engine).state; cursors = []; next = 1; touched = [] }) }
         ensures on { IfOk result (λ engine. GoesOn (D.history disk) (past D.history engine)) }
         ensures on_err { IfErr result (λ e. GoesOn (D.history disk) (D.history e.0)) }
+        ensures limit { IfOk result (λ engine. stores.limit_of (store_of engine) ≡ stores.limit_in config) }
 
         ensures only { IfOk result (λ engine. OnlySyncs (D.history disk) (past D.history engine)) }
 
@@ -100,6 +101,7 @@ impl<D: Disk> Engine<D> {
     /// Opens a disk as `open` does.
     fn open_collections(alloc: Global, disk: D, config: Config) -> Result<Engine<D>, (D, OpenFault)>
         ensures opened { IfOk result (IsOpened D.history disk) }
+        ensures limit { IfOk result (λ engine. stores.limit_of (store_of engine) ≡ stores.limit_in config) }
         ensures refused { IfErr result (λ e. IsRefused D.history disk e.0 e.1) }
     {
         let (store, pairs) = match Store::open_pairs(alloc, disk, config) {
@@ -244,6 +246,7 @@ impl<D: Disk> Engine<D> {
         ensures sound { IsSound D.history self.new }
         ensures disk { past D.history self.new ≡ past D.history self.old }
         ensures running { stopped self.new ≡ stopped self.old }
+        ensures store { store_of self.new ≡ store_of self.old }
         ensures answers { Answers (world self.old) connection (Ok body.now) (world self.new) (reply_of result) }
         ensures begun { begun self.new ≡ begun self.old }
         ensures sendable { IsSendable (reply_of result) }
@@ -299,8 +302,9 @@ impl<D: Disk> Engine<D> {
         ensures done { OnOk result (world self.new ≡ settled (world self.old)) }
         ensures stops { result ≡ Err CommitFault.Device → (world self.new ≡ settled (world self.old)) × (stopped self.new ≡ true) }
         ensures memory { result ≡ Err CommitFault.Memory → world self.new ≡ undone (begun self.old) (world self.old) }
-        ensures full { result ≡ Err CommitFault.Full → (world self.new ≡ undone (begun self.old) (world self.old)) × IsFull self.old }
+        ensures full { result ≡ Err CommitFault.Full → (world self.new ≡ undone (begun self.old) (world self.old)) × HasNoRoom (store_of self.old) (world self.old).state }
         ensures begun { begun self.new ≡ world self.new }
+        ensures limit { stores.limit_of (store_of self.new) ≡ stores.limit_of (store_of self.old) }
         ensures running { result ≢ Err CommitFault.Device → stopped self.new ≡ stopped self.old }
 
         // A crash at any moment of the call leaves the collections as they were before the turn or as they are after it.
@@ -317,6 +321,9 @@ impl<D: Disk> Engine<D> {
         ensures device { result ≡ Err CommitFault.Device → KeepsWord (past D.history self.new)
             → (stopped self.old ≡ true) ⊎ ((past D.history self.old).failures < (past D.history self.new).failures) }
         ensures idle { stopped self.old ≡ true → past D.history self.new ≡ past D.history self.old }
+
+        // Where the commands changed nothing, it makes no call of the disk.
+        ensures quiet { (begun self.old).state ≡ (world self.old).state → (result ≡ Ok tt) × (store_of self.new ≡ store_of self.old) }
     {
         self.settle()
     }
@@ -327,6 +334,7 @@ impl<D: Disk> Engine<D> {
         ensures sound { IsSound D.history self.new }
         ensures disk { past D.history self.new ≡ past D.history self.old }
         ensures running { stopped self.new ≡ stopped self.old }
+        ensures store { store_of self.new ≡ store_of self.old }
         ensures world { world self.new ≡ undone (begun self.old) (world self.old) }
         ensures begun { begun self.new ≡ world self.new }
     {
@@ -339,6 +347,7 @@ impl<D: Disk> Engine<D> {
         ensures sound { IsSound D.history self.new }
         ensures disk { past D.history self.new ≡ past D.history self.old }
         ensures running { stopped self.new ≡ stopped self.old }
+        ensures store { store_of self.new ≡ store_of self.old }
         ensures world { world self.new ≡ forget (world self.old) connection }
         ensures begun { begun self.old ≡ world self.old → begun self.new ≡ world self.new }
         ensures before { begun self.new ≡ forget (begun self.old) connection }

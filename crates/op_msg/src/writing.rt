@@ -56,6 +56,7 @@ pub fn respell(frame: &mut Vec<u8>, body: &[u8])
 }
 
 /// Puts a body into the frame that has just the room.
+#[tactic(auto, using(crate::proofs::Respelling::written))]
 fn put_body(frame: &mut [u8], body: &[u8])
     requires room { length body.now + FRAME_BYTES ≡ length frame.old }
     requires limit { length body.now + FRAME_BYTES ≤ MESSAGE_LIMIT }

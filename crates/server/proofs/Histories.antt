@@ -8,13 +8,14 @@ use Rattle.std.specs.Global.{Global}
 use Rattle.page.specs.History.{History, KeepsWord}
 use Rattle.page.specs.Crash.{GoesOn, LeavesOnly, LeavesNow}
 use Rattle.page.proofs.Moments.{goes_nowhere, started, goes_further, leaves_further, leaves_now, leaves_weaker}
+use Rattle.roots.specs.Store.{limit_of}
 use Rattle.engine.specs.World.{Collection}
 use Rattle.engine.specs.Durable.{Holds}
 use Rattle.server.specs.Site.{Site, fed, ended}
 use Rattle.server.specs.Turn.{Out, Turns, TurnFails}
 use Rattle.server.specs.History.{Happens, last_state, turns_in}
 use Rattle.server.specs.View.{site, frames_in}
-use Rattle.server.specs.Durable.{past, stopped, IsRunning, IsSound, state_of, HoldsOneOf, GoesSafely}
+use Rattle.server.specs.Durable.{past, stopped, IsRunning, store_of, IsSound, state_of, HoldsOneOf, GoesSafely}
 use Rattle.server.specs.OneStep.{Adds, Goes, Does}
 use Rattle.server.specs.Headline.{Drives, Ends, IsStopped, turns_done}
 use Rattle.server.specs.declared.turn.Core.{Core}
@@ -103,6 +104,7 @@ pub record SoFar {D : Type 0} (history : D → History) (first : Core D) (all : 
   pub running : stopped now ≡ stopped first
   pub any_moment : IsRunning first → LeavesOnly (past history first) (past history now) (HoldsOneOf (state_of first ∷ states))
   pub idle : stopped first ≡ true → past history now ≡ past history first
+  pub limit : limit_of (store_of now) ≡ limit_of (store_of first)
 
 pub starts : {D : Type 0} (history : D → History) (first : Core D) (all : List Step) (out : DriveOut) → out.replies.items ≡ [] → out.turns ≡ 0 → out.stopped ≡ None → IsSound history first → SoFar history first all 0 out first
 starts history first all out nothing none goes sound = record {
@@ -117,6 +119,7 @@ starts history first all out nothing none goes sound = record {
   any_moment = λ running. started (past history first) (HoldsOneOf (state_of first ∷ []))
       (λ k image is. record { state = state_of first; one = (0, omega arith, refl); holds = holds_now history first sound running k image is });
   idle = λ _. refl;
+  limit = refl;
 }
 
 pub ends : {D : Type 0} (history : D → History) (first : Core D) (all : List Step) (i : ℕ) (out : DriveOut) (now : Core D) → length all ≤ i → SoFar history first all i out now → Drives history first all out now
@@ -137,6 +140,7 @@ ends history first all i out now whole s =
       at_end = λ running goes. subst (λ (x : List Collection). LeavesNow (past history now) (λ image. Holds image x)) state (holds_now history now s.sound (s.running ∙ running));
       at_stop = λ running k image is. inr (holds_now history now s.sound (s.running ∙ running) k image is);
       idle = s.idle;
+      limit = s.limit;
       device = λ stop. absurd (subst IsStopped s.runs stop);
     }
 
@@ -186,6 +190,7 @@ module _ {D : Type 0} (history : D → History) (first : Core D) (all : List Ste
         running = same ∙ s.running;
         any_moment = moments last safe goes.states (subst (Contains (state_of first ∷ s.states ++ goes.states)) (sym state) (last_among (state_of first) (s.states ++ goes.states)));
         idle = idle_on last safe;
+        limit = safe.limit ∙ s.limit;
       }
 
   abbrev failing : DriveFault → Result (Unit {0}) DriveFault
@@ -239,6 +244,7 @@ module _ {D : Type 0} (history : D → History) (first : Core D) (all : List Ste
     at_end = λ running goes. end_same last sound safe does.2 (runs (λ e. absurd cc)) running;
     at_stop = stop_now last safe;
     idle = idle_on last safe;
+    limit = safe.limit ∙ s.limit;
     device = λ stop. absurd stop;
   }
   stops_at (stops.Feed feeds.Closed) new last does sound safe runs cause = absurd does
@@ -254,6 +260,7 @@ module _ {D : Type 0} (history : D → History) (first : Core D) (all : List Ste
     at_end = λ running goes. end_same last sound safe (subst (λ (b : Bool). TurnFails (site now) turns.Memory b (site last)) (s.running ∙ running) does.2) (runs (λ e. absurd cc)) running;
     at_stop = stop_now last safe;
     idle = idle_on last safe;
+    limit = safe.limit ∙ s.limit;
     device = λ stop. absurd stop;
   }
   stops_at (stops.Turn turns.Stopped) new last does sound safe runs cause = record {
@@ -268,6 +275,7 @@ module _ {D : Type 0} (history : D → History) (first : Core D) (all : List Ste
     at_end = λ running goes. absurd (goes tt);
     at_stop = stop_now last safe;
     idle = idle_on last safe;
+    limit = safe.limit ∙ s.limit;
     device = λ stop k. ⊎_elim
         (λ stopped_now. inl (sym s.running ∙ stopped_now))
         (λ failed. inr (omega (arith, s.on.failures (safe.on.kept k), failed)))
@@ -290,5 +298,6 @@ module _ {D : Type 0} (history : D → History) (first : Core D) (all : List Ste
         at_end = λ running goes. subst (λ (x : List Collection). LeavesNow (past history last) (λ image. Holds image x)) state (now_holds running);
         at_stop = λ running k image is. inr (now_holds running k image is);
         idle = idle_on last safe;
+        limit = safe.limit ∙ s.limit;
         device = λ stop. absurd stop;
       }

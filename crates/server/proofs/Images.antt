@@ -5,6 +5,7 @@ use Rattle.std.specs.Prelude.{◌⊎◌, Contains}
 use Rattle.page.specs.History.{History}
 use Rattle.page.specs.Crash.{GoesOn, LeavesOnly, LeavesNow}
 use Rattle.page.proofs.Moments.{goes_nowhere, started, leaves_weaker}
+use Rattle.roots.specs.Store.{limit_of}
 use Rattle.engine.specs.World.{Collection, World, settled, forget}
 use Rattle.op_msg.specs.declared.fault.FrameFault.{FrameFault}
 use Rattle.server.specs.Turn.{forget_all}
@@ -13,7 +14,7 @@ use Rattle.engine.specs.Durable as engines
 use Rattle.engine.specs.View.{world, begun}
 use Rattle.engine.specs.declared.engine.Engine.{Engine}
 use Rattle.server.specs.History.{last_state}
-use Rattle.server.specs.Durable.{past, IsRunning, IsSound, state_of, HoldsOneOf, GoesSafely}
+use Rattle.server.specs.Durable.{past, IsRunning, store_of, IsSound, state_of, HoldsOneOf, GoesSafely}
 use Rattle.server.specs.declared.turn.Core.{Core}
 
 -- between calls every image holds the collections as they are
@@ -67,11 +68,12 @@ forgotten history old mid new closed same is leaves =
     subst (λ (h : History). LeavesOnly (engines.past history old) h (λ image. Holds image (world old).state ⊎ Holds image (world new).state)) (sym same)
     (subst (λ (x : List Collection). LeavesOnly (engines.past history old) (engines.past history mid) (λ image. Holds image (world old).state ⊎ Holds image x)) (sym state) leaves)
 
-pub unmoved : {D : Type 0} (history : D → History) (old new : Core D) → IsSound history old → past history new ≡ past history old → GoesSafely history old new
-unmoved history old new sound same = record {
+pub unmoved : {D : Type 0} (history : D → History) (old new : Core D) → IsSound history old → past history new ≡ past history old → store_of new ≡ store_of old → GoesSafely history old new
+unmoved history old new sound same store = record {
   on = subst (λ (h : History). GoesOn (past history old) h) (sym same) (goes_nowhere (past history old));
   any_moment = stays history old.engine new.engine (λ image. Holds image (state_of new)) sound old.idle same;
   idle = λ _. same;
+  limit = ap limit_of store;
 }
 
 -- between turns every image holds the collections as they are

@@ -1,8 +1,8 @@
 -- A turn, put together from its parts.
 use Rattle.std.proofs.Common.{◌≡◌, inl, inr, ⊎_elim, ℕ, List, ◌∙◌}
 use Rattle.std.specs.Prelude.{◌⊎◌}
-use Rattle.page.specs.History.{History}
 use Rattle.engine.specs.World.{World}
+use Rattle.engine.specs.Durable.{HasNoRoom}
 use Rattle.engine.specs.View.{world}
 use Rattle.path.specs.declared.refusal.Refusal.TheVariants.{OutOfMemory}
 use Rattle.op_msg.specs.declared.fault.FrameFault.{FrameFault}
@@ -10,12 +10,12 @@ use Rattle.server.specs.Site.{Site}
 use Rattle.server.specs.Turn.{Out, Done, Undone, Turns, faults, forget_all, links_after}
 use Rattle.server.specs.Taking.{Settles}
 use Rattle.server.specs.View.{site}
-use Rattle.server.specs.Durable.{HasNoRoom, FindsNoRoom}
+use Rattle.server.specs.Durable.{store_of, FindsNoRoom}
 use Rattle.server.specs.declared.link.Link.{Link}
 use Rattle.server.specs.declared.turn.Core.{Core}
 
-module _ {D : Type 0} (history : D → History) (core : Core D) (given : List (ℕ × List ℕ)) (mid : World) (closed : List (ℕ × FrameFault)) (new : World) (left : List Link)
-    (s : Settles (HasNoRoom history core.engine) (world core.engine) core.links.items given mid) (closes : closed ≡ faults core.links.items) (forgets : new ≡ forget_all mid closed)
+module _ {D : Type 0} (core : Core D) (given : List (ℕ × List ℕ)) (mid : World) (closed : List (ℕ × FrameFault)) (new : World) (left : List Link)
+    (s : Settles (λ (w : World). HasNoRoom (store_of core) w.state) (world core.engine) core.links.items given mid) (closes : closed ≡ faults core.links.items) (forgets : new ≡ forget_all mid closed)
     (go_on : left ≡ links_after core.links.items) where
   abbrev links : List Link
   links = core.links.items
@@ -32,7 +32,7 @@ module _ {D : Type 0} (history : D → History) (core : Core D) (given : List (�
   leaves : (w : World) → mid ≡ w → after ≡ record { world = forget_all w (faults links); links = links_after links }
   leaves w e = λ i. record { world = (forgets ∙ (λ k. forget_all (e k) (closes k))) i; links = go_on i }
 
-  pub turned_for : Done (site core) handed after ⊎ (Undone (site core) OutOfMemory handed after ⊎ FindsNoRoom history core handed after)
+  pub turned_for : Done (site core) handed after ⊎ (Undone (site core) OutOfMemory handed after ⊎ FindsNoRoom core handed after)
   turned_for = ⊎_elim
       (λ done. inl (record { replies = s.replies; last = s.last; runs = s.runs; hands_out = hands _ done.0; leaves = leaves _ done.1 }))
       (λ refused. inr (⊎_elim

@@ -2,10 +2,10 @@
 use Rattle.std.specs.Prelude.{◌≡◌, ◌⊎◌, ℕ, Bool, true, List, Contains}
 use Rattle.page.specs.History.{History}
 use Rattle.page.specs.Crash.{GoesOn, LeavesOnly}
-use Rattle.engine.specs.World.{Collection, World}
+use Rattle.roots.specs.Store as stores
+use Rattle.roots.specs.declared.store.Store.{Store}
+use Rattle.engine.specs.World.{Collection}
 use Rattle.engine.specs.Durable as engines
-use Rattle.engine.specs.View.{world}
-use Rattle.engine.specs.declared.engine.Engine.{Engine}
 use Rattle.path.specs.declared.refusal.Refusal.TheVariants as refusals
 use Rattle.server.specs.Site.{Site}
 use Rattle.server.specs.Turn.{Out, Undone}
@@ -27,18 +27,14 @@ IsRunning core = engines.IsRunning core.engine
 abbrev pub IsSound : {D : Type 0} → (D → History) → Core D → Type 0
 IsSound history core = engines.IsSound history core.engine
 
--- An engine over the same disk that holds this world finds no room for it.
-pub record HasNoRoom {D : Type 0} (history : D → History) (old : Engine D) (last : World) : Type 0 where
-  pub engine : Engine D
-  pub sound : engines.IsSound history engine
-  pub same : engines.past history engine ≡ engines.past history old
-  pub ran : world engine ≡ last
-  pub full : engines.IsFull engine
+-- its store, with the limit of pages
+abbrev pub store_of : {D : Type 0} → Core D → Store D
+store_of core = engines.store_of core.engine
 
--- A turn that is undone for want of room: there was none for the world that its messages had made.
-pub record FindsNoRoom {D : Type 0} (history : D → History) (core : Core D) (out : Out) (new : Site) : Type 0 where
+-- A turn that is undone for want of room: the store as the turn found it has none for the collections that the messages had made.
+pub record FindsNoRoom {D : Type 0} (core : Core D) (out : Out) (new : Site) : Type 0 where
   pub undone : Undone (site core) refusals.Full out new
-  pub no_room : HasNoRoom history core.engine undone.last
+  pub no_room : engines.HasNoRoom (store_of core) undone.last.state
 
 -- the collections of the server
 abbrev pub state_of : {D : Type 0} → Core D → List Collection
@@ -55,3 +51,4 @@ pub record GoesSafely {D : Type 0} (history : D → History) (old new : Core D) 
   pub on : GoesOn (past history old) (past history new)
   pub any_moment : IsRunning old → LeavesOnly (past history old) (past history new) (λ image. engines.Holds image (state_of old) ⊎ engines.Holds image (state_of new))
   pub idle : stopped old ≡ true → past history new ≡ past history old
+  pub limit : stores.limit_of (store_of new) ≡ stores.limit_of (store_of old)

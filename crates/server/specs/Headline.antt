@@ -10,13 +10,14 @@ use Rattle.std.specs.Prelude.{◌≡◌, ◌⊎◌, ◌<◌, ℕ, ◌+◌, Bool,
 use Rattle.std.specs.Global.{Global}
 use Rattle.page.specs.History.{History, KeepsWord}
 use Rattle.page.specs.Crash.{GoesOn, LeavesOnly, LeavesNow}
+use Rattle.roots.specs.Store.{limit_of}
 use Rattle.engine.specs.World.{Collection}
 use Rattle.engine.specs.Durable.{Holds}
 use Rattle.server.specs.Site.{Site}
 use Rattle.server.specs.Turn.{Out, Turns, TurnFails}
 use Rattle.server.specs.History.{Happens, last_state, bytes_to, turns_in}
 use Rattle.server.specs.View.{site, frames_in}
-use Rattle.server.specs.Durable.{past, stopped, IsRunning, state_of, HoldsOneOf}
+use Rattle.server.specs.Durable.{past, stopped, IsRunning, store_of, state_of, HoldsOneOf}
 use Rattle.server.specs.declared.turn.Core.{Core}
 use Rattle.server.specs.declared.turn.TurnFault.{TurnFault}
 use Rattle.server.specs.declared.turn.TurnFault.TheVariants as turns
@@ -90,4 +91,5 @@ pub record Drives {D : Type 0} (history : D → History) (first : Core D) (all :
   pub at_stop : IsRunning first
       → LeavesNow (past history last) (λ image. Holds image (last_state (state_of first) states) ⊎ Holds image (state_of last))
   pub idle : stopped first ≡ true → past history last ≡ past history first
+  pub limit : limit_of (store_of last) ≡ limit_of (store_of first)
   pub device : IsStopped out.stopped → KeepsWord (past history last) → (stopped first ≡ true) ⊎ ((past history first).failures < (past history last).failures)

@@ -90,6 +90,10 @@ Runs world (c ∷ cs) [] new = ⊥
 Runs world (c ∷ cs) (r ∷ rs) new =
     (mid : World) × Answers world c.link.connection (body_of c.frame) mid r × Runs mid cs rs new
 
+-- However the messages of a turn run, they leave the collections as they are.
+abbrev pub ChangesNothing : Site → Type 0
+ChangesNothing site = (replies : List Pairs) → (last : World) → Runs site.world (calls site.links) replies last → last.state ≡ site.world.state
+
 -- connections that a fault closed lose their cursors
 abbrev pub forget_all : World → List (ℕ × FrameFault) → World
 forget_all world [] = world

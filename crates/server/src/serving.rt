@@ -3,13 +3,13 @@
 ghost use Rattle.std.specs.Prelude.{◌≡◌, ◌≢◌, ◌⊎◌, ◌<◌, IfOk, IfSome, IsSome, None, Some, true};
 ghost use Rattle.page.specs.History.{KeepsWord};
 ghost use Rattle.page.specs.Crash.{GoesOn, LeavesOnly, LeavesNow};
+ghost use Rattle.roots.specs.Store.{limit_of};
 ghost use Rattle.op_msg.specs.Request.{reply_bytes};
 ghost use Rattle.engine.specs.View.{world, begun, reply_of, IsSendable};
-ghost use Rattle.engine.specs.Durable.{Holds, past, stopped, IsRunning, IsSound};
+ghost use Rattle.engine.specs.Durable.{Holds, past, stopped, IsRunning, store_of, IsSound, HasNoRoom};
 ghost use Rattle.path.specs.declared.refusal.Refusal.TheVariants.{OutOfMemory};
-ghost use Rattle.server.specs.Turn.{front_of, links_taken, taken_at, call_at, calls, refused_frames, forget_all};
+ghost use Rattle.server.specs.Turn.{front_of, links_taken, taken_at, call_at, calls, refused_frames, forget_all, ChangesNothing};
 ghost use Rattle.server.specs.Taking.{Serves, IsAnswer, Settles, Breaks};
-ghost use Rattle.server.specs.Durable.{HasNoRoom};
 ghost use Rattle.server.specs.View.{frames_in};
 
 use crate::link::{Link, Taken, take_call};
@@ -46,6 +46,7 @@ fn answer<D: Disk>(engine: &mut Engine<D>, connection: ConnId, request: &Request
     ensures sound { IsSound D.history engine.new }
     ensures disk { past D.history engine.new ≡ past D.history engine.old }
     ensures running { stopped engine.new ≡ stopped engine.old }
+    ensures store { store_of engine.new ≡ store_of engine.old }
     ensures answer { IsAnswer (world engine.old) connection request.now (world engine.new) (reply_of result) }
     ensures begun { begun engine.new ≡ begun engine.old }
     ensures sendable { IsSendable (reply_of result) }
@@ -67,6 +68,7 @@ fn serve_link<D: Disk>(
     ensures sound { IsSound D.history engine.new }
     ensures disk { past D.history engine.new ≡ past D.history engine.old }
     ensures running { stopped engine.new ≡ stopped engine.old }
+    ensures store { store_of engine.new ≡ store_of engine.old }
     ensures serves { Serves (call_at link.old (front_of link.old)) (world engine.old) (world engine.new) result
         (frames_in frames.old.items) (frames_in frames.new.items) }
     ensures link { link.new ≡ taken_at link.old (front_of link.old) }
@@ -96,6 +98,7 @@ fn serve_links<D: Disk>(
     ensures sound { IsSound D.history engine.new }
     ensures disk { past D.history engine.new ≡ past D.history engine.old }
     ensures running { stopped engine.new ≡ stopped engine.old }
+    ensures store { store_of engine.new ≡ store_of engine.old }
     ensures serves { Serves (calls links.old) (world engine.old) (world engine.new) result
         (frames_in frames.old.items) (frames_in frames.new.items) }
     ensures links { links.new ≡ links_taken links.old }
@@ -121,7 +124,7 @@ pub(crate) fn run_messages<D: Disk>(
     requires idle { begun engine.old ≡ world engine.old }
     requires refusals { frames_in refusals.items ≡ refused_frames OutOfMemory links.old.items }
     ensures sound { IsSound D.history engine.new }
-    ensures settles { IfSome result (λ given. Settles (HasNoRoom D.history engine.old) (world engine.old) links.old.items (frames_in given.items) (world engine.new)) }
+    ensures settles { IfSome result (λ given. Settles (λ last. HasNoRoom (store_of engine.old) last.state) (world engine.old) links.old.items (frames_in given.items) (world engine.new)) }
     ensures breaks { result ≡ None → Breaks (world engine.old) links.old.items (world engine.new) }
     ensures links { links.new.items ≡ links_taken links.old.items }
     ensures idle { begun engine.new ≡ world engine.new }
@@ -133,6 +136,8 @@ pub(crate) fn run_messages<D: Disk>(
     ensures device { result ≡ None → KeepsWord (past D.history engine.new)
         → (stopped engine.old ≡ true) ⊎ ((past D.history engine.old).failures < (past D.history engine.new).failures) }
     ensures unchanged { stopped engine.old ≡ true → past D.history engine.new ≡ past D.history engine.old }
+    ensures limit { limit_of (store_of engine.new) ≡ limit_of (store_of engine.old) }
+    ensures quiet { ChangesNothing (record { world = world engine.old; links = links.old.items }) → store_of engine.new ≡ store_of engine.old }
 {
     let mut replies = Vec::new(*links.allocator());
     if !serve_links(engine, links, &mut replies) {
@@ -157,6 +162,7 @@ pub(crate) fn forget_closed<D: Disk>(engine: &mut Engine<D>, closed: &[(ConnId, 
     ensures sound { IsSound D.history engine.new }
     ensures disk { past D.history engine.new ≡ past D.history engine.old }
     ensures running { stopped engine.new ≡ stopped engine.old }
+    ensures store { store_of engine.new ≡ store_of engine.old }
     ensures world { world engine.new ≡ forget_all (world engine.old) closed.now }
     ensures idle { begun engine.new ≡ world engine.new }
 {

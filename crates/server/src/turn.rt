@@ -69,13 +69,14 @@ impl<D: Disk> Core<D> {
     ghost use Rattle.page.specs.History.{KeepsWord, now, reads, IsImage};
     ghost use Rattle.page.specs.Crash.{GoesOn, LeavesOnly, LeavesNow, OnlySyncs};
     ghost use Rattle.roots.specs.Root.{root_of};
+    ghost use Rattle.roots.specs.Store.{limit_of, limit_in};
     ghost use Rattle.engine.specs.World.{Collection, new_world};
     ghost use Rattle.engine.specs.Durable.{Holds};
     ghost use Rattle.path.specs.declared.refusal.Refusal.TheVariants as refusals;
     ghost use Rattle.server.specs.Site.{fed, ended, find_link, is_closed_in};
-    ghost use Rattle.server.specs.Turn.{Done, Undone, Turns, TurnFails, is_waiting_in};
+    ghost use Rattle.server.specs.Turn.{Done, Undone, Turns, TurnFails, ChangesNothing, is_waiting_in};
     ghost use Rattle.server.specs.View.{site, out_of};
-    ghost use Rattle.server.specs.Durable.{past, stopped, IsRunning, IsSound, FindsNoRoom, state_of};
+    ghost use Rattle.server.specs.Durable.{past, stopped, IsRunning, store_of, IsSound, FindsNoRoom, state_of};
 
     /// Opens the database on a disk that a crash may have left; a disk of zeros holds the empty one. It writes nothing, and
     /// syncs before it answers. An `Err` hands the disk back.
@@ -84,6 +85,7 @@ impl<D: Disk> Core<D> {
         ensures site { IfOk result (λ core. site core ≡ record { world = record new_world { state = state_of core }; links = [] }) }
         ensures on { IfOk result (λ core. GoesOn (D.history disk) (past D.history core)) }
         ensures on_err { IfErr result (λ e. GoesOn (D.history disk) (D.history e.0)) }
+        ensures limit { IfOk result (λ core. limit_of (store_of core) ≡ limit_in config) }
 
         ensures only { IfOk result (λ core. OnlySyncs (D.history disk) (past D.history core)) }
 
@@ -130,6 +132,7 @@ impl<D: Disk> Core<D> {
         ensures sound { IsSound D.history self.new }
         ensures disk { past D.history self.new ≡ past D.history self.old }
         ensures running { stopped self.new ≡ stopped self.old }
+        ensures store { store_of self.new ≡ store_of self.old }
         ensures fed { result ≢ Err FeedFault.Memory
             → site self.new ≡ fed (site self.old) connection bytes.now }
         ensures closed { result ≢ Err FeedFault.Memory
@@ -150,7 +153,7 @@ impl<D: Disk> Core<D> {
         ensures turns { IfOk result (λ out. Turns (site self.old) (out_of out) (site self.new)) }
         ensures full { IfOk result (λ out. Done (site self.old) (out_of out) (site self.new)
             ⊎ (Undone (site self.old) refusals.OutOfMemory (out_of out) (site self.new)
-            ⊎ FindsNoRoom D.history self.old (out_of out) (site self.new))) }
+            ⊎ FindsNoRoom self.old (out_of out) (site self.new))) }
         ensures fails { IfErr result (λ fault. TurnFails (site self.old) fault (stopped self.old) (site self.new)) }
 
         // A crash at any moment of the call leaves the collections as they were before the turn or as they are after it.
@@ -167,6 +170,10 @@ impl<D: Disk> Core<D> {
         ensures idle { stopped self.old ≡ true → (result ≡ Err TurnFault.Stopped) × (past D.history self.new ≡ past D.history self.old) }
         ensures device { result ≡ Err TurnFault.Stopped → KeepsWord (past D.history self.new)
             → (stopped self.old ≡ true) ⊎ ((past D.history self.old).failures < (past D.history self.new).failures) }
+        ensures limit { limit_of (store_of self.new) ≡ limit_of (store_of self.old) }
+
+        // Where its messages change nothing, it makes no call of the disk.
+        ensures quiet { ChangesNothing (site self.old) → store_of self.new ≡ store_of self.old }
     {
         if self.engine.is_stopped() {
             return Err(TurnFault::Stopped);
@@ -191,6 +198,7 @@ impl<D: Disk> Core<D> {
         ensures sound { IsSound D.history self.new }
         ensures disk { past D.history self.new ≡ past D.history self.old }
         ensures running { stopped self.new ≡ stopped self.old }
+        ensures store { store_of self.new ≡ store_of self.old }
         ensures site { site self.new ≡ ended (site self.old) connection }
     {
         self.engine.gone(connection);

@@ -1,4 +1,4 @@
-use Rattle.std.proofs.Common.{◌≡◌, ◌<◌, ℕ, List, [], ◌++◌, length, inl, inr, ⊎_elim, refl, sym, subst, ap, ◌∙◌, rules}
+use Rattle.std.proofs.Common.{◌≡◌, ◌<◌, ℕ, List, [], ◌++◌, length, inl, inr, ⊎_elim, sym, subst, ap, ◌∙◌, rules}
 use Rattle.std.proofs.lemmas.List.{length-map}
 use Rattle.std.specs.Prelude.{Result, Err, Vec}
 use Rattle.std.specs.Global.{Global}
@@ -6,12 +6,12 @@ use Rattle.roots.specs.declared.store.CommitFault.{CommitFault}
 use Rattle.engine.specs.View.{world, begun}
 use Rattle.engine.specs.World.{World, undone}
 use Rattle.page.specs.History.{History}
+use Rattle.bson.specs.Tree.{Pairs}
 use Rattle.op_msg.specs.Request.{respelled}
 use Rattle.server.specs.declared.link.Link.{Link}
-use Rattle.engine.specs.Durable.{Holds, past}
-use Rattle.server.specs.Turn.{Runs, calls, frames_of, refused_frames}
+use Rattle.engine.specs.Durable.{Holds, past, store_of, HasNoRoom}
+use Rattle.server.specs.Turn.{ChangesNothing, Runs, calls, frames_of, refused_frames}
 use Rattle.server.specs.Taking.{HaveRoom, full_body, respelled_frames}
-use Rattle.server.specs.Durable.{HasNoRoom}
 use Rattle.server.specs.View.{frames_in}
 use Rattle.path.specs.declared.refusal.Refusal.TheVariants.{OutOfMemory, Full}
 use Rattle.server.proofs.Images.{stays, moved, moved_back, on_same}
@@ -44,13 +44,8 @@ returns-in-Err-Full-clause-settles g c =
     let world_is : world c.commit_turn.new.self ≡ undone (world c.args.engine.now) (world c.serve_links.new.engine) =
     (c.in-Err-Full.ensures.full (ap failed c.in-Err-Full.field-0-is)).0 ∙ ap (λ (w : World). undone w (world c.serve_links.new.engine)) (c.serve_links.ensures.begun ∙ c.requires.idle) in
     let serves = c.serve_links.ensures.serves in
-    let no_room : HasNoRoom g.D.Disk.history c.args.engine.now (world c.serve_links.new.engine) = record {
-      engine = c.serve_links.new.engine;
-      sound = c.serve_links.ensures.sound;
-      same = c.serve_links.ensures.disk;
-      ran = refl;
-      full = (c.in-Err-Full.ensures.full (ap failed c.in-Err-Full.field-0-is)).1;
-    } in
+    let no_room : HasNoRoom (store_of c.args.engine.now) (world c.serve_links.new.engine).state =
+    subst (λ store. HasNoRoom store (world c.serve_links.new.engine).state) c.serve_links.ensures.store (c.in-Err-Full.ensures.full (ap failed c.in-Err-Full.field-0-is)).1 in
     record {
       replies = serves.replies;
       last = world c.serve_links.new.engine;
@@ -174,3 +169,37 @@ returns-in-Err-Device-clause-device g c _ k =
     (λ stop. inl (sym serve.running ∙ stop))
     (λ failed. inr (subst (λ (h : History). h.failures < (past g.D.Disk.history e2).failures) serve.disk failed))
     (c.in-Err-Device.ensures.device (ap failed c.in-Err-Device.field-0-is) k)
+
+-- messages that change nothing leave the collections as they were at the beginning of the turn
+still : (begun old now : World) (links same : List Link) (replies : List Pairs) → begun ≡ old → links ≡ same → Runs old (calls links) replies now
+    → ChangesNothing (record { world = old; links = same }) → begun.state ≡ now.state
+still begun old now links same replies idle taken runs nothing =
+    ap (λ (w : World). w.state) idle ∙ sym (nothing replies now (subst (λ (ls : List Link). Runs old (calls ls) replies now) taken runs))
+
+pub returns-in-Ok-clause-quiet : goal.returns-in-Ok-clause-quiet
+returns-in-Ok-clause-quiet g c nothing =
+    let e1 = c.serve_links.new.engine in
+    let serve = c.serve_links.ensures in
+    let same = still (begun e1) (world c.args.engine.now) (world e1) c.deref_mut.result.now c.args.links.now.items serve.serves.replies (serve.begun ∙ c.requires.idle) (search rules) serve.serves.runs nothing in
+    (c.commit_turn.ensures.quiet same).1 ∙ serve.store
+
+pub returns-in-Err-Memory-clause-quiet : goal.returns-in-Err-Memory-clause-quiet
+returns-in-Err-Memory-clause-quiet g c nothing =
+    let e1 = c.serve_links.new.engine in
+    let serve = c.serve_links.ensures in
+    let same = still (begun e1) (world c.args.engine.now) (world e1) c.deref_mut.result.now c.args.links.now.items serve.serves.replies (serve.begun ∙ c.requires.idle) (search rules) serve.serves.runs nothing in
+    (c.commit_turn.ensures.quiet same).1 ∙ serve.store
+
+pub returns-in-Err-Full-clause-quiet : goal.returns-in-Err-Full-clause-quiet
+returns-in-Err-Full-clause-quiet g c nothing =
+    let e1 = c.serve_links.new.engine in
+    let serve = c.serve_links.ensures in
+    let same = still (begun e1) (world c.args.engine.now) (world e1) c.deref_mut.result.now c.args.links.now.items serve.serves.replies (serve.begun ∙ c.requires.idle) (search rules) serve.serves.runs nothing in
+    (c.commit_turn.ensures.quiet same).1 ∙ serve.store
+
+pub returns-in-Err-Device-clause-quiet : goal.returns-in-Err-Device-clause-quiet
+returns-in-Err-Device-clause-quiet g c nothing =
+    let e1 = c.serve_links.new.engine in
+    let serve = c.serve_links.ensures in
+    let same = still (begun e1) (world c.args.engine.now) (world e1) c.deref_mut.result.now c.args.links.now.items serve.serves.replies (serve.begun ∙ c.requires.idle) (search rules) serve.serves.runs nothing in
+    (c.commit_turn.ensures.quiet same).1 ∙ serve.store

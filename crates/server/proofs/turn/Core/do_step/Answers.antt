@@ -30,31 +30,32 @@ returns-else-is_err-clause-does g c =
     }
 
 pub returns-in-Err-Memory-clause-disk : goal.returns-in-Err-Memory-clause-disk
-returns-in-Err-Memory-clause-disk g c = unmoved g.D.Disk.history c.args.self.now c.feed.new.self c.requires.sound c.feed.ensures.disk
+returns-in-Err-Memory-clause-disk g c = unmoved g.D.Disk.history c.args.self.now c.feed.new.self c.requires.sound c.feed.ensures.disk c.feed.ensures.store
 
 pub returns-in-Err-Closed-clause-does : goal.returns-in-Err-Closed-clause-does
 returns-in-Err-Closed-clause-does g c = bytes_on c.args.step.now c.in-Bytes.connection c.in-Bytes.chunk c.args.out.now (site c.args.self.now) (site c.feed.new.self) c.in-Bytes.is (c.in-Err-Closed.ensures.fed (λ e. absurd cc) ∙ ap (fed (site c.args.self.now) c.in-Bytes.connection) c.deref.ensures.value)
 
 pub returns-in-Err-Closed-clause-disk : goal.returns-in-Err-Closed-clause-disk
-returns-in-Err-Closed-clause-disk g c = unmoved g.D.Disk.history c.args.self.now c.feed.new.self c.requires.sound c.feed.ensures.disk
+returns-in-Err-Closed-clause-disk g c = unmoved g.D.Disk.history c.args.self.now c.feed.new.self c.requires.sound c.feed.ensures.disk c.feed.ensures.store
 
 pub returns-in-Ok-clause-does : goal.returns-in-Ok-clause-does
 returns-in-Ok-clause-does g c = bytes_on c.args.step.now c.in-Bytes.connection c.in-Bytes.chunk c.args.out.now (site c.args.self.now) (site c.feed.new.self) c.in-Bytes.is (c.in-Ok.ensures.fed (λ e. absurd cc) ∙ ap (fed (site c.args.self.now) c.in-Bytes.connection) c.deref.ensures.value)
 
 pub returns-in-Ok-clause-disk : goal.returns-in-Ok-clause-disk
-returns-in-Ok-clause-disk g c = unmoved g.D.Disk.history c.args.self.now c.feed.new.self c.requires.sound c.feed.ensures.disk
+returns-in-Ok-clause-disk g c = unmoved g.D.Disk.history c.args.self.now c.feed.new.self c.requires.sound c.feed.ensures.disk c.feed.ensures.store
 
 pub returns-in-Gone-clause-does : goal.returns-in-Gone-clause-does
 returns-in-Gone-clause-does g c = gone_on c.args.step.now c.in-Gone.connection c.args.out.now (site c.args.self.now) (site c.gone.new.self) c.in-Gone.is c.gone.ensures.site
 
 pub returns-in-Gone-clause-disk : goal.returns-in-Gone-clause-disk
-returns-in-Gone-clause-disk g c = unmoved g.D.Disk.history c.args.self.now c.gone.new.self c.requires.sound c.gone.ensures.disk
+returns-in-Gone-clause-disk g c = unmoved g.D.Disk.history c.args.self.now c.gone.new.self c.requires.sound c.gone.ensures.disk c.gone.ensures.store
 
 pub returns-then-is_err-clause-disk : goal.returns-then-is_err-clause-disk
 returns-then-is_err-clause-disk g c = record {
   on = c.turn.ensures.on;
   any_moment = c.turn.ensures.any_moment;
   idle = λ stop. (c.turn.ensures.idle stop).1;
+  limit = c.turn.ensures.limit;
 }
 
 pub returns-else-is_err-clause-disk : goal.returns-else-is_err-clause-disk
@@ -62,6 +63,7 @@ returns-else-is_err-clause-disk g c = record {
   on = c.turn.ensures.on;
   any_moment = c.turn.ensures.any_moment;
   idle = λ stop. (c.turn.ensures.idle stop).1;
+  limit = c.turn.ensures.limit;
 }
 
 pub returns-in-Err-clause-disk : goal.returns-in-Err-clause-disk
@@ -69,6 +71,7 @@ returns-in-Err-clause-disk g c = record {
   on = c.turn.ensures.on;
   any_moment = c.turn.ensures.any_moment;
   idle = λ stop. (c.turn.ensures.idle stop).1;
+  limit = c.turn.ensures.limit;
 }
 
 pub returns-then-is_err-clause-running : goal.returns-then-is_err-clause-running

@@ -23,7 +23,7 @@ returns-clause-turns g c =
     let forgets : world c.forget_closed.new.engine ≡ forget_all (world c.run_messages.new.engine) prepared.closed.items = search rules in
     let go_on : c.close_links.new.links ≡ closed_links (links_taken links) (faults_in links) = search rules in
     let long : length c.close_links.new.links ≡ c.run_messages.new.links.len = search rules in
-    turned g.D.Disk.history core (frames_in c.in-Some.replies.items) (world c.run_messages.new.engine) prepared.closed.items (world c.forget_closed.new.engine) _
+    turned core (frames_in c.in-Some.replies.items) (world c.run_messages.new.engine) prepared.closed.items (world c.forget_closed.new.engine) _
     c.in-Some.ensures.settles closes forgets (whole c.close_links.new.links _ c.run_messages.new.links.len long ∙ go_on ∙ all_closed links)
 
 pub returns-clause-full : goal.returns-clause-full
@@ -36,7 +36,7 @@ returns-clause-full g c =
     let forgets : world c.forget_closed.new.engine ≡ forget_all (world c.run_messages.new.engine) prepared.closed.items = search rules in
     let go_on : c.close_links.new.links ≡ closed_links (links_taken links) (faults_in links) = search rules in
     let long : length c.close_links.new.links ≡ c.run_messages.new.links.len = search rules in
-    turned_for g.D.Disk.history core (frames_in c.in-Some.replies.items) (world c.run_messages.new.engine) prepared.closed.items (world c.forget_closed.new.engine) _
+    turned_for core (frames_in c.in-Some.replies.items) (world c.run_messages.new.engine) prepared.closed.items (world c.forget_closed.new.engine) _
     c.in-Some.ensures.settles closes forgets (whole c.close_links.new.links _ c.run_messages.new.links.len long ∙ go_on ∙ all_closed links)
 
 pub returns-clause-acknowledged : goal.returns-clause-acknowledged
