@@ -1,5 +1,5 @@
 -- Documents as the items of an array.
-use Rattle.std.proofs.Common.{◌≡◌, ℕ, ◌+◌, ◌<◌, ◌≤◌, List, length, drop, get_or, sym, ap, ◌∙◌}
+use Rattle.std.proofs.Common.{◌≡◌, ℕ, ◌+◌, ◌<◌, ◌≤◌, List, [], ◌∷◌, length, drop, get_or, refl, sym, ap, ◌∙◌, arith}
 use Rattle.std.proofs.lemmas.List.{drop_all}
 use Rattle.bson.specs.Edits.{append_items-none, append_items-one}
 use Rattle.bson.specs.Tree.{document, Pairs, Items, no_items, item, append_items}
@@ -16,3 +16,7 @@ one_more all ds i d ts us within is so_far pushed =
 pub all_there : (all : Items) (ds : List Pairs) (i : ℕ) (ts : Items) → length ds ≤ i → append_items ts (items_of_documents (drop i ds)) ≡ all → ts ≡ all
 all_there all ds i ts whole so_far =
     sym (append_items-none ts) ∙ ap (λ (es : List Pairs). append_items ts (items_of_documents es)) (sym (drop_all i ds whole)) ∙ so_far
+
+pub empty_rest : (ds : List Pairs) → length ds ≡ 0 → ds ≡ []
+empty_rest [] e = refl
+empty_rest (d ∷ ds) e = absurd (omega (arith, e))

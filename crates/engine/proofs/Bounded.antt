@@ -2,7 +2,7 @@
 use Rattle.std.proofs.Common.{◌≡◌, ℕ, ◌+◌, ◌≤◌, Bool, true, false, List, [], ◌∷◌, ◌++◌, length, Option, Some, None, Result, Ok, Err, refl, ap, subst, arith, length-append}
 use Rattle.std.specs.Prelude.{◌||◌, ◌==◌, nat_lt, if◌then◌else◌, codes, unwrap_or, IfOk}
 use Rattle.std.specs.Str.{bytes_eq}
-use Rattle.std.proofs.lemmas.Bool.{ltb-false}
+use Rattle.std.proofs.lemmas.Bool.{ltb-false, eqb-false}
 use Rattle.bson.specs.Tree.{Tree, scalar, document, array, Pairs, no_pairs, pair, Items, no_items, item}
 use Rattle.bson.specs.Edits.{items_len}
 use Rattle.filter.specs.Rule.{no_rules}
@@ -18,7 +18,7 @@ pub step_of : {A B : Type 0} (r : Result A Refusal) (f : A → Result B Refusal)
 step_of (Ok x) f y e = (x, refl, e)
 step_of (Err r) f y e = absurd cc
 
-passed : {X : Type 0} (test : Bool) (refusal : Refusal) (go : Result X Refusal) (y : X) → unless test refusal go ≡ Ok y → (test ≡ false) × (go ≡ Ok y)
+pub passed : {X : Type 0} (test : Bool) (refusal : Refusal) (go : Result X Refusal) (y : X) → unless test refusal go ≡ Ok y → (test ≡ false) × (go ≡ Ok y)
 passed true refusal go y e = absurd cc
 passed false refusal go y e = (refl, e)
 
@@ -46,22 +46,27 @@ as_many {X} read (item t ts) xs e =
     let same : s.0 ∷ o.0 ≡ xs = cc in
     omega (arith, as_many read ts o.0 o.1, ap length same)
 
-few_items : (t : Tree) (ts : Items) → statements_in t ≡ Ok ts → items_len ts ≤ MOST_STATEMENTS
+few_items : (t : Tree) (ts : Items) → statements_in t ≡ Ok ts → (items_len ts ≤ MOST_STATEMENTS) × (1 ≤ items_len ts)
 few_items t ts e =
     let s = step_of (or_refused (items_in t) refusals.TypeMismatch) (λ us. unless (nat_lt MOST_STATEMENTS (items_len us)) refusals.TooMany (unless (items_len us == 0) refusals.BadValue (Ok us))) ts e in
     let p = passed (nat_lt MOST_STATEMENTS (items_len s.0)) refusals.TooMany (unless (items_len s.0 == 0) refusals.BadValue (Ok s.0)) ts s.2 in
     let q = passed (items_len s.0 == 0) refusals.BadValue (Ok s.0) ts p.1 in
     let same : s.0 ≡ ts = cc in
-    omega (arith, ap items_len same, ltb-false MOST_STATEMENTS (items_len s.0) p.0)
+    (omega (arith, ap items_len same, ltb-false MOST_STATEMENTS (items_len s.0) p.0), omega (arith, ap items_len same, eqb-false (items_len s.0) 0 q.0))
 
-few : (t : Tree) (ds : List Pairs) → documents_in t ≡ Ok ds → length ds ≤ MOST_STATEMENTS
+-- some documents, and not too many
+abbrev AreFew : List Pairs → Type 0
+AreFew ds = (length ds ≤ MOST_STATEMENTS) × (1 ≤ length ds)
+
+few : (t : Tree) (ds : List Pairs) → documents_in t ≡ Ok ds → AreFew ds
 few t ds e =
     let s = step_of (statements_in t) (each_of document_in) ds e in
-    omega (arith, as_many document_in s.0 ds s.2, few_items t s.0 s.1)
+    let items = few_items t s.0 s.1 in
+    (omega (arith, as_many document_in s.0 ds s.2, items.0), omega (arith, as_many document_in s.0 ds s.2, items.1))
 
 abbrev FewAt : Option (List Pairs) → Type 0
 FewAt None = Unit {0}
-FewAt (Some ds) = length ds ≤ MOST_STATEMENTS
+FewAt (Some ds) = AreFew ds
 
 few_common : (found next : Fields) (name : List ℕ) (t : Tree) → FewAt found.documents → common_field found name t ≡ Ok next → FewAt next.documents
 few_common found next name t h e = at (bytes_eq name (codes "$db")) (bytes_eq name (codes "comment")) e
@@ -92,9 +97,9 @@ few_fields (pair name t ps) found next h e =
     let s = step_of (insert_field found name t) (λ mid. read_fields insert_field mid ps) next e in
     few_fields ps s.0 next (few_field found s.0 name t h s.1) s.2
 
-few_there : (o : Option (List Pairs)) (ds : List Pairs) → FewAt o → or_refused o refusals.FailedToParse ≡ Ok ds → length ds ≤ MOST_STATEMENTS
+few_there : (o : Option (List Pairs)) (ds : List Pairs) → FewAt o → or_refused o refusals.FailedToParse ≡ Ok ds → AreFew ds
 few_there None ds h e = absurd cc
-few_there (Some es) ds h e = let same : es ≡ ds = cc in subst (λ (xs : List Pairs). length xs ≤ MOST_STATEMENTS) same h
+few_there (Some es) ds h e = let same : es ≡ ds = cc in subst AreFew same h
 
 -- ---- commands
 
@@ -115,7 +120,8 @@ inserts t ps c e =
     let d = step_of (or_refused s.0.documents refusals.FailedToParse) _ c b.2 in
     let m = step_of (namespace_of b.0 n.0) _ c d.2 in
     let same : insert m.0 d.0 ≡ c = cc in
-    subst IsBounded same (short b.0 n.0 m.0 m.1, few_there s.0.documents d.0 (few_fields ps no_fields s.0 tt s.1) d.1)
+    let some = few_there s.0.documents d.0 (few_fields ps no_fields s.0 tt s.1) d.1 in
+    subst IsBounded same (short b.0 n.0 m.0 m.1, some.0, some.1)
 
 pub finds : (t : Tree) (ps : Pairs) (c : Command) → read_find t ps ≡ Ok c → IsBounded c
 finds t ps c e =

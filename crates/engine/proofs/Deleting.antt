@@ -1,13 +1,30 @@
 -- What a delete leaves of documents keeps what was kept of them.
-use Rattle.std.proofs.Common.{◌≡◌, ℕ, zero, suc, ◌+◌, ◌-◌, ◌<◌, ◌≤◌, Bool, true, false, List, [], ◌∷◌, length, get_or, set, remove, Option, Some, None, refl, sym, ap, subst, ◌∙◌, arith}
+use Rattle.std.proofs.Common.{◌≡◌, ◌≢◌, ◌⊎◌, inl, inr, ℕ, zero, suc, ◌+◌, ◌-◌, ◌<◌, ◌≤◌, Bool, true, false, List, [], ◌∷◌, length, get_or, set, remove, Option, Some, None, refl, sym, ap, subst, ◌∙◌, arith}
 use Rattle.std.specs.Prelude.{not, if◌then◌else◌, All}
 use Rattle.std.specs.List.{AllPairs, filter, position}
-use Rattle.std.proofs.lemmas.List.{set-get_or}
-use Rattle.std.proofs.lemmas.List.Elements.{All-cons, All-filter}
+use Rattle.std.specs.Cmp.Lexicographic.{slice_cmp}
+use Rattle.std.specs.Ordering.{nat_cmp}
+use Rattle.std.proofs.lemmas.Cmp.{nat_list_cmp_total}
+use Rattle.std.proofs.lemmas.Map.Lookups.{exact_bytes}
+use Rattle.std.proofs.lemmas.List.{set-get_or, length-set}
+use Rattle.std.proofs.lemmas.List.Elements.{All-cons, All-filter, All-set}
 use Rattle.std.proofs.lemmas.List.Kept.{AllPairs-filter}
 use Rattle.std.proofs.lemmas.List.Quantifiers.{all_pairs_remove, position-Some}
 use Rattle.bson.specs.Tree.{Pairs, no_pairs}
 use Rattle.filter.specs.Matches.{matches}
+use Rattle.bson.specs.Lawful.{IsDocument}
+use Rattle.value_order.specs.Order.{compare}
+use Rattle.std.specs.declared.cmp.Ordering.TheVariants as orders
+use Rattle.engine.specs.World.{Collection, find_collection, documents_or_none, documents_of}
+use Rattle.engine.specs.Documents.{key_of}
+use Rattle.engine.specs.Lawful.{IsStored, IsHeld, AreNamedApart, IsKept, IsLawfulState}
+use Rattle.engine.proofs.Ordered.{missing, found, replaced}
+use Rattle.engine.proofs.Located.{Gap, There, located}
+use Rattle.engine.proofs.Rewinding.{apart_set}
+use Rattle.engine.proofs.Numbers.{numbers_set}
+use Rattle.engine.specs.Places.{collection_at, no_collection, IsThere}
+use Rattle.engine.specs.Step.{deleted_in}
+use Rattle.engine.specs.Progress.{Leaves, LeavesAll}
 use Rattle.engine.specs.Query.{Deletion, without_at, without_first, left_by, left}
 
 All-remove : {X : Type 0} (P : X → Type 0) (xs : List X) (i : ℕ) → All P xs → All P (remove xs i)
@@ -101,3 +118,94 @@ pub left_same : (deletions : List Deletion) (ds : List Pairs) → length ds - le
 left_same deletions ds e =
     let l = left_less deletions ds in
     l.same (omega (arith, e, l.most))
+
+-- ---- a collection loses documents
+
+pub cut_held : (c : Collection) (deletions : List Deletion) → IsHeld c → IsHeld (record c { documents = left deletions c.documents })
+cut_held c deletions h = record {
+  lawful = record {
+    rising = left_apart (λ d e. compare (key_of d) (key_of e) ≡ orders.Less) deletions c.documents h.lawful.rising;
+    stored = left_kept IsStored deletions c.documents h.lawful.stored;
+  };
+  readable = record { name = h.readable.name; documents = left_kept IsDocument deletions c.documents h.readable.documents };
+}
+
+module _ (name : List ℕ) (deletions : List Deletion) (cs : List Collection) (at : ℕ) (there : IsThere name cs at) where
+  abbrev here : Collection
+  here = collection_at cs at
+
+  abbrev cut : Collection
+  cut = record here { documents = left deletions here.documents }
+
+  loses : deleted_in (find_collection cs name) deletions cs ≡ set cs at cut
+  loses = ap (λ (o : Option Collection). deleted_in o deletions cs) there.found ∙ there.replaced cut there.named
+
+  lost : (n : ℕ) → n ≡ length here.documents - length (left deletions here.documents) → n ≡ length (documents_of cs name) - length (left deletions (documents_of cs name))
+  lost n e = e ∙ ap (λ (o : Option Collection). length (documents_or_none o) - length (left deletions (documents_or_none o))) (sym there.found)
+
+  -- the code's names of them
+  module _ (c : Collection) (is : c ≡ here) (before rest : List Pairs) (b : before ≡ c.documents) (r : rest ≡ left deletions before) (gone : ℕ) (g : gone ≡ length before - length rest) where
+    rest_is : rest ≡ left deletions here.documents
+    rest_is = r ∙ ap (left deletions) (b ∙ ap (λ (x : Collection). x.documents) is)
+
+    fewer : gone ≡ length here.documents - length rest
+    fewer = omega (arith, g, ap length b, ap (λ (x : Collection). length x.documents) is)
+
+    gone_is : gone ≡ length here.documents - length (left deletions here.documents)
+    gone_is = omega (arith, fewer, ap length rest_is)
+
+    pub leaves_rest : IsHeld c → gone ≢ 0 → Leaves name deletions cs at rest gone
+    leaves_rest held some =
+        let kept = cut_held here deletions (subst IsHeld is held) in
+        record {
+          within = there.within;
+          held = subst (λ (ds : List Pairs). IsHeld (record here { documents = ds })) (sym rest_is) kept;
+          is = loses ∙ ap (λ (ds : List Pairs). set cs at (record here { documents = ds })) (sym rest_is);
+          some = some;
+          fewer = fewer;
+          count = lost gone gone_is;
+        }
+
+    pub leaves_all : gone ≡ 0 → LeavesAll name deletions cs
+    leaves_all none =
+        let all = sym gone_is ∙ none in
+        record {
+          is = loses ∙ ap (λ (ds : List Pairs). set cs at (record here { documents = ds })) (left_same deletions here.documents all) ∙ set-get_or cs at no_collection;
+          count = lost 0 (sym all);
+        }
+
+-- ---- laws
+
+there_at : (cs : List Collection) (name : List ℕ) (i : ℕ) → AreNamedApart cs → i < length cs → ((d : Collection) → slice_cmp nat_cmp (get_or cs i d).name name ≡ orders.Equal) → IsThere name cs i
+there_at cs name i apart within same = record {
+  within = within;
+  named = exact_bytes (collection_at cs i).name name (same no_collection);
+  found = found cs i name apart within (same no_collection);
+  replaced = λ c e. replaced cs i name c apart within (same no_collection) e;
+}
+
+-- what a delete leaves of lawful collections is lawful
+pub deleted_lawful : (cs : List Collection) (name : List ℕ) (deletions : List Deletion) → IsLawfulState cs → IsLawfulState (deleted_in (find_collection cs name) deletions cs)
+deleted_lawful cs name deletions h = at (located nat_list_cmp_total (λ (c : Collection). c.name) cs name h.apart)
+  where
+    at : Gap (slice_cmp nat_cmp) (λ (c : Collection). c.name) cs name ⊎ There (slice_cmp nat_cmp) (λ (c : Collection). c.name) cs name → IsLawfulState (deleted_in (find_collection cs name) deletions cs)
+    at (inl g) = subst (λ (o : Option Collection). IsLawfulState (deleted_in o deletions cs)) (sym (missing cs g.0 name g.1)) h
+    at (inr t) =
+        let there = there_at cs name t.place h.apart t.within t.same in
+        let less : Collection = record (collection_at cs t.place) { documents = left deletions (collection_at cs t.place).documents } in
+        let kept = h.kept t.place no_collection t.within in
+        let one : IsKept less = record {
+          lawful = record {
+            rising = left_apart (λ d e. compare (key_of d) (key_of e) ≡ orders.Less) deletions (collection_at cs t.place).documents kept.lawful.rising;
+            stored = left_kept IsStored deletions (collection_at cs t.place).documents kept.lawful.stored;
+          };
+          short = kept.short;
+          least = kept.least;
+          most = kept.most;
+        } in
+        subst IsLawfulState (sym (loses name deletions cs t.place there)) (record {
+          apart = apart_set cs t.place less t.within refl h.apart;
+          numbers = numbers_set cs t.place less t.within refl h.numbers;
+          kept = All-set IsKept cs t.place less one h.kept;
+          few = omega (arith, length-set cs t.place less, h.few);
+        })

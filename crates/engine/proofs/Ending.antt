@@ -1,5 +1,5 @@
 -- How a turn ends: what it changed is durable, or not.
-use Rattle.std.proofs.Common.{◌≡◌, ◌≢◌, ◌⊎◌, inl, inr, ℕ, false, List, Result, Ok, Err, refl, sym, ap, subst, ◌∙◌}
+use Rattle.std.proofs.Common.{◌≡◌, ◌≢◌, ◌⊎◌, inl, inr, ℕ, true, false, List, Result, Ok, Err, refl, sym, ap, subst, ◌∙◌}
 use Rattle.std.specs.Prelude.{All}
 use Rattle.page.specs.History.{History, KeepsWord}
 use Rattle.page.specs.Crash.{GoesOn, LeavesOnly, LeavesNow}
@@ -13,7 +13,7 @@ use Rattle.engine.specs.World.{World, Collection, undone}
 use Rattle.engine.specs.Lawful.{IsReadable, IsLawfulState}
 use Rattle.engine.specs.Stored.{pairs_of}
 use Rattle.engine.specs.View.{world, begun}
-use Rattle.engine.specs.Durable.{Holds, past, stopped, IsRunning, IsSound}
+use Rattle.engine.specs.Durable.{Holds, past, wrote, stopped, IsRunning, IsSound}
 use Rattle.engine.specs.Committing.{Saves, Commits}
 use Rattle.engine.specs.declared.engine.Engine.{Engine}
 use Rattle.engine.proofs.Rising.{are_row}
@@ -28,8 +28,8 @@ module _ {D : Type 0} (history : D → History) (old new : Engine D) (h : IsSoun
   old_held k run image stands = held (begun old).state image h.before h.readable (subst (StandsFor image) (h.committed k run) stands)
 
   -- nothing was changed
-  pub kept_as_it_is : new ≡ old → begun old ≡ world old → Commits history (Ok tt) old new
-  kept_as_it_is same idle =
+  pub kept_as_it_is : new ≡ old → begun old ≡ world old → wrote old ≡ false → Commits history (Ok tt) old new
+  kept_as_it_is same idle rests =
       subst (λ (e : Engine D). Commits history (Ok tt) old e) (sym same) (record {
         sound = h;
         on = goes_nowhere (past history old);
@@ -46,10 +46,11 @@ module _ {D : Type 0} (history : D → History) (old new : Engine D) (h : IsSoun
         device = λ e k. absurd cc;
         idle = λ e. refl;
         quiet = λ e. (refl, refl);
+        rests = rests;
       })
 
   -- the collections are as they were at the beginning of the turn
-  module _ (moved : (begun old).state ≢ (world old).state) (back : world new ≡ undone (begun old) (world old)) (ended : begun new ≡ world new) where
+  module _ (moved : wrote old ≡ true) (rests : wrote new ≡ false) (back : world new ≡ undone (begun old) (world old)) (ended : begun new ≡ world new) where
     first_state : (begun new).state ≡ (begun old).state
     first_state = ap (λ (w : World). w.state) (ended ∙ back)
 
@@ -88,7 +89,8 @@ module _ {D : Type 0} (history : D → History) (old new : Engine D) (h : IsSoun
       acknowledged = λ run. tt;
       device = λ e k. absurd cc;
       idle = λ e. ap (λ s. history s.disk) same;
-      quiet = λ e. absurd (moved e);
+      quiet = λ e. not_both (wrote old) moved e;
+      rests = rests;
     }
 
     -- nothing was committed
@@ -114,11 +116,12 @@ module _ {D : Type 0} (history : D → History) (old new : Engine D) (h : IsSoun
           acknowledged = λ run. tt;
           device = λ e k. absurd (not_device e);
           idle = λ e. ap (λ s. history s.disk) (saved.idle e);
-          quiet = λ e. absurd (moved e);
+          quiet = λ e. not_both (wrote old) moved e;
+          rests = rests;
         }
 
   -- the collections are as they stand
-  module _ (moved : (begun old).state ≢ (world old).state) (forth : world new ≡ world old) (ended : begun new ≡ world new) (readable : All IsReadable (world old).state) where
+  module _ (moved : wrote old ≡ true) (rests : wrote new ≡ false) (forth : world new ≡ world old) (ended : begun new ≡ world new) (readable : All IsReadable (world old).state) where
     there : (begun new).state ≡ (world old).state
     there = ap (λ (w : World). w.state) (ended ∙ forth)
 
@@ -165,7 +168,8 @@ module _ {D : Type 0} (history : D → History) (old new : Engine D) (h : IsSoun
       acknowledged = λ run k image left. new_held image (saved.acknowledged k image left);
       device = λ e k. absurd cc;
       idle = λ e. ap (λ s. history s.disk) (saved.idle e);
-      quiet = λ e. absurd (moved e);
+      quiet = λ e. not_both (wrote old) moved e;
+      rests = rests;
     }
 
     pub cut_now : Saves history bytes (Err faults.Device) old.store new.store → Commits history (Err faults.Device) old new
@@ -186,5 +190,6 @@ module _ {D : Type 0} (history : D → History) (old new : Engine D) (h : IsSoun
           acknowledged = λ run. tt;
           device = saved.device;
           idle = λ e. ap (λ s. history s.disk) (saved.idle e);
-          quiet = λ e. absurd (moved e);
+          quiet = λ e. not_both (wrote old) moved e;
+          rests = rests;
         }

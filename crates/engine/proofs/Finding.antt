@@ -4,13 +4,18 @@ use Rattle.std.specs.Prelude.{All}
 use Rattle.std.specs.List.{filter}
 use Rattle.std.specs.declared.cmp.Ordering.{Ordering}
 use Rattle.std.specs.declared.cmp.Ordering.TheVariants.{Less, Equal, Greater}
-use Rattle.std.proofs.lemmas.List.Elements.{All-filter, All-take, All-drop, All-cons}
+use Rattle.std.proofs.lemmas.List.Elements.{All-filter, All-take, All-drop, All-cons, All-map}
 use Rattle.std.proofs.lemmas.List.{append-nil, drop_all, length-take, length-drop, take-map, drop-map}
 use Rattle.bson.specs.Tree.{Pairs}
+use Rattle.bson.specs.Spelling.{pairs_bytes}
+use Rattle.bson.specs.Sizing.{framed-length}
 use Rattle.filter.specs.Matches.{matches}
+use Rattle.filter.specs.Projection.{Projection, project}
+use Rattle.filter.specs.ProjectionLaws.{project_no_larger}
+use Rattle.engine.specs.Lawful.{IsStored, IsWithin}
 use Rattle.filter.specs.Sort.{SortField, insert_in_order, put_before, sorted, order}
 use Rattle.engine.proofs.Steps.{drop_step}
-use Rattle.engine.specs.Query.{Query, matching, limited, window, chosen}
+use Rattle.engine.specs.Query.{Query, matching, limited, window, chosen, found}
 
 module _ (P : Pairs → Type 0) (cmp : Pairs → Pairs → Ordering) where
   head_of : (x : Pairs) (xs : List Pairs) → All P (x ∷ xs) → P x
@@ -41,6 +46,25 @@ window_kept P skip limit xs h = limited_kept P limit (drop skip xs) (All-drop P 
 
 pub chosen_kept : (P : Pairs → Type 0) (q : Query) (ds : List Pairs) → All P ds → All P (chosen q ds)
 chosen_kept P q ds h = window_kept P q.skip q.limit (order q.sort (matching q.filter ds)) (sorted_kept P _ (matching q.filter ds) (All-filter (matches q.filter) P ds h))
+
+-- ---- what is given is within the limits
+
+pub stored_within : (ps : Pairs) → IsStored ps → IsWithin ps
+stored_within ps h = record { size = h.size; depth = h.depth }
+
+projected_within : (p : Projection) (ps : Pairs) → IsWithin ps → IsWithin (project p ps)
+projected_within p ps h =
+    let less = project_no_larger p ps in
+    record {
+      size = omega (arith, framed-length (pairs_bytes (project p ps)), framed-length (pairs_bytes ps), less.0, h.size);
+      depth = omega (arith, less.1, h.depth);
+    }
+
+pub given_within : (p : Projection) (ds : List Pairs) → All IsWithin ds → All IsWithin (map (project p) ds)
+given_within p ds h = All-map IsWithin (project p) ds (λ k d below. projected_within p (get_or ds k d) (h k d below))
+
+pub found_within : (q : Query) (ds : List Pairs) → All IsStored ds → All IsWithin (found q ds)
+found_within q ds h = given_within q.projection (chosen q ds) (chosen_kept IsWithin q ds (λ k d below. stored_within (get_or ds k d) (h k d below)))
 
 -- ---- a window
 

@@ -1,5 +1,5 @@
 -- A lawful world steps to a lawful world, and its replies are within their limit.
-use Rattle.std.proofs.Common.{◌≡◌, ◌⊎◌, inl, inr, ℕ, zero, suc, max, ◌+◌, ◌-◌, ◌<◌, ◌≤◌, Bool, true, false, List, [], ◌∷◌, length, get_or, set, insert, take, drop, Option, Some, None, Result, Ok, Err, refl, sym, ap, subst, ◌∙◌, arith}
+use Rattle.std.proofs.Common.{◌≡◌, ◌⊎◌, inl, inr, ℕ, zero, suc, max, min, ◌+◌, ◌-◌, ◌<◌, ◌≤◌, Bool, true, false, List, [], ◌∷◌, length, get_or, set, insert, take, drop, Option, Some, None, Result, Ok, Err, refl, sym, ap, subst, ◌∙◌, arith}
 use Rattle.std.specs.Prelude.{◌&&◌, ◌||◌, ◌^◌, not, is_some, nat_le, if◌then◌else◌, codes, unwrap_or, All}
 use Rattle.std.specs.Str.{bytes_eq}
 use Rattle.std.specs.Cmp.{IsTotalOrder}
@@ -20,64 +20,27 @@ use Rattle.value_order.specs.Order.{compare}
 use Rattle.value_order.specs.Total.{compare_total}
 use Rattle.engine.specs.World.{World, Collection, Cursor, find_collection, uses, unused, number_or, with_documents, documents_or_none, documents_of, put_collection, count_of}
 use Rattle.engine.specs.Documents.{◌>>=◌, unless, or_refused, id_first, key_of, place, checked, insert_one, insert_all}
-use Rattle.engine.specs.Refusals.{int, ok_reply}
-use Rattle.engine.specs.Command.{Command, ping, insert as insert_of, find as find_of, command_of, IsBounded}
-use Rattle.engine.specs.Lawful.{IsStored, IsRising, AreNamedApart, AreNumberedApart, IsKept, IsLawfulState, IsLawful}
+use Rattle.filter.specs.Rule.{Rules}
+use Rattle.engine.specs.Query.{Query, found as found_by, matching, window, Deletion, left}
+use Rattle.engine.specs.Refusals.{int, total, ok_reply}
+use Rattle.engine.specs.Command.{Command, ping, insert as insert_of, find as find_of, count as count_of_all, delete, command_of, IsBounded}
+use Rattle.engine.specs.Lawful.{IsStored, IsWithin, IsRising, AreNamedApart, AreNumberedApart, IsKept, IsLawfulState, IsLawful}
 use Rattle.engine.specs.Places.{IsGap, collection_at, no_collection}
 use Rattle.engine.specs.Progress.{is_full, with_document}
-use Rattle.engine.specs.Step.{items_of_documents, batch_of, cursor_reply, open_cursor, run_insert, run_find, run, answered, step}
+use Rattle.engine.specs.Step.{items_of_documents, batch_of, cursor_reply, open_cursor, deleted_in, run_insert, run_find, run_count, run_delete, run, answered, step}
 use Rattle.engine.specs.View.{IsSendable}
 use Rattle.path.specs.declared.refusal.Refusal.{Refusal}
 use Rattle.path.specs.declared.refusal.Refusal.TheVariants as refusals
 use Rattle.engine.specs.declared.TheConstants.{BATCH_LIMIT, STORED_LIMIT, FIRST_BATCH, MOST_CURSORS, MOST_COLLECTIONS, NAMESPACE_LIMIT}
 use Rattle.engine.proofs.Bounded.{step_of, bounded}
 use Rattle.engine.proofs.Checked.{keeps}
+use Rattle.engine.proofs.Located.{Gap, There, located}
+use Rattle.engine.proofs.Deleting.{deleted_lawful}
+use Rattle.engine.proofs.Finding.{found_within}
 use Rattle.engine.proofs.Ordered.{Rises, flipped, rises_tail, rises_insert, All-inserted, place_gap, place_there, missing, found, added, replaced}
 use Rattle.engine.proofs.Numbers.{unused_unused, number_bounds, numbers_set, numbers_insert}
 use Rattle.engine.proofs.Rewinding.{apart_set}
 use Rattle.engine.proofs.SpelledSizes.{ping-sendable, insert-sendable, refusal-sendable, batch_items, cursor-sendable}
-
--- ---- each key has a place among others that rise
-
-abbrev Gap : {X K : Type 0} → (K → K → Ordering) → (X → K) → List X → K → Type 0
-Gap R key xs x = (i : ℕ) × IsGap (λ y. R (key y) x) xs i
-
--- an element of this key stands somewhere
-record There {X K : Type 0} (R : K → K → Ordering) (key : X → K) (xs : List X) (x : K) : Type 0 where
-  place : ℕ
-  within : place < length xs
-  same : (d : X) → R (key (get_or xs place d)) x ≡ orders.Equal
-
-located : {X K : Type 0} {R : K → K → Ordering} (o : IsTotalOrder R) (key : X → K) (xs : List X) (x : K) → Rises R key xs → Gap R key xs x ⊎ There R key xs x
-located o key [] x up = inl (0, record { within = omega arith; before = λ k d low high. absurd (omega arith); after = λ k d low high. absurd (omega arith) })
-located {X} {K} {R} o key (y ∷ ys) x up = at (R (key y) x) refl (located o key ys x (rises_tail R key y ys up))
-  where
-    at : (r : Ordering) → R (key y) x ≡ r → Gap R key ys x ⊎ There R key ys x → Gap R key (y ∷ ys) x ⊎ There R key (y ∷ ys) x
-    at orders.Less e (inl g) = inl (
-      suc g.0,
-      record {
-        within = omega (arith, g.1.within);
-        before = λ k d low high. before k d high;
-        after = λ k d low high. after k d low high;
-      },
-    )
-      where
-        before : (k : ℕ) (d : X) → k < suc g.0 → R (key (get_or (y ∷ ys) k d)) x ≡ orders.Less
-        before zero d high = e
-        before (suc k) d high = g.1.before k d (omega arith) (omega arith)
-
-        after : (k : ℕ) (d : X) → suc g.0 ≤ k → k < length (y ∷ ys) → R (key (get_or (y ∷ ys) k d)) x ≡ orders.Greater
-        after zero d low high = absurd (omega arith)
-        after (suc k) d low high = g.1.after k d (omega arith) (omega arith)
-    at orders.Less e (inr t) = inr (record { place = suc t.place; within = omega (arith, t.within); same = t.same })
-    at orders.Equal e later = inr (record { place = 0; within = omega arith; same = λ d. e })
-    at orders.Greater e later = inl (0, record { within = omega arith; before = λ k d low high. absurd (omega arith); after = λ k d low high. above k d high })
-      where
-        above : (k : ℕ) (d : X) → k < length (y ∷ ys) → R (key (get_or (y ∷ ys) k d)) x ≡ orders.Greater
-        above zero d high = e
-        above (suc k) d high =
-            let less : R x (key (get_or ys k d)) ≡ orders.Less = o.trans x (key y) (key (get_or ys k d)) (flipped o (key y) x orders.Greater e) (up 0 (suc k) d (omega arith) high) in
-            flipped o x (key (get_or ys k d)) orders.Less less
 
 -- ---- documents
 
@@ -231,18 +194,18 @@ module _ (w : World) (connection : ℕ) (name : List ℕ) (rest : List Pairs) wh
   abbrev with_cursor : World
   with_cursor = record w { cursors = new_cursor ∷ w.cursors; next = w.next + 1; touched = w.next ∷ w.touched }
 
-  opened_lawful : (opened : World) → IsLawful w → All IsStored rest → open_cursor w connection name rest ≡ Ok opened → IsLawful opened
+  opened_lawful : (opened : World) → IsLawful w → All IsWithin rest → open_cursor w connection name rest ≡ Ok opened → IsLawful opened
   opened_lawful opened h stored e = at (nat_le MOST_CURSORS (count_of connection w.cursors) || nat_le (2 ^ 63) w.next) e
     where
       at : (b : Bool) → unless b refusals.TooMany (Ok with_cursor) ≡ Ok opened → IsLawful opened
       at true e = absurd cc
       at false e =
           let same : with_cursor ≡ opened = cc in
-          subst IsLawful same (record { state = h.state; cursors = All-cons (λ (c : Cursor). All IsStored c.rest) new_cursor w.cursors stored h.cursors })
+          subst IsLawful same (record { state = h.state; cursors = All-cons (λ (c : Cursor). All IsWithin c.rest) new_cursor w.cursors stored h.cursors })
 
-module _ (w : World) (connection : ℕ) (name : List ℕ) (batch_size : Option ℕ) where
+module _ (w : World) (connection : ℕ) (name : List ℕ) (query : Query) (batch_size : Option ℕ) where
   abbrev ds : List Pairs
-  ds = documents_of w.state name
+  ds = found_by query (documents_of w.state name)
 
   abbrev n : ℕ
   n = batch_of (unwrap_or batch_size FIRST_BATCH) ds
@@ -250,20 +213,20 @@ module _ (w : World) (connection : ℕ) (name : List ℕ) (batch_size : Option �
   abbrev after_opening : Result World Refusal → Result (World × Pairs) Refusal
   after_opening r = r >>= (λ opened. let x : Result (World × Pairs) Refusal = Ok (opened, cursor_reply (codes "firstBatch") (take n ds) w.next name) in x)
 
-  good_find : IsLawful w → length name ≤ NAMESPACE_LIMIT → Good (run_find w connection name batch_size)
+  good_find : IsLawful w → length name ≤ NAMESPACE_LIMIT → Good (run_find w connection name query batch_size)
   unfolding run_find
   good_find h short = at (nat_le (length ds) n) refl
     where
-      stored : All IsStored ds
-      stored = (stored_at w.state name h.state.kept).1
+      within : All IsWithin ds
+      within = found_within query (documents_of w.state name) (stored_at w.state name h.state.kept).1
 
       small : fits_in (take n ds)
-      small = batch_items (unwrap_or batch_size FIRST_BATCH) (BATCH_LIMIT - 5) ds stored
+      small = batch_items (unwrap_or batch_size FIRST_BATCH) (BATCH_LIMIT - 5) ds within
 
       part : (r : Result World Refusal) → open_cursor w connection name (drop n ds) ≡ r → Good (after_opening r)
       part (Err e) is = λ x f. absurd cc
       part (Ok opened) is =
-          good_one opened (cursor_reply (codes "firstBatch") (take n ds) w.next name) (opened_lawful w connection name (drop n ds) opened h (All-drop IsStored n ds stored) is) (cursor-sendable (take n ds) w.next name small short)
+          good_one opened (cursor_reply (codes "firstBatch") (take n ds) w.next name) (opened_lawful w connection name (drop n ds) opened h (All-drop IsWithin n ds within) is) (cursor-sendable (take n ds) w.next name small short)
 
       at : (b : Bool) → nat_le (length ds) n ≡ b → Good (if b then Ok (w, cursor_reply (codes "firstBatch") ds 0 name) else after_opening (open_cursor w connection name (drop n ds)))
       at true whole =
@@ -271,10 +234,25 @@ module _ (w : World) (connection : ℕ) (name : List ℕ) (batch_size : Option �
           good_one w (cursor_reply (codes "firstBatch") ds 0 name) h (cursor-sendable ds 0 name (subst fits_in (take_all n ds all) small) short)
       at false over = part (open_cursor w connection name (drop n ds)) refl
 
+good_count : (w : World) (name : List ℕ) (rules : Rules) (skip limit : ℕ) → IsLawful w → Good (run_count w name rules skip limit)
+unfolding run_count
+good_count w name rules skip limit h =
+    let n = length (window skip limit (matching rules (documents_of w.state name))) in
+    good_one w (pair (codes "n") (total n) no_pairs) h (insert-sendable (min n (2 ^ 31 - 1)))
+
+good_delete : (w : World) (name : List ℕ) (deletions : List Deletion) → IsLawful w → Good (run_delete w name deletions)
+unfolding run_delete
+good_delete w name deletions h =
+    let n = length (documents_of w.state name) - length (left deletions (documents_of w.state name)) in
+    let state = deleted_lawful w.state name deletions h.state in
+    good_one (record w { state = deleted_in (find_collection w.state name) deletions w.state }) (pair (codes "n") (total n) no_pairs) (record { state = state; cursors = h.cursors }) (insert-sendable (min n (2 ^ 31 - 1)))
+
 good_run : (w : World) (connection : ℕ) (command : Command) → IsLawful w → IsBounded command → Good (run w connection command)
 good_run w connection ping h b = good_one w no_pairs h ping-sendable
 good_run w connection (insert_of name documents) h b = good_insert w name documents h b.0
-good_run w connection (find_of name batch_size) h b = good_find w connection name batch_size h b
+good_run w connection (find_of name query batch_size) h b = good_find w connection name query batch_size h b
+good_run w connection (count_of_all name rules skip limit) h b = good_count w name rules skip limit h
+good_run w connection (delete name deletions) h b = good_delete w name deletions h
 
 -- the world after a step, and its reply
 pub record Steps (x : World × Pairs) : Type 0 where

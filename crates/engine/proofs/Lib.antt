@@ -23,5 +23,7 @@ pub mod LoadingSteps
 pub mod LoadingAll
 pub mod OpenSteps
 pub mod LoadingOnce
+pub mod Located
+pub mod Growing
 pub mod Deleting
 pub mod Finding

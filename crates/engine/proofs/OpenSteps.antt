@@ -14,7 +14,7 @@ use Rattle.roots.specs.declared.opening.OpenFault.TheVariants as faults
 use Rattle.roots.proofs.OpenSteps.{one_state}
 use Rattle.engine.specs.World.{World, Collection}
 use Rattle.engine.specs.Lawful.{IsReadable, IsLawfulState}
-use Rattle.engine.specs.Progress.{Progress, begun_of}
+use Rattle.engine.specs.Progress.{has_any, Progress, begun_of}
 use Rattle.engine.specs.Stored.{pairs_of}
 use Rattle.engine.specs.Durable.{Holds, past}
 use Rattle.engine.specs.Loading.{IsLoading, IsOfBytes}
@@ -44,6 +44,7 @@ module _ {D : Type 0} (history : D → History) (disk : D) where
         };
         running = r.running;
         idle = ap (λ (cs : List Collection). let w : World = record { state = cs; cursors = []; next = 1; touched = [] } in w) same;
+        rests = ap has_any loading.idle;
         on = r.on;
         holds = λ k. held state (reads (now (history disk))) loading.lawful readable (subst (StandsFor (reads (now (history disk)))) (committed k) (r.stands k));
         alone = λ k image left. held state image loading.lawful readable (subst (StandsFor image) (committed k) (r.alone k image left));

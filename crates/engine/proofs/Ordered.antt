@@ -159,6 +159,19 @@ named_so name c e = sym (is_eq-slice_cmp name c.name) ∙ ap is_eq (flipped nat_
 passes : (name : List ℕ) (c : Collection) (cs : List Collection) → bytes_eq name c.name ≡ false → find_collection (c ∷ cs) name ≡ find_collection cs name
 passes name c cs e = ap (λ (b : Bool). if b then Some c else find_collection cs name) e
 
+pub passes_on : (name : List ℕ) (c : Collection) (cs : List Collection) → slice_cmp nat_cmp name c.name ≡ orders.Greater → find_collection (c ∷ cs) name ≡ find_collection cs name
+passes_on name c cs e = passes name c cs (sym (is_eq-slice_cmp name c.name) ∙ ap is_eq e)
+
+its_own_reverse : (r : Ordering) → r ≡ ordering_reverse r → r ≡ orders.Equal
+its_own_reverse orders.Less e = absurd cc
+its_own_reverse orders.Equal e = refl
+its_own_reverse orders.Greater e = absurd cc
+
+pub found_first : (c : Collection) (cs : List Collection) → find_collection (c ∷ cs) c.name ≡ Some c
+found_first c cs =
+    let same : by_name c.name c ≡ orders.Equal = its_own_reverse (by_name c.name c) (nat_list_cmp_total.antisymm c.name c.name) in
+    ap (λ (b : Bool). if b then Some c else find_collection cs c.name) (named_so c.name c same)
+
 abbrev ByName : List Collection → Type 0
 ByName cs = Rises (slice_cmp nat_cmp) (λ (c : Collection). c.name) cs
 

@@ -15,7 +15,7 @@ use Rattle.engine.specs.World.{Collection, documents_or_none, number_or, unused,
 use Rattle.engine.specs.Lawful.{IsHeld, AreNamedApart}
 use Rattle.engine.specs.Places.{IsGap, IsMissing, by_name, collection_at, no_collection}
 use Rattle.engine.specs.Documents.{id_first, checked, place, insert_one}
-use Rattle.engine.specs.Progress.{Progress, IsProgress, without_document, undo, rewind, begun_of, CanUndo, CanRewind, Extends, is_full, Stands, with_document}
+use Rattle.engine.specs.Progress.{Progress, IsProgress, without_document, undo, rewind, has_any, is_changed, begun_of, CanUndo, CanRewind, Extends, is_full, Stands, with_document}
 use Rattle.engine.specs.declared.TheConstants.{MOST_COLLECTIONS}
 use Rattle.path.specs.declared.refusal.Refusal.{Refusal}
 use Rattle.path.specs.declared.refusal.Refusal.TheVariants as refusals
@@ -103,38 +103,13 @@ Extends-none p q e n =
     let back : p.now ≡ begun_of q = ap (λ (xs : List Change). rewind xs p.now) (sym none) ∙ sym (begun-extends p q e) in
     λ i. record { now = back i; changes = none i }
 
--- ---- a change is never for nothing
-
--- how many collections and documents there are
-abbrev weight : List Collection → ℕ
-weight [] = 0
-weight (c ∷ cs) = suc (length c.documents) + weight cs
-
-removed_lighter : (cs : List Collection) (i : ℕ) → i < length cs → weight (remove cs i) < weight cs
-removed_lighter [] i h = absurd (omega arith)
-removed_lighter (c ∷ cs) zero h = let less : weight cs < suc (length c.documents) + weight cs = omega arith in less
-removed_lighter (c ∷ cs) (suc i) h =
-    let less : suc (length c.documents) + weight (remove cs i) < suc (length c.documents) + weight cs = omega (arith, removed_lighter cs i (omega arith)) in less
-
-without_lighter : (cs : List Collection) (i place : ℕ) → i < length cs → place < length (collection_at cs i).documents → weight (set cs i (without_document (collection_at cs i) place)) < weight cs
-without_lighter [] i k h there = absurd (omega arith)
-without_lighter (c ∷ cs) zero k h there =
-    let less : suc (length (remove c.documents k)) + weight cs < suc (length c.documents) + weight cs = omega (arith, length-remove c.documents k there) in less
-without_lighter (c ∷ cs) (suc i) k h there =
-    let lighter = without_lighter cs i k (omega arith) there in
-    let less : suc (length c.documents) + weight (set cs i (without_document (collection_at cs i) k)) < suc (length c.documents) + weight cs = omega (arith, lighter) in less
-
-undone_lighter : (x : Change) (cs : List Collection) → CanUndo x cs → weight (undo x cs) < weight cs
-undone_lighter (changes.Made at) cs can = removed_lighter cs at can
-undone_lighter (changes.Stored at place) cs can = without_lighter cs at place can.0 can.1
-
-rewound_lighter : (xs : List Change) (cs : List Collection) → CanRewind xs cs → weight (rewind xs cs) + length xs ≤ weight cs
-rewound_lighter [] cs can = omega arith
-rewound_lighter (x ∷ xs) cs can = omega (arith, undone_lighter x (rewind xs cs) can.0, rewound_lighter xs cs can.1)
-
--- collections that are those from the beginning of the turn were not changed
-pub never_changed : (p : Progress) → IsProgress p → begun_of p ≡ p.now → length p.changes ≡ 0
-never_changed p h same = omega (arith, rewound_lighter p.changes p.now h.undoable, ap weight same)
+-- a turn that changed nothing is at its beginning
+pub never_changed : (p : Progress) → is_changed p ≡ false → begun_of p ≡ p.now
+never_changed p rests = at p.changes rests
+  where
+    at : (xs : List Change) → has_any xs ≡ false → rewind xs p.now ≡ p.now
+    at [] e = refl
+    at (x ∷ xs) e = absurd cc
 
 -- ---- one more change
 

@@ -1,16 +1,18 @@
 -- What running a command comes to.
-use Rattle.std.proofs.Common.{◌≡◌, ℕ, ◌<◌, ◌≤◌, Bool, true, false, List, length, Option, Some, Result, Ok, Err, refl, ap, arith}
-use Rattle.std.specs.Prelude.{nat_le, codes, unwrap_or}
+use Rattle.std.proofs.Common.{◌≡◌, ℕ, zero, suc, ◌+◌, ◌-◌, ◌<◌, ◌≤◌, Bool, true, false, List, [], ◌∷◌, length, Option, Some, Result, Ok, Err, refl, sym, ap, arith}
+use Rattle.std.specs.Prelude.{◌==◌, ◌||◌, if◌then◌else◌, nat_le, codes, unwrap_or}
 use Rattle.std.proofs.lemmas.Bool.Decides.{nat_tests}
 use Rattle.bson.specs.Tree.{Pairs, pair, no_pairs}
-use Rattle.engine.specs.World.{World, Collection, documents_of, with_documents, put_collection, count_of}
+use Rattle.filter.specs.Rule.{Rules}
+use Rattle.engine.specs.Query.{Query, found, matching, window, Deletion, left}
+use Rattle.engine.specs.World.{World, Collection, find_collection, documents_of, with_documents, put_collection, count_of}
 use Rattle.engine.specs.Documents.{◌>>=◌, unless, insert_all}
-use Rattle.engine.specs.Refusals.{int}
-use Rattle.engine.specs.Step.{cursor_reply, open_cursor, batch_of, run_insert, run_find}
+use Rattle.engine.specs.Refusals.{int, total}
+use Rattle.engine.specs.Step.{item_size, batch_len, cursor_reply, open_cursor, batch_of, deleted_in, run_insert, run_find, run_count, run_delete}
 use Rattle.engine.specs.Progress.{is_full, inserted}
 use Rattle.path.specs.declared.refusal.Refusal.{Refusal}
 use Rattle.path.specs.declared.refusal.Refusal.TheVariants as refusals
-use Rattle.engine.specs.declared.TheConstants.{FIRST_BATCH, MOST_CURSORS}
+use Rattle.engine.specs.declared.TheConstants.{BATCH_LIMIT, FIRST_BATCH, MOST_CURSORS}
 
 -- ---- insert
 
@@ -47,11 +49,21 @@ module _ (w : World) (name : List ℕ) (ds : List Pairs) where
 
 -- ---- find
 
-module _ (w : World) (connection : ℕ) (name : List ℕ) (most : ℕ) where
-  abbrev documents : List Pairs
-  documents = documents_of w.state name
+-- a batch has not more documents than it may
+batch_most : (i most room : ℕ) (ds : List Pairs) → batch_len i most room ds ≤ most
+batch_most i most room [] = omega arith
+batch_most i zero room (d ∷ ds) = omega arith
+batch_most i (suc most) room (d ∷ ds) = at (i == 0 || nat_le (item_size i d) room) (batch_most (i + 1) most (room - item_size i d) ds)
+  where
+    at : (b : Bool) → batch_len (i + 1) most (room - item_size i d) ds ≤ most → (if b then suc (batch_len (i + 1) most (room - item_size i d) ds) else 0) ≤ suc most
+    at true later = omega (arith, later)
+    at false later = omega arith
 
-  pub run_find-whole : length documents ≤ batch_of most documents → run_find w connection name (Some most) ≡ Ok (w, cursor_reply (codes "firstBatch") documents 0 name)
+module _ (w : World) (connection : ℕ) (name : List ℕ) (query : Query) (most : ℕ) where
+  abbrev documents : List Pairs
+  documents = found query (documents_of w.state name)
+
+  pub run_find-whole : length documents ≤ batch_of most documents → run_find w connection name query (Some most) ≡ Ok (w, cursor_reply (codes "firstBatch") documents 0 name)
   unfolding run_find
   run_find-whole fits =
       let whole : nat_le (length documents) (batch_of most documents) ≡ true = grind (arith, nat_tests) in
@@ -63,12 +75,30 @@ module _ (w : World) (connection : ℕ) (name : List ℕ) (most : ℕ) where
       let full : nat_le MOST_CURSORS (count_of connection w.cursors) ≡ true = grind (arith, nat_tests) in
       rw full refl
 
-  pub run_find-over : batch_of most documents < length documents → run_find w connection name (Some most) ≡ Err refusals.TooMany
+  pub run_find-over : batch_of most documents < length documents → run_find w connection name query (Some most) ≡ Err refusals.TooMany
   unfolding run_find
   run_find-over over =
       let part : nat_le (length documents) (batch_of most documents) ≡ false = grind (arith, nat_tests) in
       rw part (rw none_opened refl)
 
-pub run_find-default : (w : World) (connection : ℕ) (name : List ℕ) (batch_size : Option ℕ) → run_find w connection name (Some (unwrap_or batch_size FIRST_BATCH)) ≡ run_find w connection name batch_size
+  -- there are more than may go into a batch
+  pub run_find-more : most < length documents → run_find w connection name query (Some most) ≡ Err refusals.TooMany
+  run_find-more more = run_find-over (omega (arith, more, batch_most 0 most (BATCH_LIMIT - 5) documents))
+
+pub run_find-default : (w : World) (connection : ℕ) (name : List ℕ) (query : Query) (batch_size : Option ℕ) → run_find w connection name query (Some (unwrap_or batch_size FIRST_BATCH)) ≡ run_find w connection name query batch_size
 unfolding run_find
-run_find-default w connection name batch_size = refl
+run_find-default w connection name query batch_size = refl
+
+pub too_many : {X : Type 0} (e : Refusal) → e ≡ refusals.TooMany → (let r : Result X Refusal = Err refusals.TooMany in r) ≡ Err e
+too_many {X} e is = ap (λ (f : Refusal). let r : Result X Refusal = Err f in r) (sym is)
+
+-- ---- count and delete
+
+pub run_count-is : (w : World) (name : List ℕ) (rules : Rules) (skip limit n : ℕ) → n ≡ length (window skip limit (matching rules (documents_of w.state name))) → run_count w name rules skip limit ≡ Ok (w, pair (codes "n") (total n) no_pairs)
+unfolding run_count
+run_count-is w name rules skip limit n e = ap (λ (m : ℕ). let x : Result (World × Pairs) Refusal = Ok (w, pair (codes "n") (total m) no_pairs) in x) (sym e)
+
+pub run_delete-is : (w : World) (name : List ℕ) (deletions : List Deletion) (cs : List Collection) (n : ℕ) → cs ≡ deleted_in (find_collection w.state name) deletions w.state
+    → n ≡ length (documents_of w.state name) - length (left deletions (documents_of w.state name)) → run_delete w name deletions ≡ Ok (record w { state = cs }, pair (codes "n") (total n) no_pairs)
+unfolding run_delete
+run_delete-is w name deletions cs n same e = λ i. Ok (record w { state = sym same i }, pair (codes "n") (total (sym e i)) no_pairs)

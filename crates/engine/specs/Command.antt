@@ -280,7 +280,7 @@ command_of (pair name t ps) =
 -- what a command that was read keeps
 abbrev pub IsBounded : Command → Type 0
 IsBounded ping = Unit {0}
-IsBounded (insert namespace documents) = (length namespace ≤ NAMESPACE_LIMIT) × (length documents ≤ MOST_STATEMENTS)
+IsBounded (insert namespace documents) = (length namespace ≤ NAMESPACE_LIMIT) × (length documents ≤ MOST_STATEMENTS) × (1 ≤ length documents)
 IsBounded (find namespace query batch_size) = length namespace ≤ NAMESPACE_LIMIT
 IsBounded (count namespace rules skip limit) = Unit {0}
 IsBounded (delete namespace deletions) = Unit {0}

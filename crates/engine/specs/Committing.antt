@@ -1,5 +1,5 @@
 -- What a commit does to a store and to an engine.
-use Rattle.std.specs.Prelude.{◌≡◌, ◌≢◌, ◌⊎◌, ℕ, ◌<◌, ◌-◌, ◌^◌, List, length, true, Result, Ok, Err, OnOk, OnErr}
+use Rattle.std.specs.Prelude.{◌≡◌, ◌≢◌, ◌⊎◌, ℕ, ◌<◌, ◌-◌, ◌^◌, List, length, true, false, Result, Ok, Err, OnOk, OnErr}
 use Rattle.page.specs.History.{History, KeepsWord}
 use Rattle.page.specs.Crash.{GoesOn, LeavesOnly, LeavesNow}
 use Rattle.roots.specs.Image.{StandsFor}
@@ -9,7 +9,7 @@ use Rattle.roots.specs.declared.store.CommitFault.{CommitFault}
 use Rattle.roots.specs.declared.store.CommitFault.TheVariants as faults
 use Rattle.engine.specs.World.{settled, undone}
 use Rattle.engine.specs.View.{world, begun}
-use Rattle.engine.specs.Durable.{Holds, past, stopped, IsRunning, store_of, IsSound, HasNoRoom}
+use Rattle.engine.specs.Durable.{Holds, past, wrote, stopped, IsRunning, store_of, IsSound, HasNoRoom}
 use Rattle.engine.specs.declared.engine.Engine.{Engine}
 
 -- These bytes were saved, or not.
@@ -48,4 +48,5 @@ pub record Commits {D : Type 0} (history : D → History) (result : Result (Unit
   pub device : result ≡ Err faults.Device → KeepsWord (past history new) → (stopped old ≡ true) ⊎ ((past history old).failures < (past history new).failures)
   pub idle : stopped old ≡ true → past history new ≡ past history old
   -- where the commands changed nothing, there is nothing to write
-  pub quiet : (begun old).state ≡ (world old).state → (result ≡ Ok tt) × (store_of new ≡ store_of old)
+  pub quiet : wrote old ≡ false → (result ≡ Ok tt) × (store_of new ≡ store_of old)
+  pub rests : wrote new ≡ false

@@ -9,6 +9,7 @@ use Rattle.roots.specs.declared.store.Store.{Store}
 use Rattle.engine.specs.World.{Collection}
 use Rattle.engine.specs.Lawful.{IsReadable, IsLawfulState}
 use Rattle.engine.specs.Stored.{pairs_of}
+use Rattle.engine.specs.Progress.{is_changed}
 use Rattle.engine.specs.View.{world, begun}
 use Rattle.engine.specs.declared.engine.Engine.{Engine}
 
@@ -25,6 +26,10 @@ past history engine = history engine.store.disk
 -- its store: the disk with all its moments, the root in force, the live pages and the limit of pages
 abbrev pub store_of : {D : Type 0} → Engine D → Store D
 store_of engine = engine.store
+
+-- the commands of the running turn have changed something
+abbrev pub wrote : {D : Type 0} → Engine D → Bool
+wrote engine = is_changed engine.collections
 
 -- a write or a sync of the engine's has failed
 abbrev pub stopped : {D : Type 0} → Engine D → Bool

@@ -1,5 +1,5 @@
 -- What opening a disk gives.
-use Rattle.std.specs.Prelude.{◌≡◌, ◌≢◌, ◌<◌, List, Err}
+use Rattle.std.specs.Prelude.{◌≡◌, ◌≢◌, ◌<◌, false, List, Err}
 use Rattle.page.specs.History.{History, KeepsWord, now, reads, IsImage}
 use Rattle.page.specs.Crash.{GoesOn, LeavesOnly, LeavesNow, OnlySyncs}
 use Rattle.roots.specs.Root.{root_of}
@@ -7,7 +7,7 @@ use Rattle.roots.specs.declared.opening.OpenFault.{OpenFault}
 use Rattle.roots.specs.declared.opening.OpenFault.TheVariants as faults
 use Rattle.engine.specs.World.{Collection}
 use Rattle.engine.specs.View.{world, begun}
-use Rattle.engine.specs.Durable.{Holds, past, IsRunning, IsSound}
+use Rattle.engine.specs.Durable.{Holds, past, wrote, IsRunning, IsSound}
 use Rattle.engine.specs.declared.engine.Engine.{Engine}
 
 -- The disk was opened as this engine.
@@ -15,6 +15,7 @@ pub record IsOpened {D : Type 0} (history : D → History) (disk : D) (engine : 
   pub sound : IsSound history engine
   pub running : IsRunning engine
   pub idle : begun engine ≡ world engine
+  pub rests : wrote engine ≡ false
   pub on : GoesOn (history disk) (past history engine)
   -- it only read and synced
   pub only : OnlySyncs (history disk) (past history engine)

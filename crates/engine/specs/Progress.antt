@@ -54,6 +54,14 @@ pub record IsProgress (p : Progress) : Type 0 where
 abbrev pub begun_of : Progress → List Collection
 begun_of p = rewind p.changes p.now
 
+abbrev pub has_any : List Change → Bool
+has_any [] = false
+has_any (change ∷ rest) = true
+
+-- the running turn has changed something
+abbrev pub is_changed : Progress → Bool
+is_changed p = has_any p.changes
+
 -- more changes were made, which lead back
 pub record Extends (old new : Progress) : Type 0 where
   pub more : List Change
@@ -88,11 +96,13 @@ with_document c ps = do
   stored ← insert_one c.documents ps
   Ok (record c { documents = stored })
 
--- What a delete leaves a collection, which loses so many documents.
+-- What a delete leaves a collection, which loses so many documents, and at least one.
 pub record Leaves (name : List ℕ) (deletions : List Deletion) (cs : List Collection) (at : ℕ) (documents : List Pairs) (gone : ℕ) : Type 0 where
   pub within : at < length cs
   pub held : IsHeld (record (collection_at cs at) { documents = documents })
   pub is : deleted_in (find_collection cs name) deletions cs ≡ slice_set cs at (record (collection_at cs at) { documents = documents })
+  pub some : gone ≢ 0
+  pub fewer : gone ≡ length (collection_at cs at).documents - length documents
   pub count : gone ≡ length (documents_of cs name) - length (left deletions (documents_of cs name))
 
 -- a delete takes no document away

@@ -66,6 +66,7 @@ impl Collection {
         ensures documents { result.now ≡ self.now.documents }
         ensures stored { All IsStored result.now }
         ensures readable { All IsDocument result.now }
+        ensures held { IsHeld self.now }
     {
         &self.documents
     }
@@ -104,6 +105,7 @@ impl Collection {
         requires { IsHeld (record self.old { documents = documents.items }) }
         ensures new { self.new ≡ record self.old { documents = documents.items } }
         ensures old { result.items ≡ self.old.documents }
+        ensures held { IsHeld self.old }
     {
         std::mem::replace(&mut self.documents, documents)
     }

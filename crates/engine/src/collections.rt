@@ -11,7 +11,7 @@ ghost use Rattle.engine.specs.Stored.{documents_numbered};
 ghost use Rattle.engine.specs.Places.{IsNamedAt, collection_at};
 ghost use Rattle.engine.specs.Outcomes.{Does};
 ghost use Rattle.engine.specs.Reading.{documents_at};
-ghost use Rattle.engine.specs.Progress.{begun_of, Extends, Stands, IsFull, with_document, inserted, Leaves, LeavesAll};
+ghost use Rattle.engine.specs.Progress.{begun_of, is_changed, Extends, Stands, IsFull, with_document, inserted, Leaves, LeavesAll};
 
 use crate::MOST_COLLECTIONS;
 use crate::collection::Collection;
@@ -333,8 +333,7 @@ impl Collections {
 
     /// Whether the turn has changed anything.
     pub(crate) fn is_changed(&self) -> bool
-        ensures same { result ≡ false → begun_of self.now ≡ self.now.now }
-        ensures changed { result ≡ true → begun_of self.now ≢ self.now.now }
+        ensures { result ≡ is_changed self.now }
     {
         !self.changes.is_empty()
     }

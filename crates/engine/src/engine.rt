@@ -1,6 +1,6 @@
 //! Commands, turn by turn, over a disk.
 
-ghost use Rattle.std.specs.Prelude.{◌≡◌, ◌≢◌, ◌⊎◌, ◌≤◌, ◌<◌, Ok, Err, Some, true, [], List, IfOk, IfErr, OnOk, OnErr, All, length};
+ghost use Rattle.std.specs.Prelude.{◌≡◌, ◌≢◌, ◌⊎◌, ◌≤◌, ◌<◌, Ok, Err, Some, true, false, [], List, IfOk, IfErr, OnOk, OnErr, All, length};
 ghost use Rattle.page.specs.History.{KeepsWord, now, reads, IsImage};
 ghost use Rattle.page.specs.Crash.{GoesOn, LeavesOnly, LeavesNow, OnlySyncs};
 ghost use Rattle.roots.specs.Root.{root_of};
@@ -14,7 +14,7 @@ ghost use Rattle.engine.specs.World.{Collection, documents_of, settled, undone, 
 ghost use Rattle.engine.specs.Step.{Answers, run_insert, run_find, run_count, run_delete, read_and_run};
 ghost use Rattle.engine.specs.Reading.{documents_at};
 ghost use Rattle.engine.specs.View.{world, begun, reply_of, IsSendable, Runs};
-ghost use Rattle.engine.specs.Durable.{Holds, past, stopped, IsRunning, store_of, IsSound, HasNoRoom};
+ghost use Rattle.engine.specs.Durable.{Holds, past, wrote, stopped, IsRunning, store_of, IsSound, HasNoRoom};
 
 use crate::batch::batch_len;
 use crate::collections::Collections;
@@ -68,6 +68,7 @@ impl<D: Disk> Engine<D> {
     pub fn open(alloc: Global, disk: D, config: Config) -> Result<Engine<D>, (D, OpenFault)>
         ensures sound { IfOk result (λ engine. IsSound D.history engine × IsRunning engine) }
         ensures begun { IfOk result (λ engine. begun engine ≡ world engine) }
+        ensures rests { IfOk result (λ engine. wrote engine ≡ false) }
         ensures world { IfOk result (λ engine. world engine ≡ record { state = (world engine).state; cursors = []; next = 1; touched = [] }) }
         ensures on { IfOk result (λ engine. GoesOn (D.history disk) (past D.history engine)) }
         ensures on_err { IfErr result (λ e. GoesOn (D.history disk) (D.history e.0)) }
@@ -134,11 +135,13 @@ impl<D: Disk> Engine<D> {
 
     /// Stores documents, all or none.
     fn insert(&mut self, namespace: &str, documents: &[&Document]) -> Result<Document, Refusal>
-        requires { length documents.now ≤ MOST_STATEMENTS }
+        requires few { length documents.now ≤ MOST_STATEMENTS }
+        requires some { 1 ≤ length documents.now }
         ensures disk { self.new.store ≡ self.old.store }
         ensures runs { Runs (world self.old) (run_insert (world self.old) namespace.now (documents_at documents.now))
             (world self.new) result }
         ensures begun { begun self.new ≡ begun self.old }
+        ensures wrote { (world self.new).state ≡ (world self.old).state → wrote self.new ≡ wrote self.old }
         ensures sendable { IfOk result (λ d. IsSendable d) }
     {
         let reply = insert_reply(self.alloc, documents.len())?;
@@ -192,6 +195,7 @@ impl<D: Disk> Engine<D> {
         ensures disk { self.new.store ≡ self.old.store }
         ensures runs { Runs (world self.old) (run_delete (world self.old) namespace.now deletions.now) (world self.new) result }
         ensures begun { begun self.new ≡ begun self.old }
+        ensures wrote { (world self.new).state ≡ (world self.old).state → wrote self.new ≡ wrote self.old }
         ensures sendable { IfOk result (λ d. IsSendable d) }
     {
         let Some(rest) = self.collections.without(namespace, deletions)? else {
@@ -208,6 +212,7 @@ impl<D: Disk> Engine<D> {
         ensures runs { Runs (world self.old) (read_and_run (world self.old) connection body.now)
             (world self.new) result }
         ensures begun { begun self.new ≡ begun self.old }
+        ensures wrote { (world self.new).state ≡ (world self.old).state → wrote self.new ≡ wrote self.old }
         ensures sendable { IfOk result (λ d. IsSendable d) }
     {
         match read_command(self.alloc, body)? {
@@ -249,6 +254,7 @@ impl<D: Disk> Engine<D> {
         ensures store { store_of self.new ≡ store_of self.old }
         ensures answers { Answers (world self.old) connection (Ok body.now) (world self.new) (reply_of result) }
         ensures begun { begun self.new ≡ begun self.old }
+        ensures wrote { (world self.new).state ≡ (world self.old).state → wrote self.new ≡ wrote self.old }
         ensures sendable { IsSendable (reply_of result) }
     {
         match self.run(connection, body) {
@@ -323,7 +329,8 @@ impl<D: Disk> Engine<D> {
         ensures idle { stopped self.old ≡ true → past D.history self.new ≡ past D.history self.old }
 
         // Where the commands changed nothing, it makes no call of the disk.
-        ensures quiet { (begun self.old).state ≡ (world self.old).state → (result ≡ Ok tt) × (store_of self.new ≡ store_of self.old) }
+        ensures quiet { wrote self.old ≡ false → (result ≡ Ok tt) × (store_of self.new ≡ store_of self.old) }
+        ensures rests { wrote self.new ≡ false }
     {
         self.settle()
     }
@@ -337,6 +344,7 @@ impl<D: Disk> Engine<D> {
         ensures store { store_of self.new ≡ store_of self.old }
         ensures world { world self.new ≡ undone (begun self.old) (world self.old) }
         ensures begun { begun self.new ≡ world self.new }
+        ensures rests { wrote self.new ≡ false }
     {
         self.collections.undo();
     }
@@ -351,6 +359,7 @@ impl<D: Disk> Engine<D> {
         ensures world { world self.new ≡ forget (world self.old) connection }
         ensures begun { begun self.old ≡ world self.old → begun self.new ≡ world self.new }
         ensures before { begun self.new ≡ forget (begun self.old) connection }
+        ensures wrote { wrote self.new ≡ wrote self.old }
     {
         // No cursor is opened yet.
         let _ = connection;

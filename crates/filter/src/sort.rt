@@ -1,6 +1,6 @@
 //! Sorts: which fields documents are ordered by, and in which direction.
 
-ghost use Rattle.std.specs.Prelude.{◌≡◌, ◌==◌, IfOk, length};
+ghost use Rattle.std.specs.Prelude.{◌≡◌, ◌==◌, [], IfOk, length};
 ghost use Rattle.bson.specs.View.{tree};
 ghost use Rattle.path.specs.View.{Gives};
 ghost use Rattle.filter.specs.Sort.{direction_of, direction_in, read_field, read_sort};
@@ -82,6 +82,15 @@ impl Field {
 }
 
 impl Sort {
+    /// The sort without fields, which leaves documents in the order given.
+    pub fn new(alloc: Global) -> Sort
+        ensures { result ≡ [] }
+    {
+        Sort {
+            fields: Vec::new(alloc),
+        }
+    }
+
     /// The sort that a document spells, or the first misuse from the left. It has 32 fields at most, and nothing of
     /// one more is looked at.
     pub fn read(alloc: Global, document: &Document) -> Result<Sort, Refusal>

@@ -1,11 +1,11 @@
-use Rattle.std.proofs.Common.{rules, ◌++◌, ◌∷◌, [], ap, ◌∙◌, List}
+use Rattle.std.proofs.Common.{rules, ◌++◌, ◌∷◌, [], ap, ◌∙◌, List, map}
 use Rattle.bson.specs.Tree.{Pairs}
 use Rattle.filter.specs.Projection.{project}
 use Rattle.engine.proofs.Finding.{made_one, made_all, map-map}
 use Rattle.engine.proofs.query.projected.Goals as goal
 
 pub documents-init : goal.documents-init
-documents-init c = ap (λ (ps : List Pairs). ps ++ _) c.in_ok-given.ensures.items
+documents-init c = ap (λ (ps : List Pairs). ps ++ map (λ d. project c.args.projection.now d.now) c.args.documents.now) c.in_ok-given.ensures.items
 
 pub documents-preserved : goal.documents-preserved
 documents-preserved c =

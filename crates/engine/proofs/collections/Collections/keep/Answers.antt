@@ -1,9 +1,10 @@
-use Rattle.std.proofs.Common.{rules, ◌≡◌, ◌<◌, List, ◌∷◌, [], ◌++◌, length, sym, ap, subst, ◌∙◌, set}
+use Rattle.std.proofs.Common.{rules, ◌≡◌, ◌<◌, ℕ, List, ◌∷◌, [], ◌++◌, length, sym, ap, subst, ◌∙◌, set}
 use Rattle.bson.specs.Tree.{Pairs}
 use Rattle.engine.specs.World.{Collection}
 use Rattle.engine.specs.Lawful.{IsHeld}
 use Rattle.engine.specs.Places.{collection_at}
-use Rattle.engine.specs.Progress.{Progress, IsProgress, Extends}
+use Rattle.engine.specs.Progress.{Progress, IsProgress, Extends, begun_of}
+use Rattle.engine.specs.declared.collections.Change.{Change}
 use Rattle.engine.specs.declared.collections.Change.TheVariants as changes
 use Rattle.engine.proofs.Rewinding.{at_place, undo-deleted, CanUndo-deleted, apart-deleted, IsProgress-push, Extends-push, begun-extends}
 use Rattle.engine.proofs.collections.Collections.keep.Goals as goal
@@ -13,7 +14,7 @@ module _ (c : After-unwrap) where
   abbrev cs : List Collection
   cs = c.self.inside.list.items
 
-  abbrev at : _
+  abbrev at : ℕ
   at = c.args.rest.at
 
   abbrev left : List Pairs
@@ -35,13 +36,13 @@ module _ (c : After-unwrap) where
   before = c.replace-documents.ensures.old ∙ ap (λ (x : Collection). x.documents) is
 
   held : IsHeld (collection_at cs at)
-  held = subst IsHeld is c.auto_held
+  held = subst IsHeld is c.replace-documents.ensures.held
 
-  abbrev change : changes.the_data
+  abbrev change : Change
   change = changes.Deleted at (collection_at cs at).documents
 
   pushed : c.push.new.self.items ≡ c.self.inside.changes.items ++ change ∷ []
-  pushed = ?
+  pushed = search (rules, ap (λ (ds : List Pairs). let x : Change = changes.Deleted at ds in x) before)
 
   abbrev old : Progress
   old = record { now = cs; changes = c.self.inside.changes.items }
@@ -58,4 +59,7 @@ invariant_of-self-2 c =
     (CanUndo-deleted (cs c) (at c) (left c) (within c) (held c)) (undo-deleted (cs c) (at c) (left c) (within c)) c.self.invariant.undoable)
 
 pub returns-clause-begun : goal.returns-clause-begun
-returns-clause-begun c = ?
+returns-clause-begun c =
+    let extended : Extends (old c) (made c) = Extends-push (old c) (set (cs c) (at c) (next c)) (change c) (apart-deleted (cs c) (at c) (left c) (within c) c.self.invariant.apart)
+    (CanUndo-deleted (cs c) (at c) (left c) (within c) (held c)) (undo-deleted (cs c) (at c) (left c) (within c)) in
+    ap begun_of (sym (same c)) ∙ begun-extends (old c) (made c) extended ∙ ap begun_of c.self.view_is

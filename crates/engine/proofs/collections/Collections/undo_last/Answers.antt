@@ -1,9 +1,11 @@
-use Rattle.std.proofs.Common.{◌≡◌, ◌<◌, ◌∷◌, [], ◌++◌, length, sym, ap, subst, ◌∙◌, arith, set, refl}
+use Rattle.std.proofs.Common.{◌≡◌, ◌<◌, List, ◌∷◌, [], ◌++◌, length, sym, ap, subst, ◌∙◌, arith, set, refl}
 use Rattle.std.specs.Cmp.Lexicographic.{slice_cmp}
 use Rattle.std.specs.Ordering.{nat_cmp}
 use Rattle.std.specs.declared.cmp.Ordering.TheVariants as orders
 use Rattle.std.proofs.lemmas.List.Quantifiers.{all_pairs_remove}
+use Rattle.bson.specs.Tree.{Pairs}
 use Rattle.engine.specs.World.{Collection}
+use Rattle.engine.specs.Lawful.{IsHeld}
 use Rattle.engine.specs.Places.{collection_at}
 use Rattle.engine.specs.Progress.{IsProgress, without_document}
 use Rattle.engine.specs.declared.collections.Change.{Change}
@@ -49,5 +51,37 @@ invariant_of-self-in-Some-Stored c =
     let new : c.remove.new.self ≡ without_document (collection_at cs at) c.in-Some-Stored.place = c.remove.ensures ∙ ap (λ (x : Collection). without_document x c.in-Some-Stored.place) is in
     subst (λ (x : Collection). IsProgress (record { now = set cs at x; changes = c.pop.new.self.items })) (sym new) (record {
       apart = apart_set cs at (without_document (collection_at cs at) c.in-Some-Stored.place) h.0.0 refl c.self.invariant.apart;
+      undoable = h.1;
+    })
+
+pub index_mut-collection-requires-in-Some-Deleted : goal.index_mut-collection-requires-in-Some-Deleted
+index_mut-collection-requires-in-Some-Deleted c =
+    let popped = c.in-Some-Deleted.ensures.items ∙ ap (λ (x : Change). c.pop.new.self.items ++ x ∷ []) c.in-Some-Deleted.field-0-is in
+    let h = CanRewind-last c.self.inside.changes.items c.pop.new.self.items (changes.Deleted c.in-Some-Deleted.at c.in-Some-Deleted.before) c.self.inside.list.items popped c.self.invariant.undoable in
+    omega (arith, h.0.0, c.self.inside.list.ok)
+
+pub replace-documents-requires : goal.replace-documents-requires
+replace-documents-requires c =
+    let popped = c.in-Some-Deleted.ensures.items ∙ ap (λ (x : Change). c.pop.new.self.items ++ x ∷ []) c.in-Some-Deleted.field-0-is in
+    let cs = c.self.inside.list.items in
+    let at = c.in-Some-Deleted.at in
+    let h = CanRewind-last c.self.inside.changes.items c.pop.new.self.items (changes.Deleted at c.in-Some-Deleted.before) cs popped c.self.invariant.undoable in
+    let is = at_place cs at c.index_mut-collection-in-Some-Deleted.result.now h.0.0 c.index_mut-collection-in-Some-Deleted.ensures.value in
+    subst (λ (x : Collection). IsHeld (record x { documents = c.before-in-Some-Deleted.inside.documents.items })) (sym is)
+    (subst (λ (ds : List Pairs). IsHeld (record (collection_at cs at) { documents = ds })) (sym c.before-in-Some-Deleted.view_is) h.0.1)
+
+pub invariant_of-self-in-Some-Deleted : goal.invariant_of-self-in-Some-Deleted
+invariant_of-self-in-Some-Deleted c =
+    let popped = c.in-Some-Deleted.ensures.items ∙ ap (λ (x : Change). c.pop.new.self.items ++ x ∷ []) c.in-Some-Deleted.field-0-is in
+    let cs = c.self.inside.list.items in
+    let at = c.in-Some-Deleted.at in
+    let h = CanRewind-last c.self.inside.changes.items c.pop.new.self.items (changes.Deleted at c.in-Some-Deleted.before) cs popped c.self.invariant.undoable in
+    let is = at_place cs at c.index_mut-collection-in-Some-Deleted.result.now h.0.0 c.index_mut-collection-in-Some-Deleted.ensures.value in
+    let back : Collection = record (collection_at cs at) { documents = c.in-Some-Deleted.before } in
+    let new : c.replace-documents.new.self ≡ back =
+    c.replace-documents.ensures.new ∙ ap (λ (x : Collection). record x { documents = c.before-in-Some-Deleted.inside.documents.items }) is
+    ∙ ap (λ (ds : List Pairs). record (collection_at cs at) { documents = ds }) c.before-in-Some-Deleted.view_is in
+    subst (λ (x : Collection). IsProgress (record { now = set cs at x; changes = c.pop.new.self.items })) (sym new) (record {
+      apart = apart_set cs at back h.0.0 refl c.self.invariant.apart;
       undoable = h.1;
     })

@@ -1,24 +1,18 @@
-use Rattle.std.proofs.Common.{rules, ◌≡◌, ◌≢◌, ◌⊎◌, ◌≤◌, ◌<◌, Ok, Err, Some, true, [], List, IfOk, IfErr, OnOk, OnErr, All, length, ℕ, ◌+◌, ◌-◌, ◌*◌, ◌/◌, ◌%◌, Bool, false, nat_eq, nat_lt, ◌∷◌, ◌++◌, slice_index_or, slice_set, bit_and, bit_or, Fits, w8, w32, w64, Bor, MutBor}
-use Rattle.page.specs.History.{KeepsWord, now, reads, IsImage}
-use Rattle.page.specs.Crash.{GoesOn, LeavesOnly, LeavesNow, OnlySyncs}
-use Rattle.roots.specs.Root.{root_of}
-use Rattle.roots.specs.Pairs.{spelled}
-use Rattle.roots.specs.Store as stores
-use Rattle.engine.specs.Committing.{Saves, Commits}
-use Rattle.engine.specs.Opening.{IsOpened, IsRefused}
-use Rattle.engine.specs.Lawful.{IsWithin}
-use Rattle.engine.specs.Query.{found}
-use Rattle.engine.specs.World.{Collection, documents_of, settled, undone, forget}
-use Rattle.engine.specs.Step.{Answers, run_insert, run_find, run_count, run_delete, read_and_run}
-use Rattle.engine.specs.Reading.{documents_at}
-use Rattle.engine.specs.View.{world, begun, reply_of, IsSendable, Runs}
-use Rattle.engine.specs.Durable.{Holds, past, stopped, IsRunning, IsSound, IsFull}
+use Rattle.std.proofs.Common.{List, length, Result, Ok, sym, ap, subst, ◌∙◌, min, ◌^◌, ◌-◌}
+use Rattle.bson.specs.Tree.{Pairs}
+use Rattle.engine.specs.World.{World}
+use Rattle.engine.specs.Query.{matching, window}
+use Rattle.path.specs.declared.refusal.Refusal.{Refusal}
+use Rattle.engine.specs.View.{world, with_ok, IsSendable}
+use Rattle.engine.proofs.Running.{run_count-is}
+use Rattle.engine.proofs.SpelledSizes.{insert-sendable}
 use Rattle.engine.proofs.engine.Engine.count.Goals as goal
 
--- src/engine.rt:180:5
 pub returns-clause-runs : goal.returns-clause-runs
-returns-clause-runs g c = ?
+returns-clause-runs g c =
+    let answer : Pairs → Result (World × Pairs) Refusal = λ d. Ok (world c.args.self.now, d) in
+    let n = c.count-number.ensures ∙ ap (λ (ds : List Pairs). length (window c.args.skip c.args.limit (matching c.args.filter.now ds))) c.documents.ensures.documents in
+    ap with_ok (run_count-is (world c.args.self.now) c.args.namespace.now c.args.filter.now c.args.skip c.args.limit c.count-number.result n) ∙ ap answer (sym c.in_ok-total_reply.ensures)
 
--- src/engine.rt:180:5
 pub returns-clause-sendable : goal.returns-clause-sendable
-returns-clause-sendable g c = ?
+returns-clause-sendable g c = subst IsSendable (sym c.in_ok-total_reply.ensures) (insert-sendable (min c.count-number.result (2 ^ 31 - 1)))

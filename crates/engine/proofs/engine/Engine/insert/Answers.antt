@@ -1,4 +1,4 @@
-use Rattle.std.proofs.Common.{◌≡◌, ℕ, length, Result, Ok, sym, ap, ◌∙◌, subst, []}
+use Rattle.std.proofs.Common.{◌≡◌, ℕ, ◌≤◌, length, Result, Ok, sym, ap, ◌∙◌, subst, [], arith}
 use Rattle.std.specs.Prelude.{codes}
 use Rattle.std.proofs.lemmas.List.{length-map}
 use Rattle.std.proofs.lemmas.Result.{err_from_is_err_and}
@@ -10,6 +10,7 @@ use Rattle.engine.specs.Reading.{documents_at}
 use Rattle.engine.specs.View.{world, with_ok, IsSendable}
 use Rattle.path.specs.declared.refusal.Refusal.{Refusal}
 use Rattle.engine.proofs.Running.{run_insert-done, run_insert-refused}
+use Rattle.engine.proofs.Growing.{inserted_differs}
 use Rattle.engine.proofs.SpelledSizes.{insert-sendable}
 use Rattle.engine.proofs.engine.Engine.insert.Goals as goal
 
@@ -30,3 +31,8 @@ returns-clause-runs g c =
 
 pub returns-clause-sendable : goal.returns-clause-sendable
 returns-clause-sendable g c = subst IsSendable (sym c.in_ok-reply.ensures) (insert-sendable (length c.args.documents.now))
+
+pub returns-clause-wrote : goal.returns-clause-wrote
+returns-clause-wrote g c = λ same.
+    let some : 1 ≤ length (documents_at c.args.documents.now) = omega (arith, c.requires.some, length-map c.args.documents.now (λ d. d.now)) in
+    absurd (inserted_differs c.args.self.now.collections.now c.args.namespace.now (documents_at c.args.documents.now) c.insert.new.self.now some c.in_ok-insert.ensures.does same)

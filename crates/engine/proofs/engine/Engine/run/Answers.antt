@@ -21,8 +21,8 @@ pub returns-in-Find-clause-runs : goal.returns-in-Find-clause-runs
 returns-in-Find-clause-runs g c =
     let w = world c.args.self.now in
     let read : Result commands.Command Refusal → Result (World × Pairs) Refusal = λ r. r >>= run w c.args.connection in
-    let spelled : read_and_run w c.args.connection c.args.body.now ≡ run_find w c.args.connection (string_bytes c.in-Find.namespace) c.in-Find.batch_size =
+    let spelled : read_and_run w c.args.connection c.args.body.now ≡ run_find w c.args.connection (string_bytes c.in-Find.namespace) c.in-Find.query c.in-Find.batch_size =
     ap read (c.in_ok-read_command.ensures.gives ∙ ap (λ (x : Command). Ok (command_read x)) c.in-Find.is) in
-    let called : run_find w c.args.connection c.as_str-in-Find.result.now (Some c.unwrap_or.result) ≡ run_find w c.args.connection (string_bytes c.in-Find.namespace) (Some (unwrap_or c.in-Find.batch_size FIRST_BATCH)) =
-    λ i. run_find w c.args.connection (c.as_str-in-Find.ensures.value i) (Some (c.unwrap_or.ensures i)) in
-    subst (λ (planned : Result (World × Pairs) Refusal). Runs w planned w c.find.result) (called ∙ run_find-default w c.args.connection (string_bytes c.in-Find.namespace) c.in-Find.batch_size ∙ sym spelled) c.find.ensures.runs
+    let called : run_find w c.args.connection c.as_str-in-Find.result.now c.in-Find.query (Some c.unwrap_or.result) ≡ run_find w c.args.connection (string_bytes c.in-Find.namespace) c.in-Find.query (Some (unwrap_or c.in-Find.batch_size FIRST_BATCH)) =
+    λ i. run_find w c.args.connection (c.as_str-in-Find.ensures.value i) c.in-Find.query (Some (c.unwrap_or.ensures i)) in
+    subst (λ (planned : Result (World × Pairs) Refusal). Runs w planned w c.find.result) (called ∙ run_find-default w c.args.connection (string_bytes c.in-Find.namespace) c.in-Find.query c.in-Find.batch_size ∙ sym spelled) c.find.ensures.runs

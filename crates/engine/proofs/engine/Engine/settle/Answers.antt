@@ -3,7 +3,8 @@ use Rattle.roots.specs.Pairs.{pairs_bytes}
 use Rattle.roots.specs.declared.store.CommitFault.{CommitFault}
 use Rattle.roots.specs.declared.store.CommitFault.TheVariants as faults
 use Rattle.engine.specs.World.{World, Collection}
-use Rattle.engine.specs.Progress.{Progress, begun_of}
+use Rattle.engine.specs.Progress.{Progress, begun_of, is_changed}
+use Rattle.engine.proofs.Rewinding.{never_changed}
 use Rattle.engine.specs.Stored.{pairs_of}
 use Rattle.engine.specs.View.{world}
 use Rattle.engine.specs.Committing.{Saves}
@@ -23,20 +24,20 @@ begun_by p = record { state = begun_of p; cursors = []; next = 1; touched = [] }
 
 pub returns-then-not-is_changed : goal.returns-then-not-is_changed
 returns-then-not-is_changed g c =
-    kept_as_it_is g.D.Disk.history c.args.self.now c.args.self.now c.requires refl
-    (ap of_state (c.is_changed.ensures.same c.if-not-is_changed.true))
+    let rests = sym c.is_changed.ensures ∙ c.if-not-is_changed.true in
+    kept_as_it_is g.D.Disk.history c.args.self.now c.args.self.now c.requires refl (ap of_state (never_changed c.args.self.now.collections rests)) rests
 
 pub returns-in-Err : goal.returns-in-Err
 returns-in-Err g c =
     let old = c.args.self.now in
     let new : Engine g.row.D.Denot = record { alloc = old.alloc; collections = c.undo.new.self; store = old.store } in
-    undone_before g.D.Disk.history old new c.requires (c.is_changed.ensures.changed c.if-not-is_changed.false) (ap of_progress c.undo.ensures) (ap begun_by c.undo.ensures ∙ sym (ap of_progress c.undo.ensures)) refl
+    undone_before g.D.Disk.history old new c.requires (sym c.is_changed.ensures ∙ c.if-not-is_changed.false) (ap is_changed c.undo.ensures) (ap of_progress c.undo.ensures) (ap begun_by c.undo.ensures ∙ sym (ap of_progress c.undo.ensures)) refl
 
 pub returns-in-Ok-save : goal.returns-in-Ok-save
 returns-in-Ok-save g c =
     let old = c.args.self.now in
     let new : Engine g.row.D.Denot = record { alloc = old.alloc; collections = c.commit.new.self; store = c.save.new.store } in
-    committed_now g.D.Disk.history old new c.requires (c.is_changed.ensures.changed c.if-not-is_changed.false) (ap of_progress c.commit.ensures) (ap begun_by c.commit.ensures ∙ sym (ap of_progress c.commit.ensures)) c.in-Ok.ensures.readable
+    committed_now g.D.Disk.history old new c.requires (sym c.is_changed.ensures ∙ c.if-not-is_changed.false) (ap is_changed c.commit.ensures) (ap of_progress c.commit.ensures) (ap begun_by c.commit.ensures ∙ sym (ap of_progress c.commit.ensures)) c.in-Ok.ensures.readable
     (subst (λ bytes. Saves g.D.Disk.history bytes (Ok tt) old.store new.store) c.in-Ok.ensures.spelled c.in-Ok-save.ensures)
 
 pub returns-in-Err-Device : goal.returns-in-Err-Device
@@ -46,7 +47,7 @@ returns-in-Err-Device g c =
     let saved : Saves g.D.Disk.history (pairs_bytes (pairs_of (world old).state)) (Err faults.Device) old.store new.store =
     subst (λ (e : CommitFault). Saves g.D.Disk.history (pairs_bytes (pairs_of (world old).state)) (Err e) old.store new.store) c.in-Err-Device.field-0-is
     (subst (λ bytes. Saves g.D.Disk.history bytes (Err c.in-Err-Device.field-0) old.store new.store) c.in-Ok.ensures.spelled c.in-Err-Device.ensures) in
-    cut_now g.D.Disk.history old new c.requires (c.is_changed.ensures.changed c.if-not-is_changed.false) (ap of_progress c.commit-in-Err-Device.ensures) (ap begun_by c.commit-in-Err-Device.ensures ∙ sym (ap of_progress c.commit-in-Err-Device.ensures)) c.in-Ok.ensures.readable saved
+    cut_now g.D.Disk.history old new c.requires (sym c.is_changed.ensures ∙ c.if-not-is_changed.false) (ap is_changed c.commit-in-Err-Device.ensures) (ap of_progress c.commit-in-Err-Device.ensures) (ap begun_by c.commit-in-Err-Device.ensures ∙ sym (ap of_progress c.commit-in-Err-Device.ensures)) c.in-Ok.ensures.readable saved
 
 pub returns-in-Err-Memory : goal.returns-in-Err-Memory
 returns-in-Err-Memory g c =
@@ -55,7 +56,7 @@ returns-in-Err-Memory g c =
     let saved : Saves g.D.Disk.history (pairs_bytes (pairs_of (world old).state)) (Err faults.Memory) old.store new.store =
     subst (λ (e : CommitFault). Saves g.D.Disk.history (pairs_bytes (pairs_of (world old).state)) (Err e) old.store new.store) c.in-Err-Memory.field-0-is
     (subst (λ bytes. Saves g.D.Disk.history bytes (Err c.in-Err-Memory.field-0) old.store new.store) c.in-Ok.ensures.spelled c.in-Err-Memory.ensures) in
-    undone_after g.D.Disk.history old new c.requires (c.is_changed.ensures.changed c.if-not-is_changed.false) (ap of_progress c.undo-in-Err-Memory.ensures) (ap begun_by c.undo-in-Err-Memory.ensures ∙ sym (ap of_progress c.undo-in-Err-Memory.ensures)) faults.Memory (λ e. absurd cc) saved
+    undone_after g.D.Disk.history old new c.requires (sym c.is_changed.ensures ∙ c.if-not-is_changed.false) (ap is_changed c.undo-in-Err-Memory.ensures) (ap of_progress c.undo-in-Err-Memory.ensures) (ap begun_by c.undo-in-Err-Memory.ensures ∙ sym (ap of_progress c.undo-in-Err-Memory.ensures)) faults.Memory (λ e. absurd cc) saved
 
 pub returns : goal.returns
 returns g c =
@@ -64,4 +65,4 @@ returns g c =
     let saved : Saves g.D.Disk.history (pairs_bytes (pairs_of (world old).state)) (Err faults.Full) old.store new.store =
     subst (λ (e : CommitFault). Saves g.D.Disk.history (pairs_bytes (pairs_of (world old).state)) (Err e) old.store new.store) c.in-Err-Full.field-0-is
     (subst (λ bytes. Saves g.D.Disk.history bytes (Err c.in-Err-Full.field-0) old.store new.store) c.in-Ok.ensures.spelled c.in-Err-Full.ensures) in
-    undone_after g.D.Disk.history old new c.requires (c.is_changed.ensures.changed c.if-not-is_changed.false) (ap of_progress c.undo-in-Err-Full.ensures) (ap begun_by c.undo-in-Err-Full.ensures ∙ sym (ap of_progress c.undo-in-Err-Full.ensures)) faults.Full (λ e. absurd cc) saved
+    undone_after g.D.Disk.history old new c.requires (sym c.is_changed.ensures ∙ c.if-not-is_changed.false) (ap is_changed c.undo-in-Err-Full.ensures) (ap of_progress c.undo-in-Err-Full.ensures) (ap begun_by c.undo-in-Err-Full.ensures ∙ sym (ap of_progress c.undo-in-Err-Full.ensures)) faults.Full (λ e. absurd cc) saved

@@ -1,0 +1,18 @@
+use Rattle.std.proofs.Common.{◌≡◌, List, map, sym, ap, subst, ◌∙◌}
+use Rattle.std.specs.Prelude.{All}
+use Rattle.bson.specs.Tree.{Pairs}
+use Rattle.filter.specs.Projection.{project}
+use Rattle.engine.specs.Lawful.{IsWithin}
+use Rattle.engine.specs.Query.{found, window}
+use Rattle.engine.specs.Reading.{documents_at}
+use Rattle.engine.proofs.Finding.{found_within}
+use Rattle.engine.proofs.engine.Engine.found.Goals as goal
+
+pub returns-clause-within : goal.returns-clause-within
+returns-clause-within g c =
+    let q = c.args.query.now in
+    let ds = c.documents-documents.result.now in
+    let same : c.in_ok-give.field-0.items ≡ found q ds =
+    c.in_ok-give.ensures ∙ ap (map (project q.projection))
+    (c.within-chosen.ensures ∙ ap (λ xs. window q.skip q.limit (documents_at xs)) c.deref.ensures.value ∙ ap (λ (es : List Pairs). window q.skip q.limit es) c.in_ok-ordered.ensures) in
+    subst (λ (es : List Pairs). All IsWithin es) (sym same) (found_within q ds c.documents-documents.ensures.stored)
