@@ -100,16 +100,16 @@ fn are_turned(documents: &[&Document]) -> bool {
     documents.len() == 24
         && documents
             .iter()
-            .zip(0..24)
-            .all(|(document, number)| has_number(document, 23 - number))
+            .zip((0..24).rev())
+            .all(|(document, number)| has_number(document, number))
 }
 
 fn have_turned(documents: &[Document]) -> bool {
     documents.len() == 24
         && documents
             .iter()
-            .zip(0..24)
-            .all(|(document, number)| has_number(document, 23 - number))
+            .zip((0..24).rev())
+            .all(|(document, number)| has_number(document, number))
 }
 
 #[derive(Drop)]

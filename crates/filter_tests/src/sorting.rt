@@ -72,18 +72,16 @@ fn sixteen(alloc: Global) -> Result<Vec<Document>, Fail> {
     let values = Vec::from_array(
         alloc,
         [
-            Value::MaxKey,
-            Value::Timestamp(0),
-            Value::Date(0),
-            Value::Bool(false),
-            Value::ObjectId(ObjectId::new([0; 12])),
-            Value::Binary(Binary { subtype, bytes }),
+            (1, Value::MaxKey),
+            (2, Value::Timestamp(0)),
+            (3, Value::Date(0)),
+            (4, Value::Bool(false)),
+            (5, Value::ObjectId(ObjectId::new([0; 12]))),
+            (6, Value::Binary(Binary { subtype, bytes })),
         ],
     )?;
     let mut documents = Vec::new(alloc);
-    let mut number = 0;
-    for value in values {
-        number += 1;
+    for (number, value) in values {
         documents.push(with(alloc, number, value)?)?;
     }
     let others = all(
