@@ -24,7 +24,8 @@ use Rattle.filter.specs.SortKeys.{field_of, earlier, first_of, document_keys, fi
 use Rattle.filter.specs.declared.sort.Field.{Field}
 use Rattle.filter.specs.declared.sorting.Ranked.{Ranked}
 use Rattle.filter.proofs.ReadSteps.{drop_step}
-use Rattle.filter.proofs.StableSort.{sorted-map}
+use Rattle.filter.specs.SortLaws.{OrdersStably, sorted-permuted}
+use Rattle.filter.proofs.StableSort.{sorted_rising, sorted_stable, sorted-map}
 
 -- ---- reading
 
@@ -93,6 +94,19 @@ ranked_total fields = on_total keys_held (keys_total fields)
 keys_by : (fields : List SortField) (a b : Pairs) → keys_cmp fields (document_keys fields a) (document_keys fields b) ≡ compare_by fields a b
 keys_by [] a b = refl
 keys_by (field ∷ fields) a b = ap (ordering_then (directed field.1 (key_cmp (sort_key field a) (sort_key field b)))) (keys_by fields a b)
+
+fields_total : (fields : List SortField) → IsTotalOrder (compare_by fields)
+fields_total fields = subst (λ (R : Pairs → Pairs → Ordering). IsTotalOrder R) (λ i a b. keys_by fields a b i) (on_total (document_keys fields) (keys_total fields))
+
+pub orders_stably : OrdersStably
+orders_stably fields = (
+  fields_total fields,
+  λ documents. record {
+    same = sorted-permuted (compare_by fields) documents;
+    rising = sorted_rising (compare_by fields) (fields_total fields) documents;
+    stable = sorted_stable (compare_by fields) (fields_total fields) documents;
+  },
+)
 
 keys_on : (keys : List KeyPart) (i : ℕ) → drop 1 (map key_of (drop i keys)) ≡ map key_of (drop (suc i) keys)
 keys_on [] zero = refl

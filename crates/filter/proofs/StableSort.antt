@@ -1,8 +1,8 @@
 -- A list that is sorted and keeps the order of what ties is the one that inserting makes.
-use Rattle.std.proofs.Common.{◌≡◌, ℕ, suc, ◌<◌, ◌≤◌, Bool, true, false, List, [], ◌∷◌, length, get_or, map, refl, sym, ap, subst, ◌∙◌, arith}
+use Rattle.std.proofs.Common.{◌≡◌, ℕ, zero, suc, ◌+◌, ◌<◌, ◌≤◌, Bool, true, false, List, [], ◌∷◌, length, get_or, map, refl, sym, ap, subst, ◌∙◌, arith}
 use Rattle.std.specs.Prelude.{not, ◌&&◌, cond}
 use Rattle.std.specs.List.{filter, AllByRecursion}
-use Rattle.std.specs.List.Sorted.{IsSorted, ties, IsStable}
+use Rattle.std.specs.List.Sorted.{IsSortedBy, IsSorted, ties, IsStable}
 use Rattle.std.specs.Cmp.{IsStrictWeakOrder, IsTotalOrder}
 use Rattle.std.specs.declared.cmp.Ordering.{Ordering}
 use Rattle.std.specs.declared.cmp.Ordering.TheVariants.{Less, Equal, Greater}
@@ -10,6 +10,7 @@ use Rattle.std.specs.Ordering.{is_lt, ordering_reverse, on}
 use Rattle.std.proofs.lemmas.List.Sorted.{sorted_far}
 use Rattle.std.proofs.lemmas.List.MinMax.{ranks_by}
 use Rattle.filter.specs.Sort.{put_before, insert_in_order, sorted}
+use Rattle.filter.specs.SortLaws.{All-insert}
 
 first_false : (a b : Bool) → (not a && not b) ≡ true → a ≡ false
 first_false true b e = absurd cc
@@ -35,6 +36,17 @@ module _ {X : Type 0} (lt : X → X → Bool) where
   pub Rises-far : (xs : List X) → ((i j : ℕ) (d : X) → i ≤ j → j < length xs → lt (get_or xs j d) (get_or xs i d) ≡ false) → Rises xs
   Rises-far [] far = tt
   Rises-far (x ∷ xs) far = (none_below x xs (λ k within. far 0 (suc k) x (omega arith) (omega arith)), Rises-far xs (λ i j d le within. far (suc i) (suc j) d (omega arith) (omega arith)))
+
+  next_above : (xs : List X) → Rises xs → (k : ℕ) (d : X) → suc k < length xs → lt (get_or xs (suc k) d) (get_or xs k d) ≡ false
+  next_above [] h k d within = absurd (omega arith)
+  next_above (x ∷ []) h k d within = absurd (omega arith)
+  next_above (x ∷ y ∷ ys) h zero d within = h.0.0
+  next_above (x ∷ y ∷ ys) h (suc k) d within = next_above (y ∷ ys) h.1 k d (omega arith)
+
+  pub Rises-sorted_by : (xs : List X) → Rises xs → IsSortedBy lt xs
+  Rises-sorted_by xs h k d from within =
+      let next : suc k ≡ k + 1 = omega arith in
+      ap (λ (j : ℕ). lt (get_or xs j d) (get_or xs k d)) (sym next) ∙ next_above xs h k d (omega arith)
 
   member : (p : X → Bool) (Q : X → Type 0) (xs rest : List X) (y : X) → filter p xs ≡ y ∷ rest → AllByRecursion Q xs → Q y
   member p Q [] rest y e h = absurd cc
@@ -83,21 +95,8 @@ module _ {X : Type 0} (lt : X → X → Bool) where
 -- ---- what inserting makes
 
 module _ {A : Type 0} (cmp : A → A → Ordering) where
-  pub All-insert : (P : A → Type 0) (x : A) (ys : List A) → P x → AllByRecursion P ys → AllByRecursion P (insert_in_order cmp x ys)
-  All-insert P x [] p h = (p, tt)
-  All-insert P x (y ∷ ys) p h = by (cmp x y) (All-insert P x ys p h.1)
-    where
-      by : (c : Ordering) → AllByRecursion P (insert_in_order cmp x ys) → AllByRecursion P (put_before c x y (insert_in_order cmp x ys) ys)
-      by Less later = (p, h)
-      by Equal later = (p, h)
-      by Greater later = (h.0, later)
-
-  pub All-sorted : (P : A → Type 0) (xs : List A) → AllByRecursion P xs → AllByRecursion P (sorted cmp xs)
-  All-sorted P [] h = tt
-  All-sorted P (x ∷ xs) h = All-insert P x (sorted cmp xs) h.0 (All-sorted P xs h.1)
-
   module _ (total : IsTotalOrder cmp) where
-    abbrev below : A → A → Bool
+    abbrev pub below : A → A → Bool
     below x y = is_lt (cmp x y)
 
     weak : IsStrictWeakOrder below
@@ -120,7 +119,7 @@ module _ {A : Type 0} (cmp : A → A → Ordering) where
         by : (c : Ordering) → cmp x y ≡ c → Rises below (insert_in_order cmp x ys) → Rises below (put_before c x y (insert_in_order cmp x ys) ys)
         by Less e later = first (not_above x y Less e)
         by Equal e later = first (not_above x y Equal e)
-        by Greater e later = (All-insert (λ w. below w y ≡ false) x ys (ap is_lt e) h.0, later)
+        by Greater e later = (All-insert cmp (λ w. below w y ≡ false) x ys (ap is_lt e) h.0, later)
 
     Rises-sorted : (xs : List A) → Rises below (sorted cmp xs)
     Rises-sorted [] = tt
@@ -156,6 +155,12 @@ module _ {A : Type 0} (cmp : A → A → Ordering) where
     pub sorted_once : (xs ys : List A) → IsSorted cmp ys → IsStable cmp xs ys → ys ≡ sorted cmp xs
     sorted_once xs ys up stable =
         one_rising below weak ys (sorted cmp xs) (Rises-far below ys (sorted_far below weak ys up)) (Rises-sorted xs) (λ w. stable w ∙ sym (filter-sorted w xs))
+
+    pub sorted_rising : (xs : List A) → IsSorted cmp (sorted cmp xs)
+    sorted_rising xs = Rises-sorted_by below (sorted cmp xs) (Rises-sorted xs)
+
+    pub sorted_stable : (xs : List A) → IsStable cmp xs (sorted cmp xs)
+    sorted_stable xs = λ w. filter-sorted w xs
 
 -- ---- the same order of what stands for the elements
 

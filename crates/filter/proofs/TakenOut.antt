@@ -9,7 +9,7 @@ use Rattle.std.proofs.lemmas.List.{length-set, get_or-set_other, drop_all, lengt
 use Rattle.bson.specs.Tree.{Pairs, no_pairs}
 use Rattle.filter.specs.Sort.{put_before, insert_in_order, sorted, SortField, compare_by}
 use Rattle.filter.specs.SortKeys.{numbered, arranged}
-use Rattle.filter.proofs.StableSort.{All-insert, All-sorted}
+use Rattle.filter.specs.SortLaws.{All-insert, All-sorted}
 
 -- each document stands in its place
 pub record StandsIn (documents : List Pairs) (p : Pairs × ℕ) : Type 0 where

@@ -8,6 +8,7 @@ pub mod Words
 pub mod Reading
 pub mod Sort
 pub mod SortKeys
+pub mod SortLaws
 pub mod Projection
 pub mod ProjectionLaws
 pub mod Seen

@@ -9,3 +9,5 @@ mod matching;
 mod projections;
 #[cfg(test)]
 mod refusals;
+#[cfg(test)]
+mod sorting;
