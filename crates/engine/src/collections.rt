@@ -18,8 +18,8 @@ use crate::collection::Collection;
 use crate::deletion::{Deletion, left};
 use crate::documents::stored;
 use crate::shared::Shared;
-use path::Refusal;
 use bson::{Document, NoMemory};
+use path::Refusal;
 use std::alloc::Global;
 use std::marker::Model;
 
@@ -293,7 +293,11 @@ impl Collections {
     }
 
     /// What a delete would leave, statement by statement; `None` where it would take nothing away.
-    pub(crate) fn without(&self, namespace: &str, deletions: &[Deletion]) -> Result<Option<Rest>, NoMemory>
+    pub(crate) fn without(
+        &self,
+        namespace: &str,
+        deletions: &[Deletion],
+    ) -> Result<Option<Rest>, NoMemory>
         ensures some { IfOk result (λ found. IfSome found (λ rest. Leaves namespace.now deletions.now self.now.now rest.at rest.documents.items rest.gone)) }
         ensures none { IfOk result (λ found. IfNone found (LeavesAll namespace.now deletions.now self.now.now)) }
     {

@@ -156,7 +156,11 @@ pub(crate) fn deletions_in(alloc: Global, value: &Value) -> Result<Vec<Deletion>
 }
 
 /// The documents that statements leave, one statement after the other.
-pub(crate) fn left(alloc: Global, documents: &[Shared], deletions: &[Deletion]) -> Result<Vec<Shared>, NoMemory>
+pub(crate) fn left(
+    alloc: Global,
+    documents: &[Shared],
+    deletions: &[Deletion],
+) -> Result<Vec<Shared>, NoMemory>
     ensures { IfOk result (λ v. v.items ≡ left deletions.now documents.now) }
 {
     let mut rest = Vec::with_capacity(alloc, documents.len())?;

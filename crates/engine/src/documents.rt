@@ -9,9 +9,9 @@ ghost use Rattle.value_order.specs.Order.{compare};
 ghost use Rattle.value_order.specs.KeyText.{tree_text};
 ghost use Rattle.value_order.specs.declared.TheConstants.{KEY_LIMIT};
 
-use path::Refusal;
 use crate::{STORED_LEVELS, STORED_LIMIT};
 use bson::{Document, NoMemory, Pair, Text, Value};
+use path::Refusal;
 use std::alloc::Global;
 use std::cmp::Ordering;
 use value_order::{Direction, KeyFault, KeyPart, compare, key_text};

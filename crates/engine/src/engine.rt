@@ -166,7 +166,13 @@ impl<D: Disk> Engine<D> {
     }
 
     /// Finds documents, where they all go into one batch. A cursor on the others may not be opened yet: `TooMany`.
-    fn find(&self, connection: ConnId, namespace: &str, query: &Query, most: usize) -> Result<Document, Refusal>
+    fn find(
+        &self,
+        connection: ConnId,
+        namespace: &str,
+        query: &Query,
+        most: usize,
+    ) -> Result<Document, Refusal>
         requires { length namespace.now ≤ NAMESPACE_LIMIT }
         ensures runs { Runs (world self.now) (run_find (world self.now) connection namespace.now query.now (Some most))
             (world self.now) result }
@@ -182,7 +188,13 @@ impl<D: Disk> Engine<D> {
     }
 
     /// Counts the documents that a filter holds of, after those that are skipped and up to the limit.
-    fn count(&self, namespace: &str, filter: &Filter, skip: usize, limit: usize) -> Result<Document, Refusal>
+    fn count(
+        &self,
+        namespace: &str,
+        filter: &Filter,
+        skip: usize,
+        limit: usize,
+    ) -> Result<Document, Refusal>
         ensures runs { Runs (world self.now) (run_count (world self.now) namespace.now filter.now skip limit) (world self.now) result }
         ensures sendable { IfOk result (λ d. IsSendable d) }
     {

@@ -109,7 +109,11 @@ fn documents_in(alloc: Global, value: &Value) -> Result<Vec<&Document>, Refusal>
 }
 
 /// Reads a field that each command has.
-fn read_common_field<'a>(found: &mut Fields<'a>, name: &str, value: &'a Value) -> Result<(), Refusal>
+fn read_common_field<'a>(
+    found: &mut Fields<'a>,
+    name: &str,
+    value: &'a Value,
+) -> Result<(), Refusal>
     ensures { Does (common_field (fields_read found.old) name.now (tree value.now)) (fields_read found.new) result }
 {
     if name == "$db" {
@@ -155,7 +159,11 @@ fn read_delete_field<'a>(
 }
 
 /// Reads how many documents are skipped, and how many may come then.
-fn read_window_field<'a>(found: &mut Fields<'a>, name: &str, value: &'a Value) -> Result<(), Refusal>
+fn read_window_field<'a>(
+    found: &mut Fields<'a>,
+    name: &str,
+    value: &'a Value,
+) -> Result<(), Refusal>
     ensures { Does (window_field (fields_read found.old) name.now (tree value.now)) (fields_read found.new) result }
 {
     if name == "skip" {
@@ -236,7 +244,11 @@ fn read_field<'a>(
 }
 
 /// Reads the fields of a command in the order written, up to the first that is refused.
-pub(crate) fn read_fields<'a>(alloc: Global, verb: Verb, pairs: &'a [Pair]) -> Result<Fields<'a>, Refusal>
+pub(crate) fn read_fields<'a>(
+    alloc: Global,
+    verb: Verb,
+    pairs: &'a [Pair],
+) -> Result<Fields<'a>, Refusal>
     ensures { Gives fields_read (read_fields (field_of verb) no_fields (pairs_of pairs.now)) result }
 {
     let mut found = Fields {

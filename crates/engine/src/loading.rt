@@ -15,9 +15,9 @@ ghost use Rattle.engine.specs.Loading.{IsReadAs, IsNext, IsOfBytes, IsLoading, u
 
 use crate::collections::Collections;
 use crate::image::image_of;
-use path::Refusal;
 use crate::{MOST_COLLECTIONS, NAMESPACE_LIMIT};
 use bson::{BsonFault, Document, NoMemory, Value, decode};
+use path::Refusal;
 use roots::{OpenFault, PairList, split_pair};
 use std::alloc::Global;
 

@@ -45,7 +45,11 @@ pub(crate) fn holds(filter: &Filter, document: &Document) -> bool
 }
 
 /// The documents of which a filter holds, in their order.
-fn matching<'a>(alloc: Global, documents: &'a [Shared], filter: &Filter) -> Result<Vec<&'a Document>, NoMemory>
+fn matching<'a>(
+    alloc: Global,
+    documents: &'a [Shared],
+    filter: &Filter,
+) -> Result<Vec<&'a Document>, NoMemory>
     ensures { IfOk result (λ v. documents_at v.items ≡ matching filter.now documents.now) }
 {
     let mut found = Vec::new(alloc);
@@ -104,7 +108,11 @@ fn projected(
 
 impl Query {
     /// The documents that match, in the order of the sort.
-    pub(crate) fn ordered<'a>(&self, alloc: Global, documents: &'a [Shared]) -> Result<Vec<&'a Document>, NoMemory>
+    pub(crate) fn ordered<'a>(
+        &self,
+        alloc: Global,
+        documents: &'a [Shared],
+    ) -> Result<Vec<&'a Document>, NoMemory>
         ensures { IfOk result (λ v. documents_at v.items ≡ order self.now.sort (matching self.now.filter documents.now)) }
     {
         self.sort
@@ -119,7 +127,11 @@ impl Query {
     }
 
     /// What is given of documents.
-    pub(crate) fn give(&self, alloc: Global, chosen: &[&Document]) -> Result<Vec<Document>, NoMemory>
+    pub(crate) fn give(
+        &self,
+        alloc: Global,
+        chosen: &[&Document],
+    ) -> Result<Vec<Document>, NoMemory>
         ensures { IfOk result (λ v. v.items ≡ map (project self.now.projection) (documents_at chosen.now)) }
     {
         projected(alloc, &self.projection, chosen)

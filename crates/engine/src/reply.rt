@@ -12,8 +12,8 @@ ghost use Rattle.engine.specs.Refusals.{int, total, words, ok_reply, refusal_rep
 ghost use Rattle.engine.specs.Step.{items_of_documents, cursor_reply};
 
 use crate::MOST_STATEMENTS;
-use path::Refusal;
 use bson::{Array, BuildFault, Document, NoMemory, Text, Value};
+use path::Refusal;
 use std::alloc::{AllocError, Global};
 
 /// Adds a pair to a reply: of another name than those before, and not nested too deep, so only memory can be wanting.

@@ -8,7 +8,7 @@ use Rattle.engine.specs.Refusals.{refusal_reply}
 use Rattle.path.specs.declared.refusal.Refusal.{Refusal}
 use Rattle.op_msg.specs.Frame.{Frame}
 use Rattle.op_msg.specs.declared.fault.FrameFault.{FrameFault}
-use Rattle.server.specs.Turn.{Call, Runs, frames_of, frame_for, calls, call_at, front_of, link_at, links_after, taken_at, links_taken, forget_all, refused_calls, refused_frames, faults, fault_at}
+use Rattle.server.specs.Turn.{Call, Runs, ChangeNothing, frames_of, frame_for, calls, call_at, front_of, link_at, links_after, taken_at, links_taken, forget_all, refused_calls, refused_frames, faults, fault_at}
 use Rattle.server.specs.Taking.{Serves, refused_at, fault_in, faults_in, closed_by, closed_links, fault_beside}
 use Rattle.server.specs.declared.link.Link.{Link}
 
@@ -25,6 +25,16 @@ frames_on (x ∷ cs) ds a b [] ss h = absurd h
 frames_on (x ∷ cs) ds a b (r ∷ rs) ss h =
     ap (λ (fs : List (ℕ × List ℕ)). frame_for x r ++ fs) (frames_on cs ds h.0 b rs ss h.2)
     ∙ sym (append_assoc (frame_for x r) (frames_of cs rs) (frames_of ds ss))
+
+-- calls that change nothing leave the collections as they are, and so do those after them
+pub quiet_runs : (cs ds : List Call) (a b : World) (rs : List Pairs) → Runs a cs rs b → ChangeNothing a (cs ++ ds) → (b.state ≡ a.state) × ChangeNothing b ds
+quiet_runs [] ds a b [] h quiet = (ap (λ (w : World). w.state) h, subst (λ (w : World). ChangeNothing w ds) (sym h) quiet)
+quiet_runs [] ds a b (r ∷ rs) h quiet = absurd h
+quiet_runs (x ∷ cs) ds a b [] h quiet = absurd h
+quiet_runs (x ∷ cs) ds a b (r ∷ rs) h quiet =
+    let one = quiet h.0 r h.1 in
+    let later = quiet_runs cs ds h.0 b rs h.2 one.1 in
+    (later.0 ∙ one.0, later.1)
 
 both : (p q : Bool) → (p && q) ≡ true → (p ≡ true) × (q ≡ true)
 both true q e = (refl, e)

@@ -90,9 +90,14 @@ Runs world (c ∷ cs) [] new = ⊥
 Runs world (c ∷ cs) (r ∷ rs) new =
     (mid : World) × Answers world c.link.connection (body_of c.frame) mid r × Runs mid cs rs new
 
--- However the messages of a turn run, they leave the collections as they are.
+-- However the messages are answered, none of them changes the collections.
+abbrev pub ChangeNothing : World → List Call → Type 0
+ChangeNothing world [] = Unit {0}
+ChangeNothing world (c ∷ cs) =
+    (mid : World) (reply : Pairs) → Answers world c.link.connection (body_of c.frame) mid reply → (mid.state ≡ world.state) × ChangeNothing mid cs
+
 abbrev pub ChangesNothing : Site → Type 0
-ChangesNothing site = (replies : List Pairs) → (last : World) → Runs site.world (calls site.links) replies last → last.state ≡ site.world.state
+ChangesNothing site = ChangeNothing site.world (calls site.links)
 
 -- connections that a fault closed lose their cursors
 abbrev pub forget_all : World → List (ℕ × FrameFault) → World

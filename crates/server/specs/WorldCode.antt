@@ -1,6 +1,6 @@
 -- Two proofs that two worlds are equal are one proof, since a world is stored as lists of numbers.
-use Rattle.std.specs.Prelude.{◌≡◌, ℕ, List, refl}
-use Rattle.std.specs.Coded.{Coded, Coded-set, code_by, coded×, coded_list, coded_ℕ}
+use Rattle.std.specs.Prelude.{◌≡◌, ℕ, Bool, List, refl}
+use Rattle.std.specs.Coded.{Coded, Coded-set, code_by, coded×, coded_list, coded_ℕ, coded_bool}
 use Rattle.bson.specs.Tree.{Pairs}
 use Rattle.bson.specs.TreeCode.{coded_pairs}
 use Rattle.engine.specs.World.{Collection, Cursor, World}
@@ -29,3 +29,6 @@ coded_world =
 
 pub world_set : (a b : World) → IsProp (a ≡ b)
 world_set = Coded-set coded_world
+
+pub bool_set : (a b : Bool) → IsProp (a ≡ b)
+bool_set = Coded-set coded_bool

@@ -1,14 +1,14 @@
 //! The messages of a turn, answered one after the other.
 
-ghost use Rattle.std.specs.Prelude.{◌≡◌, ◌≢◌, ◌⊎◌, ◌<◌, IfOk, IfSome, IsSome, None, Some, true};
+ghost use Rattle.std.specs.Prelude.{◌≡◌, ◌≢◌, ◌⊎◌, ◌<◌, IfOk, IfSome, IsSome, None, Some, true, false};
 ghost use Rattle.page.specs.History.{KeepsWord};
 ghost use Rattle.page.specs.Crash.{GoesOn, LeavesOnly, LeavesNow};
 ghost use Rattle.roots.specs.Store.{limit_of};
 ghost use Rattle.op_msg.specs.Request.{reply_bytes};
 ghost use Rattle.engine.specs.View.{world, begun, reply_of, IsSendable};
-ghost use Rattle.engine.specs.Durable.{Holds, past, stopped, IsRunning, store_of, IsSound, HasNoRoom};
+ghost use Rattle.engine.specs.Durable.{Holds, past, wrote, stopped, IsRunning, store_of, IsSound, HasNoRoom};
 ghost use Rattle.path.specs.declared.refusal.Refusal.TheVariants.{OutOfMemory};
-ghost use Rattle.server.specs.Turn.{front_of, links_taken, taken_at, call_at, calls, refused_frames, forget_all, ChangesNothing};
+ghost use Rattle.server.specs.Turn.{front_of, links_taken, taken_at, call_at, calls, refused_frames, forget_all, ChangeNothing};
 ghost use Rattle.server.specs.Taking.{Serves, IsAnswer, Settles, Breaks};
 ghost use Rattle.server.specs.View.{frames_in};
 
@@ -49,6 +49,7 @@ fn answer<D: Disk>(engine: &mut Engine<D>, connection: ConnId, request: &Request
     ensures store { store_of engine.new ≡ store_of engine.old }
     ensures answer { IsAnswer (world engine.old) connection request.now (world engine.new) (reply_of result) }
     ensures begun { begun engine.new ≡ begun engine.old }
+    ensures wrote { (world engine.new).state ≡ (world engine.old).state → wrote engine.new ≡ wrote engine.old }
     ensures sendable { IsSendable (reply_of result) }
 {
     match &request.body {
@@ -73,6 +74,7 @@ fn serve_link<D: Disk>(
         (frames_in frames.old.items) (frames_in frames.new.items) }
     ensures link { link.new ≡ taken_at link.old (front_of link.old) }
     ensures begun { begun engine.new ≡ begun engine.old }
+    ensures wrote { (world engine.new).state ≡ (world engine.old).state → wrote engine.new ≡ wrote engine.old }
 {
     let connection = link.connection;
     let Taken::Call(number, request) = take_call(link) else {
@@ -103,6 +105,7 @@ fn serve_links<D: Disk>(
         (frames_in frames.old.items) (frames_in frames.new.items) }
     ensures links { links.new ≡ links_taken links.old }
     ensures begun { begun engine.new ≡ begun engine.old }
+    ensures quiet { ChangeNothing (world engine.old) (calls links.old) → wrote engine.new ≡ wrote engine.old }
 {
     let mut all = true;
     'links: for link in links.iter_mut() {
@@ -122,12 +125,14 @@ pub(crate) fn run_messages<D: Disk>(
 ) -> Option<Vec<(ConnId, Vec<u8>)>>
     requires sound { IsSound D.history engine.old }
     requires idle { begun engine.old ≡ world engine.old }
+    requires rests { wrote engine.old ≡ false }
     requires refusals { frames_in refusals.items ≡ refused_frames OutOfMemory links.old.items }
     ensures sound { IsSound D.history engine.new }
     ensures settles { IfSome result (λ given. Settles (λ last. HasNoRoom (store_of engine.old) last.state) (world engine.old) links.old.items (frames_in given.items) (world engine.new)) }
     ensures breaks { result ≡ None → Breaks (world engine.old) links.old.items (world engine.new) }
     ensures links { links.new.items ≡ links_taken links.old.items }
     ensures idle { begun engine.new ≡ world engine.new }
+    ensures rests { wrote engine.new ≡ false }
     ensures on { GoesOn (past D.history engine.old) (past D.history engine.new) }
     ensures any_moment { IsRunning engine.old → LeavesOnly (past D.history engine.old) (past D.history engine.new)
         (λ image. Holds image (world engine.old).state ⊎ Holds image (world engine.new).state) }
@@ -137,7 +142,7 @@ pub(crate) fn run_messages<D: Disk>(
         → (stopped engine.old ≡ true) ⊎ ((past D.history engine.old).failures < (past D.history engine.new).failures) }
     ensures unchanged { stopped engine.old ≡ true → past D.history engine.new ≡ past D.history engine.old }
     ensures limit { limit_of (store_of engine.new) ≡ limit_of (store_of engine.old) }
-    ensures quiet { ChangesNothing (record { world = world engine.old; links = links.old.items }) → store_of engine.new ≡ store_of engine.old }
+    ensures quiet { ChangeNothing (world engine.old) (calls links.old.items) → store_of engine.new ≡ store_of engine.old }
 {
     let mut replies = Vec::new(*links.allocator());
     if !serve_links(engine, links, &mut replies) {
@@ -165,6 +170,7 @@ pub(crate) fn forget_closed<D: Disk>(engine: &mut Engine<D>, closed: &[(ConnId, 
     ensures store { store_of engine.new ≡ store_of engine.old }
     ensures world { world engine.new ≡ forget_all (world engine.old) closed.now }
     ensures idle { begun engine.new ≡ world engine.new }
+    ensures wrote { wrote engine.new ≡ wrote engine.old }
 {
     'closed: for (connection, _) in closed {
         engine.gone(*connection);

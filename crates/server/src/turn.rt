@@ -1,8 +1,9 @@
 //! Connections, turns, and what they hand out.
 
-ghost use Rattle.std.specs.Prelude.{◌≡◌};
+ghost use Rattle.std.specs.Prelude.{◌≡◌, false};
 ghost use Rattle.engine.specs.View.{world, begun};
-ghost use Rattle.server.specs.WorldCode.{world_set};
+ghost use Rattle.engine.specs.Durable.{wrote};
+ghost use Rattle.server.specs.WorldCode.{world_set, bool_set};
 
 use crate::link::{FeedFault, Link, close_links, end_link, feed_link, waits};
 use crate::preparing::{Prepared, prepare};
@@ -62,6 +63,7 @@ pub struct Core<D> {
     pub(crate) links: Vec<Link>,
     // no turn is open between calls
     ghost idle: { begun engine ≡ world engine } by { world_set (begun engine) (world engine) },
+    ghost rests: { wrote engine ≡ false } by { bool_set (wrote engine) false },
 }
 
 impl<D: Disk> Core<D> {

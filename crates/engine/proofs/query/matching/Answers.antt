@@ -15,15 +15,15 @@ pub documents-preserved : goal.documents-preserved
 documents-preserved c =
     elim c.if-holds.branch [
       | then-holds+in_ok-push w ↦
-        let holds : matches c.args.filter.now c.document-item.result ≡ true = ap (matches c.args.filter.now) (sym c.document.ensures) ∙ sym c.holds.ensures ∙ w.if-holds.true in
-        let pushed : documents_at c.if-holds.found.items ≡ documents_at c.documents.found.items ++ c.document-item.result ∷ [] =
-        ap (λ v. documents_at v.items) w.found-is ∙ ap documents_at w.in_ok-push.ensures.items ∙ map-append (λ d. d.now) c.documents.found.items (w.document-then-holds.result ∷ [])
-        ∙ ap (λ (d : Pairs). documents_at c.documents.found.items ++ d ∷ []) w.document-then-holds.ensures in
-        passed_one (matches c.args.filter.now) c.args.documents.now c.documents.document-index c.document-item.result (documents_at c.documents.found.items) (documents_at c.if-holds.found.items) c.documents-test.true c.document-item.is holds pushed c.documents.invariant
+          let holds : matches c.args.filter.now c.document-item.result ≡ true = ap (matches c.args.filter.now) (sym c.document.ensures) ∙ sym c.holds.ensures ∙ w.if-holds.true in
+          let pushed : documents_at c.if-holds.found.items ≡ documents_at c.documents.found.items ++ c.document-item.result ∷ [] =
+          ap (λ v. documents_at v.items) w.found-is ∙ ap documents_at w.in_ok-push.ensures.items ∙ map-append (λ d. d.now) c.documents.found.items (w.document-then-holds.result ∷ [])
+          ∙ ap (λ (d : Pairs). documents_at c.documents.found.items ++ d ∷ []) w.document-then-holds.ensures in
+          passed_one (matches c.args.filter.now) c.args.documents.now c.documents.document-index c.document-item.result (documents_at c.documents.found.items) (documents_at c.if-holds.found.items) c.documents-test.true c.document-item.is holds pushed c.documents.invariant
       | else-holds w ↦
-        let fails : matches c.args.filter.now c.document-item.result ≡ false = ap (matches c.args.filter.now) (sym c.document.ensures) ∙ sym c.holds.ensures ∙ w.if-holds.false in
-        subst (λ (ds : List Pairs). ArePassed (matches c.args.filter.now) c.args.documents.now (c.documents.document-index + 1) ds) (ap (λ v. documents_at v.items) (sym w.found-is))
-        (passed_none (matches c.args.filter.now) c.args.documents.now c.documents.document-index c.document-item.result (documents_at c.documents.found.items) c.documents-test.true c.document-item.is fails c.documents.invariant)
+          let fails : matches c.args.filter.now c.document-item.result ≡ false = ap (matches c.args.filter.now) (sym c.document.ensures) ∙ sym c.holds.ensures ∙ w.if-holds.false in
+          subst (λ (ds : List Pairs). ArePassed (matches c.args.filter.now) c.args.documents.now (c.documents.document-index + 1) ds) (ap (λ v. documents_at v.items) (sym w.found-is))
+          (passed_none (matches c.args.filter.now) c.args.documents.now c.documents.document-index c.document-item.result (documents_at c.documents.found.items) c.documents-test.true c.document-item.is fails c.documents.invariant)
     ]
 
 pub returns : goal.returns

@@ -19,4 +19,5 @@ closed-preserved g c =
       world_is = call.ensures.world ∙ (λ k. forget (inv.world_is k) (c.closed-item.is k).0)
           ∙ sym (forget_all_more (world c.args.engine.now) fs i d c.closed-test.true);
       idle = call.ensures.begun inv.idle;
+      wrote = call.ensures.wrote ∙ inv.wrote;
     }

@@ -10,7 +10,7 @@ use Rattle.bson.specs.Tree.{Pairs}
 use Rattle.op_msg.specs.Request.{respelled}
 use Rattle.server.specs.declared.link.Link.{Link}
 use Rattle.engine.specs.Durable.{Holds, past, store_of, HasNoRoom}
-use Rattle.server.specs.Turn.{ChangesNothing, Runs, calls, frames_of, refused_frames}
+use Rattle.server.specs.Turn.{ChangeNothing, Runs, calls, frames_of, refused_frames}
 use Rattle.server.specs.Taking.{HaveRoom, full_body, respelled_frames}
 use Rattle.server.specs.View.{frames_in}
 use Rattle.path.specs.declared.refusal.Refusal.TheVariants.{OutOfMemory, Full}
@@ -170,36 +170,30 @@ returns-in-Err-Device-clause-device g c _ k =
     (λ failed. inr (subst (λ (h : History). h.failures < (past g.D.Disk.history e2).failures) serve.disk failed))
     (c.in-Err-Device.ensures.device (ap failed c.in-Err-Device.field-0-is) k)
 
--- messages that change nothing leave the collections as they were at the beginning of the turn
-still : (begun old now : World) (links same : List Link) (replies : List Pairs) → begun ≡ old → links ≡ same → Runs old (calls links) replies now
-    → ChangesNothing (record { world = old; links = same }) → begun.state ≡ now.state
-still begun old now links same replies idle taken runs nothing =
-    ap (λ (w : World). w.state) idle ∙ sym (nothing replies now (subst (λ (ls : List Link). Runs old (calls ls) replies now) taken runs))
-
 pub returns-in-Ok-clause-quiet : goal.returns-in-Ok-clause-quiet
 returns-in-Ok-clause-quiet g c nothing =
-    let e1 = c.serve_links.new.engine in
     let serve = c.serve_links.ensures in
-    let same = still (begun e1) (world c.args.engine.now) (world e1) c.deref_mut.result.now c.args.links.now.items serve.serves.replies (serve.begun ∙ c.requires.idle) (search rules) serve.serves.runs nothing in
-    (c.commit_turn.ensures.quiet same).1 ∙ serve.store
+    let taken : c.deref_mut.result.now ≡ c.args.links.now.items = search rules in
+    let rests = serve.quiet (subst (λ (ls : List Link). ChangeNothing (world c.args.engine.now) (calls ls)) (sym taken) nothing) ∙ c.requires.rests in
+    (c.commit_turn.ensures.quiet rests).1 ∙ serve.store
 
 pub returns-in-Err-Memory-clause-quiet : goal.returns-in-Err-Memory-clause-quiet
 returns-in-Err-Memory-clause-quiet g c nothing =
-    let e1 = c.serve_links.new.engine in
     let serve = c.serve_links.ensures in
-    let same = still (begun e1) (world c.args.engine.now) (world e1) c.deref_mut.result.now c.args.links.now.items serve.serves.replies (serve.begun ∙ c.requires.idle) (search rules) serve.serves.runs nothing in
-    (c.commit_turn.ensures.quiet same).1 ∙ serve.store
+    let taken : c.deref_mut.result.now ≡ c.args.links.now.items = search rules in
+    let rests = serve.quiet (subst (λ (ls : List Link). ChangeNothing (world c.args.engine.now) (calls ls)) (sym taken) nothing) ∙ c.requires.rests in
+    (c.commit_turn.ensures.quiet rests).1 ∙ serve.store
 
 pub returns-in-Err-Full-clause-quiet : goal.returns-in-Err-Full-clause-quiet
 returns-in-Err-Full-clause-quiet g c nothing =
-    let e1 = c.serve_links.new.engine in
     let serve = c.serve_links.ensures in
-    let same = still (begun e1) (world c.args.engine.now) (world e1) c.deref_mut.result.now c.args.links.now.items serve.serves.replies (serve.begun ∙ c.requires.idle) (search rules) serve.serves.runs nothing in
-    (c.commit_turn.ensures.quiet same).1 ∙ serve.store
+    let taken : c.deref_mut.result.now ≡ c.args.links.now.items = search rules in
+    let rests = serve.quiet (subst (λ (ls : List Link). ChangeNothing (world c.args.engine.now) (calls ls)) (sym taken) nothing) ∙ c.requires.rests in
+    (c.commit_turn.ensures.quiet rests).1 ∙ serve.store
 
 pub returns-in-Err-Device-clause-quiet : goal.returns-in-Err-Device-clause-quiet
 returns-in-Err-Device-clause-quiet g c nothing =
-    let e1 = c.serve_links.new.engine in
     let serve = c.serve_links.ensures in
-    let same = still (begun e1) (world c.args.engine.now) (world e1) c.deref_mut.result.now c.args.links.now.items serve.serves.replies (serve.begun ∙ c.requires.idle) (search rules) serve.serves.runs nothing in
-    (c.commit_turn.ensures.quiet same).1 ∙ serve.store
+    let taken : c.deref_mut.result.now ≡ c.args.links.now.items = search rules in
+    let rests = serve.quiet (subst (λ (ls : List Link). ChangeNothing (world c.args.engine.now) (calls ls)) (sym taken) nothing) ∙ c.requires.rests in
+    (c.commit_turn.ensures.quiet rests).1 ∙ serve.store

@@ -18,8 +18,11 @@ use Rattle.engine.proofs.engine.Engine.find.Goals as goal
 pub returns-in_err-found-clause-runs : goal.returns-in_err-found-clause-runs
 returns-in_err-found-clause-runs g c =
     let p = err_from_is_err_and c.from_residual.result c.from_residual.ensures.1 in
-    rw (p.1, p.2) (refl, λ other. let over = c.in_err-found.ensures.over other in
-    run_find-more (world c.args.self.now) c.args.connection c.args.namespace.now c.args.query.now c.args.most over.1 ∙ too_many c.in_err-found.field-0.0 over.0)
+    rw (p.1, p.2) (
+      refl,
+      λ other. let over = c.in_err-found.ensures.over other in
+          run_find-more (world c.args.self.now) c.args.connection c.args.namespace.now c.args.query.now c.args.most over.1 ∙ too_many c.in_err-found.field-0.0 over.0,
+    )
 
 pub returns-then-batch_len-len-clause-runs : goal.returns-then-batch_len-len-clause-runs
 returns-then-batch_len-len-clause-runs g c =
