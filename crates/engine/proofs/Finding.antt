@@ -1,11 +1,14 @@
 -- What a find chooses keeps what was kept of the documents.
 use Rattle.std.proofs.Common.{◌≡◌, ◌≢◌, ℕ, zero, suc, min, ◌+◌, ◌-◌, ◌<◌, ◌≤◌, Bool, true, false, List, [], ◌∷◌, ◌++◌, length, get_or, take, drop, map, refl, sym, ap, ◌∙◌, append_assoc, arith}
-use Rattle.std.specs.Prelude.{All}
+use Rattle.std.specs.Prelude.{◌==◌, ◌^◌, nat_le, All}
 use Rattle.std.specs.List.{filter}
 use Rattle.std.specs.declared.cmp.Ordering.{Ordering}
 use Rattle.std.specs.declared.cmp.Ordering.TheVariants.{Less, Equal, Greater}
 use Rattle.std.proofs.lemmas.List.Elements.{All-filter, All-take, All-drop, All-cons, All-map}
-use Rattle.std.proofs.lemmas.List.{append-nil, drop_all, length-take, length-drop, take-map, drop-map}
+use Rattle.std.proofs.lemmas.List.{append-nil, drop_all, length-take, length-drop, take-map, drop-map, take_all, drop-take}
+use Rattle.std.proofs.Math.Seq.{take-append_seam}
+use Rattle.std.proofs.lemmas.Bool.{eqb-true}
+use Rattle.std.proofs.lemmas.Bool.Decides.{nat_tests}
 use Rattle.bson.specs.Tree.{Pairs}
 use Rattle.bson.specs.Spelling.{pairs_bytes}
 use Rattle.bson.specs.Sizing.{framed-length}
@@ -13,9 +16,9 @@ use Rattle.filter.specs.Matches.{matches}
 use Rattle.filter.specs.Projection.{Projection, project}
 use Rattle.filter.specs.ProjectionLaws.{project_no_larger}
 use Rattle.engine.specs.Lawful.{IsStored, IsWithin}
-use Rattle.filter.specs.Sort.{SortField, insert_in_order, put_before, sorted, order}
+use Rattle.filter.specs.Sort.{SortField, compare_by, insert_in_order, put_before, sorted, order}
 use Rattle.engine.proofs.Steps.{drop_step}
-use Rattle.engine.specs.Query.{Query, matching, limited, window, chosen, found}
+use Rattle.engine.specs.Query.{Query, matching, limited, window, chosen, found, Suffices}
 
 module _ (P : Pairs → Type 0) (cmp : Pairs → Pairs → Ordering) where
   head_of : (x : Pairs) (xs : List Pairs) → All P (x ∷ xs) → P x
@@ -115,3 +118,60 @@ passed_none {X} p all i x passed within is fails h =
 
 pub passed_all : {X : Type 0} (p : X → Bool) (all : List X) (i : ℕ) (passed : List X) → length all ≤ i → ArePassed p all i passed → passed ≡ filter p all
 passed_all {X} p all i passed whole h = sym (append-nil passed) ∙ ap (λ (ys : List X). passed ++ filter p ys) (sym (drop_all i all whole)) ∙ h
+
+-- ---- a sort by nothing, and the front of a list
+
+by_nothing : (x : Pairs) (xs : List Pairs) → insert_in_order (compare_by []) x xs ≡ x ∷ xs
+by_nothing x [] = refl
+by_nothing x (y ∷ ys) = refl
+
+pub unsorted : (ds : List Pairs) → order [] ds ≡ ds
+unsorted [] = refl
+unsorted (d ∷ ds) = ap (insert_in_order (compare_by []) d) (unsorted ds) ∙ by_nothing d ds
+
+pub no_sort : (sort : List SortField) (ds : List Pairs) → (length sort == 0) ≡ true → order sort ds ≡ ds
+no_sort [] ds e = unsorted ds
+no_sort (field ∷ fields) ds e = absurd (omega (arith, eqb-true (length (field ∷ fields)) 0 e))
+
+-- a window doesn't reach past its limit
+window-front : {X : Type 0} (skip limit : ℕ) (xs : List X) → limit ≢ 0 → window skip limit (take (skip + limit) xs) ≡ window skip limit xs
+window-front skip zero xs some = absurd (some refl)
+window-front {X} skip (suc n) xs some = ap (λ (ys : List X). take (suc n) ys) (drop-take skip (suc n) xs) ∙ take_all (suc n) (take (suc n) (drop skip xs)) (omega (arith, length-take (suc n) (drop skip xs)))
+
+all_taken : (q : Query) (most : ℕ) (ds : List Pairs) → length ds ≤ most → window q.skip q.limit (order q.sort (take most ds)) ≡ window q.skip q.limit (order q.sort ds)
+all_taken q most ds few = ap (λ (es : List Pairs). window q.skip q.limit (order q.sort es)) (take_all most ds few)
+
+pub all_suffice : (q : Query) (count : ℕ) → Suffices q count count
+all_suffice q count ds few = all_taken q count ds few
+
+pub front_suffices : (q : Query) (count most : ℕ) → q.limit ≢ 0 → (length q.sort == 0) ≡ true → most ≡ min (q.skip + q.limit) (2 ^ 64 - 1) → count < 2 ^ 64 → Suffices q count most
+front_suffices q count most some unordered is small ds few = at (nat_le (q.skip + q.limit) (2 ^ 64 - 1)) refl
+  where
+    plain : (es : List Pairs) → window q.skip q.limit (order q.sort es) ≡ window q.skip q.limit es
+    plain es = ap (λ (xs : List Pairs). window q.skip q.limit xs) (no_sort q.sort es unordered)
+
+    at : (b : Bool) → nat_le (q.skip + q.limit) (2 ^ 64 - 1) ≡ b → window q.skip q.limit (order q.sort (take most ds)) ≡ window q.skip q.limit (order q.sort ds)
+    at true e =
+        let fits : q.skip + q.limit ≤ 2 ^ 64 - 1 = grind (arith, nat_tests) in
+        let same : most ≡ q.skip + q.limit = omega (arith, is, fits) in
+        plain (take most ds) ∙ ap (λ (n : ℕ). window q.skip q.limit (take n ds)) same ∙ window-front q.skip q.limit ds some ∙ sym (plain ds)
+    at false e =
+        let over : 2 ^ 64 - 1 < q.skip + q.limit = grind (arith, nat_tests) in
+        all_taken q most ds (omega (arith, is, over, few, small))
+
+filter_fewer : {X : Type 0} (p : X → Bool) (xs : List X) → length (filter p xs) ≤ length xs
+filter_fewer p [] = omega arith
+filter_fewer p (x ∷ xs) = at (p x) refl (filter_fewer p xs)
+  where
+    at : (b : Bool) → p x ≡ b → length (filter p xs) ≤ length xs → length (filter p (x ∷ xs)) ≤ length (x ∷ xs)
+    at true e later = rw e (omega (arith, later))
+    at false e later = rw e (omega (arith, later))
+
+-- what is found before a sort is enough
+pub enough : (q : Query) (most : ℕ) (ds found_so : List Pairs) → Suffices q (length ds) most → found_so ≡ take most (matching q.filter ds) → window q.skip q.limit (order q.sort found_so) ≡ chosen q ds
+enough q most ds found_so suffices is =
+    ap (λ (es : List Pairs). window q.skip q.limit (order q.sort es)) is ∙ suffices (matching q.filter ds) (filter_fewer (matches q.filter) ds)
+
+-- the first that pass, up to so many
+pub passed_front : {X : Type 0} (p : X → Bool) (all : List X) (i : ℕ) (passed : List X) → ArePassed p all i passed → passed ≡ take (length passed) (filter p all)
+passed_front {X} p all i passed h = sym (take-append_seam passed (filter p (drop i all))) ∙ ap (λ (ys : List X). take (length passed) ys) h

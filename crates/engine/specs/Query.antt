@@ -1,6 +1,6 @@
 -- What a find asks for, and what it gives of a list of documents; what a delete leaves of one. None of it knows how the
 -- documents are kept or found.
-use Rattle.std.specs.Prelude.{ℕ, zero, suc, Bool, not, if◌then◌else◌, List, [], ◌∷◌, map, take, drop, remove, Option, Some, None}
+use Rattle.std.specs.Prelude.{◌≡◌, ℕ, zero, suc, ◌≤◌, Bool, not, if◌then◌else◌, List, [], ◌∷◌, length, map, take, drop, remove, Option, Some, None}
 use Rattle.std.specs.List.{filter, position}
 use Rattle.bson.specs.Tree.{Pairs}
 use Rattle.filter.specs.Rule.{Rules}
@@ -31,6 +31,10 @@ window skip limit xs = limited limit (drop skip xs)
 -- the documents that match, in their order, without those that are skipped and those past the limit
 abbrev pub chosen : Query → List Pairs → List Pairs
 chosen q ds = window q.skip q.limit (order q.sort (matching q.filter ds))
+
+-- Of so many documents that match, the first ones up to this number are enough.
+abbrev pub Suffices : Query → ℕ → ℕ → Type 0
+Suffices q count most = (ds : List Pairs) → length ds ≤ count → window q.skip q.limit (order q.sort (take most ds)) ≡ window q.skip q.limit (order q.sort ds)
 
 -- what a find gives
 abbrev pub found : Query → List Pairs → List Pairs

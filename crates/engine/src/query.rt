@@ -1,10 +1,9 @@
 //! Finding documents: which are chosen, in which order, and what is given of them.
 
-ghost use Rattle.std.specs.Prelude.{◌≡◌, IfOk, length, map};
+ghost use Rattle.std.specs.Prelude.{◌≡◌, IfOk, length, map, take};
 ghost use Rattle.filter.specs.Matches.{matches};
-ghost use Rattle.filter.specs.Sort.{order};
 ghost use Rattle.filter.specs.Projection.{project};
-ghost use Rattle.engine.specs.Query.{matching, window};
+ghost use Rattle.engine.specs.Query.{matching, window, chosen, Suffices};
 ghost use Rattle.engine.specs.Reading.{documents_at};
 
 use crate::shared::Shared;
@@ -44,16 +43,20 @@ pub(crate) fn holds(filter: &Filter, document: &Document) -> bool
     filter.matches(document).unwrap()
 }
 
-/// The documents of which a filter holds, in their order.
-fn matching<'a>(
+/// The documents of which a filter holds, in their order: the first ones, up to so many.
+fn first_matching<'a>(
     alloc: Global,
     documents: &'a [Shared],
     filter: &Filter,
+    most: usize,
 ) -> Result<Vec<&'a Document>, NoMemory>
-    ensures { IfOk result (λ v. documents_at v.items ≡ matching filter.now documents.now) }
+    ensures { IfOk result (λ v. documents_at v.items ≡ take most (matching filter.now documents.now)) }
 {
     let mut found = Vec::new(alloc);
     'documents: for document in documents {
+        if found.len() == most {
+            return Ok(found);
+        }
         if holds(filter, document.document()) {
             found.push(document.document())?;
         }
@@ -107,16 +110,29 @@ fn projected(
 }
 
 impl Query {
-    /// The documents that match, in the order of the sort.
+    /// How many have to be found among so many documents: all, or none past the limit where nothing is sorted.
+    fn most(&self, count: usize) -> usize
+        ensures { Suffices self.now count result }
+    {
+        if self.limit == 0 || !self.sort.is_empty() {
+            return count;
+        }
+        self.skip.saturating_add(self.limit)
+    }
+
+    /// The documents that match, in the order of the sort, as far as they are asked for.
     pub(crate) fn ordered<'a>(
         &self,
         alloc: Global,
         documents: &'a [Shared],
     ) -> Result<Vec<&'a Document>, NoMemory>
-        ensures { IfOk result (λ v. documents_at v.items ≡ order self.now.sort (matching self.now.filter documents.now)) }
+        ensures { IfOk result (λ v. window self.now.skip self.now.limit (documents_at v.items) ≡ chosen self.now documents.now) }
     {
-        self.sort
-            .order_shared(matching(alloc, documents, &self.filter)?)
+        let found = first_matching(alloc, documents, &self.filter, self.most(documents.len()))?;
+        if self.sort.is_empty() {
+            return Ok(found);
+        }
+        self.sort.order_shared(found)
     }
 
     /// Those of them that are not skipped and within the limit.

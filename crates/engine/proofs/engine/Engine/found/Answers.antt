@@ -14,5 +14,5 @@ returns-clause-within g c =
     let ds = c.documents-documents.result.now in
     let same : c.in_ok-give.field-0.items ≡ found q ds =
     c.in_ok-give.ensures ∙ ap (map (project q.projection))
-    (c.within-chosen.ensures ∙ ap (λ xs. window q.skip q.limit (documents_at xs)) c.deref.ensures.value ∙ ap (λ (es : List Pairs). window q.skip q.limit es) c.in_ok-ordered.ensures) in
+    (c.within-chosen.ensures ∙ ap (λ xs. window q.skip q.limit (documents_at xs)) c.deref.ensures.value ∙ c.in_ok-ordered.ensures) in
     subst (λ (es : List Pairs). All IsWithin es) (sym same) (found_within q ds c.documents-documents.ensures.stored)

@@ -1,7 +1,0 @@
-use Rattle.filter.specs.Matches.{matches}
-use Rattle.engine.specs.Reading.{documents_at}
-use Rattle.engine.proofs.Finding.{ArePassed}
-use Rattle.engine.proofs.query.matching.Given as goal
-
-abbrev pub invariant-documents : goal.invariant-documents
-invariant-documents l = ArePassed (matches l.filter) l.documents l.document-index (documents_at l.found.items)
