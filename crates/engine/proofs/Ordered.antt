@@ -138,7 +138,7 @@ place_there (d ∷ ds) (suc i) id new up within same =
 
 -- what a search by a key found
 pub place_found : (id : Tree) (ds : List Pairs) (r : Result ℕ ℕ) → Rises compare key_of ds → IsSearchInRange r (length ds) → IsBinarySearchResult (by_key id) ds r → IsPlace id ds r
-place_found id ds (Ok i) up within found = λ new. place_there ds i id new up within found
+place_found id ds (Ok i) up within found = (within, found, λ new. place_there ds i id new up within found)
 place_found id ds (Err i) up within found =
     let gap = gap_found compare_total key_of ds id i up within found in
     (gap, λ new. place_gap ds i id new gap)

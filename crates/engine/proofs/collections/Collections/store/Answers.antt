@@ -69,7 +69,7 @@ returns-in-Ok-clause-does c = λ _.
     let kept = keeps c.args.document.now (key_of c.args.document.now) c.in_ok-document.ensures.checked.0 in
     let key : key_of c.in_ok-document.document ≡ key_of c.args.document.now = ap key_of c.in_ok-document.ensures.checked.1 ∙ kept.key in
     let none : place (key_of c.args.document.now) (id_first c.args.document.now) (collection_at c.args.self.now.now c.args.at).documents ≡ None =
-    (λ i. place (sym key i) (id_first c.args.document.now) (sym now i).documents) ∙ c.in-Ok.ensures (id_first c.args.document.now) in
+    (λ i. place (sym key i) (id_first c.args.document.now) (sym now i).documents) ∙ c.in-Ok.ensures.2 (id_first c.args.document.now) in
     with_there (collection_at c.args.self.now.now c.args.at) c.args.document.now (key_of c.args.document.now) c.in_ok-document.ensures.checked.0 none
 
 pub returns-in_ok-insert-in-Err-clause-extends : goal.returns-in_ok-insert-in-Err-clause-extends
