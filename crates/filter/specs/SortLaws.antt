@@ -1,5 +1,5 @@
 -- A sort in its own words: the same documents, none below an earlier one, and those that tie in the order given.
-use Rattle.std.specs.Prelude.{◌≡◌, List, [], ◌∷◌}
+use Rattle.std.specs.Prelude.{List, [], ◌∷◌}
 use Rattle.std.specs.List.{AllByRecursion}
 use Rattle.std.specs.List.Sorted.{IsPermutation, IsSorted, IsStable}
 use Rattle.std.specs.Cmp.{IsTotalOrder}
