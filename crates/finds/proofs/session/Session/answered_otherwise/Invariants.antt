@@ -3,4 +3,4 @@ use Rattle.server.specs.Durable.{IsSound}
 use Rattle.finds.proofs.session.Session.answered_otherwise.Given as goal
 
 abbrev pub invariant-script : goal.invariant-script
-invariant-script g l = IsSound memory_history l.self.core
+invariant-script l = IsSound memory_history l.self.core

@@ -3,4 +3,4 @@ use Rattle.server.specs.Durable.{IsSound}
 use Rattle.finds.proofs.session.Session.found_otherwise.Given as goal
 
 abbrev pub invariant-cases : goal.invariant-cases
-invariant-cases g l = IsSound memory_history l.self.core
+invariant-cases l = IsSound memory_history l.self.core
