@@ -3,4 +3,4 @@ use Rattle.server.specs.Durable.{IsSound}
 use Rattle.faults.proofs.growths.followed.Given as goal
 
 abbrev pub invariant-steps : goal.invariant-steps
-invariant-steps g l = IsSound memory_history l.core
+invariant-steps l = IsSound memory_history l.core
