@@ -42,6 +42,34 @@ fn the_first_or_all(rt: HostRuntime) -> Result<(), Fail> {
 }
 
 #[test]
+fn the_first_of_several_types(rt: HostRuntime) -> Result<(), Fail> {
+    let mut session = Session::filled(
+        rt.alloc(),
+        "[{_id: 'x'}, {_id: 5}, {_id: null}, {_id: {}}]",
+    )?;
+    let script = [
+        (
+            "{delete: 'c', deletes: [{q: {}, limit: 1}], $db: 't'}",
+            "{n: 1, ok: 1}",
+        ),
+        (
+            "{find: 'c', $db: 't'}",
+            "{cursor: {firstBatch: [{_id: 5}, {_id: 'x'}, {_id: {}}], id: 0L, ns: 't.c'}, ok: 1}",
+        ),
+        (
+            "{delete: 'c', deletes: [{q: {}, limit: 1}, {q: {}, limit: 1}], $db: 't'}",
+            "{n: 2, ok: 1}",
+        ),
+        (
+            "{find: 'c', $db: 't'}",
+            "{cursor: {firstBatch: [{_id: {}}], id: 0L, ns: 't.c'}, ok: 1}",
+        ),
+    ];
+    assert_eq!(rt; session.answered_otherwise(&script)?, None);
+    Ok(())
+}
+
+#[test]
 fn several_statements(rt: HostRuntime) -> Result<(), Fail> {
     let documents =
         "[{_id: 1, a: 1}, {_id: 2, a: 1}, {_id: 3, a: 1}, {_id: 4, a: 2}, {_id: 5, a: 2}]";

@@ -2,6 +2,8 @@
 
 use crate::session::Session;
 use page::{Disk, MemDisk};
+use server::Config;
+use std::alloc::Global;
 use std::process::Abort;
 use std::test::*;
 
@@ -143,5 +145,38 @@ fn an_emptied_one_keeps_its_number(rt: HostRuntime) -> Result<(), Fail> {
         ("{count: 'e', $db: 't'}", "{n: 1, ok: 1}"),
     ];
     assert_eq!(rt; session.answered_otherwise(&script)?, None);
+    Ok(())
+}
+
+/// An insert of a document with this number and a string of so many bytes, and of what else is listed.
+fn insert_large(alloc: Global, number: i32, len: usize, others: &str) -> Result<String, Fail> {
+    let mut insert = format!(in alloc; "{{insert: 'c', documents: [{{_id: {number}, s: '")?;
+    for _ in 0..len {
+        insert.push_str("x")?;
+    }
+    insert.push_str("'}, ")?;
+    insert.push_str(others)?;
+    insert.push_str("], $db: 't'}")?;
+    Ok(insert)
+}
+
+#[test]
+fn a_full_file(rt: HostRuntime) -> Result<(), Fail> {
+    let alloc = rt.alloc();
+    // the least limit: fifteen pages, beside that of the roots
+    let config = Config { max_pages: 16 };
+    let mut session = Session::within(alloc, MemDisk::new(alloc), config)?;
+    assert!(rt; session.answers(&insert_large(alloc, 1, 26_000, "")?, "{n: 1, ok: 1}")?);
+    assert!(rt; session.answers(&insert_large(alloc, 2, 4_000, "{_id: 3}")?, "{n: 2, ok: 1}")?);
+    // 30,167 bytes are live in eight pages: without 37 of them it is eight again, and seven are free
+    let small = "{delete: 'c', deletes: [{q: {_id: 3}, limit: 1}], $db: 't'}";
+    assert!(rt; session.refuses(small, 9003)?);
+    assert!(rt; session.finds("", "[1, 2, 3]")?);
+    // a delete that leaves two pages finds room, and makes room for the other
+    let large = "{delete: 'c', deletes: [{q: {_id: 1}, limit: 1}], $db: 't'}";
+    assert!(rt; session.answers(large, "{n: 1, ok: 1}")?);
+    assert!(rt; session.answers(small, "{n: 1, ok: 1}")?);
+    let mut session = Session::within(alloc, session.into_disk(), config)?;
+    assert!(rt; session.finds("", "[2]")?);
     Ok(())
 }

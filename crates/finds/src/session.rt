@@ -38,8 +38,15 @@ impl Session {
     pub fn over(alloc: Global, disk: MemDisk) -> Result<Session, Fail>
         ensures { IfOk result (λ session. IsSound memory_history session.core) }
     {
+        Session::within(alloc, disk, CONFIG)
+    }
+
+    /// A session over a disk, with a limit of pages.
+    pub fn within(alloc: Global, disk: MemDisk, config: Config) -> Result<Session, Fail>
+        ensures { IfOk result (λ session. IsSound memory_history session.core) }
+    {
         let connection = ConnId::new(0).ok_or("connection 0")?;
-        match Core::open(alloc, disk, CONFIG) {
+        match Core::open(alloc, disk, config) {
             Ok(core) => Ok(Session {
                 alloc,
                 core,
