@@ -11,61 +11,186 @@ use server::*;
 use std::alloc::{AllocError, Global};
 use std::test::*;
 
-/// The frames of a script and what they may be answered, apart from the number of the reply.
+// What stands in the collection, a bit for each.
+const NOTHING: u8 = 1;
+
+const THREE: u8 = 2;
+
+const ONE_LEFT: u8 = 4;
+
+const A_LONG: u8 = 8;
+
+/// What a message is answered where this stands, apart from the number of the reply, and what stands then.
+#[derive(Drop)]
+struct Outcome {
+    before: u8,
+    reply: Vec<u8>,
+    after: u8,
+}
+
+#[derive(Drop)]
+struct Step {
+    message: Vec<u8>,
+    outcomes: Vec<Outcome>,
+}
+
+/// The messages of a script, a last one for a server that opens the disk again, and the refusal for want of memory.
 #[derive(Drop)]
 struct Script {
-    ping: Vec<u8>,
-    insert: Vec<u8>,
-    again: Vec<u8>,
-    find: Vec<u8>,
-    ok: Vec<u8>,
-    inserted: Vec<u8>,
-    duplicate: Vec<u8>,
-    none_found: Vec<u8>,
-    int_found: Vec<u8>,
-    long_found: Vec<u8>,
+    steps: Vec<Step>,
+    last: Step,
     no_memory: Vec<u8>,
 }
 
-fn insert(alloc: Global, document: Bytes) -> Result<Vec<u8>, AllocError> {
-    let documents = [document];
-    let body = Bytes::new(alloc)
-        .text("insert", "c")
-        .documents("documents", &documents)
-        .text("$db", "t");
-    frame(alloc, 7, 0, &body)
+fn make_step(alloc: Global, message: Bytes) -> Result<Step, AllocError> {
+    Ok(Step {
+        message: frame(alloc, 7, 0, &message)?,
+        outcomes: Vec::new(alloc),
+    })
 }
 
-fn found(alloc: Global, documents: &[Bytes]) -> Result<Vec<u8>, AllocError> {
+impl Step {
+    /// The step with one more outcome.
+    fn with(
+        mut self,
+        alloc: Global,
+        before: u8,
+        reply: Bytes,
+        after: u8,
+    ) -> Result<Step, AllocError> {
+        let reply = frame(alloc, 0, 7, &reply)?;
+        self.outcomes.push(Outcome {
+            before,
+            reply,
+            after,
+        })?;
+        Ok(self)
+    }
+}
+
+fn document(alloc: Global, number: i32, a: i32) -> Bytes {
+    Bytes::new(alloc).int32("_id", number).int32("a", a)
+}
+
+fn three(alloc: Global) -> [Bytes; 3] {
+    [
+        document(alloc, 1, 5),
+        document(alloc, 2, 6),
+        document(alloc, 3, 5),
+    ]
+}
+
+fn insert(alloc: Global, documents: &[Bytes]) -> Bytes {
+    Bytes::new(alloc)
+        .text("insert", "c")
+        .documents("documents", documents)
+        .text("$db", "t")
+}
+
+/// What an insert, a delete or a count of so many is answered.
+fn counted(alloc: Global, count: i32) -> Bytes {
+    Bytes::new(alloc).int32("n", count).int32("ok", 1)
+}
+
+/// What a find of these documents is answered.
+fn found(alloc: Global, documents: &[Bytes]) -> Bytes {
     let cursor = Bytes::new(alloc)
         .documents("firstBatch", documents)
         .int64("id", 0)
         .text("ns", "t.c");
-    let body = Bytes::new(alloc).document("cursor", &cursor).int32("ok", 1);
-    frame(alloc, 0, 7, &body)
+    Bytes::new(alloc).document("cursor", &cursor).int32("ok", 1)
 }
 
-/// The frame of a reply that is this document.
-fn answer(alloc: Global, body: Bytes) -> Result<Vec<u8>, AllocError> {
-    frame(alloc, 0, 7, &body)
+fn ping(alloc: Global) -> Result<Step, AllocError> {
+    let ok = Bytes::new(alloc).int32("ok", 1);
+    make_step(alloc, Bytes::new(alloc).int32("ping", 1).text("$db", "t"))?.with(
+        alloc, NOTHING, ok, NOTHING,
+    )
+}
+
+fn first_insert(alloc: Global) -> Result<Step, AllocError> {
+    make_step(alloc, insert(alloc, &three(alloc)))?.with(alloc, NOTHING, counted(alloc, 3), THREE)
+}
+
+/// A find with a filter, a sort and a projection.
+fn query(alloc: Global) -> Result<Step, AllocError> {
+    let message = Bytes::new(alloc)
+        .text("find", "c")
+        .document("filter", &Bytes::new(alloc).int32("a", 5))
+        .document("sort", &Bytes::new(alloc).int32("_id", -1))
+        .document("projection", &Bytes::new(alloc).int32("_id", 1))
+        .text("$db", "t");
+    let falling = [
+        Bytes::new(alloc).int32("_id", 3),
+        Bytes::new(alloc).int32("_id", 1),
+    ];
+    make_step(alloc, message)?
+        .with(alloc, NOTHING, found(alloc, &[]), NOTHING)?
+        .with(alloc, THREE, found(alloc, &falling), THREE)
+}
+
+/// A delete of two statements, the first of which takes one of two documents.
+fn delete(alloc: Global) -> Result<Step, AllocError> {
+    let statements = [
+        Bytes::new(alloc)
+            .document("q", &Bytes::new(alloc).int32("a", 5))
+            .int32("limit", 1),
+        Bytes::new(alloc)
+            .document("q", &Bytes::new(alloc).int32("a", 6))
+            .int32("limit", 0),
+    ];
+    let message = Bytes::new(alloc)
+        .text("delete", "c")
+        .documents("deletes", &statements)
+        .text("$db", "t");
+    make_step(alloc, message)?
+        .with(alloc, NOTHING, counted(alloc, 0), NOTHING)?
+        .with(alloc, THREE, counted(alloc, 2), ONE_LEFT)
+}
+
+fn count(alloc: Global) -> Result<Step, AllocError> {
+    let message = Bytes::new(alloc)
+        .text("count", "c")
+        .document("query", &Bytes::new(alloc).int32("a", 5))
+        .text("$db", "t");
+    make_step(alloc, message)?
+        .with(alloc, NOTHING, counted(alloc, 0), NOTHING)?
+        .with(alloc, THREE, counted(alloc, 2), THREE)?
+        .with(alloc, ONE_LEFT, counted(alloc, 1), ONE_LEFT)
+}
+
+/// An insert of a number that is there already, where anything is.
+fn again(alloc: Global) -> Result<Step, AllocError> {
+    let documents = [Bytes::new(alloc).int64("_id", 3)];
+    make_step(alloc, insert(alloc, &documents))?
+        .with(alloc, NOTHING, counted(alloc, 1), A_LONG)?
+        .with(alloc, THREE, refusal(alloc, 11000), THREE)?
+        .with(alloc, ONE_LEFT, refusal(alloc, 11000), ONE_LEFT)
+}
+
+fn find(alloc: Global) -> Result<Step, AllocError> {
+    let message = Bytes::new(alloc).text("find", "c").text("$db", "t");
+    let left = [document(alloc, 3, 5)];
+    let long = [Bytes::new(alloc).int64("_id", 3)];
+    make_step(alloc, message)?
+        .with(alloc, NOTHING, found(alloc, &[]), NOTHING)?
+        .with(alloc, THREE, found(alloc, &three(alloc)), THREE)?
+        .with(alloc, ONE_LEFT, found(alloc, &left), ONE_LEFT)?
+        .with(alloc, A_LONG, found(alloc, &long), A_LONG)
 }
 
 fn make_script(alloc: Global) -> Result<Script, AllocError> {
-    let ping = Bytes::new(alloc).int32("ping", 1).text("$db", "t");
-    let find = Bytes::new(alloc).text("find", "c").text("$db", "t");
-    let none: [Bytes; 0] = [];
+    let mut steps = Vec::new(alloc);
+    steps.push(ping(alloc)?)?;
+    steps.push(first_insert(alloc)?)?;
+    steps.push(query(alloc)?)?;
+    steps.push(delete(alloc)?)?;
+    steps.push(count(alloc)?)?;
+    steps.push(again(alloc)?)?;
     Ok(Script {
-        ping: frame(alloc, 7, 0, &ping)?,
-        insert: insert(alloc, Bytes::new(alloc).int32("_id", 1))?,
-        again: insert(alloc, Bytes::new(alloc).int64("_id", 1))?,
-        find: frame(alloc, 7, 0, &find)?,
-        ok: answer(alloc, Bytes::new(alloc).int32("ok", 1))?,
-        inserted: answer(alloc, Bytes::new(alloc).int32("n", 1).int32("ok", 1))?,
-        duplicate: answer(alloc, refusal(alloc, 11000))?,
-        none_found: found(alloc, &none)?,
-        int_found: found(alloc, &[Bytes::new(alloc).int32("_id", 1)])?,
-        long_found: found(alloc, &[Bytes::new(alloc).int64("_id", 1)])?,
-        no_memory: answer(alloc, refusal(alloc, 9004))?,
+        steps,
+        last: find(alloc)?,
+        no_memory: frame(alloc, 0, 7, &refusal(alloc, 9004))?,
     })
 }
 
@@ -135,96 +260,33 @@ fn is(reply: &[u8], wanted: &[u8]) -> bool {
             .all(|(i, (a, b))| a == b || (4..8).contains(&i))
 }
 
-/// What may stand in the collection.
-#[derive(Clone, Copy)]
-struct Possible {
-    nothing: bool,
-    int: bool,
-    long: bool,
-}
-
-const NOTHING: Possible = Possible {
-    nothing: true,
-    int: false,
-    long: false,
-};
-
-const INT: Possible = Possible {
-    nothing: false,
-    int: true,
-    long: false,
-};
-
-const LONG: Possible = Possible {
-    nothing: false,
-    int: false,
-    long: true,
-};
-
-impl Possible {
-    fn or(self, other: Possible) -> Possible {
-        Possible {
-            nothing: self.nothing || other.nothing,
-            int: self.int || other.int,
-            long: self.long || other.long,
-        }
-    }
-}
-
-impl Script {
-    /// What may stand after a find was answered so, if that is an answer for it.
-    fn found(&self, before: Possible, reply: Option<&Vec<u8>>) -> Option<Possible> {
-        // a find writes nothing, so it can't stop the server
-        let reply = reply?;
-        if is(reply, &self.no_memory) {
-            return Some(before);
-        }
-        if before.nothing && is(reply, &self.none_found) {
-            return Some(NOTHING);
-        }
-        if before.int && is(reply, &self.int_found) {
-            return Some(INT);
-        }
-        if before.long && is(reply, &self.long_found) {
-            return Some(LONG);
-        }
-        None
-    }
-
-    /// What may stand after an insert of this was answered so, if that is an answer for it.
-    fn inserted(
-        &self,
-        before: Possible,
-        reply: Option<&Vec<u8>>,
-        new: Possible,
-    ) -> Option<Possible> {
-        let Some(reply) = reply else {
-            // it is there or not
-            return if before.nothing {
-                Some(before.or(new))
-            } else {
-                None
-            };
-        };
-        if is(reply, &self.no_memory) {
-            return Some(before);
-        }
-        if before.nothing && is(reply, &self.inserted) {
-            return Some(new);
-        }
-        if (before.int || before.long) && is(reply, &self.duplicate) {
-            return Some(Possible {
-                nothing: false,
-                ..before
-            });
-        }
-        None
-    }
-
-    fn ponged(&self, reply: Option<&Vec<u8>>) -> bool {
+impl Outcome {
+    /// Whether this is its answer: none is where the server stopped, which only a message that changes something may do.
+    fn is_answer(&self, reply: Option<&Vec<u8>>) -> bool {
         match reply {
-            Some(reply) => is(reply, &self.ok) || is(reply, &self.no_memory),
-            None => false,
+            Some(reply) => is(reply, &self.reply),
+            None => self.before != self.after,
+        }
+    }
+}
+
+impl Step {
+    /// What may stand after a message was answered so, if that is an answer for what may have stood.
+    fn follow(&self, possible: u8, reply: Option<&Vec<u8>>, no_memory: &[u8]) -> Option<u8> {
+        if reply.is_some_and(|reply| is(reply, no_memory)) {
+            return Some(possible);
+        }
+        let mut after = 0;
+        for outcome in &self.outcomes {
+            if possible & outcome.before != 0 && outcome.is_answer(reply) {
+                after |= outcome.after;
+            }
+        }
+        match reply {
+            _ if after == 0 => None,
+            Some(_) => Some(after),
+            // what it changed is there or not
+            None => Some(possible | after),
         }
     }
 }
@@ -234,26 +296,23 @@ fn followed(alloc: Global, script: &Script, core: Core<MemDisk>) -> Result<bool,
     requires { IsSound memory_history core }
 {
     let connection = ConnId::new(0).ok_or("connection 0")?;
-    let ping = exchange(alloc, core, connection, &script.ping)?;
-    if !script.ponged(ping.reply.as_ref()) {
-        return Ok(false);
+    let mut core = core;
+    let mut possible = NOTHING;
+    'steps: for step in &script.steps {
+        let answered = exchange(alloc, core, connection, &step.message)?;
+        core = answered.core;
+        match step.follow(possible, answered.reply.as_ref(), &script.no_memory) {
+            Some(after) => possible = after,
+            None => return Ok(false),
+        }
     }
-    let first = exchange(alloc, ping.core, connection, &script.insert)?;
-    let Some(stored) = script.inserted(NOTHING, first.reply.as_ref(), INT) else {
-        return Ok(false);
-    };
-    let find = exchange(alloc, first.core, connection, &script.find)?;
-    let Some(stored) = script.found(stored, find.reply.as_ref()) else {
-        return Ok(false);
-    };
-    let again = exchange(alloc, find.core, connection, &script.again)?;
-    let Some(stored) = script.inserted(stored, again.reply.as_ref(), LONG) else {
-        return Ok(false);
-    };
     // what stands is found again by a server that opens the disk
-    let core = open(alloc, again.core.into_disk())?;
-    let last = exchange(alloc, core, connection, &script.find)?;
-    Ok(script.found(stored, last.reply.as_ref()).is_some())
+    let core = open(alloc, core.into_disk())?;
+    let last = exchange(alloc, core, connection, &script.last.message)?;
+    let after = script
+        .last
+        .follow(possible, last.reply.as_ref(), &script.no_memory);
+    Ok(after.is_some())
 }
 
 #[test]

@@ -11,61 +11,156 @@ use std::test::*;
 
 const CONFIG: Config = Config { max_pages: 40 };
 
-/// How many documents the script inserts, one a turn.
-const DOCUMENTS: usize = 3;
+/// How many turns of the script change something.
+const CHANGES: usize = 4;
 
-/// The frames of the script, and what a find answers where so many of the documents are there.
+/// A message, the frame that it is answered with, and how many changes there are then.
+#[derive(Drop)]
+struct Turn {
+    message: Vec<u8>,
+    reply: Vec<u8>,
+    changes: usize,
+}
+
+/// The turns of the script, and what a find answers after so many of the changes.
 #[derive(Drop)]
 struct Script {
     connection: ConnId,
-    inserts: Vec<Vec<u8>>,
+    turns: Vec<Turn>,
     find: Vec<u8>,
     founds: Vec<Vec<u8>>,
 }
 
-fn document(alloc: Global, number: usize) -> Bytes {
+fn document(alloc: Global, number: i32) -> Bytes {
     Bytes::new(alloc)
-        .int32("_id", i32::try_from(number).unwrap_or(-1))
+        .int32("_id", number)
+        .int32("a", 10i32.saturating_sub(number))
         .text("name", "a document")
 }
 
-fn insert(alloc: Global, number: usize) -> Result<Vec<u8>, AllocError> {
-    let documents = [document(alloc, number)];
-    let body = Bytes::new(alloc)
-        .text("insert", "c")
-        .documents("documents", &documents)
-        .text("$db", "t");
-    frame(alloc, 7, 0, &body)
+fn documents(alloc: Global, numbers: &[i32]) -> Result<Vec<Bytes>, AllocError> {
+    let mut documents = Vec::with_capacity(alloc, numbers.len())?;
+    for number in numbers {
+        documents.push(document(alloc, *number))?;
+    }
+    Ok(documents)
 }
 
-/// The first reply of a connection, to a find of so many documents.
-fn found(alloc: Global, count: usize) -> Result<Vec<u8>, AllocError> {
-    let mut documents = Vec::new(alloc);
-    for number in 0..count {
-        documents.push(document(alloc, number))?;
-    }
+fn insert(alloc: Global, numbers: &[i32]) -> Result<Bytes, AllocError> {
+    Ok(
+        Bytes::new(alloc)
+            .text("insert", "c")
+            .documents("documents", &documents(alloc, numbers)?)
+            .text("$db", "t"),
+    )
+}
+
+/// A document in which this field is greater than a number.
+fn above(alloc: Global, name: &str, number: i32) -> Bytes {
+    Bytes::new(alloc).document(name, &Bytes::new(alloc).int32("$gt", number))
+}
+
+/// A find of the documents above 0 in rising order of `a`, which gives that alone.
+fn query(alloc: Global) -> Bytes {
+    let projection = Bytes::new(alloc).int32("a", 1).int32("_id", 0);
+    Bytes::new(alloc)
+        .text("find", "c")
+        .document("filter", &above(alloc, "_id", 0))
+        .document("sort", &Bytes::new(alloc).int32("a", 1))
+        .document("projection", &projection)
+        .text("$db", "t")
+}
+
+/// A delete of document 0 by its `a`, and of those above 1.
+fn delete(alloc: Global) -> Bytes {
+    let statements = [
+        Bytes::new(alloc)
+            .document("q", &Bytes::new(alloc).int32("a", 10))
+            .int32("limit", 1),
+        Bytes::new(alloc)
+            .document("q", &above(alloc, "_id", 1))
+            .int32("limit", 0),
+    ];
+    Bytes::new(alloc)
+        .text("delete", "c")
+        .documents("deletes", &statements)
+        .text("$db", "t")
+}
+
+fn count(alloc: Global) -> Bytes {
+    Bytes::new(alloc)
+        .text("count", "c")
+        .document("query", &above(alloc, "a", 0))
+        .text("$db", "t")
+}
+
+/// What an insert, a delete or a count of so many is answered.
+fn counted(alloc: Global, count: i32) -> Bytes {
+    Bytes::new(alloc).int32("n", count).int32("ok", 1)
+}
+
+/// What a find of these documents is answered.
+fn given(alloc: Global, documents: &[Bytes]) -> Bytes {
     let cursor = Bytes::new(alloc)
-        .documents("firstBatch", &documents)
+        .documents("firstBatch", documents)
         .int64("id", 0)
         .text("ns", "t.c");
-    let body = Bytes::new(alloc).document("cursor", &cursor).int32("ok", 1);
-    frame(alloc, 1, 7, &body)
+    Bytes::new(alloc).document("cursor", &cursor).int32("ok", 1)
+}
+
+/// The turn with this number, counted from 1.
+fn make_turn(
+    alloc: Global,
+    number: u32,
+    message: Bytes,
+    reply: Bytes,
+    changes: usize,
+) -> Result<Turn, AllocError> {
+    Ok(Turn {
+        message: frame(alloc, 7, 0, &message)?,
+        reply: frame(alloc, number, 7, &reply)?,
+        changes,
+    })
+}
+
+fn make_turns(alloc: Global) -> Result<Vec<Turn>, AllocError> {
+    let rising = [
+        Bytes::new(alloc).int32("a", 8),
+        Bytes::new(alloc).int32("a", 9),
+    ];
+    let mut turns = Vec::new(alloc);
+    turns.push(make_turn(alloc, 1, insert(alloc, &[0, 1, 2])?, counted(alloc, 3), 1)?)?;
+    turns.push(make_turn(alloc, 2, query(alloc), given(alloc, &rising), 1)?)?;
+    turns.push(make_turn(alloc, 3, insert(alloc, &[3])?, counted(alloc, 1), 2)?)?;
+    turns.push(make_turn(alloc, 4, delete(alloc), counted(alloc, 3), 3)?)?;
+    turns.push(make_turn(alloc, 5, count(alloc), counted(alloc, 1), 3)?)?;
+    turns.push(make_turn(alloc, 6, insert(alloc, &[0])?, counted(alloc, 1), 4)?)?;
+    Ok(turns)
+}
+
+/// The first reply of a connection, to a find of these documents.
+fn found(alloc: Global, numbers: &[i32]) -> Result<Vec<u8>, AllocError> {
+    frame(alloc, 1, 7, &given(alloc, &documents(alloc, numbers)?))
+}
+
+/// What a find answers before all changes, and after each.
+fn make_founds(alloc: Global) -> Result<Vec<Vec<u8>>, AllocError> {
+    let mut founds = Vec::new(alloc);
+    founds.push(found(alloc, &[])?)?;
+    founds.push(found(alloc, &[0, 1, 2])?)?;
+    founds.push(found(alloc, &[0, 1, 2, 3])?)?;
+    founds.push(found(alloc, &[1])?)?;
+    founds.push(found(alloc, &[0, 1])?)?;
+    Ok(founds)
 }
 
 fn make_script(alloc: Global) -> Result<Script, Fail> {
-    let mut inserts = Vec::new(alloc);
-    let mut founds = Vec::new(alloc);
-    for number in 0..DOCUMENTS {
-        inserts.push(insert(alloc, number)?)?;
-        founds.push(found(alloc, number)?)?;
-    }
-    founds.push(found(alloc, DOCUMENTS)?)?;
     let find = Bytes::new(alloc).text("find", "c").text("$db", "t");
     Ok(Script {
         connection: ConnId::new(0).ok_or("connection 0")?,
-        inserts,
+        turns: make_turns(alloc)?,
         find: frame(alloc, 7, 0, &find)?,
-        founds,
+        founds: make_founds(alloc)?,
     })
 }
 
@@ -86,24 +181,29 @@ fn exchange<D: Disk>(
     }
 }
 
-/// Inserts the documents, one a turn, until the server stops. Answers how many were acknowledged.
-fn insert_each<D: Disk>(core: &mut Core<D>, script: &Script) -> Result<usize, Fail>
+/// Sends the messages, one a turn, until the server stops. Answers how many changes were acknowledged.
+fn run_each<D: Disk>(core: &mut Core<D>, script: &Script) -> Result<usize, Fail>
     requires { IsSound D.history core.old }
     ensures { IsSound D.history core.new }
 {
-    for (i, message) in script.inserts.iter().enumerate() {
-        let Some(reply) = exchange(core, script.connection, message)? else {
-            return Ok(i);
+    let mut acknowledged = 0;
+    'turns: for turn in &script.turns {
+        let Some(reply) = exchange(core, script.connection, &turn.message)? else {
+            // a turn that changes nothing makes no call of the disk
+            if turn.changes == acknowledged {
+                return Err(Fail::from("a find or a count has stopped it"));
+            }
+            break;
         };
-        // {n: 1, ok: 1}
-        if reply.len() != 41 {
+        if reply.as_slice() != turn.reply.as_slice() {
             return Err(Fail::from("another answer"));
         }
+        acknowledged = turn.changes;
     }
-    Ok(DOCUMENTS)
+    Ok(acknowledged)
 }
 
-/// How many of the documents an image holds, which are the first ones, and its disk.
+/// How many of the changes an image holds, which are the first ones, and its disk.
 fn held(alloc: Global, script: &Script, disk: MemDisk) -> Result<(usize, MemDisk), Fail> {
     let Ok(mut core) = Core::open(alloc, disk, CONFIG) else {
         return Err(Fail::from("an image that doesn't open"));
@@ -117,8 +217,7 @@ fn held(alloc: Global, script: &Script, disk: MemDisk) -> Result<(usize, MemDisk
     Ok((count, core.into_disk()))
 }
 
-/// Whether each image holds the documents that were acknowledged, or those of one turn more, and opened a second time
-/// holds the same.
+/// Whether each image holds the changes that were acknowledged, or one more, and opened a second time holds the same.
 fn all_images(
     alloc: Global,
     script: &Script,
@@ -139,8 +238,8 @@ fn all_images(
 fn stop_everywhere(rt: HostRuntime) -> Result<(), Fail> {
     let alloc = rt.alloc();
     let script = make_script(alloc)?;
-    // one sync opens it, and each turn writes a page and a root, and syncs twice
-    let all = 1 + 11 * DOCUMENTS as u64;
+    // one sync opens it, and each change writes a page and a root, and syncs twice
+    let all = 1 + 11 * CHANGES as u64;
     for n in 0..all + 1 {
         let disk = StopDisk::new(MemDisk::new(alloc), n);
         let mut core = match Core::open(alloc, disk, CONFIG) {
@@ -151,8 +250,8 @@ fn stop_everywhere(rt: HostRuntime) -> Result<(), Fail> {
                 continue;
             }
         };
-        let acknowledged = insert_each(&mut core, &script)?;
-        assert!(rt; acknowledged < DOCUMENTS || n == all);
+        let acknowledged = run_each(&mut core, &script)?;
+        assert!(rt; acknowledged < CHANGES || n == all);
         let disk = core.into_disk().into_inner();
         assert!(rt; all_images(alloc, &script, &disk, acknowledged)?);
     }
@@ -163,19 +262,21 @@ fn stop_everywhere(rt: HostRuntime) -> Result<(), Fail> {
 fn both_subsets(rt: HostRuntime) -> Result<(), Fail> {
     let alloc = rt.alloc();
     let script = make_script(alloc)?;
-    // the first turn is stopped between the write of its root and the sync behind it
-    let disk = StopDisk::new(MemDisk::new(alloc), 1 + 8 + 1 + 1);
-    let Ok(mut core) = Core::open(alloc, disk, CONFIG) else {
-        return Err(Fail::from("zeros don't open"));
-    };
-    assert_eq!(rt; insert_each(&mut core, &script)?, 0);
-    let disk = core.into_disk().into_inner();
-    let (without, again) = held(alloc, &script, disk.image(0)?)?;
-    assert_eq!(rt; without, 0);
-    assert_eq!(rt; held(alloc, &script, again)?.0, 0);
-    let (with, again) = held(alloc, &script, disk.image(1)?)?;
-    assert_eq!(rt; with, 1);
-    assert_eq!(rt; held(alloc, &script, again)?.0, 1);
+    for change in 0..CHANGES {
+        // its turn is stopped between the write of its root and the sync behind it
+        let disk = StopDisk::new(MemDisk::new(alloc), 1 + 11 * change as u64 + 8 + 1 + 1);
+        let Ok(mut core) = Core::open(alloc, disk, CONFIG) else {
+            return Err(Fail::from("zeros don't open"));
+        };
+        assert_eq!(rt; run_each(&mut core, &script)?, change);
+        let disk = core.into_disk().into_inner();
+        let (without, again) = held(alloc, &script, disk.image(0)?)?;
+        assert_eq!(rt; without, change);
+        assert_eq!(rt; held(alloc, &script, again)?.0, change);
+        let (with, again) = held(alloc, &script, disk.image(1)?)?;
+        assert_eq!(rt; with, change + 1);
+        assert_eq!(rt; held(alloc, &script, again)?.0, change + 1);
+    }
     Ok(())
 }
 
@@ -187,17 +288,17 @@ fn fail_at(alloc: Global, script: &Script, n: u64, lands: bool) -> Result<bool, 
         // two reads and a sync
         Err((_, fault)) => return Ok(n <= 3 && fault == OpenFault::Device),
     };
-    let acknowledged = insert_each(&mut core, script)?;
+    let acknowledged = run_each(&mut core, script)?;
     let stopped = exchange(&mut core, script.connection, &script.find)?.is_none();
     let disk = core.into_disk().into_inner();
-    Ok(stopped && acknowledged < DOCUMENTS && all_images(alloc, script, &disk, acknowledged)?)
+    Ok(stopped && acknowledged < CHANGES && all_images(alloc, script, &disk, acknowledged)?)
 }
 
 #[test]
 fn fail_everywhere(rt: HostRuntime) -> Result<(), Fail> {
     let alloc = rt.alloc();
     let script = make_script(alloc)?;
-    for n in 1..3 + 11 * DOCUMENTS as u64 + 1 {
+    for n in 1..3 + 11 * CHANGES as u64 + 1 {
         assert!(rt; fail_at(alloc, &script, n, false)?, "{n}");
         assert!(rt; fail_at(alloc, &script, n, true)?, "{n}");
     }
@@ -213,7 +314,7 @@ fn a_cut_turn_closes_nothing(rt: HostRuntime) -> Result<(), Fail> {
     let Ok(mut core) = Core::open(alloc, disk, CONFIG) else {
         return Err(Fail::from("zeros don't open"));
     };
-    assert_eq!(rt; insert_each(&mut core, &script)?, 0);
+    assert_eq!(rt; run_each(&mut core, &script)?, 0);
     assert!(rt; !core.waiting(script.connection));
     core.feed(script.connection, &[25, 0, 0, 0])?;
     assert!(rt; core.waiting(script.connection));

@@ -1,0 +1,23 @@
+//! Finds, counts and deletes, by public calls: commands written as text, asked of a whole server one after the other.
+#![tactic(auto)]
+
+#[cfg(test)]
+mod deleting;
+#[cfg(test)]
+mod fields;
+#[cfg(test)]
+mod kept;
+#[cfg(test)]
+mod matching;
+#[cfg(test)]
+mod missing;
+#[cfg(test)]
+mod projecting;
+#[cfg(test)]
+mod session;
+#[cfg(test)]
+mod sorting;
+#[cfg(test)]
+mod turns;
+#[cfg(test)]
+mod windows;
