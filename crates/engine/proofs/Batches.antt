@@ -3,7 +3,7 @@ use Rattle.std.proofs.Common.{◌≡◌, ℕ, ◌+◌, ◌<◌, ◌≤◌, List,
 use Rattle.std.proofs.lemmas.List.{drop_all}
 use Rattle.bson.specs.Edits.{append_items-none, append_items-one}
 use Rattle.bson.specs.Tree.{document, Pairs, Items, no_items, item, append_items}
-use Rattle.engine.specs.Step.{items_of_documents}
+use Rattle.engine.specs.Cursors.{items_of_documents}
 use Rattle.engine.proofs.Steps.{drop_step}
 
 pub one_more : (all : Items) (ds : List Pairs) (i : ℕ) (d : Pairs) (ts us : Items) → i < length ds → d ≡ get_or ds i d → append_items ts (items_of_documents (drop i ds)) ≡ all → us ≡ append_items ts (item (document d) no_items)

@@ -10,12 +10,11 @@ use Rattle.bson.specs.Lawful.{levels, pairs_levels}
 use Rattle.bson.specs.Sizing.{framed-length, pairs_size-pair}
 use Rattle.bson.specs.Spelling.{tree_bytes, pairs_bytes, framed}
 use Rattle.value_order.specs.KeyText.{tree_text}
-use Rattle.value_order.specs.declared.TheConstants.{KEY_LIMIT}
-use Rattle.engine.specs.Documents.{◌>>=◌, unless, refused_if, or_refused, pairs_fault, without, first_pair, id_name, id_first, no_array, id_of, key_of, checked}
+use Rattle.path.specs.Outcomes.{◌>>=◌, unless, or_refused}
+use Rattle.engine.specs.Documents.{refused_if, pairs_fault, without, first_pair, id_name, id_first, no_array, id_of, key_of, checked}
 use Rattle.engine.specs.Lawful.{IsStored}
 use Rattle.path.specs.declared.refusal.Refusal.{Refusal}
 use Rattle.path.specs.declared.refusal.Refusal.TheVariants as refusals
-use Rattle.engine.specs.declared.TheConstants.{STORED_LIMIT, STORED_LEVELS}
 use Rattle.engine.proofs.IdFirst.{pairs_levels-without}
 
 -- ---- a document without a name, twice
@@ -120,12 +119,12 @@ record Passed (large deep : Bool) (fault : Option Refusal) (id : Option Tree) (t
   flat : deep ≡ false
   named : fault ≡ None
   found : id ≡ Some t
-  short : nat_lt KEY_LIMIT (length (tree_text t)) ≡ false
+  short : nat_lt 500 (length (tree_text t)) ≡ false
 
 abbrev keyed : Option Tree → Result Tree Refusal
 keyed id = do
   t ← or_refused id refusals.BadValue
-  unless (nat_lt KEY_LIMIT (length (tree_text t))) refusals.KeyTooLong (Ok t)
+  unless (nat_lt 500 (length (tree_text t))) refusals.KeyTooLong (Ok t)
 
 of_key : (u t : Tree) (long : Bool) → unless long refusals.KeyTooLong (Ok u) ≡ Ok t → (u ≡ t) × (long ≡ false)
 of_key u t true e = absurd cc
@@ -138,8 +137,8 @@ passed false true fault id t e = absurd cc
 passed false false (Some r) id t e = absurd cc
 passed false false None None t e = absurd cc
 passed false false None (Some u) t e =
-    let k = of_key u t (nat_lt KEY_LIMIT (length (tree_text u))) e in
-    record { small = refl; flat = refl; named = refl; found = ap (λ (x : Tree). Some x) k.0; short = ap (λ (x : Tree). nat_lt KEY_LIMIT (length (tree_text x))) (sym k.0) ∙ k.1 }
+    let k = of_key u t (nat_lt 500 (length (tree_text u))) e in
+    record { small = refl; flat = refl; named = refl; found = ap (λ (x : Tree). Some x) k.0; short = ap (λ (x : Tree). nat_lt 500 (length (tree_text x))) (sym k.0) ∙ k.1 }
 
 -- a document that passed is lawful as it is stored, and keeps its `_id`
 pub record Keeps (ps : Pairs) (t : Tree) : Type 0 where
@@ -149,16 +148,16 @@ pub record Keeps (ps : Pairs) (t : Tree) : Type 0 where
 pub keeps : (ps : Pairs) (t : Tree) → checked ps ≡ Ok t → Keeps ps t
 unfolding checked
 keeps ps t e =
-    let p = passed (nat_lt STORED_LIMIT (length (framed (pairs_bytes ps)))) (nat_lt STORED_LEVELS (suc (pairs_levels ps))) (pairs_fault (id_first ps)) (id_of ps) t e in
+    let p = passed (nat_lt 65535 (length (framed (pairs_bytes ps)))) (nat_lt 90 (suc (pairs_levels ps))) (pairs_fault (id_first ps)) (id_of ps) t e in
     let id : id_of (id_first ps) ≡ Some t = id_of-id_first ps ∙ p.found in
     let key : key_of (id_first ps) ≡ t = id_is_key (id_first ps) t id in
     record {
       lawful = record {
-        size = omega (arith, framed-id_first ps, ltb-false STORED_LIMIT (length (framed (pairs_bytes ps))) p.small);
-        depth = omega (arith, levels-id_first ps, ltb-false STORED_LEVELS (suc (pairs_levels ps)) p.flat);
+        size = omega (arith, framed-id_first ps, ltb-false 65535 (length (framed (pairs_bytes ps))) p.small);
+        depth = omega (arith, levels-id_first ps, ltb-false 90 (suc (pairs_levels ps)) p.flat);
         names = p.named;
         key = id ∙ ap (λ (x : Tree). Some x) (sym key);
-        short = subst (λ (x : Tree). length (tree_text x) ≤ KEY_LIMIT) (sym key) (ltb-false KEY_LIMIT (length (tree_text t)) p.short);
+        short = subst (λ (x : Tree). length (tree_text x) ≤ 500) (sym key) (ltb-false 500 (length (tree_text t)) p.short);
         first = id_first-id_first ps;
       };
       key = key;

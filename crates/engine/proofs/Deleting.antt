@@ -23,9 +23,9 @@ use Rattle.engine.proofs.Located.{Gap, There, located}
 use Rattle.engine.proofs.Rewinding.{apart_set}
 use Rattle.engine.proofs.Numbers.{numbers_set}
 use Rattle.engine.specs.Places.{collection_at, no_collection, IsThere}
-use Rattle.engine.specs.Step.{deleted_in}
+use Rattle.engine.specs.Delete.{deleted_in, without_at, without_first, after_deletion, after_deletions}
 use Rattle.engine.specs.Progress.{Leaves, LeavesAll}
-use Rattle.engine.specs.Query.{Deletion, without_at, without_first, left_by, left}
+use Rattle.commands.specs.Delete.{Deletion}
 
 All-remove : {X : Type 0} (P : X → Type 0) (xs : List X) (i : ℕ) → All P xs → All P (remove xs i)
 All-remove P [] zero h = h
@@ -39,16 +39,16 @@ without_kept : {X : Type 0} (P : X → Type 0) (o : Option ℕ) (xs : List X) �
 without_kept P None xs h = h
 without_kept P (Some i) xs h = All-remove P xs i h
 
-by_kept : (P : Pairs → Type 0) (d : Deletion) (ds : List Pairs) → All P ds → All P (left_by d ds)
+by_kept : (P : Pairs → Type 0) (d : Deletion) (ds : List Pairs) → All P ds → All P (after_deletion d ds)
 by_kept P d ds h = at d.only_first
   where
     at : (b : Bool) → All P (if b then without_first (matches d.filter) ds else filter (λ ps. not (matches d.filter ps)) ds)
     at true = without_kept P (position (matches d.filter) ds) ds h
     at false = All-filter (λ ps. not (matches d.filter ps)) P ds h
 
-pub left_kept : (P : Pairs → Type 0) (deletions : List Deletion) (ds : List Pairs) → All P ds → All P (left deletions ds)
+pub left_kept : (P : Pairs → Type 0) (deletions : List Deletion) (ds : List Pairs) → All P ds → All P (after_deletions deletions ds)
 left_kept P [] ds h = h
-left_kept P (d ∷ rest) ds h = left_kept P rest (left_by d ds) (by_kept P d ds h)
+left_kept P (d ∷ rest) ds h = left_kept P rest (after_deletion d ds) (by_kept P d ds h)
 
 -- ---- what holds of each document and each later one
 
@@ -56,16 +56,16 @@ without_apart : {X : Type 0} (R : X → X → Type 0) (o : Option ℕ) (xs : Lis
 without_apart R None xs within h = h
 without_apart R (Some i) xs within h = all_pairs_remove R xs i (within i refl) h
 
-by_apart : (R : Pairs → Pairs → Type 0) (d : Deletion) (ds : List Pairs) → AllPairs R ds → AllPairs R (left_by d ds)
+by_apart : (R : Pairs → Pairs → Type 0) (d : Deletion) (ds : List Pairs) → AllPairs R ds → AllPairs R (after_deletion d ds)
 by_apart R d ds h = at d.only_first
   where
     at : (b : Bool) → AllPairs R (if b then without_first (matches d.filter) ds else filter (λ ps. not (matches d.filter ps)) ds)
     at true = without_apart R (position (matches d.filter) ds) ds (λ i e. (position-Some (matches d.filter) ds i no_pairs e).0) h
     at false = AllPairs-filter R (λ ps. not (matches d.filter ps)) ds h
 
-pub left_apart : (R : Pairs → Pairs → Type 0) (deletions : List Deletion) (ds : List Pairs) → AllPairs R ds → AllPairs R (left deletions ds)
+pub left_apart : (R : Pairs → Pairs → Type 0) (deletions : List Deletion) (ds : List Pairs) → AllPairs R ds → AllPairs R (after_deletions deletions ds)
 left_apart R [] ds h = h
-left_apart R (d ∷ rest) ds h = left_apart R rest (left_by d ds) (by_apart R d ds h)
+left_apart R (d ∷ rest) ds h = left_apart R rest (after_deletion d ds) (by_apart R d ds h)
 
 -- ---- as many documents as before are those from before
 
@@ -94,34 +94,34 @@ without_less : {X : Type 0} (o : Option ℕ) (xs : List X) → IsLess (without_a
 without_less None xs = record { most = omega arith; same = λ e. refl }
 without_less (Some i) xs = remove_less xs i
 
-by_less : (d : Deletion) (ds : List Pairs) → IsLess (left_by d ds) ds
+by_less : (d : Deletion) (ds : List Pairs) → IsLess (after_deletion d ds) ds
 by_less d ds = at d.only_first
   where
     at : (b : Bool) → IsLess (if b then without_first (matches d.filter) ds else filter (λ ps. not (matches d.filter ps)) ds) ds
     at true = without_less (position (matches d.filter) ds) ds
     at false = filter_less (λ ps. not (matches d.filter ps)) ds
 
-left_less : (deletions : List Deletion) (ds : List Pairs) → IsLess (left deletions ds) ds
+left_less : (deletions : List Deletion) (ds : List Pairs) → IsLess (after_deletions deletions ds) ds
 left_less [] ds = record { most = omega arith; same = λ e. refl }
 left_less (d ∷ rest) ds =
     let first = by_less d ds in
-    let later = left_less rest (left_by d ds) in
+    let later = left_less rest (after_deletion d ds) in
     record {
       most = omega (arith, first.most, later.most);
       same = λ e. later.same (omega (arith, e, first.most, later.most)) ∙ first.same (omega (arith, e, first.most, later.most));
     }
 
-pub left_most : (deletions : List Deletion) (ds : List Pairs) → length (left deletions ds) ≤ length ds
+pub left_most : (deletions : List Deletion) (ds : List Pairs) → length (after_deletions deletions ds) ≤ length ds
 left_most deletions ds = (left_less deletions ds).most
 
-pub left_same : (deletions : List Deletion) (ds : List Pairs) → length ds - length (left deletions ds) ≡ 0 → left deletions ds ≡ ds
+pub left_same : (deletions : List Deletion) (ds : List Pairs) → length ds - length (after_deletions deletions ds) ≡ 0 → after_deletions deletions ds ≡ ds
 left_same deletions ds e =
     let l = left_less deletions ds in
     l.same (omega (arith, e, l.most))
 
 -- ---- a collection loses documents
 
-pub cut_held : (c : Collection) (deletions : List Deletion) → IsHeld c → IsHeld (record c { documents = left deletions c.documents })
+pub cut_held : (c : Collection) (deletions : List Deletion) → IsHeld c → IsHeld (record c { documents = after_deletions deletions c.documents })
 cut_held c deletions h = record {
   lawful = record {
     rising = left_apart (λ d e. compare (key_of d) (key_of e) ≡ orders.Less) deletions c.documents h.lawful.rising;
@@ -135,23 +135,23 @@ module _ (name : List ℕ) (deletions : List Deletion) (cs : List Collection) (a
   here = collection_at cs at
 
   abbrev cut : Collection
-  cut = record here { documents = left deletions here.documents }
+  cut = record here { documents = after_deletions deletions here.documents }
 
   loses : deleted_in (find_collection cs name) deletions cs ≡ set cs at cut
   loses = ap (λ (o : Option Collection). deleted_in o deletions cs) there.found ∙ there.replaced cut there.named
 
-  lost : (n : ℕ) → n ≡ length here.documents - length (left deletions here.documents) → n ≡ length (documents_of cs name) - length (left deletions (documents_of cs name))
-  lost n e = e ∙ ap (λ (o : Option Collection). length (documents_or_none o) - length (left deletions (documents_or_none o))) (sym there.found)
+  lost : (n : ℕ) → n ≡ length here.documents - length (after_deletions deletions here.documents) → n ≡ length (documents_of cs name) - length (after_deletions deletions (documents_of cs name))
+  lost n e = e ∙ ap (λ (o : Option Collection). length (documents_or_none o) - length (after_deletions deletions (documents_or_none o))) (sym there.found)
 
   -- the code's names of them
-  module _ (c : Collection) (is : c ≡ here) (before rest : List Pairs) (b : before ≡ c.documents) (r : rest ≡ left deletions before) (gone : ℕ) (g : gone ≡ length before - length rest) where
-    rest_is : rest ≡ left deletions here.documents
-    rest_is = r ∙ ap (left deletions) (b ∙ ap (λ (x : Collection). x.documents) is)
+  module _ (c : Collection) (is : c ≡ here) (before rest : List Pairs) (b : before ≡ c.documents) (r : rest ≡ after_deletions deletions before) (gone : ℕ) (g : gone ≡ length before - length rest) where
+    rest_is : rest ≡ after_deletions deletions here.documents
+    rest_is = r ∙ ap (after_deletions deletions) (b ∙ ap (λ (x : Collection). x.documents) is)
 
     fewer : gone ≡ length here.documents - length rest
     fewer = omega (arith, g, ap length b, ap (λ (x : Collection). length x.documents) is)
 
-    gone_is : gone ≡ length here.documents - length (left deletions here.documents)
+    gone_is : gone ≡ length here.documents - length (after_deletions deletions here.documents)
     gone_is = omega (arith, fewer, ap length rest_is)
 
     pub leaves_rest : IsHeld c → gone ≢ 0 → Leaves name deletions cs at rest gone
@@ -192,7 +192,7 @@ deleted_lawful cs name deletions h = at (located nat_list_cmp_total (λ (c : Col
     at (inl g) = subst (λ (o : Option Collection). IsLawfulState (deleted_in o deletions cs)) (sym (missing cs g.0 name g.1)) h
     at (inr t) =
         let there = there_at cs name t.place h.apart t.within t.same in
-        let less : Collection = record (collection_at cs t.place) { documents = left deletions (collection_at cs t.place).documents } in
+        let less : Collection = record (collection_at cs t.place) { documents = after_deletions deletions (collection_at cs t.place).documents } in
         let kept = h.kept t.place no_collection t.within in
         let one : IsKept less = record {
           lawful = record {

@@ -12,27 +12,27 @@ use Rattle.roots.specs.declared.store.CommitFault.TheVariants as faults
 use Rattle.engine.specs.World.{World, Collection, undone}
 use Rattle.engine.specs.Lawful.{IsReadable, IsLawfulState}
 use Rattle.engine.specs.Stored.{pairs_of}
-use Rattle.engine.specs.View.{world, begun}
-use Rattle.engine.specs.Durable.{Holds, past, wrote, stopped, IsRunning, IsSound}
+use Rattle.engine.specs.View.{world, turn_start}
+use Rattle.engine.specs.Durable.{Holds, disk_history, has_changes, is_stopped, IsRunning, IsSound}
 use Rattle.engine.specs.Committing.{Saves, Commits}
 use Rattle.engine.specs.declared.engine.Engine.{Engine}
 use Rattle.engine.proofs.Rising.{are_row}
 use Rattle.engine.proofs.Saving.{fault_of, not_both}
 
-pub held : (state : List Collection) (image : ℕ → List ℕ) → IsLawfulState state → All IsReadable state → StandsFor image (pairs_bytes (pairs_of state)) → Holds image state
-held state image lawful readable stands = record { lawful = lawful; readable = readable; pairs = record { row = are_row state lawful readable; stands = stands } }
+pub held : (collections : List Collection) (image : ℕ → List ℕ) → IsLawfulState collections → All IsReadable collections → StandsFor image (pairs_bytes (pairs_of collections)) → Holds image collections
+held collections image lawful readable stands = record { lawful = lawful; readable = readable; pairs = record { row = are_row collections lawful readable; stands = stands } }
 
 module _ {D : Type 0} (history : D → History) (old new : Engine D) (h : IsSound history old) where
   -- what stood for the bytes that were committed last holds the collections from the beginning of the turn
-  old_held : KeepsWord (past history old) → IsRunning old → (image : ℕ → List ℕ) → StandsFor image (stores.committed history old.store) → Holds image (begun old).state
-  old_held k run image stands = held (begun old).state image h.before h.readable (subst (StandsFor image) (h.committed k run) stands)
+  old_held : KeepsWord (disk_history history old) → IsRunning old → (image : ℕ → List ℕ) → StandsFor image (stores.committed history old.store) → Holds image (turn_start old).collections
+  old_held k run image stands = held (turn_start old).collections image h.before h.readable (subst (StandsFor image) (h.committed k run) stands)
 
   -- nothing was changed
-  pub kept_as_it_is : new ≡ old → begun old ≡ world old → wrote old ≡ false → Commits history (Ok tt) old new
+  pub kept_as_it_is : new ≡ old → turn_start old ≡ world old → has_changes old ≡ false → Commits history (Ok tt) old new
   kept_as_it_is same idle rests =
       subst (λ (e : Engine D). Commits history (Ok tt) old e) (sym same) (record {
         sound = h;
-        on = goes_nowhere (past history old);
+        on = goes_nowhere (disk_history history old);
         done = refl;
         stops = λ e. absurd cc;
         memory = λ e. absurd cc;
@@ -40,9 +40,9 @@ module _ {D : Type 0} (history : D → History) (old new : Engine D) (h : IsSoun
         ended = idle;
         limit = refl;
         running = λ e. refl;
-        any_moment = λ run. started (past history old) (λ image. Holds image (begun old).state ⊎ Holds image (world old).state) (λ k image left. inl (h.holds run k image left));
+        any_moment = λ run. started (disk_history history old) (λ image. Holds image (turn_start old).collections ⊎ Holds image (world old).collections) (λ k image left. inl (h.holds run k image left));
         kept = λ run e. tt;
-        acknowledged = λ run. subst (λ (w : World). LeavesNow (past history old) (λ image. Holds image w.state)) idle (h.holds run);
+        acknowledged = λ run. subst (λ (w : World). LeavesNow (disk_history history old) (λ image. Holds image w.collections)) idle (h.holds run);
         device = λ e k. absurd cc;
         idle = λ e. refl;
         quiet = λ e. (refl, refl);
@@ -50,21 +50,21 @@ module _ {D : Type 0} (history : D → History) (old new : Engine D) (h : IsSoun
       })
 
   -- the collections are as they were at the beginning of the turn
-  module _ (moved : wrote old ≡ true) (rests : wrote new ≡ false) (back : world new ≡ undone (begun old) (world old)) (ended : begun new ≡ world new) where
-    first_state : (begun new).state ≡ (begun old).state
-    first_state = ap (λ (w : World). w.state) (ended ∙ back)
+  module _ (moved : has_changes old ≡ true) (rests : has_changes new ≡ false) (back : world new ≡ undone (turn_start old) (world old)) (ended : turn_start new ≡ world new) where
+    first_state : (turn_start new).collections ≡ (turn_start old).collections
+    first_state = ap (λ (w : World). w.collections) (ended ∙ back)
 
-    now_state : (world new).state ≡ (begun old).state
-    now_state = ap (λ (w : World). w.state) back
+    now_state : (world new).collections ≡ (turn_start old).collections
+    now_state = ap (λ (w : World). w.collections) back
 
-    pub sound_again : stores.IsSound history new.store → (IsRunning new → LeavesNow (past history new) (λ image. Holds image (begun old).state))
-        → (KeepsWord (past history new) → IsRunning new → stores.committed history new.store ≡ pairs_bytes (pairs_of (begun old).state)) → IsSound history new
+    pub sound_again : stores.IsSound history new.store → (IsRunning new → LeavesNow (disk_history history new) (λ image. Holds image (turn_start old).collections))
+        → (KeepsWord (disk_history history new) → IsRunning new → stores.committed history new.store ≡ pairs_bytes (pairs_of (turn_start old).collections)) → IsSound history new
     sound_again store holds committed = record {
       store = store;
       lawful = subst IsLawfulState (sym now_state) h.before;
       before = subst IsLawfulState (sym first_state) h.before;
       readable = subst (λ (cs : List Collection). All IsReadable cs) (sym first_state) h.readable;
-      holds = λ run. subst (λ (cs : List Collection). LeavesNow (past history new) (λ image. Holds image cs)) (sym first_state) (holds run);
+      holds = λ run. subst (λ (cs : List Collection). LeavesNow (disk_history history new) (λ image. Holds image cs)) (sym first_state) (holds run);
       committed = λ k run. committed k run ∙ ap (λ (cs : List Collection). pairs_bytes (pairs_of cs)) (sym first_state);
     }
 
@@ -72,9 +72,9 @@ module _ {D : Type 0} (history : D → History) (old new : Engine D) (h : IsSoun
     pub undone_before : new.store ≡ old.store → Commits history (Err faults.Memory) old new
     undone_before same = record {
       sound = sound_again (subst (stores.IsSound history) (sym same) h.store)
-          (subst (λ s. stores.is_stopped s ≡ false → LeavesNow (history s.disk) (λ image. Holds image (begun old).state)) (sym same) h.holds)
-          (subst (λ s. KeepsWord (history s.disk) → stores.is_stopped s ≡ false → stores.committed history s ≡ pairs_bytes (pairs_of (begun old).state)) (sym same) h.committed);
-      on = subst (λ s. GoesOn (past history old) (history s.disk)) (sym same) (goes_nowhere (past history old));
+          (subst (λ s. stores.is_stopped s ≡ false → LeavesNow (history s.disk) (λ image. Holds image (turn_start old).collections)) (sym same) h.holds)
+          (subst (λ s. KeepsWord (history s.disk) → stores.is_stopped s ≡ false → stores.committed history s ≡ pairs_bytes (pairs_of (turn_start old).collections)) (sym same) h.committed);
+      on = subst (λ s. GoesOn (disk_history history old) (history s.disk)) (sym same) (goes_nowhere (disk_history history old));
       done = tt;
       stops = λ e. absurd cc;
       memory = λ e. back;
@@ -82,26 +82,26 @@ module _ {D : Type 0} (history : D → History) (old new : Engine D) (h : IsSoun
       ended = ended;
       limit = ap stores.limit_of same;
       running = λ e. ap stores.is_stopped same;
-      any_moment = λ run. subst (λ s. LeavesOnly (past history old) (history s.disk) (λ image. Holds image (begun old).state ⊎ Holds image (world old).state)) (sym same)
-          (started (past history old) (λ image. Holds image (begun old).state ⊎ Holds image (world old).state) (λ k image left. inl (h.holds run k image left)));
-      kept = λ run e. subst (λ s. LeavesOnly (past history old) (history s.disk) (λ image. Holds image (begun old).state)) (sym same)
-          (started (past history old) (λ image. Holds image (begun old).state) (h.holds run));
+      any_moment = λ run. subst (λ s. LeavesOnly (disk_history history old) (history s.disk) (λ image. Holds image (turn_start old).collections ⊎ Holds image (world old).collections)) (sym same)
+          (started (disk_history history old) (λ image. Holds image (turn_start old).collections ⊎ Holds image (world old).collections) (λ k image left. inl (h.holds run k image left)));
+      kept = λ run e. subst (λ s. LeavesOnly (disk_history history old) (history s.disk) (λ image. Holds image (turn_start old).collections)) (sym same)
+          (started (disk_history history old) (λ image. Holds image (turn_start old).collections) (h.holds run));
       acknowledged = λ run. tt;
       device = λ e k. absurd cc;
       idle = λ e. ap (λ s. history s.disk) same;
-      quiet = λ e. not_both (wrote old) moved e;
+      quiet = λ e. not_both (has_changes old) moved e;
       rests = rests;
     }
 
     -- nothing was committed
-    pub undone_after : (fault : CommitFault) → fault ≢ faults.Device → Saves history (pairs_bytes (pairs_of (world old).state)) (Err fault) old.store new.store → Commits history (Err fault) old new
+    pub undone_after : (fault : CommitFault) → fault ≢ faults.Device → Saves history (pairs_bytes (pairs_of (world old).collections)) (Err fault) old.store new.store → Commits history (Err fault) old new
     undone_after fault other saved =
         let not_device : (let r : Result (Unit {0}) CommitFault = Err fault in r) ≢ Err faults.Device = λ e. other (ap fault_of e) in
-        let before : IsRunning old → LeavesOnly (past history old) (past history new) (λ image. Holds image (begun old).state) =
+        let before : IsRunning old → LeavesOnly (disk_history history old) (disk_history history new) (λ image. Holds image (turn_start old).collections) =
         λ run k image left. old_held (saved.on.kept k) run image (saved.kept run not_device k image left) in
         let ran : IsRunning new → IsRunning old = λ run. sym (saved.running not_device) ∙ run in
         record {
-          sound = sound_again saved.sound (λ run. leaves_now (past history old) (past history new) (λ image. Holds image (begun old).state) saved.on (before (ran run)))
+          sound = sound_again saved.sound (λ run. leaves_now (disk_history history old) (disk_history history new) (λ image. Holds image (turn_start old).collections) saved.on (before (ran run)))
               (λ k run. saved.before not_device k ∙ h.committed (saved.on.kept k) (ran run));
           on = saved.on;
           done = tt;
@@ -116,39 +116,39 @@ module _ {D : Type 0} (history : D → History) (old new : Engine D) (h : IsSoun
           acknowledged = λ run. tt;
           device = λ e k. absurd (not_device e);
           idle = λ e. ap (λ s. history s.disk) (saved.idle e);
-          quiet = λ e. not_both (wrote old) moved e;
+          quiet = λ e. not_both (has_changes old) moved e;
           rests = rests;
         }
 
   -- the collections are as they stand
-  module _ (moved : wrote old ≡ true) (rests : wrote new ≡ false) (forth : world new ≡ world old) (ended : begun new ≡ world new) (readable : All IsReadable (world old).state) where
-    there : (begun new).state ≡ (world old).state
-    there = ap (λ (w : World). w.state) (ended ∙ forth)
+  module _ (moved : has_changes old ≡ true) (rests : has_changes new ≡ false) (forth : world new ≡ world old) (ended : turn_start new ≡ world new) (readable : All IsReadable (world old).collections) where
+    there : (turn_start new).collections ≡ (world old).collections
+    there = ap (λ (w : World). w.collections) (ended ∙ forth)
 
-    now_there : (world new).state ≡ (world old).state
-    now_there = ap (λ (w : World). w.state) forth
+    now_there : (world new).collections ≡ (world old).collections
+    now_there = ap (λ (w : World). w.collections) forth
 
     abbrev bytes : List ℕ
-    bytes = pairs_bytes (pairs_of (world old).state)
+    bytes = pairs_bytes (pairs_of (world old).collections)
 
-    new_held : (image : ℕ → List ℕ) → StandsFor image bytes → Holds image (world old).state
-    new_held image stands = held (world old).state image h.lawful readable stands
+    new_held : (image : ℕ → List ℕ) → StandsFor image bytes → Holds image (world old).collections
+    new_held image stands = held (world old).collections image h.lawful readable stands
 
     at_any_moment : (r : Result (Unit {0}) CommitFault) → Saves history bytes r old.store new.store → IsRunning old
-        → LeavesOnly (past history old) (past history new) (λ image. Holds image (begun old).state ⊎ Holds image (world old).state)
+        → LeavesOnly (disk_history history old) (disk_history history new) (λ image. Holds image (turn_start old).collections ⊎ Holds image (world old).collections)
     at_any_moment r saved run k image left = elim (saved.any_moment run k image left) [
       | inl before ↦ inl (old_held (saved.on.kept k) run image before)
       | inr after ↦ inr (new_held image after)
     ]
 
-    sound_now : stores.IsSound history new.store → (IsRunning new → LeavesNow (past history new) (λ image. Holds image (world old).state))
-        → (KeepsWord (past history new) → IsRunning new → stores.committed history new.store ≡ bytes) → IsSound history new
+    sound_now : stores.IsSound history new.store → (IsRunning new → LeavesNow (disk_history history new) (λ image. Holds image (world old).collections))
+        → (KeepsWord (disk_history history new) → IsRunning new → stores.committed history new.store ≡ bytes) → IsSound history new
     sound_now store holds committed = record {
       store = store;
       lawful = subst IsLawfulState (sym now_there) h.lawful;
       before = subst IsLawfulState (sym there) h.lawful;
       readable = subst (λ (cs : List Collection). All IsReadable cs) (sym there) readable;
-      holds = λ run. subst (λ (cs : List Collection). LeavesNow (past history new) (λ image. Holds image cs)) (sym there) (holds run);
+      holds = λ run. subst (λ (cs : List Collection). LeavesNow (disk_history history new) (λ image. Holds image cs)) (sym there) (holds run);
       committed = λ k run. committed k run ∙ ap (λ (cs : List Collection). pairs_bytes (pairs_of cs)) (sym there);
     }
 
@@ -168,7 +168,7 @@ module _ {D : Type 0} (history : D → History) (old new : Engine D) (h : IsSoun
       acknowledged = λ run k image left. new_held image (saved.acknowledged k image left);
       device = λ e k. absurd cc;
       idle = λ e. ap (λ s. history s.disk) (saved.idle e);
-      quiet = λ e. not_both (wrote old) moved e;
+      quiet = λ e. not_both (has_changes old) moved e;
       rests = rests;
     }
 
@@ -176,7 +176,7 @@ module _ {D : Type 0} (history : D → History) (old new : Engine D) (h : IsSoun
     cut_now saved =
         let off = saved.stops refl in
         record {
-          sound = sound_now saved.sound (λ run. not_both (stopped new) off run) (λ k run. not_both (stopped new) off run);
+          sound = sound_now saved.sound (λ run. not_both (is_stopped new) off run) (λ k run. not_both (is_stopped new) off run);
           on = saved.on;
           done = tt;
           stops = λ e. (forth, off);
@@ -190,6 +190,6 @@ module _ {D : Type 0} (history : D → History) (old new : Engine D) (h : IsSoun
           acknowledged = λ run. tt;
           device = saved.device;
           idle = λ e. ap (λ s. history s.disk) (saved.idle e);
-          quiet = λ e. not_both (wrote old) moved e;
+          quiet = λ e. not_both (has_changes old) moved e;
           rests = rests;
         }

@@ -18,7 +18,8 @@ use Rattle.filter.specs.ProjectionLaws.{project_no_larger}
 use Rattle.engine.specs.Lawful.{IsStored, IsWithin}
 use Rattle.filter.specs.Sort.{SortField, compare_by, insert_in_order, put_before, sorted, order}
 use Rattle.engine.proofs.Steps.{drop_step}
-use Rattle.engine.specs.Query.{Query, matching, limited, window, chosen, found, Suffices}
+use Rattle.commands.specs.Find.{Query}
+use Rattle.engine.specs.Find.{matching, limited, window, selection, query_result, Suffices}
 
 module _ (P : Pairs → Type 0) (cmp : Pairs → Pairs → Ordering) where
   head_of : (x : Pairs) (xs : List Pairs) → All P (x ∷ xs) → P x
@@ -47,7 +48,7 @@ limited_kept P (suc n) xs h = All-take P (suc n) xs h
 pub window_kept : {X : Type 0} (P : X → Type 0) (skip limit : ℕ) (xs : List X) → All P xs → All P (window skip limit xs)
 window_kept P skip limit xs h = limited_kept P limit (drop skip xs) (All-drop P skip xs h)
 
-pub chosen_kept : (P : Pairs → Type 0) (q : Query) (ds : List Pairs) → All P ds → All P (chosen q ds)
+pub chosen_kept : (P : Pairs → Type 0) (q : Query) (ds : List Pairs) → All P ds → All P (selection q ds)
 chosen_kept P q ds h = window_kept P q.skip q.limit (order q.sort (matching q.filter ds)) (sorted_kept P _ (matching q.filter ds) (All-filter (matches q.filter) P ds h))
 
 -- ---- what is given is within the limits
@@ -66,8 +67,8 @@ projected_within p ps h =
 pub given_within : (p : Projection) (ds : List Pairs) → All IsWithin ds → All IsWithin (map (project p) ds)
 given_within p ds h = All-map IsWithin (project p) ds (λ k d below. projected_within p (get_or ds k d) (h k d below))
 
-pub found_within : (q : Query) (ds : List Pairs) → All IsStored ds → All IsWithin (found q ds)
-found_within q ds h = given_within q.projection (chosen q ds) (chosen_kept IsWithin q ds (λ k d below. stored_within (get_or ds k d) (h k d below)))
+pub found_within : (q : Query) (ds : List Pairs) → All IsStored ds → All IsWithin (query_result q ds)
+found_within q ds h = given_within q.projection (selection q ds) (chosen_kept IsWithin q ds (λ k d below. stored_within (get_or ds k d) (h k d below)))
 
 -- ---- a window
 
@@ -168,7 +169,7 @@ filter_fewer p (x ∷ xs) = at (p x) refl (filter_fewer p xs)
     at false e later = rw e (omega (arith, later))
 
 -- what is found before a sort is enough
-pub enough : (q : Query) (most : ℕ) (ds found_so : List Pairs) → Suffices q (length ds) most → found_so ≡ take most (matching q.filter ds) → window q.skip q.limit (order q.sort found_so) ≡ chosen q ds
+pub enough : (q : Query) (most : ℕ) (ds found_so : List Pairs) → Suffices q (length ds) most → found_so ≡ take most (matching q.filter ds) → window q.skip q.limit (order q.sort found_so) ≡ selection q ds
 enough q most ds found_so suffices is =
     ap (λ (es : List Pairs). window q.skip q.limit (order q.sort es)) is ∙ suffices (matching q.filter ds) (filter_fewer (matches q.filter) ds)
 

@@ -19,20 +19,29 @@ use Rattle.bson.specs.declared.fault.BsonFault.{BsonFault}
 use Rattle.value_order.specs.Order.{compare}
 use Rattle.value_order.specs.Total.{compare_total}
 use Rattle.engine.specs.World.{World, Collection, Cursor, find_collection, uses, unused, number_or, with_documents, documents_or_none, documents_of, put_collection, count_of}
-use Rattle.engine.specs.Documents.{◌>>=◌, unless, or_refused, id_first, key_of, place, checked, insert_one, insert_all}
+use Rattle.path.specs.Outcomes.{◌>>=◌, unless, or_refused}
+use Rattle.engine.specs.Documents.{id_first, key_of, place, checked, insert_one, insert_all}
 use Rattle.filter.specs.Rule.{Rules}
-use Rattle.engine.specs.Query.{Query, found as found_by, matching, window, Deletion, left}
+use Rattle.commands.specs.Insert.{Insert}
+use Rattle.commands.specs.Find.{Query, Find}
+use Rattle.commands.specs.Count.{Count}
+use Rattle.engine.specs.Find.{query_result as found_by, matching, window, run_find}
+use Rattle.commands.specs.Delete.{Deletion, Delete}
+use Rattle.engine.specs.Delete.{after_deletions, deleted_in, run_delete}
 use Rattle.engine.specs.Refusals.{int, total, ok_reply}
-use Rattle.engine.specs.Command.{Command, ping, insert as insert_of, find as find_of, count as count_of_all, delete, command_of, IsBounded}
+use Rattle.commands.specs.Command.{Command, ping, insert as insert_of, find as find_of, count as count_of_all, delete, command_of, IsBounded}
 use Rattle.engine.specs.Lawful.{IsStored, IsWithin, IsRising, AreNamedApart, AreNumberedApart, IsKept, IsLawfulState, IsLawful}
 use Rattle.engine.specs.Places.{IsGap, collection_at, no_collection}
 use Rattle.engine.specs.Progress.{is_full, with_document}
-use Rattle.engine.specs.Step.{items_of_documents, batch_of, cursor_reply, open_cursor, deleted_in, run_insert, run_find, run_count, run_delete, run, answered, step}
+use Rattle.engine.specs.Cursors.{items_of_documents, batch_of, cursor_reply, open_cursor}
+use Rattle.engine.specs.Insert.{run_insert}
+use Rattle.engine.specs.Count.{run_count}
+use Rattle.engine.specs.Step.{run, answered, step}
 use Rattle.engine.specs.View.{IsSendable}
 use Rattle.path.specs.declared.refusal.Refusal.{Refusal}
 use Rattle.path.specs.declared.refusal.Refusal.TheVariants as refusals
-use Rattle.engine.specs.declared.TheConstants.{BATCH_LIMIT, STORED_LIMIT, FIRST_BATCH, MOST_CURSORS, MOST_COLLECTIONS, NAMESPACE_LIMIT}
-use Rattle.engine.proofs.Bounded.{step_of, bounded}
+use Rattle.commands.specs.OutcomeLaws.{step_of}
+use Rattle.commands.specs.CommandLaws.{bounded}
 use Rattle.engine.proofs.Checked.{keeps}
 use Rattle.engine.proofs.Located.{Gap, There, located}
 use Rattle.engine.proofs.Deleting.{deleted_lawful}
@@ -87,10 +96,10 @@ stored_at (c ∷ cs) name h = at (bytes_eq name c.name) (stored_at cs name (λ k
 abbrev ByName : List Collection → Type 0
 ByName cs = Rises (slice_cmp nat_cmp) (λ (c : Collection). c.name) cs
 
-room : (cs : List Collection) (name : List ℕ) → is_full cs name ≡ false → find_collection cs name ≡ None → length cs < MOST_COLLECTIONS
-room cs name e none = at (nat_le MOST_COLLECTIONS (length cs)) refl (ap (λ (o : Option Collection). nat_le MOST_COLLECTIONS (length cs) && not (is_some o)) (sym none) ∙ e)
+room : (cs : List Collection) (name : List ℕ) → is_full cs name ≡ false → find_collection cs name ≡ None → length cs < 1000
+room cs name e none = at (nat_le 1000 (length cs)) refl (ap (λ (o : Option Collection). nat_le 1000 (length cs) && not (is_some o)) (sym none) ∙ e)
   where
-    at : (b : Bool) → nat_le MOST_COLLECTIONS (length cs) ≡ b → (b && true) ≡ false → length cs < MOST_COLLECTIONS
+    at : (b : Bool) → nat_le 1000 (length cs) ≡ b → (b && true) ≡ false → length cs < 1000
     at true full e = absurd cc
     at false few e = grind (arith, nat_tests)
 
@@ -122,7 +131,7 @@ put_kept new cs h one free numbered = at (located nat_list_cmp_total (λ (c : Co
         }
 
 -- a collection without documents beside the others
-pub added_lawful : (new : Collection) (cs : List Collection) → IsLawfulState cs → IsKept new → find_collection cs new.name ≡ None → uses cs new.number ≡ false → length cs < MOST_COLLECTIONS → IsLawfulState (put_collection new cs)
+pub added_lawful : (new : Collection) (cs : List Collection) → IsLawfulState cs → IsKept new → find_collection cs new.name ≡ None → uses cs new.number ≡ false → length cs < 1000 → IsLawfulState (put_collection new cs)
 added_lawful new cs h one none fresh room = at (located nat_list_cmp_total (λ (c : Collection). c.name) cs new.name h.apart)
   where
     at : Gap (slice_cmp nat_cmp) (λ (c : Collection). c.name) cs new.name ⊎ There (slice_cmp nat_cmp) (λ (c : Collection). c.name) cs new.name → IsLawfulState (put_collection new cs)
@@ -164,28 +173,28 @@ Good r = (x : World × Pairs) → r ≡ Ok x → IsLawful x.0 × IsSendable (ok_
 good_one : (w : World) (reply : Pairs) → IsLawful w → IsSendable (ok_reply reply) → Good (Ok (w, reply))
 good_one w reply h s x e = let same : (w, reply) ≡ x = cc in subst (λ (y : World × Pairs). IsLawful y.0 × IsSendable (ok_reply y.1)) same (h, s)
 
-good_insert : (w : World) (name : List ℕ) (documents : List Pairs) → IsLawful w → length name ≤ NAMESPACE_LIMIT → Good (run_insert w name documents)
+good_insert : (w : World) (name : List ℕ) (documents : List Pairs) → IsLawful w → length name ≤ 255 → Good (run_insert w (record { namespace = name; documents = documents }))
 unfolding run_insert
-good_insert w name documents h short = at (is_full w.state name) refl
+good_insert w name documents h short = at (is_full w.collections name) refl
   where
-    put : (r : Result (List Pairs) Refusal) → is_full w.state name ≡ false → insert_all (documents_of w.state name) documents ≡ r
-        → Good (r >>= (λ stored. let x : Result (World × Pairs) Refusal = Ok (record w { state = put_collection (with_documents w.state name stored) w.state }, pair (codes "n") (int (length documents)) no_pairs) in x))
+    put : (r : Result (List Pairs) Refusal) → is_full w.collections name ≡ false → insert_all (documents_of w.collections name) documents ≡ r
+        → Good (r >>= (λ stored. let x : Result (World × Pairs) Refusal = Ok (record w { collections = put_collection (with_documents w.collections name stored) w.collections }, pair (codes "n") (int (length documents)) no_pairs) in x))
     put (Err e) free is = λ x f. absurd cc
     put (Ok stored) free is =
-        let kept = kept_all (documents_of w.state name) documents stored (stored_at w.state name h.state.kept) is in
-        let new : Collection = with_documents w.state name stored in
-        let bounds = number_bounds w.state name h.state.kept (room w.state name free) in
+        let kept = kept_all (documents_of w.collections name) documents stored (stored_at w.collections name h.collections.kept) is in
+        let new : Collection = with_documents w.collections name stored in
+        let bounds = number_bounds w.collections name h.collections.kept (room w.collections name free) in
         let one : IsKept new = record { lawful = record { rising = kept.0; stored = kept.1 }; short = short; least = bounds.least; most = bounds.most } in
-        let p = put_kept new w.state h.state one free refl in
-        good_one (record w { state = put_collection new w.state }) (pair (codes "n") (int (length documents)) no_pairs) (record { state = p; cursors = h.cursors }) (insert-sendable (length documents))
+        let p = put_kept new w.collections h.collections one free refl in
+        good_one (record w { collections = put_collection new w.collections }) (pair (codes "n") (int (length documents)) no_pairs) (record { collections = p; cursors = h.cursors }) (insert-sendable (length documents))
 
-    at : (b : Bool) → is_full w.state name ≡ b
-        → Good (unless b refusals.TooMany (insert_all (documents_of w.state name) documents >>= (λ stored. let x : Result (World × Pairs) Refusal = Ok (record w { state = put_collection (with_documents w.state name stored) w.state }, pair (codes "n") (int (length documents)) no_pairs) in x)))
+    at : (b : Bool) → is_full w.collections name ≡ b
+        → Good (unless b refusals.TooMany (insert_all (documents_of w.collections name) documents >>= (λ stored. let x : Result (World × Pairs) Refusal = Ok (record w { collections = put_collection (with_documents w.collections name stored) w.collections }, pair (codes "n") (int (length documents)) no_pairs) in x)))
     at true full = λ x f. absurd cc
-    at false free = put (insert_all (documents_of w.state name) documents) free refl
+    at false free = put (insert_all (documents_of w.collections name) documents) free refl
 
 abbrev fits_in : List Pairs → Type 0
-fits_in ds = length (items_bytes 0 (items_of_documents ds)) ≤ max (BATCH_LIMIT - 5) (STORED_LIMIT + 3)
+fits_in ds = length (items_bytes 0 (items_of_documents ds)) ≤ max (900000 - 5) (65535 + 3)
 
 module _ (w : World) (connection : ℕ) (name : List ℕ) (rest : List Pairs) where
   abbrev new_cursor : Cursor
@@ -195,33 +204,33 @@ module _ (w : World) (connection : ℕ) (name : List ℕ) (rest : List Pairs) wh
   with_cursor = record w { cursors = new_cursor ∷ w.cursors; next = w.next + 1; touched = w.next ∷ w.touched }
 
   opened_lawful : (opened : World) → IsLawful w → All IsWithin rest → open_cursor w connection name rest ≡ Ok opened → IsLawful opened
-  opened_lawful opened h stored e = at (nat_le MOST_CURSORS (count_of connection w.cursors) || nat_le (2 ^ 63) w.next) e
+  opened_lawful opened h stored e = at (nat_le 0 (count_of connection w.cursors) || nat_le (2 ^ 63) w.next) e
     where
       at : (b : Bool) → unless b refusals.TooMany (Ok with_cursor) ≡ Ok opened → IsLawful opened
       at true e = absurd cc
       at false e =
           let same : with_cursor ≡ opened = cc in
-          subst IsLawful same (record { state = h.state; cursors = All-cons (λ (c : Cursor). All IsWithin c.rest) new_cursor w.cursors stored h.cursors })
+          subst IsLawful same (record { collections = h.collections; cursors = All-cons (λ (c : Cursor). All IsWithin c.rest) new_cursor w.cursors stored h.cursors })
 
 module _ (w : World) (connection : ℕ) (name : List ℕ) (query : Query) (batch_size : Option ℕ) where
   abbrev ds : List Pairs
-  ds = found_by query (documents_of w.state name)
+  ds = found_by query (documents_of w.collections name)
 
   abbrev n : ℕ
-  n = batch_of (unwrap_or batch_size FIRST_BATCH) ds
+  n = batch_of (unwrap_or batch_size 101) ds
 
   abbrev after_opening : Result World Refusal → Result (World × Pairs) Refusal
   after_opening r = r >>= (λ opened. let x : Result (World × Pairs) Refusal = Ok (opened, cursor_reply (codes "firstBatch") (take n ds) w.next name) in x)
 
-  good_find : IsLawful w → length name ≤ NAMESPACE_LIMIT → Good (run_find w connection name query batch_size)
+  good_find : IsLawful w → length name ≤ 255 → Good (run_find w connection (record { namespace = name; query = query; batch_size = batch_size }))
   unfolding run_find
   good_find h short = at (nat_le (length ds) n) refl
     where
       within : All IsWithin ds
-      within = found_within query (documents_of w.state name) (stored_at w.state name h.state.kept).1
+      within = found_within query (documents_of w.collections name) (stored_at w.collections name h.collections.kept).1
 
       small : fits_in (take n ds)
-      small = batch_items (unwrap_or batch_size FIRST_BATCH) (BATCH_LIMIT - 5) ds within
+      small = batch_items (unwrap_or batch_size 101) (900000 - 5) ds within
 
       part : (r : Result World Refusal) → open_cursor w connection name (drop n ds) ≡ r → Good (after_opening r)
       part (Err e) is = λ x f. absurd cc
@@ -234,25 +243,25 @@ module _ (w : World) (connection : ℕ) (name : List ℕ) (query : Query) (batch
           good_one w (cursor_reply (codes "firstBatch") ds 0 name) h (cursor-sendable ds 0 name (subst fits_in (take_all n ds all) small) short)
       at false over = part (open_cursor w connection name (drop n ds)) refl
 
-good_count : (w : World) (name : List ℕ) (rules : Rules) (skip limit : ℕ) → IsLawful w → Good (run_count w name rules skip limit)
+good_count : (w : World) (c : Count) → IsLawful w → Good (run_count w c)
 unfolding run_count
-good_count w name rules skip limit h =
-    let n = length (window skip limit (matching rules (documents_of w.state name))) in
+good_count w c h =
+    let n = length (window c.skip c.limit (matching c.filter (documents_of w.collections c.namespace))) in
     good_one w (pair (codes "n") (total n) no_pairs) h (insert-sendable (min n (2 ^ 31 - 1)))
 
-good_delete : (w : World) (name : List ℕ) (deletions : List Deletion) → IsLawful w → Good (run_delete w name deletions)
+good_delete : (w : World) (name : List ℕ) (deletions : List Deletion) → IsLawful w → Good (run_delete w (record { namespace = name; deletions = deletions }))
 unfolding run_delete
 good_delete w name deletions h =
-    let n = length (documents_of w.state name) - length (left deletions (documents_of w.state name)) in
-    let state = deleted_lawful w.state name deletions h.state in
-    good_one (record w { state = deleted_in (find_collection w.state name) deletions w.state }) (pair (codes "n") (total n) no_pairs) (record { state = state; cursors = h.cursors }) (insert-sendable (min n (2 ^ 31 - 1)))
+    let n = length (documents_of w.collections name) - length (after_deletions deletions (documents_of w.collections name)) in
+    let collections = deleted_lawful w.collections name deletions h.collections in
+    good_one (record w { collections = deleted_in (find_collection w.collections name) deletions w.collections }) (pair (codes "n") (total n) no_pairs) (record { collections = collections; cursors = h.cursors }) (insert-sendable (min n (2 ^ 31 - 1)))
 
 good_run : (w : World) (connection : ℕ) (command : Command) → IsLawful w → IsBounded command → Good (run w connection command)
 good_run w connection ping h b = good_one w no_pairs h ping-sendable
-good_run w connection (insert_of name documents) h b = good_insert w name documents h b.0
-good_run w connection (find_of name query batch_size) h b = good_find w connection name query batch_size h b
-good_run w connection (count_of_all name rules skip limit) h b = good_count w name rules skip limit h
-good_run w connection (delete name deletions) h b = good_delete w name deletions h
+good_run w connection (insert_of c) h b = good_insert w c.namespace c.documents h b.0
+good_run w connection (find_of c) h b = good_find w connection c.namespace c.query c.batch_size h b
+good_run w connection (count_of_all c) h b = good_count w c h
+good_run w connection (delete c) h b = good_delete w c.namespace c.deletions h
 
 -- the world after a step, and its reply
 pub record Steps (x : World × Pairs) : Type 0 where

@@ -4,10 +4,8 @@ pub mod Ordered
 pub mod Rewinding
 pub mod Checked
 pub mod StoringLoop
-pub mod Readings
 pub mod Batches
 pub mod Running
-pub mod Bounded
 pub mod LawfulSteps
 pub mod SpelledSizes
 pub mod Replying

@@ -26,8 +26,6 @@ use Rattle.engine.specs.Places.{IsGap, by_key, no_collection}
 use Rattle.engine.specs.Progress.{with_document}
 use Rattle.engine.specs.Stored.{catalogue_pair, document_pair, documents_numbered, documents_to, pairs_of}
 use Rattle.engine.specs.Loading.{Loads, AddsEntry, AddsDocument, place_numbered}
-use Rattle.engine.specs.declared.TheConstants.{MOST_COLLECTIONS, STORED_LIMIT, STORED_LEVELS}
-use Rattle.value_order.specs.declared.TheConstants.{KEY_LIMIT}
 use Rattle.engine.proofs.Numbers.{turned, neither}
 use Rattle.engine.proofs.Ordered.{flipped, place_gap}
 use Rattle.engine.proofs.Rewinding.{with_placed}
@@ -119,10 +117,10 @@ entries xs (y ∷ ys) rest last lawful readable later =
 stored_checked : (d : Pairs) → IsStored d → checked d ≡ Ok (key_of d)
 unfolding checked
 stored_checked d h =
-    let small : nat_lt STORED_LIMIT (length (framed (pairs_bytes d))) ≡ false = let size = h.size in grind (arith, nat_tests, size) in
-    let flat : nat_lt STORED_LEVELS (suc (pairs_levels d)) ≡ false = let depth = h.depth in grind (arith, nat_tests, depth) in
+    let small : nat_lt 65535 (length (framed (pairs_bytes d))) ≡ false = let size = h.size in grind (arith, nat_tests, size) in
+    let flat : nat_lt 90 (suc (pairs_levels d)) ≡ false = let depth = h.depth in grind (arith, nat_tests, depth) in
     let names : pairs_fault (id_first d) ≡ None = ap pairs_fault h.first ∙ h.names in
-    let short : nat_lt KEY_LIMIT (length (tree_text (key_of d))) ≡ false = let size = h.short in grind (arith, nat_tests, size) in
+    let short : nat_lt 500 (length (tree_text (key_of d))) ≡ false = let size = h.short in grind (arith, nat_tests, size) in
     rw (small, flat, names, h.key, short) refl
 
 insert_last : (xs : List Pairs) (x : Pairs) → insert xs (length xs) x ≡ xs ++ x ∷ []
@@ -145,7 +143,7 @@ place_found n xs c ys free is =
     let within : nat_lt (length xs) (length (xs ++ c ∷ ys)) ≡ true = let more = length-append xs (c ∷ ys) in grind (arith, nat_tests, more) in
     rw (at, within) refl
 
-module _ (xs ys : List Collection) (c : Collection) (n : ℕ) (free : uses xs n ≡ false) (is : c.number ≡ n) (least : 1 ≤ n) (most : n ≤ MOST_COLLECTIONS) where
+module _ (xs ys : List Collection) (c : Collection) (n : ℕ) (free : uses xs n ≡ false) (is : c.number ≡ n) (least : 1 ≤ n) (most : n ≤ 1000) where
   abbrev at_front : List Pairs → List Collection
   at_front ds = xs ++ record c { documents = ds } ∷ ys
 
@@ -216,7 +214,7 @@ number_stays n c = at (nat_le c.number n)
     at true = refl
     at false = refl
 
-numbered : (n : ℕ) (front cs : List Collection) → suc n ≤ MOST_COLLECTIONS → uses front (suc n) ≡ false → AreNumberedApart cs → All IsKept cs → All IsReadable cs
+numbered : (n : ℕ) (front cs : List Collection) → suc n ≤ 1000 → uses front (suc n) ≡ false → AreNumberedApart cs → All IsKept cs → All IsReadable cs
     → Loads (front ++ filled n cs) (map (document_pair (suc n)) (documents_numbered (suc n) cs)) (front ++ filled (suc n) cs)
 numbered n front [] most free apart kept readable = refl
 numbered n front (c ∷ cs) most free apart kept readable =
@@ -245,7 +243,7 @@ numbered n front (c ∷ cs) most free apart kept readable =
         (subst (λ (us : List Collection). Loads (front ++ up_to n c ∷ filled n cs) (map (document_pair (suc n)) (documents_numbered (suc n) cs)) us) (append_assoc front (now ∷ []) (filled (suc n) cs))
         (subst (λ (us : List Collection). Loads us (map (document_pair (suc n)) (documents_numbered (suc n) cs)) ((front ++ now ∷ []) ++ filled (suc n) cs)) (append_assoc front (now ∷ []) (filled n cs)) h))
 
-all_numbers : (n : ℕ) (cs : List Collection) → n ≤ MOST_COLLECTIONS → AreNumberedApart cs → All IsKept cs → All IsReadable cs → Loads (filled 0 cs) (documents_to n cs) (filled n cs)
+all_numbers : (n : ℕ) (cs : List Collection) → n ≤ 1000 → AreNumberedApart cs → All IsKept cs → All IsReadable cs → Loads (filled 0 cs) (documents_to n cs) (filled n cs)
 all_numbers zero cs most apart kept readable = refl
 all_numbers (suc n) cs most apart kept readable =
     loads_append (filled 0 cs) (filled n cs) (filled (suc n) cs) (documents_to n cs) (map (document_pair (suc n)) (documents_numbered (suc n) cs))
@@ -258,17 +256,17 @@ none_filled (c ∷ cs) kept =
     let above : nat_le c.number 0 ≡ false = let low = first.least in grind (arith, nat_tests, low) in
     λ i. sym (ap (λ b. if b then c else emptied c) above) i ∷ none_filled cs (λ k d below. kept (suc k) d (omega (arith, below))) i
 
-all_filled : (cs : List Collection) → All IsKept cs → filled MOST_COLLECTIONS cs ≡ cs
+all_filled : (cs : List Collection) → All IsKept cs → filled 1000 cs ≡ cs
 all_filled [] kept = refl
 all_filled (c ∷ cs) kept =
     let first = kept 0 c (omega arith) in
-    let within : nat_le c.number MOST_COLLECTIONS ≡ true = let high = first.most in grind (arith, nat_tests, high) in
+    let within : nat_le c.number 1000 ≡ true = let high = first.most in grind (arith, nat_tests, high) in
     λ i. ap (λ b. if b then c else emptied c) within i ∷ all_filled cs (λ k d below. kept (suc k) d (omega (arith, below))) i
 
 pub loads_all : (cs : List Collection) → IsLawfulState cs → All IsReadable cs → Loads [] (pairs_of cs) cs
 unfolding pairs_of
 loads_all cs lawful readable =
-    let documents : Loads (map emptied cs) (documents_to MOST_COLLECTIONS cs) cs =
-    subst (λ (us : List Collection). Loads us (documents_to MOST_COLLECTIONS cs) cs) (sym (none_filled cs lawful.kept))
-    (subst (λ (us : List Collection). Loads (filled 0 cs) (documents_to MOST_COLLECTIONS cs) us) (all_filled cs lawful.kept) (all_numbers MOST_COLLECTIONS cs (omega arith) lawful.numbers lawful.kept readable)) in
-    entries [] cs (documents_to MOST_COLLECTIONS cs) cs lawful readable documents
+    let documents : Loads (map emptied cs) (documents_to 1000 cs) cs =
+    subst (λ (us : List Collection). Loads us (documents_to 1000 cs) cs) (sym (none_filled cs lawful.kept))
+    (subst (λ (us : List Collection). Loads (filled 0 cs) (documents_to 1000 cs) us) (all_filled cs lawful.kept) (all_numbers 1000 cs (omega arith) lawful.numbers lawful.kept readable)) in
+    entries [] cs (documents_to 1000 cs) cs lawful readable documents

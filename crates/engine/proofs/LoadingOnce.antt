@@ -16,7 +16,6 @@ use Rattle.engine.specs.Progress.{with_document}
 use Rattle.engine.specs.Lawful.{IsReadable, IsLawfulState}
 use Rattle.engine.specs.Stored.{key_under, entry, pairs_of}
 use Rattle.engine.specs.Loading.{unescaped, place_numbered, AddsEntry, AddsDocument, Adds, Loads}
-use Rattle.engine.specs.declared.TheConstants.{MOST_COLLECTIONS}
 use Rattle.engine.proofs.LoadingNames.{unescaped-escaped}
 use Rattle.engine.proofs.LoadingSteps.{entry_spells, document_spells}
 use Rattle.engine.proofs.LoadingAll.{loads_all}
@@ -26,7 +25,7 @@ use Rattle.engine.proofs.LoadingAll.{loads_all}
 same_number : (m n : ℕ) (x y : List ℕ) → m < 2 ^ 32 → n < 2 ^ 32 → key_under m 0 x ≡ key_under n 0 y → m ≡ n
 same_number m n x y low high e = sym (from_be_bytes-to_be_bytes_4 m low) ∙ ap (from_be_bytes w32) e ∙ from_be_bytes-to_be_bytes_4 n high
 
-small : (n : ℕ) → n ≤ MOST_COLLECTIONS → n < 2 ^ 32
+small : (n : ℕ) → n ≤ 1000 → n < 2 ^ 32
 small n most = omega (arith, most)
 
 same_name : (a b : List ℕ) → key_under 0 0 (tree_text (words a)) ≡ key_under 0 0 (tree_text (words b)) → a ≡ b

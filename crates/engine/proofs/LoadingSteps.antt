@@ -18,7 +18,6 @@ use Rattle.engine.specs.Stored.{entry}
 use Rattle.engine.specs.Loading.{Adds, Loads, IsAdded, IsLoading, place_numbered}
 use Rattle.path.specs.declared.refusal.Refusal.{Refusal}
 use Rattle.path.specs.declared.refusal.Refusal.TheVariants as refusals
-use Rattle.engine.specs.declared.TheConstants.{MOST_COLLECTIONS, NAMESPACE_LIMIT}
 use Rattle.engine.proofs.PairSizes.{entry_size}
 use Rattle.engine.proofs.LawfulSteps.{added_lawful}
 
@@ -31,7 +30,7 @@ one_letter b low some = record { is_text = IsUtf8-from_ascii (b ∷ []) ascii; n
     ascii zero = low
     ascii (suc i) = omega arith
 
-entry_document : (n : ℕ) → n ≤ MOST_COLLECTIONS → IsDocument (entry n)
+entry_document : (n : ℕ) → n ≤ 1000 → IsDocument (entry n)
 entry_document n most = record {
   lawful = (one_letter 110 (omega arith) (λ e. omega (arith, e)), omega (arith, ints, most), (other, tt), (one_letter 120 (omega arith) (λ e. omega (arith, e)), tt, tt, tt));
   depth = lit≤ tt;
@@ -40,7 +39,7 @@ entry_document n most = record {
     other : codes "n" ≢ codes "x"
     other e = let same : 110 ≡ 120 = ap (λ (bs : List ℕ). slice_index bs 0) e in omega (arith, same)
 
-pub entry_spells : (n : ℕ) → n ≤ MOST_COLLECTIONS → Spells (framed (document_bytes (entry n))) (entry n)
+pub entry_spells : (n : ℕ) → n ≤ 1000 → Spells (framed (document_bytes (entry n))) (entry n)
 entry_spells n most = record { lawful = entry_document n most; spelled = refl; size = omega (arith, entry_size n) }
 
 pub document_spells : (d : Pairs) → IsStored d → IsDocument d → Spells (framed (document_bytes d)) d
@@ -48,7 +47,7 @@ document_spells d stored h = record { lawful = h; spelled = refl; size = omega (
 
 -- ---- what was added is lawful
 
-pub new_kept : (name : List ℕ) (number : ℕ) → length name ≤ NAMESPACE_LIMIT → 1 ≤ number → number ≤ MOST_COLLECTIONS → IsKept (record { name = name; number = number; documents = [] })
+pub new_kept : (name : List ℕ) (number : ℕ) → length name ≤ 255 → 1 ≤ number → number ≤ 1000 → IsKept (record { name = name; number = number; documents = [] })
 new_kept name number short least most = record {
   lawful = record { rising = λ i j d lt below. absurd (omega arith); stored = λ k d below. absurd (omega arith) };
   short = short;
@@ -56,7 +55,7 @@ new_kept name number short least most = record {
   most = most;
 }
 
-pub loading_added : (old new : Progress) (name : List ℕ) (number : ℕ) → IsLoading old → IsAdded name number old.now new.now → new.changes ≡ [] → length name ≤ NAMESPACE_LIMIT → 1 ≤ number → number ≤ MOST_COLLECTIONS → IsLoading new
+pub loading_added : (old new : Progress) (name : List ℕ) (number : ℕ) → IsLoading old → IsAdded name number old.now new.now → new.changes ≡ [] → length name ≤ 255 → 1 ≤ number → number ≤ 1000 → IsLoading new
 loading_added old new name number h added idle short least most =
     let c : Collection = record { name = name; number = number; documents = [] } in
     record {

@@ -6,7 +6,6 @@ use Rattle.std.specs.Prelude.{◌==◌}
 use Rattle.std.proofs.lemmas.Bool.Decides.{nat_tests}
 use Rattle.engine.specs.World.{Collection}
 use Rattle.engine.specs.Stored.{catalogue_pair, document_pair, documents_numbered, documents_to, pairs_of}
-use Rattle.engine.specs.declared.TheConstants.{MOST_COLLECTIONS}
 use Rattle.engine.proofs.Steps.{drop_step}
 
 -- what has been added, and what is left, are all
@@ -54,6 +53,6 @@ numbers_one cs start now next n h e =
     ∙ ap (λ (bs : List ℕ). start ++ bs) (sym (pairs_bytes-append (documents_to n cs) (map (document_pair (suc n)) (documents_numbered (suc n) cs))))
     ∙ ap (λ (k : ℕ). start ++ pairs_bytes (documents_to k cs)) one
 
-pub whole_image : (cs : List Collection) → pairs_bytes (map catalogue_pair cs) ++ pairs_bytes (documents_to MOST_COLLECTIONS cs) ≡ pairs_bytes (pairs_of cs)
+pub whole_image : (cs : List Collection) → pairs_bytes (map catalogue_pair cs) ++ pairs_bytes (documents_to 1000 cs) ≡ pairs_bytes (pairs_of cs)
 unfolding pairs_of
-whole_image cs = sym (pairs_bytes-append (map catalogue_pair cs) (documents_to MOST_COLLECTIONS cs))
+whole_image cs = sym (pairs_bytes-append (map catalogue_pair cs) (documents_to 1000 cs))

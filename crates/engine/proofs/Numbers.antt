@@ -1,13 +1,11 @@
 -- Numbers of collections.
 use Rattle.std.proofs.Common.{◌≡◌, ℕ, zero, suc, ◌+◌, ◌-◌, ◌<◌, ◌≤◌, Bool, true, false, List, [], ◌∷◌, length, set, insert, Option, Some, None, refl, sym, ap, subst, ◌∙◌, arith}
-use Rattle.std.specs.Prelude.{◌==◌, ◌||◌, ◌&&◌, nat_le, if◌then◌else◌}
+use Rattle.std.specs.Prelude.{◌==◌, ◌||◌, ◌&&◌, nat_le, if◌then◌else◌, All}
 use Rattle.std.specs.Str.{bytes_eq}
 use Rattle.std.proofs.lemmas.Bool.Decides.{nat_tests}
 use Rattle.engine.specs.World.{Collection, find_collection, uses, unused_from, unused, number_or}
 use Rattle.engine.specs.Lawful.{AreNumberedApart, IsKept}
 use Rattle.engine.specs.Places.{collection_at}
-use Rattle.engine.specs.declared.TheConstants.{MOST_COLLECTIONS}
-use Rattle.std.specs.Prelude.{All}
 
 -- ---- among one number more than there are collections one is not in use
 
@@ -138,10 +136,10 @@ found_kept (d ∷ ds) name c h e = at (bytes_eq name d.name) e (found_kept ds na
     at true is later = let same : d ≡ c = cc in subst IsKept same (h 0 d (omega arith))
     at false is later = later is
 
-pub number_bounds : (cs : List Collection) (name : List ℕ) → All IsKept cs → (find_collection cs name ≡ None → length cs < MOST_COLLECTIONS) → Between 1 (number_or (unused cs) (find_collection cs name)) MOST_COLLECTIONS
+pub number_bounds : (cs : List Collection) (name : List ℕ) → All IsKept cs → (find_collection cs name ≡ None → length cs < 1000) → Between 1 (number_or (unused cs) (find_collection cs name)) 1000
 number_bounds cs name h room = at (find_collection cs name) refl
   where
-    at : (o : Option Collection) → find_collection cs name ≡ o → Between 1 (number_or (unused cs) o) MOST_COLLECTIONS
+    at : (o : Option Collection) → find_collection cs name ≡ o → Between 1 (number_or (unused cs) o) 1000
     at None e = let b = unused_bounds cs in record { least = b.least; most = omega (arith, b.most, room e) }
     at (Some c) e = let k = found_kept cs name c h e in record { least = k.least; most = k.most }
 

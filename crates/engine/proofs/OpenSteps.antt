@@ -14,40 +14,40 @@ use Rattle.roots.specs.declared.opening.OpenFault.TheVariants as faults
 use Rattle.roots.proofs.OpenSteps.{one_state}
 use Rattle.engine.specs.World.{World, Collection}
 use Rattle.engine.specs.Lawful.{IsReadable, IsLawfulState}
-use Rattle.engine.specs.Progress.{has_any, Progress, begun_of}
+use Rattle.engine.specs.Progress.{has_any, Progress, turn_start_of}
 use Rattle.engine.specs.Stored.{pairs_of}
-use Rattle.engine.specs.Durable.{Holds, past}
+use Rattle.engine.specs.Durable.{Holds, disk_history}
 use Rattle.engine.specs.Loading.{IsLoading, IsOfBytes}
 use Rattle.engine.specs.Opening.{IsOpened, IsRefused}
 use Rattle.engine.specs.declared.engine.Engine.{Engine}
 use Rattle.engine.proofs.Ending.{held}
 
 -- the collections that no change was made to are those from the beginning of the turn
-unchanged : (p : Progress) → p.changes ≡ [] → begun_of p ≡ p.now
-unchanged p none = ap (λ xs. begun_of (record { now = p.now; changes = xs })) none
+unchanged : (p : Progress) → p.changes ≡ [] → turn_start_of p ≡ p.now
+unchanged p none = ap (λ xs. turn_start_of (record { now = p.now; changes = xs })) none
 
 module _ {D : Type 0} (history : D → History) (disk : D) where
   pub opened : (engine : Engine D) (bytes : List ℕ) → roots.IsOpened history disk engine.store → IsLoading engine.collections → All IsReadable engine.collections.now
-      → (KeepsWord (past history engine) → bytes ≡ stores.committed history engine.store) → bytes ≡ pairs_bytes (pairs_of engine.collections.now) → IsOpened history disk engine
+      → (KeepsWord (disk_history history engine) → bytes ≡ stores.committed history engine.store) → bytes ≡ pairs_bytes (pairs_of engine.collections.now) → IsOpened history disk engine
   opened engine bytes r loading readable read spelled =
-      let state = engine.collections.now in
-      let same : begun_of engine.collections ≡ state = unchanged engine.collections loading.idle in
-      let committed : KeepsWord (past history engine) → stores.committed history engine.store ≡ pairs_bytes (pairs_of state) = λ k. sym (read k) ∙ spelled in
+      let collections = engine.collections.now in
+      let same : turn_start_of engine.collections ≡ collections = unchanged engine.collections loading.idle in
+      let committed : KeepsWord (disk_history history engine) → stores.committed history engine.store ≡ pairs_bytes (pairs_of collections) = λ k. sym (read k) ∙ spelled in
       record {
         sound = record {
           store = r.sound;
           lawful = loading.lawful;
           before = subst IsLawfulState (sym same) loading.lawful;
           readable = subst (λ (cs : List Collection). All IsReadable cs) (sym same) readable;
-          holds = λ run k image left. subst (Holds image) (sym same) (held state image loading.lawful readable (subst (StandsFor image) (committed k) (r.alone k image left)));
+          holds = λ run k image left. subst (Holds image) (sym same) (held collections image loading.lawful readable (subst (StandsFor image) (committed k) (r.alone k image left)));
           committed = λ k run. committed k ∙ ap (λ (cs : List Collection). pairs_bytes (pairs_of cs)) (sym same);
         };
         running = r.running;
-        idle = ap (λ (cs : List Collection). let w : World = record { state = cs; cursors = []; next = 1; touched = [] } in w) same;
+        idle = ap (λ (cs : List Collection). let w : World = record { collections = cs; cursors = []; next = 1; touched = [] } in w) same;
         rests = ap has_any loading.idle;
         on = r.on;
-        holds = λ k. held state (reads (now (history disk))) loading.lawful readable (subst (StandsFor (reads (now (history disk)))) (committed k) (r.stands k));
-        alone = λ k image left. held state image loading.lawful readable (subst (StandsFor image) (committed k) (r.alone k image left));
+        holds = λ k. held collections (reads (now (history disk))) loading.lawful readable (subst (StandsFor (reads (now (history disk)))) (committed k) (r.stands k));
+        alone = λ k image left. held collections image loading.lawful readable (subst (StandsFor image) (committed k) (r.alone k image left));
         any_moment = r.any_moment;
         only = r.only;
       }
@@ -56,7 +56,7 @@ module _ {D : Type 0} (history : D → History) (disk : D) where
   refused_store back fault r = record {
     on = r.untouched.on;
     any_moment = λ one. reads_moments (history disk) (history back) r.untouched;
-    damaged = λ other memory k state h. r.damaged other memory k (pairs_of state) h.pairs;
+    damaged = λ other memory k collections h. r.damaged other memory k (pairs_of collections) h.pairs;
     foreign = r.foreign;
     later = r.later;
     device = r.device;
@@ -64,13 +64,13 @@ module _ {D : Type 0} (history : D → History) (disk : D) where
 
   pub refused_pairs : (store : Store D) (back : D) (bytes : List ℕ) (fault : OpenFault) → roots.IsOpened history disk store → history back ≡ stores.past history store → IsOfBytes fault
       → (KeepsWord (stores.past history store) → bytes ≡ stores.committed history store)
-      → (fault ≢ faults.Memory → (state : List Collection) → IsLawfulState state → All IsReadable state → bytes ≡ pairs_bytes (pairs_of state) → ⊥) → IsRefused history disk back fault
+      → (fault ≢ faults.Memory → (collections : List Collection) → IsLawfulState collections → All IsReadable collections → bytes ≡ pairs_bytes (pairs_of collections) → ⊥) → IsRefused history disk back fault
   refused_pairs store back bytes fault r same of_bytes read none = record {
     on = subst (GoesOn (history disk)) (sym same) r.on;
     any_moment = λ one. subst (λ (h : History). LeavesOnly (history disk) h (IsImage (now (history disk)))) (sym same) (r.any_moment one);
-    damaged = λ other memory k state h.
+    damaged = λ other memory k collections h.
         let kept = subst KeepsWord same k in
-        none memory state h.lawful h.readable (read kept ∙ one_state (reads (now (history disk))) (stores.committed history store) (pairs_bytes (pairs_of state)) (r.stands kept) h.pairs.stands);
+        none memory collections h.lawful h.readable (read kept ∙ one_state (reads (now (history disk))) (stores.committed history store) (pairs_bytes (pairs_of collections)) (r.stands kept) h.pairs.stands);
     foreign = λ e. absurd (of_bytes.not_foreign e);
     later = λ e. absurd (of_bytes.not_newer e);
     device = λ e. absurd (of_bytes.not_device e);

@@ -5,13 +5,12 @@ use Rattle.value_order.specs.KeyText.{escaped, tree_text}
 use Rattle.std.specs.Int.{w32, to_be_bytes}
 use Rattle.engine.specs.Refusals.{words}
 use Rattle.engine.specs.Stored.{entry, key_under}
-use Rattle.engine.specs.declared.TheConstants.{STORED_LIMIT}
 
 pub entry_size : (number : ℕ) → length (framed (pairs_bytes (entry number))) ≡ 20
 unfolding tree_bytes pairs_bytes items_bytes
 entry_size number = refl
 
-pub entry_small : (number : ℕ) → length (framed (pairs_bytes (entry number))) ≤ STORED_LIMIT
+pub entry_small : (number : ℕ) → length (framed (pairs_bytes (entry number))) ≤ 65535
 entry_small number = omega (arith, entry_size number)
 
 escaped_size : (bs : List ℕ) → length (escaped bs) ≤ 2 * length bs + 2

@@ -15,31 +15,30 @@ use Rattle.engine.specs.World.{Collection, documents_or_none, number_or, unused,
 use Rattle.engine.specs.Lawful.{IsHeld, AreNamedApart}
 use Rattle.engine.specs.Places.{IsGap, IsMissing, by_name, collection_at, no_collection}
 use Rattle.engine.specs.Documents.{id_first, checked, place, insert_one}
-use Rattle.engine.specs.Progress.{Progress, IsProgress, without_document, undo, rewind, has_any, is_changed, begun_of, CanUndo, CanRewind, Extends, is_full, Stands, with_document}
-use Rattle.engine.specs.declared.TheConstants.{MOST_COLLECTIONS}
+use Rattle.engine.specs.Progress.{Progress, IsProgress, without_document, undo, rewind, has_any, is_changed, turn_start_of, CanUndo, CanRewind, Extends, is_full, Stands, with_document}
 use Rattle.path.specs.declared.refusal.Refusal.{Refusal}
 use Rattle.path.specs.declared.refusal.Refusal.TheVariants as refusals
-use Rattle.engine.specs.declared.collections.Change.{Change}
-use Rattle.engine.specs.declared.collections.Change.TheVariants as changes
+use Rattle.engine.specs.declared.collections.UndoEntry.{UndoEntry}
+use Rattle.engine.specs.declared.collections.UndoEntry.TheVariants as entries
 use Rattle.engine.proofs.Ordered.{rises_insert}
 
-pub rewind-append : (xs ys : List Change) (cs : List Collection) → rewind (xs ++ ys) cs ≡ rewind xs (rewind ys cs)
+pub rewind-append : (xs ys : List UndoEntry) (cs : List Collection) → rewind (xs ++ ys) cs ≡ rewind xs (rewind ys cs)
 rewind-append [] ys cs = refl
 rewind-append (x ∷ xs) ys cs = ap (undo x) (rewind-append xs ys cs)
 
-pub CanRewind-push : (xs : List Change) (x : Change) (cs : List Collection) → CanUndo x cs → CanRewind xs (undo x cs) → CanRewind (xs ++ x ∷ []) cs
+pub CanRewind-push : (xs : List UndoEntry) (x : UndoEntry) (cs : List Collection) → CanUndo x cs → CanRewind xs (undo x cs) → CanRewind (xs ++ x ∷ []) cs
 CanRewind-push [] x cs one h = (one, tt)
 CanRewind-push (y ∷ ys) x cs one h = (subst (CanUndo y) (sym (rewind-append ys (x ∷ []) cs)) h.0, CanRewind-push ys x cs one h.1)
 
-pub CanRewind-pop : (xs : List Change) (x : Change) (cs : List Collection) → CanRewind (xs ++ x ∷ []) cs → CanUndo x cs × CanRewind xs (undo x cs)
+pub CanRewind-pop : (xs : List UndoEntry) (x : UndoEntry) (cs : List Collection) → CanRewind (xs ++ x ∷ []) cs → CanUndo x cs × CanRewind xs (undo x cs)
 CanRewind-pop [] x cs h = (h.0, tt)
 CanRewind-pop (y ∷ ys) x cs h =
     let later = CanRewind-pop ys x cs h.1 in
     (later.0, (subst (CanUndo y) (rewind-append ys (x ∷ []) cs) h.0, later.1))
 
 -- what the last change names is there, and the others can be undone after it
-pub CanRewind-last : (old new : List Change) (x : Change) (cs : List Collection) → old ≡ new ++ x ∷ [] → CanRewind old cs → CanUndo x cs × CanRewind new (undo x cs)
-CanRewind-last old new x cs e h = CanRewind-pop new x cs (subst (λ (xs : List Change). CanRewind xs cs) e h)
+pub CanRewind-last : (old new : List UndoEntry) (x : UndoEntry) (cs : List Collection) → old ≡ new ++ x ∷ [] → CanRewind old cs → CanUndo x cs × CanRewind new (undo x cs)
+CanRewind-last old new x cs e h = CanRewind-pop new x cs (subst (λ (xs : List UndoEntry). CanRewind xs cs) e h)
 
 -- ---- an element in place of another
 
@@ -68,14 +67,14 @@ Extends-refl p = record { more = []; noted = sym (append-nil p.changes); back = 
 pub Extends-trans : (p q r : Progress) → Extends p q → Extends q r → Extends p r
 Extends-trans p q r first second = record {
   more = first.more ++ second.more;
-  noted = second.noted ∙ ap (λ (xs : List Change). xs ++ second.more) first.noted ∙ append_assoc p.changes first.more second.more;
+  noted = second.noted ∙ ap (λ (xs : List UndoEntry). xs ++ second.more) first.noted ∙ append_assoc p.changes first.more second.more;
   back = rewind-append first.more second.more r.now ∙ ap (rewind first.more) second.back ∙ first.back;
 }
 
-pub begun-extends : (p q : Progress) → Extends p q → begun_of q ≡ begun_of p
-begun-extends p q e = ap (λ (xs : List Change). rewind xs q.now) e.noted ∙ rewind-append p.changes e.more q.now ∙ ap (rewind p.changes) e.back
+pub turn_start-extends : (p q : Progress) → Extends p q → turn_start_of q ≡ turn_start_of p
+turn_start-extends p q e = ap (λ (xs : List UndoEntry). rewind xs q.now) e.noted ∙ rewind-append p.changes e.more q.now ∙ ap (rewind p.changes) e.back
 
-same_front : (xs ys us vs : List Change) → length xs ≡ length ys → xs ++ us ≡ ys ++ vs → (xs ≡ ys) × (us ≡ vs)
+same_front : (xs ys us vs : List UndoEntry) → length xs ≡ length ys → xs ++ us ≡ ys ++ vs → (xs ≡ ys) × (us ≡ vs)
 same_front [] [] us vs n e = (refl, e)
 same_front [] (y ∷ ys) us vs n e = absurd (omega (arith, n))
 same_front (x ∷ xs) [] us vs n e = absurd (omega (arith, n))
@@ -89,25 +88,25 @@ same_front (x ∷ xs) (y ∷ ys) us vs n e =
 pub Extends-same : (p q r : Progress) → Extends p r → Extends q r → length p.changes ≡ length q.changes → p ≡ q
 Extends-same p q r first second n =
     let parts = same_front p.changes q.changes first.more second.more n (sym first.noted ∙ second.noted) in
-    let now : p.now ≡ q.now = sym first.back ∙ ap (λ (xs : List Change). rewind xs r.now) parts.1 ∙ second.back in
+    let now : p.now ≡ q.now = sym first.back ∙ ap (λ (xs : List UndoEntry). rewind xs r.now) parts.1 ∙ second.back in
     λ i. record { now = now i; changes = parts.0 i }
 
-empty : (xs : List Change) → length xs ≡ 0 → xs ≡ []
+empty : (xs : List UndoEntry) → length xs ≡ 0 → xs ≡ []
 empty [] h = refl
 empty (x ∷ xs) h = absurd (omega (arith, h))
 
 -- nothing is before the beginning
-pub Extends-none : (p q : Progress) → Extends p q → length p.changes ≡ 0 → p ≡ record { now = begun_of q; changes = [] }
+pub Extends-none : (p q : Progress) → Extends p q → length p.changes ≡ 0 → p ≡ record { now = turn_start_of q; changes = [] }
 Extends-none p q e n =
     let none : p.changes ≡ [] = empty p.changes n in
-    let back : p.now ≡ begun_of q = ap (λ (xs : List Change). rewind xs p.now) (sym none) ∙ sym (begun-extends p q e) in
+    let back : p.now ≡ turn_start_of q = ap (λ (xs : List UndoEntry). rewind xs p.now) (sym none) ∙ sym (turn_start-extends p q e) in
     λ i. record { now = back i; changes = none i }
 
 -- a turn that changed nothing is at its beginning
-pub never_changed : (p : Progress) → is_changed p ≡ false → begun_of p ≡ p.now
+pub never_changed : (p : Progress) → is_changed p ≡ false → turn_start_of p ≡ p.now
 never_changed p rests = at p.changes rests
   where
-    at : (xs : List Change) → has_any xs ≡ false → rewind xs p.now ≡ p.now
+    at : (xs : List UndoEntry) → has_any xs ≡ false → rewind xs p.now ≡ p.now
     at [] e = refl
     at (x ∷ xs) e = absurd cc
 
@@ -119,7 +118,7 @@ remove-insert [] (suc i) x h = absurd (omega arith)
 remove-insert (y ∷ ys) zero x h = refl
 remove-insert {X} (y ∷ ys) (suc i) x h = ap (λ (zs : List X). y ∷ zs) (remove-insert ys i x (omega arith))
 
-module _ (p : Progress) (now : List Collection) (x : Change) (apart : AreNamedApart now) (can : CanUndo x now) (back : undo x now ≡ p.now) where
+module _ (p : Progress) (now : List Collection) (x : UndoEntry) (apart : AreNamedApart now) (can : CanUndo x now) (back : undo x now ≡ p.now) where
   pub IsProgress-push : CanRewind p.changes p.now → IsProgress (record { now = now; changes = p.changes ++ x ∷ [] })
   IsProgress-push h = record { apart = apart; undoable = CanRewind-push p.changes x now can (subst (CanRewind p.changes) (sym back) h) }
 
@@ -134,14 +133,14 @@ module _ (cs : List Collection) (at place : ℕ) (d : Pairs) (within : at < leng
   there : collection_at (set cs at grown) at ≡ grown
   there = get_or-set_at cs at at grown no_collection refl within
 
-  pub undo-stored : undo (changes.Stored at place) (set cs at grown) ≡ cs
+  pub undo-stored : undo (entries.Stored at place) (set cs at grown) ≡ cs
   undo-stored =
       ap (λ (c : Collection). set (set cs at grown) at (without_document c place)) there
       ∙ set-set cs at grown (without_document grown place)
       ∙ ap (λ (ds : List Pairs). set cs at (record (collection_at cs at) { documents = ds })) (remove-insert (collection_at cs at).documents place d gap)
       ∙ set-get_or cs at no_collection
 
-  pub CanUndo-stored : CanUndo (changes.Stored at place) (set cs at grown)
+  pub CanUndo-stored : CanUndo (entries.Stored at place) (set cs at grown)
   CanUndo-stored =
       let long : place < length grown.documents = omega (arith, length-insert (collection_at cs at).documents place d gap) in
       (omega (arith, length-set cs at grown), subst (λ (c : Collection). place < length c.documents) (sym there) long)
@@ -157,13 +156,13 @@ module _ (cs : List Collection) (at : ℕ) (left : List Pairs) (within : at < le
   there-cut : collection_at (set cs at cut) at ≡ cut
   there-cut = get_or-set_at cs at at cut no_collection refl within
 
-  pub undo-deleted : undo (changes.Deleted at (collection_at cs at).documents) (set cs at cut) ≡ cs
+  pub undo-deleted : undo (entries.Replaced at (collection_at cs at).documents) (set cs at cut) ≡ cs
   undo-deleted =
       ap (λ (c : Collection). set (set cs at cut) at (record c { documents = (collection_at cs at).documents })) there-cut
       ∙ set-set cs at cut (collection_at cs at)
       ∙ set-get_or cs at no_collection
 
-  pub CanUndo-deleted : IsHeld (collection_at cs at) → CanUndo (changes.Deleted at (collection_at cs at).documents) (set cs at cut)
+  pub CanUndo-deleted : IsHeld (collection_at cs at) → CanUndo (entries.Replaced at (collection_at cs at).documents) (set cs at cut)
   CanUndo-deleted held =
       (omega (arith, length-set cs at cut), subst (λ (c : Collection). IsHeld (record c { documents = (collection_at cs at).documents })) (sym there-cut) held)
 
@@ -172,10 +171,10 @@ module _ (cs : List Collection) (at : ℕ) (left : List Pairs) (within : at < le
 
 -- a collection is made
 module _ (cs : List Collection) (at : ℕ) (c : Collection) (gap : IsGap (by_name c.name) cs at) where
-  pub undo-made : undo (changes.Made at) (insert cs at c) ≡ cs
+  pub undo-made : undo (entries.Made at) (insert cs at c) ≡ cs
   undo-made = remove-insert cs at c gap.within
 
-  pub CanUndo-made : CanUndo (changes.Made at) (insert cs at c)
+  pub CanUndo-made : CanUndo (entries.Made at) (insert cs at c)
   CanUndo-made = omega (arith, length-insert cs at c gap.within, gap.within)
 
   pub apart-made : AreNamedApart cs → AreNamedApart (insert cs at c)
@@ -203,12 +202,12 @@ set-insert [] (suc i) x y h = absurd (omega arith)
 set-insert (z ∷ zs) zero x y h = refl
 set-insert {X} (z ∷ zs) (suc i) x y h = ap (λ (us : List X). z ∷ us) (set-insert zs i x y (omega arith))
 
-pub not_full : (cs : List Collection) (name : List ℕ) → length cs < MOST_COLLECTIONS → is_full cs name ≡ false
+pub not_full : (cs : List Collection) (name : List ℕ) → length cs < 1000 → is_full cs name ≡ false
 not_full cs name h =
-    let few : nat_le MOST_COLLECTIONS (length cs) ≡ false = grind (arith, nat_tests) in
+    let few : nat_le 1000 (length cs) ≡ false = grind (arith, nat_tests) in
     rw few refl
 
-pub Stands-made : (cs : List Collection) (at : ℕ) (name : List ℕ) (c : Collection) → IsMissing name cs at → c ≡ record { name = name; number = unused cs; documents = [] } → length cs < MOST_COLLECTIONS → Stands name cs (insert cs at c) at
+pub Stands-made : (cs : List Collection) (at : ℕ) (name : List ℕ) (c : Collection) → IsMissing name cs at → c ≡ record { name = name; number = unused cs; documents = [] } → length cs < 1000 → Stands name cs (insert cs at c) at
 Stands-made cs at name c gone is few = record {
   within = omega (arith, length-insert cs at c gone.gap.within, gone.gap.within);
   is = get_or-insert_at cs at c no_collection gone.gap.within ∙ is ∙ ap (λ (o : Option Collection). record { name = name; number = number_or (unused cs) o; documents = documents_or_none o }) (sym gone.found);

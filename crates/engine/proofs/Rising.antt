@@ -28,7 +28,6 @@ use Rattle.engine.specs.Documents.{id_name, key_of}
 use Rattle.engine.specs.Refusals.{words}
 use Rattle.engine.specs.Lawful.{IsStored, IsRising, IsReadable, IsKept, IsLawfulState}
 use Rattle.engine.specs.Stored.{key_under, catalogue_pair, document_pair, documents_numbered, documents_to, pairs_of}
-use Rattle.engine.specs.declared.TheConstants.{MOST_COLLECTIONS}
 use Rattle.engine.proofs.PairSizes.{entry_size, name_size, key_size}
 use Rattle.engine.proofs.SpelledSizes.{length-words}
 
@@ -180,14 +179,14 @@ first_all (suc n) c cs fits =
 pub are_row : (cs : List Collection) → IsLawfulState cs → All IsReadable cs → IsRow (pairs_of cs)
 unfolding pairs_of
 are_row cs lawful h =
-    let documents = whole MOST_COLLECTIONS cs (omega arith) lawful.kept h in
+    let documents = whole 1000 cs (omega arith) lawful.kept h in
     record {
-      fit = all_append IsFit (map catalogue_pair cs) (documents_to MOST_COLLECTIONS cs)
+      fit = all_append IsFit (map catalogue_pair cs) (documents_to 1000 cs)
           (all_map IsFit catalogue_pair cs (λ k d below. fits (get_or cs k d) (lawful.kept k d below))) documents.fit;
-      rise = rise_append (map catalogue_pair cs) (documents_to MOST_COLLECTIONS cs)
+      rise = rise_append (map catalogue_pair cs) (documents_to 1000 cs)
           (rise_map catalogue_pair cs (λ i j d lt below. names_rise (get_or cs i d) (get_or cs j d) (lawful.kept i d (omega (arith, lt, below))) (lawful.kept j d below) (h i d (omega (arith, lt, below))) (h j d below) (lawful.apart i j d lt below)))
           documents.rise
-          (all_map (λ (x : Pair). AllByRecursion (λ (y : Pair). IsBelow x.key y.key) (documents_to MOST_COLLECTIONS cs)) catalogue_pair cs (λ k d below. first_all MOST_COLLECTIONS (get_or cs k d) cs (omega arith)));
+          (all_map (λ (x : Pair). AllByRecursion (λ (y : Pair). IsBelow x.key y.key) (documents_to 1000 cs)) catalogue_pair cs (λ k d below. first_all 1000 (get_or cs k d) cs (omega arith)));
     }
   where
     fits : (c : Collection) → IsKept c → IsFit (catalogue_pair c)

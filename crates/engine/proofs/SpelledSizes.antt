@@ -8,12 +8,11 @@ use Rattle.bson.specs.Tree.{document, array, Pairs, no_pairs, pair, Items, item}
 use Rattle.bson.specs.Sizing.{framed-length, pairs_bytes-none, pairs_size-pair, items_bytes-none}
 use Rattle.bson.specs.Spelling.{tree_bytes, pairs_bytes, items_bytes, framed}
 use Rattle.engine.specs.Refusals.{int, long, words, refusal_reply, ok_reply}
-use Rattle.engine.specs.Step.{item_size, batch_len, items_of_documents, cursor_reply}
+use Rattle.engine.specs.Cursors.{item_size, batch_len, items_of_documents, cursor_reply}
 use Rattle.engine.specs.Lawful.{IsWithin}
 use Rattle.engine.specs.View.{IsSendable}
 use Rattle.path.specs.declared.refusal.Refusal.{Refusal}
 use Rattle.path.specs.declared.refusal.Refusal.TheVariants as refusals
-use Rattle.engine.specs.declared.TheConstants.{BATCH_LIMIT, STORED_LIMIT, NAMESPACE_LIMIT}
 
 length-document : (ps : Pairs) → length (tree_bytes (document ps)) ≡ length (pairs_bytes ps) + 5
 unfolding tree_bytes
@@ -74,16 +73,16 @@ later_items i (suc most) room (d ∷ ds) h =
     at false false e f later = omega (arith, ap length (items_bytes-none i))
 
 -- a batch is within its room, unless its first document alone is not
-pub batch_items : (most room : ℕ) (ds : List Pairs) → All IsWithin ds → taken 0 ds (batch_len 0 most room ds) ≤ max room (STORED_LIMIT + 3)
+pub batch_items : (most room : ℕ) (ds : List Pairs) → All IsWithin ds → taken 0 ds (batch_len 0 most room ds) ≤ max room (65535 + 3)
 batch_items most room [] h = omega (arith, ap length (items_bytes-none 0))
 batch_items zero room (d ∷ ds) h = omega (arith, ap length (items_bytes-none 0))
 batch_items (suc most) room (d ∷ ds) h =
-    let first : item_size 0 d ≤ STORED_LIMIT + 3 = omega (arith, (h 0 d (omega arith)).size, length-append (decimal 0) (0 ∷ framed (pairs_bytes d)), length-decimal-le_succ 0 (omega arith)) in
+    let first : item_size 0 d ≤ 65535 + 3 = omega (arith, (h 0 d (omega arith)).size, length-append (decimal 0) (0 ∷ framed (pairs_bytes d)), length-decimal-le_succ 0 (omega arith)) in
     omega (arith, length-item 0 d (items_of_documents (take (batch_len 1 most (room - item_size 0 d) ds) ds)), later_items 1 most (room - item_size 0 d) ds (omega arith))
 
 -- ---- replies with documents
 
-pub cursor-sendable : (batch : List Pairs) (number : ℕ) (namespace : List ℕ) → length (items_bytes 0 (items_of_documents batch)) ≤ max (BATCH_LIMIT - 5) (STORED_LIMIT + 3) → length namespace ≤ NAMESPACE_LIMIT
+pub cursor-sendable : (batch : List Pairs) (number : ℕ) (namespace : List ℕ) → length (items_bytes 0 (items_of_documents batch)) ≤ max (900000 - 5) (65535 + 3) → length namespace ≤ 255
     → IsSendable (ok_reply (cursor_reply (codes "firstBatch") batch number namespace))
 cursor-sendable batch number namespace small short =
     let ns = pair (codes "ns") (words namespace) no_pairs in

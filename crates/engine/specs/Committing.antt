@@ -8,8 +8,8 @@ use Rattle.roots.specs.declared.store.Store.{Store}
 use Rattle.roots.specs.declared.store.CommitFault.{CommitFault}
 use Rattle.roots.specs.declared.store.CommitFault.TheVariants as faults
 use Rattle.engine.specs.World.{settled, undone}
-use Rattle.engine.specs.View.{world, begun}
-use Rattle.engine.specs.Durable.{Holds, past, wrote, stopped, IsRunning, store_of, IsSound, HasNoRoom}
+use Rattle.engine.specs.View.{world, turn_start}
+use Rattle.engine.specs.Durable.{Holds, disk_history, has_changes, is_stopped, IsRunning, store_of, IsSound, HasNoRoom}
 use Rattle.engine.specs.declared.engine.Engine.{Engine}
 
 -- These bytes were saved, or not.
@@ -31,22 +31,22 @@ pub record Saves {D : Type 0} (history : D → History) (bytes : List ℕ) (resu
 -- The turn was ended, and what it changed is durable, or not.
 pub record Commits {D : Type 0} (history : D → History) (result : Result (Unit {0}) CommitFault) (old new : Engine D) : Type 0 where
   pub sound : IsSound history new
-  pub on : GoesOn (past history old) (past history new)
+  pub on : GoesOn (disk_history history old) (disk_history history new)
   pub done : OnOk result (world new ≡ settled (world old))
-  pub stops : result ≡ Err faults.Device → (world new ≡ settled (world old)) × (stopped new ≡ true)
-  pub memory : result ≡ Err faults.Memory → world new ≡ undone (begun old) (world old)
-  pub full : result ≡ Err faults.Full → (world new ≡ undone (begun old) (world old)) × HasNoRoom (store_of old) (world old).state
-  pub ended : begun new ≡ world new
+  pub stops : result ≡ Err faults.Device → (world new ≡ settled (world old)) × (is_stopped new ≡ true)
+  pub memory : result ≡ Err faults.Memory → world new ≡ undone (turn_start old) (world old)
+  pub full : result ≡ Err faults.Full → (world new ≡ undone (turn_start old) (world old)) × HasNoRoom (store_of old) (world old).collections
+  pub ended : turn_start new ≡ world new
   pub limit : stores.limit_of (store_of new) ≡ stores.limit_of (store_of old)
-  pub running : result ≢ Err faults.Device → stopped new ≡ stopped old
+  pub running : result ≢ Err faults.Device → is_stopped new ≡ is_stopped old
   -- a crash at any moment of the call leaves the collections as they were before the turn or as they are after it
-  pub any_moment : IsRunning old → LeavesOnly (past history old) (past history new) (λ image. Holds image (begun old).state ⊎ Holds image (world old).state)
+  pub any_moment : IsRunning old → LeavesOnly (disk_history history old) (disk_history history new) (λ image. Holds image (turn_start old).collections ⊎ Holds image (world old).collections)
   -- where the turn is undone, it leaves them as they were before, at every moment
-  pub kept : IsRunning old → result ≢ Err faults.Device → OnErr result (LeavesOnly (past history old) (past history new) (λ image. Holds image (begun old).state))
+  pub kept : IsRunning old → result ≢ Err faults.Device → OnErr result (LeavesOnly (disk_history history old) (disk_history history new) (λ image. Holds image (turn_start old).collections))
   -- at Ok it leaves them as they are after it, and nothing else
-  pub acknowledged : IsRunning old → OnOk result (LeavesNow (past history new) (λ image. Holds image (world old).state))
-  pub device : result ≡ Err faults.Device → KeepsWord (past history new) → (stopped old ≡ true) ⊎ ((past history old).failures < (past history new).failures)
-  pub idle : stopped old ≡ true → past history new ≡ past history old
+  pub acknowledged : IsRunning old → OnOk result (LeavesNow (disk_history history new) (λ image. Holds image (world old).collections))
+  pub device : result ≡ Err faults.Device → KeepsWord (disk_history history new) → (is_stopped old ≡ true) ⊎ ((disk_history history old).failures < (disk_history history new).failures)
+  pub idle : is_stopped old ≡ true → disk_history history new ≡ disk_history history old
   -- where the commands changed nothing, there is nothing to write
-  pub quiet : wrote old ≡ false → (result ≡ Ok tt) × (store_of new ≡ store_of old)
-  pub rests : wrote new ≡ false
+  pub quiet : has_changes old ≡ false → (result ≡ Ok tt) × (store_of new ≡ store_of old)
+  pub rests : has_changes new ≡ false

@@ -3,25 +3,15 @@ use Rattle.std.specs.Prelude.{ℕ, suc, Bool, ◌==◌, nat_lt, if◌then◌else
 use Rattle.std.specs.Str.{bytes_eq}
 use Rattle.value_order.specs.Order.{compare}
 use Rattle.value_order.specs.KeyText.{tree_text}
-use Rattle.value_order.specs.declared.TheConstants.{KEY_LIMIT}
 use Rattle.std.specs.List.{list_any}
 use Rattle.bson.specs.Tree.{Tree, scalar, document, array, null, Pairs, no_pairs, pair, Items, no_items, item}
 use Rattle.bson.specs.Lookup.{lookup}
 use Rattle.bson.specs.Lawful.{pairs_levels}
 use Rattle.bson.specs.Spelling.{framed, pairs_bytes}
 use Rattle.engine.specs.World.{by_order}
+use Rattle.path.specs.Outcomes.{◌>>=◌, unless, or_refused}
 use Rattle.path.specs.declared.refusal.Refusal.{Refusal}
 use Rattle.path.specs.declared.refusal.Refusal.TheVariants as refusals
-use Rattle.engine.specs.declared.TheConstants.{STORED_LIMIT, STORED_LEVELS}
-
-infixl 10 ◌>>=◌
-abbrev pub ◌>>=◌ : {A B : Type 0} → Result A Refusal → (A → Result B Refusal) → Result B Refusal
-(Ok x) >>= f = f x
-(Err e) >>= f = Err e
-
--- goes on with what a test lets pass
-abbrev pub unless : {X : Type 0} → Bool → Refusal → Result X Refusal → Result X Refusal
-unless test refusal go = if test then Err refusal else go
 
 -- a name that is not stored, and why
 abbrev pub name_fault : List ℕ → Option Refusal
@@ -79,18 +69,14 @@ abbrev pub refused_if : {X : Type 0} → Option Refusal → Result X Refusal →
 refused_if (Some r) go = Err r
 refused_if None go = go
 
-abbrev pub or_refused : {X : Type 0} → Option X → Refusal → Result X Refusal
-or_refused (Some x) refusal = Ok x
-or_refused None refusal = Err refusal
-
 -- the `_id` of a document that may be stored, or the first refusal
 unfoldable pub checked : Pairs → Result Tree Refusal
 checked ps =
-    unless (nat_lt STORED_LIMIT (length (framed (pairs_bytes ps)))) refusals.BSONObjectTooLarge
-    (unless (nat_lt STORED_LEVELS (suc (pairs_levels ps))) refusals.BadValue
+    unless (nat_lt 65535 (length (framed (pairs_bytes ps)))) refusals.BSONObjectTooLarge
+    (unless (nat_lt 90 (suc (pairs_levels ps))) refusals.BadValue
     (refused_if (pairs_fault (id_first ps)) (do
       id ← or_refused (id_of ps) refusals.BadValue
-      unless (nat_lt KEY_LIMIT (length (tree_text id))) refusals.KeyTooLong (Ok id))))
+      unless (nat_lt 500 (length (tree_text id))) refusals.KeyTooLong (Ok id))))
 
 -- by what a stored document is found
 abbrev pub key_of : Pairs → Tree

@@ -10,43 +10,43 @@ use Rattle.engine.specs.World.{Collection}
 use Rattle.engine.specs.Lawful.{IsReadable, IsLawfulState}
 use Rattle.engine.specs.Stored.{pairs_of}
 use Rattle.engine.specs.Progress.{is_changed}
-use Rattle.engine.specs.View.{world, begun}
+use Rattle.engine.specs.View.{world, turn_start}
 use Rattle.engine.specs.declared.engine.Engine.{Engine}
 
 -- The image holds these collections: they are lawful, bytes can spell them, and its root names their pairs and no others.
-pub record Holds (image : ℕ → List ℕ) (state : List Collection) : Type 0 where
-  pub lawful : IsLawfulState state
-  pub readable : All IsReadable state
-  pub pairs : images.Holds image (pairs_of state)
+pub record Holds (image : ℕ → List ℕ) (collections : List Collection) : Type 0 where
+  pub lawful : IsLawfulState collections
+  pub readable : All IsReadable collections
+  pub pairs : images.Holds image (pairs_of collections)
 
 -- each moment of the engine's disk so far
-abbrev pub past : {D : Type 0} → (D → History) → Engine D → History
-past history engine = history engine.store.disk
+abbrev pub disk_history : {D : Type 0} → (D → History) → Engine D → History
+disk_history history engine = history engine.store.disk
 
 -- its store: the disk with all its moments, the root in force, the live pages and the limit of pages
 abbrev pub store_of : {D : Type 0} → Engine D → Store D
 store_of engine = engine.store
 
 -- the commands of the running turn have changed something
-abbrev pub wrote : {D : Type 0} → Engine D → Bool
-wrote engine = is_changed engine.collections
+abbrev pub has_changes : {D : Type 0} → Engine D → Bool
+has_changes engine = is_changed engine.collections
 
 -- a write or a sync of the engine's has failed
-abbrev pub stopped : {D : Type 0} → Engine D → Bool
-stopped engine = stores.is_stopped engine.store
+abbrev pub is_stopped : {D : Type 0} → Engine D → Bool
+is_stopped engine = stores.is_stopped engine.store
 
 abbrev pub IsRunning : {D : Type 0} → Engine D → Type 0
-IsRunning engine = stopped engine ≡ false
+IsRunning engine = is_stopped engine ≡ false
 
 -- Until it stops, every image holds the collections as they were at the beginning of the turn, and no others.
 pub record IsSound {D : Type 0} (history : D → History) (engine : Engine D) : Type 0 where
   pub store : stores.IsSound history engine.store
-  pub lawful : IsLawfulState (world engine).state
-  pub before : IsLawfulState (begun engine).state
-  pub readable : All IsReadable (begun engine).state
-  pub holds : IsRunning engine → LeavesNow (past history engine) (λ image. Holds image (begun engine).state)
-  pub committed : KeepsWord (past history engine) → IsRunning engine → stores.committed history engine.store ≡ pairs_bytes (pairs_of (begun engine).state)
+  pub lawful : IsLawfulState (world engine).collections
+  pub before : IsLawfulState (turn_start engine).collections
+  pub readable : All IsReadable (turn_start engine).collections
+  pub holds : IsRunning engine → LeavesNow (disk_history history engine) (λ image. Holds image (turn_start engine).collections)
+  pub committed : KeepsWord (disk_history history engine) → IsRunning engine → stores.committed history engine.store ≡ pairs_bytes (pairs_of (turn_start engine).collections)
 
 -- No commit of these collections finds room: they are too long for the free pages, or no greater generation is left.
 abbrev pub HasNoRoom : {D : Type 0} → Store D → List Collection → Type 0
-HasNoRoom store state = (stores.version_of store ≡ 2 ^ 64 - 1) ⊎ stores.IsTooLong store (length (pairs_bytes (pairs_of state)))
+HasNoRoom store collections = (stores.version_of store ≡ 2 ^ 64 - 1) ⊎ stores.IsTooLong store (length (pairs_bytes (pairs_of collections)))

@@ -4,7 +4,6 @@ use Rattle.std.specs.List.{AllPairs}
 use Rattle.std.specs.Ordering.{nat_cmp}
 use Rattle.value_order.specs.Order.{compare}
 use Rattle.value_order.specs.KeyText.{tree_text}
-use Rattle.value_order.specs.declared.TheConstants.{KEY_LIMIT}
 use Rattle.std.specs.Cmp.Lexicographic.{slice_cmp}
 use Rattle.std.specs.Coded.{Coded, code_by, coded×, coded_ℕ, coded_list}
 use Rattle.std.specs.declared.cmp.Ordering.TheVariants as orders
@@ -14,21 +13,20 @@ use Rattle.bson.specs.Lawful.{pairs_levels, IsDocument}
 use Rattle.bson.specs.Spelling.{framed, pairs_bytes}
 use Rattle.engine.specs.World.{World, Collection, uses}
 use Rattle.engine.specs.Documents.{pairs_fault, id_first, id_of, key_of}
-use Rattle.engine.specs.declared.TheConstants.{STORED_LIMIT, STORED_LEVELS, NAMESPACE_LIMIT, MOST_COLLECTIONS}
 
 -- A document that may be stored: within the limits, each name good, its `_id` first, with a key text within the limit.
 pub record IsStored (ps : Pairs) : Type 0 where
-  pub size : length (framed (pairs_bytes ps)) ≤ STORED_LIMIT
-  pub depth : suc (pairs_levels ps) ≤ STORED_LEVELS
+  pub size : length (framed (pairs_bytes ps)) ≤ 65535
+  pub depth : suc (pairs_levels ps) ≤ 90
   pub names : pairs_fault ps ≡ None
   pub key : id_of ps ≡ Some (key_of ps)
-  pub short : length (tree_text (key_of ps)) ≤ KEY_LIMIT
+  pub short : length (tree_text (key_of ps)) ≤ 500
   pub first : id_first ps ≡ ps
 
 -- a document within the limits of those that are stored or given
 pub record IsWithin (ps : Pairs) : Type 0 where
-  pub size : length (framed (pairs_bytes ps)) ≤ STORED_LIMIT
-  pub depth : suc (pairs_levels ps) ≤ STORED_LEVELS
+  pub size : length (framed (pairs_bytes ps)) ≤ 65535
+  pub depth : suc (pairs_levels ps) ≤ 90
 
 -- documents in rising order of `_id`, each once
 abbrev pub IsRising : List Pairs → Type 0
@@ -55,9 +53,9 @@ AreNamedApart cs = AllPairs (λ c d. slice_cmp nat_cmp c.name d.name ≡ orders.
 -- a collection within the limits
 pub record IsKept (c : Collection) : Type 0 where
   pub lawful : IsCollection c
-  pub short : length c.name ≤ NAMESPACE_LIMIT
+  pub short : length c.name ≤ 255
   pub least : 1 ≤ c.number
-  pub most : c.number ≤ MOST_COLLECTIONS
+  pub most : c.number ≤ 1000
 
 -- no two collections have one number
 abbrev pub AreNumberedApart : List Collection → Type 0
@@ -65,15 +63,15 @@ AreNumberedApart [] = Unit {0}
 AreNumberedApart (c ∷ cs) = (uses cs c.number ≡ false) × AreNumberedApart cs
 
 -- What is kept of the collections: they are in order and within the limits.
-pub record IsLawfulState (state : List Collection) : Type 0 where
-  pub apart : AreNamedApart state
-  pub numbers : AreNumberedApart state
-  pub kept : All IsKept state
-  pub few : length state ≤ MOST_COLLECTIONS
+pub record IsLawfulState (collections : List Collection) : Type 0 where
+  pub apart : AreNamedApart collections
+  pub numbers : AreNumberedApart collections
+  pub kept : All IsKept collections
+  pub few : length collections ≤ 1000
 
 -- What is kept of a world: its collections are lawful, and a cursor holds documents within the limits.
 pub record IsLawful (world : World) : Type 0 where
-  pub state : IsLawfulState world.state
+  pub collections : IsLawfulState world.collections
   pub cursors : All (λ c. All IsWithin c.rest) world.cursors
 
 -- a collection is told apart by its namespace, its number and its documents

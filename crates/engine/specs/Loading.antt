@@ -11,7 +11,6 @@ use Rattle.engine.specs.Lawful.{IsStored, IsKept, IsLawfulState}
 use Rattle.engine.specs.Places.{collection_at}
 use Rattle.engine.specs.Progress.{Progress, with_document}
 use Rattle.engine.specs.Stored.{catalogue_pair, document_pair}
-use Rattle.engine.specs.declared.TheConstants.{MOST_COLLECTIONS}
 
 -- this was read, unless memory ran out
 abbrev pub IsReadAs : {X Y : Type 0} → (X → Y) → Result X OpenFault → Y → Type 0
@@ -47,7 +46,7 @@ place_numbered n cs = position (λ c. c.number == n) cs
 pub record IsAdded (name : List ℕ) (number : ℕ) (cs next : List Collection) : Type 0 where
   pub missing : find_collection cs name ≡ None
   pub fresh : uses cs number ≡ false
-  pub room : length cs < MOST_COLLECTIONS
+  pub room : length cs < 1000
   pub next_is : next ≡ put_collection (record { name = name; number = number; documents = [] }) cs
 
 pub record AddsEntry (cs : List Collection) (pair : Pair) (next : List Collection) : Type 0 where
@@ -58,7 +57,7 @@ pub record AddsEntry (cs : List Collection) (pair : Pair) (next : List Collectio
   pub readable : IsUtf8 new.name
   pub missing : find_collection cs new.name ≡ None
   pub fresh : uses cs new.number ≡ false
-  pub room : length cs < MOST_COLLECTIONS
+  pub room : length cs < 1000
   pub next_is : next ≡ put_collection new cs
 
 pub record AddsDocument (cs : List Collection) (pair : Pair) (next : List Collection) : Type 0 where
@@ -68,7 +67,7 @@ pub record AddsDocument (cs : List Collection) (pair : Pair) (next : List Collec
   pub grown : Collection
   pub pair_is : pair ≡ document_pair number document
   pub least : 1 ≤ number
-  pub most : number ≤ MOST_COLLECTIONS
+  pub most : number ≤ 1000
   pub readable : IsDocument document
   pub stored : IsStored document
   pub found : place_numbered number cs ≡ Some at

@@ -5,56 +5,56 @@ use Rattle.std.specs.Coded.{Coded, code_by, coded×, coded⊎, coded_ℕ, coded_
 use Rattle.bson.specs.Tree.{Pairs}
 use Rattle.bson.specs.TreeCode.{coded_pairs}
 use Rattle.engine.specs.World.{Collection, find_collection, documents_of, with_documents, put_collection}
-use Rattle.engine.specs.Documents.{◌>>=◌, unless, insert_one, insert_all}
-use Rattle.engine.specs.Query.{Deletion, left}
-use Rattle.engine.specs.Step.{deleted_in}
+use Rattle.path.specs.Outcomes.{◌>>=◌, unless}
+use Rattle.engine.specs.Documents.{insert_one, insert_all}
+use Rattle.commands.specs.Delete.{Deletion}
+use Rattle.engine.specs.Delete.{after_deletions, deleted_in}
 use Rattle.engine.specs.Lawful.{IsHeld, AreNamedApart, collection_code}
 use Rattle.engine.specs.Places.{collection_at}
-use Rattle.engine.specs.declared.TheConstants.{MOST_COLLECTIONS}
 use Rattle.path.specs.declared.refusal.Refusal.{Refusal}
 use Rattle.path.specs.declared.refusal.Refusal.TheVariants as refusals
-use Rattle.engine.specs.declared.collections.Change.{Change}
-use Rattle.engine.specs.declared.collections.Change.TheVariants as changes
+use Rattle.engine.specs.declared.collections.UndoEntry.{UndoEntry}
+use Rattle.engine.specs.declared.collections.UndoEntry.TheVariants as entries
 
 -- the collection without the document at a place
 abbrev pub without_document : Collection → ℕ → Collection
 without_document c i = record c { documents = remove c.documents i }
 
 -- the collections as they were before a change
-abbrev pub undo : Change → List Collection → List Collection
-undo (changes.Made at) cs = remove cs at
-undo (changes.Stored at place) cs = slice_set cs at (without_document (collection_at cs at) place)
-undo (changes.Deleted at before) cs = slice_set cs at (record (collection_at cs at) { documents = before })
+abbrev pub undo : UndoEntry → List Collection → List Collection
+undo (entries.Made at) cs = remove cs at
+undo (entries.Stored at place) cs = slice_set cs at (without_document (collection_at cs at) place)
+undo (entries.Replaced at before) cs = slice_set cs at (record (collection_at cs at) { documents = before })
 
 -- the collections as they were before these changes, of which the last is undone first
-abbrev pub rewind : List Change → List Collection → List Collection
+abbrev pub rewind : List UndoEntry → List Collection → List Collection
 rewind [] cs = cs
 rewind (change ∷ later) cs = undo change (rewind later cs)
 
 -- what a change names is there, and what it brings back may be there
-abbrev pub CanUndo : Change → List Collection → Type 0
-CanUndo (changes.Made at) cs = at < length cs
-CanUndo (changes.Stored at place) cs = (at < length cs) × (place < length (collection_at cs at).documents)
-CanUndo (changes.Deleted at before) cs = (at < length cs) × IsHeld (record (collection_at cs at) { documents = before })
+abbrev pub CanUndo : UndoEntry → List Collection → Type 0
+CanUndo (entries.Made at) cs = at < length cs
+CanUndo (entries.Stored at place) cs = (at < length cs) × (place < length (collection_at cs at).documents)
+CanUndo (entries.Replaced at before) cs = (at < length cs) × IsHeld (record (collection_at cs at) { documents = before })
 
-abbrev pub CanRewind : List Change → List Collection → Type 0
+abbrev pub CanRewind : List UndoEntry → List Collection → Type 0
 CanRewind [] cs = Unit {0}
 CanRewind (change ∷ later) cs = CanUndo change (rewind later cs) × CanRewind later cs
 
 -- the collections as they stand, and the changes of the running turn
 pub record Progress : Type 0 where
   pub now : List Collection
-  pub changes : List Change
+  pub changes : List UndoEntry
 
 pub record IsProgress (p : Progress) : Type 0 where
   pub apart : AreNamedApart p.now
   pub undoable : CanRewind p.changes p.now
 
 -- the collections as they were at the beginning of the turn
-abbrev pub begun_of : Progress → List Collection
-begun_of p = rewind p.changes p.now
+abbrev pub turn_start_of : Progress → List Collection
+turn_start_of p = rewind p.changes p.now
 
-abbrev pub has_any : List Change → Bool
+abbrev pub has_any : List UndoEntry → Bool
 has_any [] = false
 has_any (change ∷ rest) = true
 
@@ -64,13 +64,13 @@ is_changed p = has_any p.changes
 
 -- more changes were made, which lead back
 pub record Extends (old new : Progress) : Type 0 where
-  pub more : List Change
+  pub more : List UndoEntry
   pub noted : new.changes ≡ old.changes ++ more
   pub back : rewind more new.now ≡ old.now
 
 -- the collection would be one too many
 abbrev pub is_full : List Collection → List ℕ → Bool
-is_full cs name = nat_le MOST_COLLECTIONS (length cs) && not (is_some (find_collection cs name))
+is_full cs name = nat_le 1000 (length cs) && not (is_some (find_collection cs name))
 
 -- the collections after an insert of these documents, or its first refusal
 abbrev pub inserted : List Collection → List ℕ → List Pairs → Result (List Collection) Refusal
@@ -103,32 +103,32 @@ pub record Leaves (name : List ℕ) (deletions : List Deletion) (cs : List Colle
   pub is : deleted_in (find_collection cs name) deletions cs ≡ slice_set cs at (record (collection_at cs at) { documents = documents })
   pub some : gone ≢ 0
   pub fewer : gone ≡ length (collection_at cs at).documents - length documents
-  pub count : gone ≡ length (documents_of cs name) - length (left deletions (documents_of cs name))
+  pub count : gone ≡ length (documents_of cs name) - length (after_deletions deletions (documents_of cs name))
 
 -- a delete takes no document away
 pub record LeavesAll (name : List ℕ) (deletions : List Deletion) (cs : List Collection) : Type 0 where
   pub is : deleted_in (find_collection cs name) deletions cs ≡ cs
-  pub count : 0 ≡ length (documents_of cs name) - length (left deletions (documents_of cs name))
+  pub count : 0 ≡ length (documents_of cs name) - length (after_deletions deletions (documents_of cs name))
 
 -- ---- a progress is told apart by its collections and its changes
 
-abbrev pub change_sum : Change → ℕ ⊎ ((ℕ × ℕ) ⊎ (ℕ × List Pairs))
-change_sum (changes.Made at) = inl at
-change_sum (changes.Stored at place) = inr (inl (at, place))
-change_sum (changes.Deleted at before) = inr (inr (at, before))
+abbrev pub change_sum : UndoEntry → ℕ ⊎ ((ℕ × ℕ) ⊎ (ℕ × List Pairs))
+change_sum (entries.Made at) = inl at
+change_sum (entries.Stored at place) = inr (inl (at, place))
+change_sum (entries.Replaced at before) = inr (inr (at, before))
 
-abbrev pub sum_change : ℕ ⊎ ((ℕ × ℕ) ⊎ (ℕ × List Pairs)) → Change
-sum_change (inl at) = changes.Made at
-sum_change (inr (inl x)) = changes.Stored x.0 x.1
-sum_change (inr (inr x)) = changes.Deleted x.0 x.1
+abbrev pub sum_change : ℕ ⊎ ((ℕ × ℕ) ⊎ (ℕ × List Pairs)) → UndoEntry
+sum_change (inl at) = entries.Made at
+sum_change (inr (inl x)) = entries.Stored x.0 x.1
+sum_change (inr (inr x)) = entries.Replaced x.0 x.1
 
-pub sum_change-change_sum : (change : Change) → sum_change (change_sum change) ≡ change
-sum_change-change_sum (changes.Made at) = refl
-sum_change-change_sum (changes.Stored at place) = refl
-sum_change-change_sum (changes.Deleted at before) = refl
+pub sum_change-change_sum : (change : UndoEntry) → sum_change (change_sum change) ≡ change
+sum_change-change_sum (entries.Made at) = refl
+sum_change-change_sum (entries.Stored at place) = refl
+sum_change-change_sum (entries.Replaced at before) = refl
 
-abbrev pub change_code : Coded Change
+abbrev pub change_code : Coded UndoEntry
 change_code = code_by (ℕ ⊎ ((ℕ × ℕ) ⊎ (ℕ × List Pairs))) (coded⊎ coded_ℕ (coded⊎ (coded× coded_ℕ coded_ℕ) (coded× coded_ℕ (coded_list coded_pairs)))) change_sum sum_change sum_change-change_sum
 
 abbrev pub progress_code : Coded Progress
-progress_code = code_by (List Collection × List Change) (coded× (coded_list collection_code) (coded_list change_code)) (λ p. (p.now, p.changes)) (λ x. record { now = x.0; changes = x.1 }) (λ _. refl)
+progress_code = code_by (List Collection × List UndoEntry) (coded× (coded_list collection_code) (coded_list change_code)) (λ p. (p.now, p.changes)) (λ x. record { now = x.0; changes = x.1 }) (λ _. refl)

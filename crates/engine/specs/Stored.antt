@@ -11,7 +11,6 @@ use Rattle.roots.specs.Pairs.{Pair}
 use Rattle.engine.specs.World.{Collection}
 use Rattle.engine.specs.Documents.{key_of}
 use Rattle.engine.specs.Refusals.{int, words}
-use Rattle.engine.specs.declared.TheConstants.{MOST_COLLECTIONS}
 
 abbrev pub key_under : ℕ → ℕ → List ℕ → List ℕ
 key_under collection index text = to_be_bytes w32 collection ++ to_be_bytes w32 index ++ text
@@ -38,4 +37,4 @@ documents_to (suc n) cs = documents_to n cs ++ map (document_pair (suc n)) (docu
 
 -- the catalogue, and then all documents
 unfoldable pub pairs_of : List Collection → List Pair
-pairs_of cs = map catalogue_pair cs ++ documents_to MOST_COLLECTIONS cs
+pairs_of cs = map catalogue_pair cs ++ documents_to 1000 cs

@@ -2,11 +2,10 @@
 use Rattle.std.specs.Prelude.{◌≡◌, ◌≤◌, [], length, Result, Ok, Err}
 use Rattle.bson.specs.Tree.{Pairs}
 use Rattle.bson.specs.Spelling.{framed, pairs_bytes}
-use Rattle.engine.specs.declared.TheConstants.{REPLY_LIMIT}
 use Rattle.engine.specs.World.{World}
 use Rattle.engine.specs.Refusals.{refusal_reply, ok_reply}
-use Rattle.engine.specs.Outcomes.{Refuses}
-use Rattle.engine.specs.Progress.{begun_of}
+use Rattle.path.specs.Outcomes.{Refuses}
+use Rattle.engine.specs.Progress.{turn_start_of}
 use Rattle.path.specs.declared.refusal.Refusal.{Refusal}
 use Rattle.engine.specs.declared.engine.Reply.{Reply}
 use Rattle.engine.specs.declared.engine.Reply.TheVariants as replies
@@ -18,15 +17,15 @@ reply_of (replies.Refused r) = refusal_reply r
 
 -- No cursor is opened yet, so there are none and the next number is the first.
 abbrev pub world : {D : Type 0} → Engine D → World
-world engine = record { state = engine.collections.now; cursors = []; next = 1; touched = [] }
+world engine = record { collections = engine.collections.now; cursors = []; next = 1; touched = [] }
 
 -- the world as it was at the beginning of the turn
-abbrev pub begun : {D : Type 0} → Engine D → World
-begun engine = record { state = begun_of engine.collections; cursors = []; next = 1; touched = [] }
+abbrev pub turn_start : {D : Type 0} → Engine D → World
+turn_start engine = record { collections = turn_start_of engine.collections; cursors = []; next = 1; touched = [] }
 
 -- the reply is within the limit of replies
 abbrev pub IsSendable : Pairs → Type 0
-IsSendable ps = length (framed (pairs_bytes ps)) ≤ REPLY_LIMIT
+IsSendable ps = length (framed (pairs_bytes ps)) ≤ 901000
 
 -- what is planned, with the end of its reply
 abbrev pub with_ok : Result (World × Pairs) Refusal → Result (World × Pairs) Refusal

@@ -24,13 +24,13 @@ pub record Cursor : Type 0 where
 -- The collections stand in rising order of their namespaces, so that equal states are one list. Of the running turn it
 -- keeps the numbers of the cursors that were opened, advanced or killed; between turns there are none.
 pub record World : Type 0 where
-  pub state : List Collection
+  pub collections : List Collection
   pub cursors : List Cursor
   pub next : ℕ
   pub touched : List ℕ
 
 abbrev pub new_world : World
-new_world = record { state = []; cursors = []; next = 1; touched = [] }
+new_world = record { collections = []; cursors = []; next = 1; touched = [] }
 
 abbrev pub find_collection : List Collection → List ℕ → Option Collection
 find_collection [] name = None
@@ -55,7 +55,7 @@ number_or new (Some c) = c.number
 
 -- the collection of a name with these documents: under its number, or a missing one under the least that is not in use
 abbrev pub with_documents : List Collection → List ℕ → List Pairs → Collection
-with_documents state name stored = record { name = name; number = number_or (unused state) (find_collection state name); documents = stored }
+with_documents collections name stored = record { name = name; number = number_or (unused collections) (find_collection collections name); documents = stored }
 
 -- a missing collection reads as empty
 abbrev pub documents_or_none : Option Collection → List Pairs
@@ -63,7 +63,7 @@ documents_or_none None = []
 documents_or_none (Some c) = c.documents
 
 abbrev pub documents_of : List Collection → List ℕ → List Pairs
-documents_of state name = documents_or_none (find_collection state name)
+documents_of collections name = documents_or_none (find_collection collections name)
 
 abbrev pub by_order : {X : Type 0} → Ordering → X → X → X → X
 by_order orders.Less less equal greater = less
@@ -103,4 +103,4 @@ settled now = record now { touched = [] }
 -- A turn that is undone leaves the state from before it. Cursors that were opened, advanced or killed in it are closed,
 -- and the numbers that were drawn stay drawn.
 abbrev pub undone : World → World → World
-undone before now = record { state = before.state; cursors = untouched now.touched before.cursors; next = now.next; touched = [] }
+undone before now = record { collections = before.collections; cursors = untouched now.touched before.cursors; next = now.next; touched = [] }

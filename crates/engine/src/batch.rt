@@ -2,7 +2,7 @@
 
 ghost use Rattle.std.specs.Prelude.{◌≡◌};
 ghost use Rattle.bson.specs.Sizing.{capped};
-ghost use Rattle.engine.specs.Step.{item_size, batch_of};
+ghost use Rattle.engine.specs.Cursors.{item_size, batch_of};
 
 use crate::BATCH_LIMIT;
 use bson::Document;

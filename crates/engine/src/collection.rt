@@ -7,7 +7,7 @@ ghost use Rattle.engine.specs.Lawful.{IsStored, IsHeld};
 ghost use Rattle.engine.specs.Places.{IsPlace, IsGap, by_key};
 
 use crate::documents::compare_ids;
-use crate::shared::Shared;
+use crate::shared_document::SharedDocument;
 use bson::{Document, NoMemory};
 use std::alloc::Global;
 use std::marker::Model;
@@ -17,7 +17,7 @@ use std::marker::Model;
 pub(crate) struct Collection {
     namespace: String,
     number: u32,
-    documents: Vec<Shared>,
+    documents: Vec<SharedDocument>,
 }
 
 impl Model for Collection {
@@ -62,7 +62,7 @@ impl Collection {
         self.number
     }
 
-    pub(crate) fn documents(&self) -> &[Shared]
+    pub(crate) fn documents(&self) -> &[SharedDocument]
         ensures documents { result.now ≡ self.now.documents }
         ensures stored { All IsStored result.now }
         ensures readable { All IsDocument result.now }
@@ -80,7 +80,7 @@ impl Collection {
     }
 
     /// Stores a document at its place. An `Err` leaves all as it was.
-    pub(crate) fn insert(&mut self, place: usize, document: Shared) -> Result<(), NoMemory>
+    pub(crate) fn insert(&mut self, place: usize, document: SharedDocument) -> Result<(), NoMemory>
         requires stored { IsStored document }
         requires readable { IsDocument document }
         requires gap { IsGap (by_key (key_of document)) self.old.documents place }
@@ -101,7 +101,7 @@ impl Collection {
     }
 
     /// Gives it other documents, and hands out those that it had.
-    pub(crate) fn replace(&mut self, documents: Vec<Shared>) -> Vec<Shared>
+    pub(crate) fn replace(&mut self, documents: Vec<SharedDocument>) -> Vec<SharedDocument>
         requires { IsHeld (record self.old { documents = documents.items }) }
         ensures new { self.new ≡ record self.old { documents = documents.items } }
         ensures old { result.items ≡ self.old.documents }

@@ -9,16 +9,17 @@ ghost use Rattle.engine.specs.Loading.{place_numbered, IsAdded};
 ghost use Rattle.engine.specs.Lawful.{IsStored, IsHeld};
 ghost use Rattle.engine.specs.Stored.{documents_numbered};
 ghost use Rattle.engine.specs.Places.{IsNamedAt, collection_at};
-ghost use Rattle.engine.specs.Outcomes.{Does};
-ghost use Rattle.engine.specs.Reading.{documents_at};
-ghost use Rattle.engine.specs.Progress.{begun_of, is_changed, Extends, Stands, IsFull, with_document, inserted, Leaves, LeavesAll};
+ghost use Rattle.path.specs.Outcomes.{Does};
+ghost use Rattle.commands.specs.View.{documents_at};
+ghost use Rattle.engine.specs.Progress.{turn_start_of, is_changed, Extends, Stands, IsFull, with_document, inserted, Leaves, LeavesAll};
 
 use crate::MOST_COLLECTIONS;
 use crate::collection::Collection;
-use crate::deletion::{Deletion, left};
+use crate::delete::after_deletions;
 use crate::documents::stored;
-use crate::shared::Shared;
+use crate::shared_document::SharedDocument;
 use bson::{Document, NoMemory};
+use commands::Deletion;
 use path::Refusal;
 use std::alloc::Global;
 use std::marker::Model;
@@ -26,7 +27,7 @@ use std::marker::Model;
 /// The documents that a collection had.
 #[derive(Drop)]
 struct Before {
-    documents: Vec<Shared>,
+    documents: Vec<SharedDocument>,
 }
 
 impl Model for Before {
@@ -44,20 +45,20 @@ impl Model for Before {
 
 /// A change of the running turn, as undoing it needs it.
 #[derive(Drop)]
-enum Change {
+enum UndoEntry {
     /// A collection was made at this place.
     Made { at: usize },
     /// A document was stored at a place of the collection at another.
     Stored { at: usize, place: usize },
     /// Documents of the collection at this place were deleted.
-    Deleted { at: usize, before: Before },
+    Replaced { at: usize, before: Before },
 }
 
 /// What a delete leaves the collection at a place.
 #[derive(Drop)]
 pub(crate) struct Rest {
     at: usize,
-    documents: Vec<Shared>,
+    documents: Vec<SharedDocument>,
     /// How many documents are deleted.
     pub(crate) gone: usize,
 }
@@ -66,7 +67,7 @@ pub(crate) struct Rest {
 #[derive(Drop)]
 pub(crate) struct Collections {
     list: Vec<Collection>,
-    changes: Vec<Change>,
+    changes: Vec<UndoEntry>,
 }
 
 impl Model for Collections {
@@ -99,7 +100,7 @@ impl Collections {
     }
 
     /// The documents of the collection of a number. A missing one reads as empty.
-    pub(crate) fn documents_numbered(&self, number: u32) -> &[Shared]
+    pub(crate) fn documents_numbered(&self, number: u32) -> &[SharedDocument]
         ensures documents { result.now ≡ documents_numbered number self.now.now }
         ensures stored { All IsStored result.now }
     {
@@ -120,7 +121,7 @@ impl Collections {
     }
 
     /// The documents of a collection. A missing one reads as empty.
-    pub(crate) fn documents(&self, namespace: &str) -> &[Shared]
+    pub(crate) fn documents(&self, namespace: &str) -> &[SharedDocument]
         ensures documents { result.now ≡ documents_of self.now.now namespace.now }
         ensures stored { All IsStored result.now }
     {
@@ -174,7 +175,7 @@ impl Collections {
                 let collection = Collection::new(*self.list.allocator(), namespace, number)?;
                 self.changes.reserve(1)?;
                 self.list.insert(at, collection)?;
-                self.changes.push(Change::Made { at }).unwrap();
+                self.changes.push(UndoEntry::Made { at }).unwrap();
                 Ok(at)
             }
         }
@@ -225,8 +226,8 @@ impl Collections {
         match collection.place_of(&document) {
             Ok(_) => Err(Refusal::DuplicateKey),
             Err(place) => {
-                collection.insert(place, Shared::new(alloc, document)?)?;
-                self.changes.push(Change::Stored { at, place }).unwrap();
+                collection.insert(place, SharedDocument::new(alloc, document)?)?;
+                self.changes.push(UndoEntry::Stored { at, place }).unwrap();
                 Ok(())
             }
         }
@@ -251,14 +252,14 @@ impl Collections {
         ensures len { length self.new.changes + 1 ≡ length self.old.changes }
     {
         match self.changes.pop() {
-            Some(Change::Made { at }) => {
+            Some(UndoEntry::Made { at }) => {
                 let _collection = self.list.remove(at);
             }
-            Some(Change::Stored { at, place }) => {
+            Some(UndoEntry::Stored { at, place }) => {
                 let collection = &mut self.list[at];
                 collection.remove(place);
             }
-            Some(Change::Deleted { at, before }) => {
+            Some(UndoEntry::Replaced { at, before }) => {
                 let collection = &mut self.list[at];
                 let _documents = collection.replace(before.documents);
             }
@@ -281,7 +282,7 @@ impl Collections {
     /// first refusal.
     pub(crate) fn insert(&mut self, namespace: &str, documents: &[&Document]) -> Result<(), Refusal>
         ensures does { Does (inserted self.old.now namespace.now (documents_at documents.now)) self.new.now result }
-        ensures begun { begun_of self.new ≡ begun_of self.old }
+        ensures turn_start { turn_start_of self.new ≡ turn_start_of self.old }
         ensures err { OnErr result (self.new ≡ self.old) }
     {
         let mark = self.changes.len();
@@ -306,7 +307,7 @@ impl Collections {
         };
         let collection = &self.list[at];
         let before = collection.documents();
-        let documents = left(*self.list.allocator(), before, deletions)?;
+        let documents = after_deletions(*self.list.allocator(), before, deletions)?;
         let gone = before.len() - documents.len();
         if gone == 0 {
             return Ok(None);
@@ -322,7 +323,7 @@ impl Collections {
     pub(crate) fn keep(&mut self, rest: Rest) -> Result<(), NoMemory>
         requires within { rest.at < length self.old.now }
         requires held { IsHeld (record (collection_at self.old.now rest.at) { documents = rest.documents.items }) }
-        ensures begun { begun_of self.new ≡ begun_of self.old }
+        ensures turn_start { turn_start_of self.new ≡ turn_start_of self.old }
         ensures ok { OnOk result (self.new.now ≡ slice_set self.old.now rest.at (record (collection_at self.old.now rest.at) { documents = rest.documents.items })) }
         ensures err { OnErr result (self.new ≡ self.old) }
     {
@@ -331,7 +332,9 @@ impl Collections {
         let collection = &mut self.list[at];
         let documents = collection.replace(rest.documents);
         let before = Before { documents };
-        self.changes.push(Change::Deleted { at, before }).unwrap();
+        self.changes
+            .push(UndoEntry::Replaced { at, before })
+            .unwrap();
         Ok(())
     }
 
@@ -351,7 +354,7 @@ impl Collections {
 
     /// Takes back what the turn changed.
     pub(crate) fn undo(&mut self)
-        ensures { self.new ≡ record { now = begun_of self.old; changes = [] } }
+        ensures { self.new ≡ record { now = turn_start_of self.old; changes = [] } }
     {
         self.undo_to(0);
     }

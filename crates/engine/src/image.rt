@@ -14,7 +14,7 @@ use crate::collection::Collection;
 use crate::collections::Collections;
 use crate::documents::id_of;
 use crate::reply::put;
-use crate::shared::Shared;
+use crate::shared_document::SharedDocument;
 use crate::{MOST_COLLECTIONS, NAMESPACE_LIMIT, STORED_LIMIT};
 use bson::{Array, Document, EncodeFault, NoMemory, Text, Value, encode};
 use roots::PairList;
@@ -104,7 +104,11 @@ fn push_document(list: &mut PairList, number: u32, document: &Document) -> Resul
 }
 
 /// Adds the documents of a collection.
-fn push_documents(list: &mut PairList, number: u32, documents: &[Shared]) -> Result<(), NoMemory>
+fn push_documents(
+    list: &mut PairList,
+    number: u32,
+    documents: &[SharedDocument],
+) -> Result<(), NoMemory>
     requires { All IsStored documents.now }
     ensures { OnOk result (spelled list.new ≡ spelled list.old ++ pairs_bytes (map (document_pair number) documents.now)) }
 {

@@ -4,20 +4,19 @@
 mod batch;
 mod collection;
 mod collections;
-mod command;
 mod connection;
-mod deletion;
+mod count;
+mod delete;
 mod documents;
 mod engine;
-mod fields;
+mod find;
 mod image;
+mod insert;
 pub mod laws;
 mod loading;
-mod namespace;
-mod query;
 mod refusal;
 mod reply;
-mod shared;
+mod shared_document;
 
 pub use connection::{CONNECTIONS, ConnId};
 pub use engine::{Engine, Reply};

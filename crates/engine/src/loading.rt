@@ -237,8 +237,8 @@ pub(crate) fn load(alloc: Global, list: &PairList) -> Result<Collections, OpenFa
     ensures loading { IfOk result IsLoading }
     ensures readable { IfOk result (λ collections. All IsReadable collections.now) }
     ensures spelled { IfOk result (λ collections. spelled list.now ≡ pairs_bytes (pairs_of collections.now)) }
-    ensures damaged { IfErr result (λ fault. fault ≢ OpenFault.Memory → (state : List Collection) → IsLawfulState state → All IsReadable state
-        → spelled list.now ≡ pairs_bytes (pairs_of state) → ⊥) }
+    ensures damaged { IfErr result (λ fault. fault ≢ OpenFault.Memory → (collections : List Collection) → IsLawfulState collections → All IsReadable collections
+        → spelled list.now ≡ pairs_bytes (pairs_of collections) → ⊥) }
     ensures fault { IfErr result IsOfBytes }
 {
     let collections = match load_pairs(alloc, list.bytes()) {

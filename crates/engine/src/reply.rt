@@ -9,7 +9,7 @@ ghost use Rattle.bson.specs.Spelling.{framed, pairs_bytes};
 ghost use Rattle.bson.specs.Lawful.{levels};
 ghost use Rattle.engine.specs.Lawful.{IsWithin};
 ghost use Rattle.engine.specs.Refusals.{int, total, words, ok_reply, refusal_reply};
-ghost use Rattle.engine.specs.Step.{items_of_documents, cursor_reply};
+ghost use Rattle.engine.specs.Cursors.{items_of_documents, cursor_reply};
 
 use crate::MOST_STATEMENTS;
 use bson::{Array, BuildFault, Document, NoMemory, Text, Value};

@@ -2,6 +2,7 @@ pub mod Refusals
 pub mod FaultNames
 pub mod Parts
 pub mod View
+pub mod Outcomes
 pub mod Reach
 pub mod Edits
 pub mod Laws

@@ -7,29 +7,29 @@ use Rattle.bson.specs.declared.fault.BsonFault.{BsonFault}
 use Rattle.bson.specs.declared.fault.BsonFault.TheVariants as faults
 use Rattle.engine.specs.World.{World}
 use Rattle.engine.specs.Refusals.{refusal_reply}
-use Rattle.engine.specs.Step.{Answers}
+use Rattle.engine.specs.Step.{Answers, ForMemory, RefusedBeside}
 use Rattle.path.specs.declared.refusal.Refusal.{Refusal}
 use Rattle.path.specs.declared.refusal.Refusal.TheVariants as refusals
 
-module _ (w : World) (connection : ℕ) (fault : BsonFault) (refusal : Refusal) (read : Result Pairs BsonFault) where
-  no_memory : refusal ≡ refusals.OutOfMemory → Answers w connection read w (refusal_reply refusal)
-  no_memory is = inr (refl, ap refusal_reply is)
+module _ (w : World) (id : ℕ) (fault : BsonFault) (refusal : Refusal) (read : Result Pairs BsonFault) where
+  no_memory : refusal ≡ refusals.OutOfMemory → Answers ForMemory w id read w (refusal_reply refusal)
+  no_memory is = inr (record { refusal = refusal; cause = is; same = refl; says = refl })
 
-  no_document : read ≡ Err fault → refusal ≡ refusals.InvalidBSON → Answers w connection read w (refusal_reply refusal)
+  no_document : read ≡ Err fault → refusal ≡ refusals.InvalidBSON → Answers ForMemory w id read w (refusal_reply refusal)
   no_document e is =
-      subst (λ (r : Result Pairs BsonFault). Answers w connection r w (refusal_reply refusal)) (sym e) (inl (λ i. (w, refusal_reply (is i))))
+      subst (λ (r : Result Pairs BsonFault). Answers ForMemory w id r w (refusal_reply refusal)) (sym e) (inl (λ i. (w, refusal_reply (is i))))
 
-pub refused_body : (w : World) (connection : ℕ) (fault : BsonFault) (refusal : Refusal) (read : Result Pairs BsonFault) → (fault ≡ faults.Memory → refusal ≡ refusals.OutOfMemory)
-    → (fault ≢ faults.Memory → refusal ≡ refusals.InvalidBSON) → Fails fault read → Answers w connection read w (refusal_reply refusal)
-refused_body w connection faults.Memory refusal read memory other fails = no_memory w connection faults.Memory refusal read (memory refl)
-refused_body w connection faults.Truncated refusal read memory other fails = no_document w connection faults.Truncated refusal read (fails (λ e. absurd cc)) (other (λ e. absurd cc))
-refused_body w connection faults.Length refusal read memory other fails = no_document w connection faults.Length refusal read (fails (λ e. absurd cc)) (other (λ e. absurd cc))
-refused_body w connection faults.TypeByte refusal read memory other fails = no_document w connection faults.TypeByte refusal read (fails (λ e. absurd cc)) (other (λ e. absurd cc))
-refused_body w connection faults.Text refusal read memory other fails = no_document w connection faults.Text refusal read (fails (λ e. absurd cc)) (other (λ e. absurd cc))
-refused_body w connection faults.Name refusal read memory other fails = no_document w connection faults.Name refusal read (fails (λ e. absurd cc)) (other (λ e. absurd cc))
-refused_body w connection faults.Repeated refusal read memory other fails = no_document w connection faults.Repeated refusal read (fails (λ e. absurd cc)) (other (λ e. absurd cc))
-refused_body w connection faults.ArrayName refusal read memory other fails = no_document w connection faults.ArrayName refusal read (fails (λ e. absurd cc)) (other (λ e. absurd cc))
-refused_body w connection faults.Bool refusal read memory other fails = no_document w connection faults.Bool refusal read (fails (λ e. absurd cc)) (other (λ e. absurd cc))
-refused_body w connection faults.Subtype refusal read memory other fails = no_document w connection faults.Subtype refusal read (fails (λ e. absurd cc)) (other (λ e. absurd cc))
-refused_body w connection faults.Deep refusal read memory other fails = no_document w connection faults.Deep refusal read (fails (λ e. absurd cc)) (other (λ e. absurd cc))
-refused_body w connection faults.TooLarge refusal read memory other fails = no_document w connection faults.TooLarge refusal read (fails (λ e. absurd cc)) (other (λ e. absurd cc))
+pub refused_body : (w : World) (id : ℕ) (fault : BsonFault) (refusal : Refusal) (read : Result Pairs BsonFault) → (fault ≡ faults.Memory → refusal ≡ refusals.OutOfMemory)
+    → (fault ≢ faults.Memory → refusal ≡ refusals.InvalidBSON) → Fails fault read → Answers ForMemory w id read w (refusal_reply refusal)
+refused_body w id faults.Memory refusal read memory other fails = no_memory w id faults.Memory refusal read (memory refl)
+refused_body w id faults.Truncated refusal read memory other fails = no_document w id faults.Truncated refusal read (fails (λ e. absurd cc)) (other (λ e. absurd cc))
+refused_body w id faults.Length refusal read memory other fails = no_document w id faults.Length refusal read (fails (λ e. absurd cc)) (other (λ e. absurd cc))
+refused_body w id faults.TypeByte refusal read memory other fails = no_document w id faults.TypeByte refusal read (fails (λ e. absurd cc)) (other (λ e. absurd cc))
+refused_body w id faults.Text refusal read memory other fails = no_document w id faults.Text refusal read (fails (λ e. absurd cc)) (other (λ e. absurd cc))
+refused_body w id faults.Name refusal read memory other fails = no_document w id faults.Name refusal read (fails (λ e. absurd cc)) (other (λ e. absurd cc))
+refused_body w id faults.Repeated refusal read memory other fails = no_document w id faults.Repeated refusal read (fails (λ e. absurd cc)) (other (λ e. absurd cc))
+refused_body w id faults.ArrayName refusal read memory other fails = no_document w id faults.ArrayName refusal read (fails (λ e. absurd cc)) (other (λ e. absurd cc))
+refused_body w id faults.Bool refusal read memory other fails = no_document w id faults.Bool refusal read (fails (λ e. absurd cc)) (other (λ e. absurd cc))
+refused_body w id faults.Subtype refusal read memory other fails = no_document w id faults.Subtype refusal read (fails (λ e. absurd cc)) (other (λ e. absurd cc))
+refused_body w id faults.Deep refusal read memory other fails = no_document w id faults.Deep refusal read (fails (λ e. absurd cc)) (other (λ e. absurd cc))
+refused_body w id faults.TooLarge refusal read memory other fails = no_document w id faults.TooLarge refusal read (fails (λ e. absurd cc)) (other (λ e. absurd cc))

@@ -1,123 +1,139 @@
 -- How a run over a list of steps goes on, and how it ends.
 use Rattle.std.proofs.Common.{◌≡◌, inl, inr, ⊎_elim, ℕ, ◌+◌, ◌≤◌, ◌<◌, List, [], ◌∷◌, ◌++◌, length, take, get_or, slice_get, refl, sym, ◌∙◌, ap, subst, arith, append_assoc, append-nil}
 use Rattle.std.proofs.lemmas.List.{take_more, take_all}
-use Rattle.std.proofs.lemmas.List.Elements.{Contains-append_left, Contains-push}
 use Rattle.std.proofs.lemmas.Option.{slice_get_read}
-use Rattle.std.specs.Prelude.{◌⊎◌, ◌≢◌, Result, Option, Some, None, Err, Vec, Bool, true, Contains}
+use Rattle.std.specs.Prelude.{◌⊎◌, ◌≢◌, Result, Option, Some, None, Err, Vec, Bool, true}
 use Rattle.std.specs.Global.{Global}
 use Rattle.page.specs.History.{History, KeepsWord}
 use Rattle.page.specs.Crash.{GoesOn, LeavesOnly, LeavesNow}
-use Rattle.page.proofs.Moments.{goes_nowhere, started, goes_further, leaves_further, leaves_now, leaves_weaker}
+use Rattle.page.proofs.Moments.{goes_nowhere, goes_further, leaves_now}
 use Rattle.roots.specs.Store.{limit_of}
 use Rattle.engine.specs.World.{Collection}
 use Rattle.engine.specs.Durable.{Holds}
-use Rattle.server.specs.Site.{Site, fed, ended}
+use Rattle.engine.specs.Step.{ForMemory}
+use Rattle.server.specs.ServerState.{ServerState, fed, ended}
 use Rattle.server.specs.Turn.{Out, Turns, TurnFails}
-use Rattle.server.specs.History.{Happens, last_state, turns_in}
-use Rattle.server.specs.View.{site, frames_in}
-use Rattle.server.specs.Durable.{past, stopped, IsRunning, store_of, IsSound, state_of, HoldsOneOf, GoesSafely}
-use Rattle.server.specs.OneStep.{Adds, Goes, Does}
+use Rattle.server.specs.Moment.{Moment, TurnEnd, Instant, end_at, last_collections, last_moment, HoldsEither, LeavesInOrder}
+use Rattle.server.specs.History.{Happens, RoomRanOut, turns_in}
+use Rattle.server.specs.View.{state, frames_in}
+use Rattle.server.specs.Durable.{disk_history, is_stopped, IsRunning, store_of, IsSound, collections_of, clock_of, moment_of, instant_of, GoesSafely}
+use Rattle.server.specs.OneStep.{Adds, Goes, Does, ends_of}
 use Rattle.server.specs.Headline.{Drives, Ends, IsStopped, turns_done}
 use Rattle.server.specs.declared.turn.Core.{Core}
 use Rattle.server.specs.declared.turn.TurnFault.TheVariants as turns
 use Rattle.server.specs.declared.step.Step.{Step}
 use Rattle.server.specs.declared.step.Step.TheVariants as steps
-use Rattle.server.specs.declared.link.FeedFault.TheVariants as feeds
+use Rattle.server.specs.declared.connection.FeedFault.TheVariants as feeds
 use Rattle.server.specs.declared.drive.DriveFault.{DriveFault}
 use Rattle.server.specs.declared.drive.DriveFault.TheVariants as stops
 use Rattle.server.specs.declared.drive.DriveOut.{DriveOut}
-use Rattle.server.proofs.Images.{holds_now, among, last_among, last_of_pushed}
+use Rattle.server.proofs.Images.{holds_now}
+use Rattle.server.proofs.Order.{in_order_on, in_order_turned, moved_between}
+
+abbrev Frames : Type 0
+Frames = List (ℕ × List ℕ)
 
 -- one history and then another
-happens_on : (first : List Step) (later : List Step) (a b c : Site) (given others : List (ℕ × List ℕ)) (states more : List (List Collection)) → Happens a first given states b → Happens b later others more c
-    → Happens a (first ++ later) (given ++ others) (states ++ more) c
-happens_on [] later a b c given others states more h k =
-    subst (λ (fs : List (ℕ × List ℕ)). Happens a later (fs ++ others) (states ++ more) c) (sym h.0)
-    (subst (λ (ss : List (List Collection)). Happens a later others (ss ++ more) c) (sym h.1) (subst (λ (s : Site). Happens s later others more c) h.2 k))
-happens_on (steps.Bytes connection chunk ∷ first) later a b c given others states more h k = happens_on first later (fed a connection chunk.items) b c given others states more h k
-happens_on (steps.Gone connection ∷ first) later a b c given others states more h k = happens_on first later (ended a connection) b c given others states more h k
-happens_on (steps.Turn ∷ first) later a b c given others states more h k = (
+happens_on : (first : List Step) (later : List Step) (at : Moment) (a b c : ServerState) (given others : Frames) (ends more : List TurnEnd)
+    → Happens at a first given ends b → Happens (last_moment at ends) b later others more c → Happens at a (first ++ later) (given ++ others) (ends ++ more) c
+happens_on [] later at a b c given others ends more h k =
+    subst (λ (fs : Frames). Happens at a later (fs ++ others) (ends ++ more) c) (sym h.0)
+    (subst (λ (es : List TurnEnd). Happens (last_moment at es) b later others more c → Happens at a later others (es ++ more) c) (sym h.1)
+    (λ whole. subst (λ (s : ServerState). Happens at s later others more c) h.2 whole) k)
+happens_on (steps.Bytes id chunk ∷ first) later at a b c given others ends more h k = happens_on first later at (fed a id chunk.items) b c given others ends more h k
+happens_on (steps.Gone id ∷ first) later at a b c given others ends more h k = happens_on first later at (ended a id) b c given others ends more h k
+happens_on (steps.Turn ∷ first) later at a b c given others ends more h k = (
   h.0,
   h.1,
   h.2 ++ others,
-  h.3 ++ more,
-  h.4,
-  ap (λ (fs : List (ℕ × List ℕ)). fs ++ others) h.5 ∙ append_assoc h.1.replies h.2 others,
-  ap (λ (ss : List (List Collection)). ss ++ more) h.6,
-  happens_on first later h.0 b c h.2 others h.3 more h.7 k,
+  h.3,
+  h.4 ++ more,
+  h.5,
+  h.6,
+  ap (λ (fs : Frames). fs ++ others) h.7 ∙ append_assoc h.1.replies h.2 others,
+  ap (λ (es : List TurnEnd). es ++ more) h.8,
+  happens_on first later h.3.at h.0 b c h.2 others h.4 more h.9 (subst (λ (es : List TurnEnd). Happens (last_moment at es) b later others more c) h.8 k),
 )
 
 -- the collections at the end of a history
-pub state_after : (all : List Step) (a b : Site) (given : List (ℕ × List ℕ)) (states : List (List Collection)) → Happens a all given states b → b.world.state ≡ last_state a.world.state states
-state_after [] a b given states h = ap (λ (s : Site). s.world.state) h.2 ∙ sym (ap (last_state a.world.state) h.1)
-state_after (steps.Bytes connection chunk ∷ later) a b given states h = state_after later (fed a connection chunk.items) b given states h
-state_after (steps.Gone connection ∷ later) a b given states h = state_after later (ended a connection) b given states h
-state_after (steps.Turn ∷ later) a b given states h = state_after later h.0 b h.2 h.3 h.7 ∙ sym (ap (last_state a.world.state) h.6)
+pub collections_after : (all : List Step) (at : Moment) (a b : ServerState) (given : Frames) (ends : List TurnEnd) → Happens at a all given ends b
+    → b.world.collections ≡ last_collections a.world.collections ends
+collections_after [] at a b given ends h = ap (λ (s : ServerState). s.world.collections) h.2 ∙ sym (ap (last_collections a.world.collections) h.1)
+collections_after (steps.Bytes id chunk ∷ later) at a b given ends h = collections_after later at (fed a id chunk.items) b given ends h
+collections_after (steps.Gone id ∷ later) at a b given ends h = collections_after later at (ended a id) b given ends h
+collections_after (steps.Turn ∷ later) at a b given ends h =
+    collections_after later h.3.at h.0 b h.2 h.4 h.9 ∙ ap (λ (cs : List Collection). last_collections cs h.4) (sym h.6) ∙ sym (ap (last_collections a.world.collections) h.8)
 
 turns_in-append : (first later : List Step) → turns_in (first ++ later) ≡ turns_in first + turns_in later
 turns_in-append [] later = omega arith
-turns_in-append (steps.Bytes connection chunk ∷ first) later = turns_in-append first later
-turns_in-append (steps.Gone connection ∷ first) later = turns_in-append first later
+turns_in-append (steps.Bytes id chunk ∷ first) later = turns_in-append first later
+turns_in-append (steps.Gone id ∷ first) later = turns_in-append first later
 turns_in-append (steps.Turn ∷ first) later = omega (arith, turns_in-append first later)
 
 one_at_most : (step : Step) → turns_in (step ∷ []) ≤ 1
-one_at_most (steps.Bytes connection chunk) = omega arith
-one_at_most (steps.Gone connection) = omega arith
+one_at_most (steps.Bytes id chunk) = omega arith
+one_at_most (steps.Gone id) = omega arith
 one_at_most steps.Turn = omega arith
 
-pub one_turn : (mid new : Site) (out : Out) → Turns mid out new → Happens mid (steps.Turn ∷ []) out.replies (new.world.state ∷ []) new
-one_turn mid new out turns = (new, out, [], [], turns, sym (append-nil out.replies), refl, (refl, refl, refl))
+pub one_turn : (first last : Instant) (out : Out) → Turns ForMemory (RoomRanOut first.moment last.moment) first.state out last.state
+    → Happens first.moment first.state (steps.Turn ∷ []) out.replies (end_at last ∷ []) last.state
+one_turn first last out turns = (last.state, out, [], end_at last, [], turns, refl, sym (append-nil out.replies), refl, (refl, refl, refl))
 
 pub frames_append : {Z : Type 0} (xs ys : List (ℕ × Vec ℕ Z)) → frames_in (xs ++ ys) ≡ frames_in xs ++ frames_in ys
 frames_append [] ys = refl
-frames_append (x ∷ xs) ys = ap (λ (fs : List (ℕ × List ℕ)). (x.0, x.1.items) ∷ fs) (frames_append xs ys)
+frames_append (x ∷ xs) ys = ap (λ (fs : Frames). (x.0, x.1.items) ∷ fs) (frames_append xs ys)
 
 -- a step that hands out nothing
 adds_nothing : (out : DriveOut) → Adds [] 0 out out
 adds_nothing out = record { replies = sym (append-nil (frames_in out.replies.items)); counted = omega arith; stopped = refl }
 
-pub bytes_on : (step : Step) (connection : ℕ) (chunk : Vec ℕ Global) (out : DriveOut) (a b : Site) → step ≡ steps.Bytes connection chunk → b ≡ fed a connection chunk.items → Goes a step out out b
-bytes_on step connection chunk out a b is new = record {
-  frames = [];
-  states = [];
-  happens = subst (λ (s : Step). Happens a (s ∷ []) [] [] b) (sym is) (refl, refl, new);
-  adds = subst (λ (s : Step). Adds [] (turns_in (s ∷ [])) out out) (sym is) (adds_nothing out);
-}
+pub bytes_on : (step : Step) (id : ℕ) (chunk : Vec ℕ Global) (out : DriveOut) (a b : Instant) → step ≡ steps.Bytes id chunk
+    → b.state ≡ fed a.state id chunk.items → b.moment ≡ a.moment → Goes a step out out b
+bytes_on step id chunk out a b is new same =
+    subst (λ (s : Step). Goes a s out out b) (sym is) (record { frames = []; happens = (refl, refl, new); moment = same; adds = adds_nothing out })
 
-pub gone_on : (step : Step) (connection : ℕ) (out : DriveOut) (a b : Site) → step ≡ steps.Gone connection → b ≡ ended a connection → Goes a step out out b
-gone_on step connection out a b is new = record {
-  frames = [];
-  states = [];
-  happens = subst (λ (s : Step). Happens a (s ∷ []) [] [] b) (sym is) (refl, refl, new);
-  adds = subst (λ (s : Step). Adds [] (turns_in (s ∷ [])) out out) (sym is) (adds_nothing out);
-}
+pub gone_on : (step : Step) (id : ℕ) (out : DriveOut) (a b : Instant) → step ≡ steps.Gone id
+    → b.state ≡ ended a.state id → b.moment ≡ a.moment → Goes a step out out b
+gone_on step id out a b is new same =
+    subst (λ (s : Step). Goes a s out out b) (sym is) (record { frames = []; happens = (refl, refl, new); moment = same; adds = adds_nothing out })
+
+last_moment-append : (first : Moment) (ends more : List TurnEnd) → last_moment first (ends ++ more) ≡ last_moment (last_moment first ends) more
+last_moment-append first [] more = refl
+last_moment-append first (e ∷ later) more = last_moment-append e.at later more
+
+last_collections-append : (first : List Collection) (ends more : List TurnEnd) → last_collections first (ends ++ more) ≡ last_collections (last_collections first ends) more
+last_collections-append first [] more = refl
+last_collections-append first (e ∷ later) more = last_collections-append e.collections later more
 
 -- What the loop over the steps keeps: so many steps were done, and it has not stopped.
 pub record SoFar {D : Type 0} (history : D → History) (first : Core D) (all : List Step) (i : ℕ) (out : DriveOut) (now : Core D) : Type 0 where
-  pub states : List (List Collection)
-  pub happens : Happens (site first) (take i all) (frames_in out.replies.items) states (site now)
+  pub ends : List TurnEnd
+  pub happens : Happens (moment_of history first) (state first) (take i all) (frames_in out.replies.items) ends (state now)
+  pub moment : moment_of history now ≡ last_moment (moment_of history first) ends
   pub counted : out.turns ≡ turns_in (take i all)
   pub bound : out.turns ≤ i
   pub runs : out.stopped ≡ None
   pub sound : IsSound history now
-  pub on : GoesOn (past history first) (past history now)
-  pub running : stopped now ≡ stopped first
-  pub any_moment : IsRunning first → LeavesOnly (past history first) (past history now) (HoldsOneOf (state_of first ∷ states))
-  pub idle : stopped first ≡ true → past history now ≡ past history first
+  pub on : GoesOn (disk_history history first) (disk_history history now)
+  pub running : is_stopped now ≡ is_stopped first
+  pub in_order : IsRunning first → KeepsWord (disk_history history now)
+      → LeavesInOrder (disk_history history now) (clock_of history first) (collections_of first) ends (collections_of now)
+  pub idle : is_stopped first ≡ true → disk_history history now ≡ disk_history history first
   pub limit : limit_of (store_of now) ≡ limit_of (store_of first)
 
 pub starts : {D : Type 0} (history : D → History) (first : Core D) (all : List Step) (out : DriveOut) → out.replies.items ≡ [] → out.turns ≡ 0 → out.stopped ≡ None → IsSound history first → SoFar history first all 0 out first
 starts history first all out nothing none goes sound = record {
-  states = [];
+  ends = [];
   happens = (ap frames_in nothing, refl, refl);
+  moment = refl;
   counted = none;
   bound = omega (arith, none);
   runs = goes;
   sound = sound;
-  on = goes_nowhere (past history first);
+  on = goes_nowhere (disk_history history first);
   running = refl;
-  any_moment = λ running. started (past history first) (HoldsOneOf (state_of first ∷ []))
-      (λ k image is. record { state = state_of first; one = (0, omega arith, refl); holds = holds_now history first sound running k image is });
+  in_order = λ running keeps. (omega arith, moved_between (disk_history history first) (HoldsEither (collections_of first) (collections_of first))
+      (λ image here. inl (holds_now history first sound running keeps image here)));
   idle = λ _. refl;
   limit = refl;
 }
@@ -125,21 +141,21 @@ starts history first all out nothing none goes sound = record {
 pub ends : {D : Type 0} (history : D → History) (first : Core D) (all : List Step) (i : ℕ) (out : DriveOut) (now : Core D) → length all ≤ i → SoFar history first all i out now → Drives history first all out now
 ends history first all i out now whole s =
     let every : take i all ≡ all = take_all i all whole in
-    let state : state_of now ≡ last_state (state_of first) s.states = state_after (take i all) (site first) (site now) (frames_in out.replies.items) s.states s.happens in
+    let same : collections_of now ≡ last_collections (collections_of first) s.ends = collections_after (take i all) (moment_of history first) (state first) (state now) (frames_in out.replies.items) s.ends s.happens in
     record {
       given = frames_in out.replies.items;
-      states = s.states;
-      happens = subst (λ (stop : Option (ℕ × DriveFault)). Ends (site first) (stopped first) all stop (frames_in out.replies.items) s.states (site now)) (sym s.runs)
-          (subst (λ (steps : List Step). Happens (site first) steps (frames_in out.replies.items) s.states (site now)) every s.happens);
+      ends = s.ends;
+      happens = subst (λ (stop : Option (ℕ × DriveFault)). Ends (instant_of history first) (is_stopped first) all stop (frames_in out.replies.items) s.ends (instant_of history now)) (sym s.runs)
+          (subst (λ (steps : List Step). Happens (moment_of history first) (state first) steps (frames_in out.replies.items) s.ends (state now)) every s.happens);
       frames = refl;
       bytes = λ _. refl;
       turns = s.counted ∙ ap turns_in every ∙ sym (ap (λ (stop : Option (ℕ × DriveFault)). turns_done stop all) s.runs);
       on = s.on;
-      any_moment = λ running. leaves_weaker (past history first) (past history now) (HoldsOneOf (state_of first ∷ s.states)) (HoldsOneOf (state_of first ∷ s.states ++ state_of now ∷ []))
-          (λ image one. among (state_of first ∷ s.states) (state_of now) image one) (s.any_moment running);
-      at_end = λ running goes. subst (λ (x : List Collection). LeavesNow (past history now) (λ image. Holds image x)) state (holds_now history now s.sound (s.running ∙ running));
+      in_order = s.in_order;
+      at_end = λ running goes. subst (λ (x : List Collection). LeavesNow (disk_history history now) (λ image. Holds image x)) same (holds_now history now s.sound (s.running ∙ running));
       at_stop = λ running k image is. inr (holds_now history now s.sound (s.running ∙ running) k image is);
       idle = s.idle;
+      running = λ _. s.running;
       limit = s.limit;
       device = λ stop. absurd (subst IsStopped s.runs stop);
     }
@@ -148,47 +164,57 @@ module _ {D : Type 0} (history : D → History) (first : Core D) (all : List Ste
   taken : take (i + 1) all ≡ take i all ++ step ∷ []
   taken = take_more all i step within ∙ ap (λ (y : Step). take i all ++ y ∷ []) (sym is)
 
-  state_now : state_of now ≡ last_state (state_of first) s.states
-  state_now = state_after (take i all) (site first) (site now) (frames_in old.replies.items) s.states s.happens
+  same_now : collections_of now ≡ last_collections (collections_of first) s.ends
+  same_now = collections_after (take i all) (moment_of history first) (state first) (state now) (frames_in old.replies.items) s.ends s.happens
 
-  -- the collections as they are stand among those so far
-  now_among : (more : List (List Collection)) → Contains ((state_of first ∷ s.states) ++ more) (state_of now)
-  now_among more =
-      Contains-append_left (state_of first ∷ s.states) more (state_of now)
-      (subst (Contains (state_of first ∷ s.states)) (sym state_now) (last_among (state_of first) s.states))
-
-  -- what a crash leaves up to the end of one more step
-  module _ (last : Core D) (safe : GoesSafely history now last) (more : List (List Collection)) (last_in : Contains ((state_of first ∷ s.states) ++ more) (state_of last)) where
-    moments : IsRunning first → LeavesOnly (past history first) (past history last) (HoldsOneOf ((state_of first ∷ s.states) ++ more))
-    moments running =
-        leaves_further (past history first) (past history now) (past history last) (HoldsOneOf ((state_of first ∷ s.states) ++ more)) safe.on
-        (leaves_weaker (past history first) (past history now) (HoldsOneOf (state_of first ∷ s.states)) (HoldsOneOf ((state_of first ∷ s.states) ++ more))
-        (λ image one. record { state = one.state; one = Contains-append_left (state_of first ∷ s.states) more one.state one.one; holds = one.holds }) (s.any_moment running))
-        (λ k image left. ⊎_elim
-        (λ holds. record { state = state_of now; one = now_among more; holds = holds })
-        (λ holds. record { state = state_of last; one = last_in; holds = holds })
-        (safe.any_moment (s.running ∙ running) k image left))
-
-  idle_on : (last : Core D) → GoesSafely history now last → stopped first ≡ true → past history last ≡ past history first
+  idle_on : (last : Core D) → GoesSafely history now last → is_stopped first ≡ true → disk_history history last ≡ disk_history history first
   idle_on last safe stop = safe.idle (s.running ∙ stop) ∙ s.idle stop
 
-  pub step_on : (new : DriveOut) (last : Core D) → Goes (site now) step old new (site last) → IsSound history last → GoesSafely history now last → stopped last ≡ stopped now → SoFar history first all (i + 1) new last
+  -- what a crash leaves up to the end of a step after which no turn has answered
+  order_on : (last : Core D) → GoesSafely history now last → IsRunning first → KeepsWord (disk_history history last)
+      → LeavesInOrder (disk_history history last) (clock_of history first) (collections_of first) s.ends (collections_of last)
+  order_on last safe running keeps =
+      in_order_on (disk_history history now) (disk_history history last) (clock_of history first) (collections_of first) s.ends (collections_of now) (collections_of last)
+      safe.on keeps same_now (safe.any_moment (s.running ∙ running)) (s.in_order running (safe.on.kept keeps))
+
+  -- what a crash leaves up to the end of a turn that answered
+  order_turned : (last : Core D) → GoesSafely history now last → (IsRunning first → LeavesNow (disk_history history last) (λ image. Holds image (collections_of last)))
+      → IsRunning first → KeepsWord (disk_history history last)
+      → LeavesInOrder (disk_history history last) (clock_of history first) (collections_of first) (s.ends ++ end_at (instant_of history last) ∷ []) (collections_of last)
+  order_turned last safe holds running keeps =
+      in_order_turned (disk_history history now) (disk_history history last) (clock_of history first) (collections_of first) s.ends (collections_of now) (end_at (instant_of history last)) refl
+      safe.on keeps same_now (safe.any_moment (s.running ∙ running)) (holds running keeps) (s.in_order running (safe.on.kept keeps))
+
+  -- by the step: a turn has one end more, another none
+  order_by : (x : Step) (last : Core D) (new : DriveOut) → Goes (instant_of history now) x old new (instant_of history last) → GoesSafely history now last
+      → (IsRunning first → LeavesNow (disk_history history last) (λ image. Holds image (collections_of last)))
+      → IsRunning first → KeepsWord (disk_history history last)
+      → LeavesInOrder (disk_history history last) (clock_of history first) (collections_of first) (s.ends ++ ends_of x (instant_of history last)) (collections_of last)
+  order_by steps.Turn last new goes safe holds = order_turned last safe holds
+  order_by (steps.Bytes id chunk) last new goes safe holds running keeps =
+      subst (λ (es : List TurnEnd). LeavesInOrder (disk_history history last) (clock_of history first) (collections_of first) es (collections_of last)) (sym (append-nil s.ends)) (order_on last safe running keeps)
+  order_by (steps.Gone id) last new goes safe holds running keeps =
+      subst (λ (es : List TurnEnd). LeavesInOrder (disk_history history last) (clock_of history first) (collections_of first) es (collections_of last)) (sym (append-nil s.ends)) (order_on last safe running keeps)
+
+  pub step_on : (new : DriveOut) (last : Core D) → Goes (instant_of history now) step old new (instant_of history last) → IsSound history last → GoesSafely history now last → is_stopped last ≡ is_stopped now → SoFar history first all (i + 1) new last
   step_on new last goes sound safe same =
-      let happens : Happens (site first) (take (i + 1) all) (frames_in old.replies.items ++ goes.frames) (s.states ++ goes.states) (site last) =
-      subst (λ (xs : List Step). Happens (site first) xs (frames_in old.replies.items ++ goes.frames) (s.states ++ goes.states) (site last)) (sym taken)
-      (happens_on (take i all) (step ∷ []) (site first) (site now) (site last) (frames_in old.replies.items) goes.frames s.states goes.states s.happens goes.happens) in
-      let state : state_of last ≡ last_state (state_of first) (s.states ++ goes.states) =
-      state_after (take (i + 1) all) (site first) (site last) (frames_in old.replies.items ++ goes.frames) (s.states ++ goes.states) happens in
+      let more : List TurnEnd = ends_of step (instant_of history last) in
+      let next : Happens (last_moment (moment_of history first) s.ends) (state now) (step ∷ []) goes.frames more (state last) =
+      subst (λ (at : Moment). Happens at (state now) (step ∷ []) goes.frames more (state last)) s.moment goes.happens in
+      let happens : Happens (moment_of history first) (state first) (take (i + 1) all) (frames_in old.replies.items ++ goes.frames) (s.ends ++ more) (state last) =
+      subst (λ (xs : List Step). Happens (moment_of history first) (state first) xs (frames_in old.replies.items ++ goes.frames) (s.ends ++ more) (state last)) (sym taken)
+      (happens_on (take i all) (step ∷ []) (moment_of history first) (state first) (state now) (state last) (frames_in old.replies.items) goes.frames s.ends more s.happens next) in
       record {
-        states = s.states ++ goes.states;
-        happens = subst (λ (fs : List (ℕ × List ℕ)). Happens (site first) (take (i + 1) all) fs (s.states ++ goes.states) (site last)) (sym goes.adds.replies) happens;
+        ends = s.ends ++ more;
+        happens = subst (λ (fs : Frames). Happens (moment_of history first) (state first) (take (i + 1) all) fs (s.ends ++ more) (state last)) (sym goes.adds.replies) happens;
+        moment = goes.moment ∙ ap (λ (at : Moment). last_moment at more) s.moment ∙ sym (last_moment-append (moment_of history first) s.ends more);
         counted = omega (arith, s.counted, goes.adds.counted, ap turns_in taken, turns_in-append (take i all) (step ∷ []));
         bound = omega (arith, s.bound, goes.adds.counted, one_at_most step);
         runs = goes.adds.stopped ∙ s.runs;
         sound = sound;
-        on = goes_further (past history first) (past history now) (past history last) s.on safe.on;
+        on = goes_further (disk_history history first) (disk_history history now) (disk_history history last) s.on safe.on;
         running = same ∙ s.running;
-        any_moment = moments last safe goes.states (subst (Contains (state_of first ∷ s.states ++ goes.states)) (sym state) (last_among (state_of first) (s.states ++ goes.states)));
+        in_order = order_by step last new goes safe (λ running. holds_now history last sound (same ∙ s.running ∙ running));
         idle = idle_on last safe;
         limit = safe.limit ∙ s.limit;
       }
@@ -204,8 +230,8 @@ module _ {D : Type 0} (history : D → History) (first : Core D) (all : List Ste
     kept : frames_in new.replies.items ≡ frames_in old.replies.items
     kept = adds.replies ∙ append-nil (frames_in old.replies.items)
 
-    before : Happens (site first) (take i all) (frames_in new.replies.items) s.states (site now)
-    before = subst (λ (fs : List (ℕ × List ℕ)). Happens (site first) (take i all) fs s.states (site now)) (sym kept) s.happens
+    before : Happens (moment_of history first) (state first) (take i all) (frames_in new.replies.items) s.ends (state now)
+    before = subst (λ (fs : Frames). Happens (moment_of history first) (state first) (take i all) fs s.ends (state now)) (sym kept) s.happens
 
     at : (x : Step) → step ≡ x → slice_get all i ≡ Some x
     at x e = slice_get_read all (length all) i step refl within is ∙ ap (λ (y : Step). some y) e
@@ -214,67 +240,66 @@ module _ {D : Type 0} (history : D → History) (first : Core D) (all : List Ste
         some y = Some y
 
   -- a step that changed nothing
-  module _ (last : Core D) (sound : IsSound history last) (safe : GoesSafely history now last) (same : site last ≡ site now) (runs : stopped last ≡ stopped now) where
-    end_same : IsRunning first → LeavesNow (past history last) (λ image. Holds image (last_state (state_of first) s.states))
-    end_same running = subst (λ (x : List Collection). LeavesNow (past history last) (λ image. Holds image x)) (ap (λ (x : Site). x.world.state) same ∙ state_now) (holds_now history last sound (runs ∙ s.running ∙ running))
+  module _ (last : Core D) (sound : IsSound history last) (safe : GoesSafely history now last) (same : state last ≡ state now) (runs : is_stopped last ≡ is_stopped now) where
+    end_same : IsRunning first → LeavesNow (disk_history history last) (λ image. Holds image (last_collections (collections_of first) s.ends))
+    end_same running = subst (λ (x : List Collection). LeavesNow (disk_history history last) (λ image. Holds image x)) (ap (λ (x : ServerState). x.world.collections) same ∙ same_now) (holds_now history last sound (runs ∙ s.running ∙ running))
 
-  -- what a crash leaves at the end of a step
-  stop_now : (last : Core D) → GoesSafely history now last → IsRunning first → LeavesNow (past history last) (λ image. Holds image (last_state (state_of first) s.states) ⊎ Holds image (state_of last))
+  stop_now : (last : Core D) → GoesSafely history now last → IsRunning first → LeavesNow (disk_history history last) (HoldsEither (last_collections (collections_of first) s.ends) (collections_of last))
   stop_now last safe running k image here = ⊎_elim
-      (λ holds. inl (subst (Holds image) state_now holds))
+      (λ holds. inl (subst (Holds image) same_now holds))
       (λ holds. inr holds)
-      (leaves_now (past history now) (past history last) (λ image. Holds image (state_of now) ⊎ Holds image (state_of last)) safe.on (safe.any_moment (s.running ∙ running)) k image here)
+      (leaves_now (disk_history history now) (disk_history history last) (HoldsEither (collections_of now) (collections_of last)) safe.on (safe.any_moment (s.running ∙ running)) k image here)
 
-  last_in : (last : Core D) → Contains ((state_of first ∷ s.states) ++ state_of last ∷ []) (state_of last)
-  last_in last = Contains-push (state_of first ∷ s.states) (state_of last)
-
-  pub stops_at : (fault : DriveFault) (new : DriveOut) (last : Core D) → Does (site now) step old (Err fault) (stopped now) new (site last) → IsSound history last → GoesSafely history now last
-      → (failing fault ≢ failing (stops.Turn turns.Stopped) → stopped last ≡ stopped now)
-      → (failing fault ≡ failing (stops.Turn turns.Stopped) → KeepsWord (past history last) → (stopped now ≡ true) ⊎ ((past history now).failures < (past history last).failures))
+  pub stops_at : (fault : DriveFault) (new : DriveOut) (last : Core D) → Does (instant_of history now) step old (Err fault) (is_stopped now) new (instant_of history last) → IsSound history last → GoesSafely history now last
+      → (failing fault ≢ failing (stops.Turn turns.Stopped) → is_stopped last ≡ is_stopped now)
+      → (failing fault ≡ failing (stops.Turn turns.Stopped) → KeepsWord (disk_history history last) → (is_stopped now ≡ true) ⊎ ((disk_history history now).failures < (disk_history history last).failures))
       → Drives history first all (stopped_at fault new) last
   stops_at (stops.Feed feeds.Memory) new last does sound safe runs cause = record {
     given = frames_in new.replies.items;
-    states = s.states;
-    happens = ((does.0.0, does.0.1, at new 0 does.1 _ does.0.2), subst (λ (x : Site). Happens (site first) (take i all) (frames_in new.replies.items) s.states x) (sym does.2) (before new 0 does.1));
+    ends = s.ends;
+    happens = ((does.0.0, does.0.1, at new 0 does.1 _ does.0.2), subst (λ (x : ServerState). Happens (moment_of history first) (state first) (take i all) (frames_in new.replies.items) s.ends x) (sym does.2) (before new 0 does.1));
     frames = refl;
     bytes = λ _. refl;
     turns = omega (arith, does.1.counted, s.counted);
-    on = goes_further (past history first) (past history now) (past history last) s.on safe.on;
-    any_moment = moments last safe (state_of last ∷ []) (last_in last);
+    on = goes_further (disk_history history first) (disk_history history now) (disk_history history last) s.on safe.on;
+    in_order = order_on last safe;
     at_end = λ running goes. end_same last sound safe does.2 (runs (λ e. absurd cc)) running;
     at_stop = stop_now last safe;
     idle = idle_on last safe;
+    running = λ _. runs (λ e. absurd cc) ∙ s.running;
     limit = safe.limit ∙ s.limit;
     device = λ stop. absurd stop;
   }
   stops_at (stops.Feed feeds.Closed) new last does sound safe runs cause = absurd does
   stops_at (stops.Turn turns.Memory) new last does sound safe runs cause = record {
     given = frames_in new.replies.items;
-    states = s.states;
-    happens = (at new 0 does.1 _ does.0, record { before = site now; happens = before new 0 does.1; turn = subst (λ (b : Bool). TurnFails (site now) turns.Memory b (site last)) s.running does.2 });
+    ends = s.ends;
+    happens = (at new 0 does.1 _ does.0, record { before = state now; happens = before new 0 does.1; turn = subst (λ (b : Bool). TurnFails ForMemory (state now) turns.Memory b (state last)) s.running does.2 });
     frames = refl;
     bytes = λ _. refl;
     turns = omega (arith, does.1.counted, s.counted);
-    on = goes_further (past history first) (past history now) (past history last) s.on safe.on;
-    any_moment = moments last safe (state_of last ∷ []) (last_in last);
-    at_end = λ running goes. end_same last sound safe (subst (λ (b : Bool). TurnFails (site now) turns.Memory b (site last)) (s.running ∙ running) does.2) (runs (λ e. absurd cc)) running;
+    on = goes_further (disk_history history first) (disk_history history now) (disk_history history last) s.on safe.on;
+    in_order = order_on last safe;
+    at_end = λ running goes. end_same last sound safe (subst (λ (b : Bool). TurnFails ForMemory (state now) turns.Memory b (state last)) (s.running ∙ running) does.2) (runs (λ e. absurd cc)) running;
     at_stop = stop_now last safe;
     idle = idle_on last safe;
+    running = λ _. runs (λ e. absurd cc) ∙ s.running;
     limit = safe.limit ∙ s.limit;
     device = λ stop. absurd stop;
   }
   stops_at (stops.Turn turns.Stopped) new last does sound safe runs cause = record {
     given = frames_in new.replies.items;
-    states = s.states;
-    happens = (at new 0 does.1 _ does.0, record { before = site now; happens = before new 0 does.1; turn = subst (λ (b : Bool). TurnFails (site now) turns.Stopped b (site last)) s.running does.2 });
+    ends = s.ends;
+    happens = (at new 0 does.1 _ does.0, record { before = state now; happens = before new 0 does.1; turn = subst (λ (b : Bool). TurnFails ForMemory (state now) turns.Stopped b (state last)) s.running does.2 });
     frames = refl;
     bytes = λ _. refl;
     turns = omega (arith, does.1.counted, s.counted);
-    on = goes_further (past history first) (past history now) (past history last) s.on safe.on;
-    any_moment = moments last safe (state_of last ∷ []) (last_in last);
+    on = goes_further (disk_history history first) (disk_history history now) (disk_history history last) s.on safe.on;
+    in_order = order_on last safe;
     at_end = λ running goes. absurd (goes tt);
     at_stop = stop_now last safe;
     idle = idle_on last safe;
+    running = λ goes. absurd (goes tt);
     limit = safe.limit ∙ s.limit;
     device = λ stop k. ⊎_elim
         (λ stopped_now. inl (sym s.running ∙ stopped_now))
@@ -282,22 +307,29 @@ module _ {D : Type 0} (history : D → History) (first : Core D) (all : List Ste
         (cause refl k);
   }
   stops_at stops.Gather new last does sound safe runs cause =
-      let states : List (List Collection) = s.states ++ state_of last ∷ [] in
-      let state : state_of last ≡ last_state (state_of first) states = sym (last_of_pushed (state_of first) s.states (state_of last)) in
-      let now_holds : IsRunning first → LeavesNow (past history last) (λ image. Holds image (state_of last)) = λ running. holds_now history last sound (runs (λ e. absurd cc) ∙ s.running ∙ running) in
+      let end : TurnEnd = end_at (instant_of history last) in
+      let whole : collections_of last ≡ last_collections (collections_of first) (s.ends ++ end ∷ []) = sym (last_collections-append (collections_of first) s.ends (end ∷ [])) in
+      let now_holds : IsRunning first → LeavesNow (disk_history history last) (λ image. Holds image (collections_of last)) = λ running. holds_now history last sound (runs (λ e. absurd cc) ∙ s.running ∙ running) in
       record {
         given = frames_in new.replies.items;
-        states = states;
-        happens = (at new 1 does.adds _ does.is, record { before = site now; earlier = s.states; lost = does.lost; happens = before new 1 does.adds; turn = does.turn; counted = refl });
+        ends = s.ends ++ end ∷ [];
+        happens = (at new 1 does.adds _ does.is, record {
+          before = state now;
+          earlier = s.ends;
+          lost = does.lost;
+          happens = before new 1 does.adds;
+          turn = subst (λ (m : Moment). Turns ForMemory (RoomRanOut m (moment_of history last)) (state now) does.lost (state last)) s.moment does.turn;
+          counted = refl;
+        });
         frames = refl;
         bytes = λ _. refl;
         turns = omega (arith, does.adds.counted, s.counted);
-        on = goes_further (past history first) (past history now) (past history last) s.on safe.on;
-        any_moment = λ running. leaves_weaker (past history first) (past history last) (HoldsOneOf (state_of first ∷ states)) (HoldsOneOf (state_of first ∷ states ++ state_of last ∷ []))
-            (λ image one. among (state_of first ∷ states) (state_of last) image one) (moments last safe (state_of last ∷ []) (last_in last) running);
-        at_end = λ running goes. subst (λ (x : List Collection). LeavesNow (past history last) (λ image. Holds image x)) state (now_holds running);
+        on = goes_further (disk_history history first) (disk_history history now) (disk_history history last) s.on safe.on;
+        in_order = order_turned last safe now_holds;
+        at_end = λ running goes. subst (λ (x : List Collection). LeavesNow (disk_history history last) (λ image. Holds image x)) whole (now_holds running);
         at_stop = λ running k image is. inr (now_holds running k image is);
         idle = idle_on last safe;
+        running = λ _. runs (λ e. absurd cc) ∙ s.running;
         limit = safe.limit ∙ s.limit;
         device = λ stop. absurd stop;
       }

@@ -11,83 +11,83 @@ use Rattle.op_msg.specs.declared.fault.FrameFault.{FrameFault}
 use Rattle.server.specs.Turn.{forget_all}
 use Rattle.engine.specs.Durable.{Holds}
 use Rattle.engine.specs.Durable as engines
-use Rattle.engine.specs.View.{world, begun}
+use Rattle.engine.specs.View.{world, turn_start}
 use Rattle.engine.specs.declared.engine.Engine.{Engine}
 use Rattle.server.specs.History.{last_state}
-use Rattle.server.specs.Durable.{past, IsRunning, store_of, IsSound, state_of, HoldsOneOf, GoesSafely}
+use Rattle.server.specs.Durable.{disk_history, IsRunning, store_of, IsSound, collections_of, HoldsOneOf, GoesSafely}
 use Rattle.server.specs.declared.turn.Core.{Core}
 
 -- between calls every image holds the collections as they are
-pub holds_now : {D : Type 0} (history : D → History) (core : Core D) → IsSound history core → IsRunning core → LeavesNow (past history core) (λ image. Holds image (state_of core))
-holds_now history core sound running = subst (λ (w : World). LeavesNow (past history core) (λ image. Holds image w.state)) core.idle (sound.holds running)
+pub holds_now : {D : Type 0} (history : D → History) (core : Core D) → IsSound history core → IsRunning core → LeavesNow (disk_history history core) (λ image. Holds image (collections_of core))
+holds_now history core sound running = subst (λ (w : World). LeavesNow (disk_history history core) (λ image. Holds image w.collections)) core.idle (sound.holds running)
 
 -- as long as the disk stays as it is
-pub stays : {D : Type 0} (history : D → History) (old new : Engine D) (Q : (ℕ → List ℕ) → Type 0) → engines.IsSound history old → begun old ≡ world old → engines.past history new ≡ engines.past history old → engines.IsRunning old
-    → LeavesOnly (engines.past history old) (engines.past history new) (λ image. Holds image (world old).state ⊎ Q image)
+pub stays : {D : Type 0} (history : D → History) (old new : Engine D) (Q : (ℕ → List ℕ) → Type 0) → engines.IsSound history old → turn_start old ≡ world old → engines.disk_history history new ≡ engines.disk_history history old → engines.IsRunning old
+    → LeavesOnly (engines.disk_history history old) (engines.disk_history history new) (λ image. Holds image (world old).collections ⊎ Q image)
 stays history old new Q sound idle same running =
-    subst (λ (h : History). LeavesOnly (engines.past history old) h (λ image. Holds image (world old).state ⊎ Q image)) (sym same)
-    (started (engines.past history old) (λ image. Holds image (world old).state ⊎ Q image)
-    (λ k image is. inl (subst (λ (w : World). Holds image w.state) idle (sound.holds running k image is))))
+    subst (λ (h : History). LeavesOnly (engines.disk_history history old) h (λ image. Holds image (world old).collections ⊎ Q image)) (sym same)
+    (started (engines.disk_history history old) (λ image. Holds image (world old).collections ⊎ Q image)
+    (λ k image is. inl (subst (λ (w : World). Holds image w.collections) idle (sound.holds running k image is))))
 
 -- a turn that is committed, or that the device cut
-pub moved : {D : Type 0} (history : D → History) (old mid new : Engine D) → engines.past history mid ≡ engines.past history old → begun mid ≡ world old → world new ≡ settled (world mid)
-    → LeavesOnly (engines.past history mid) (engines.past history new) (λ image. Holds image (begun mid).state ⊎ Holds image (world mid).state)
-    → LeavesOnly (engines.past history old) (engines.past history new) (λ image. Holds image (world old).state ⊎ Holds image (world new).state)
+pub moved : {D : Type 0} (history : D → History) (old mid new : Engine D) → engines.disk_history history mid ≡ engines.disk_history history old → turn_start mid ≡ world old → world new ≡ settled (world mid)
+    → LeavesOnly (engines.disk_history history mid) (engines.disk_history history new) (λ image. Holds image (turn_start mid).collections ⊎ Holds image (world mid).collections)
+    → LeavesOnly (engines.disk_history history old) (engines.disk_history history new) (λ image. Holds image (world old).collections ⊎ Holds image (world new).collections)
 moved history old mid new same before after leaves =
-    subst (λ (h : History). LeavesOnly h (engines.past history new) (λ image. Holds image (world old).state ⊎ Holds image (world new).state)) same
-    (leaves_weaker (engines.past history mid) (engines.past history new) (λ image. Holds image (begun mid).state ⊎ Holds image (world mid).state) (λ image. Holds image (world old).state ⊎ Holds image (world new).state)
+    subst (λ (h : History). LeavesOnly h (engines.disk_history history new) (λ image. Holds image (world old).collections ⊎ Holds image (world new).collections)) same
+    (leaves_weaker (engines.disk_history history mid) (engines.disk_history history new) (λ image. Holds image (turn_start mid).collections ⊎ Holds image (world mid).collections) (λ image. Holds image (world old).collections ⊎ Holds image (world new).collections)
     (λ image. ⊎_elim
-    (λ holds. inl (subst (λ (w : World). Holds image w.state) before holds))
-    (λ holds. inr (subst (λ (w : World). Holds image w.state) (sym after) holds)))
+    (λ holds. inl (subst (λ (w : World). Holds image w.collections) before holds))
+    (λ holds. inr (subst (λ (w : World). Holds image w.collections) (sym after) holds)))
     leaves)
 
 -- a turn that is undone by its commit
-pub moved_back : {D : Type 0} (history : D → History) (old mid new : Engine D) → engines.past history mid ≡ engines.past history old → begun mid ≡ world old
-    → LeavesOnly (engines.past history mid) (engines.past history new) (λ image. Holds image (begun mid).state)
-    → LeavesOnly (engines.past history old) (engines.past history new) (λ image. Holds image (world old).state ⊎ Holds image (world new).state)
+pub moved_back : {D : Type 0} (history : D → History) (old mid new : Engine D) → engines.disk_history history mid ≡ engines.disk_history history old → turn_start mid ≡ world old
+    → LeavesOnly (engines.disk_history history mid) (engines.disk_history history new) (λ image. Holds image (turn_start mid).collections)
+    → LeavesOnly (engines.disk_history history old) (engines.disk_history history new) (λ image. Holds image (world old).collections ⊎ Holds image (world new).collections)
 moved_back history old mid new same before leaves =
-    subst (λ (h : History). LeavesOnly h (engines.past history new) (λ image. Holds image (world old).state ⊎ Holds image (world new).state)) same
-    (leaves_weaker (engines.past history mid) (engines.past history new) (λ image. Holds image (begun mid).state) (λ image. Holds image (world old).state ⊎ Holds image (world new).state)
-    (λ image holds. inl (subst (λ (w : World). Holds image w.state) before holds))
+    subst (λ (h : History). LeavesOnly h (engines.disk_history history new) (λ image. Holds image (world old).collections ⊎ Holds image (world new).collections)) same
+    (leaves_weaker (engines.disk_history history mid) (engines.disk_history history new) (λ image. Holds image (turn_start mid).collections) (λ image. Holds image (world old).collections ⊎ Holds image (world new).collections)
+    (λ image holds. inl (subst (λ (w : World). Holds image w.collections) before holds))
     leaves)
 
 -- a disk that stays as it is goes on
 pub on_same : (old new : History) → new ≡ old → GoesOn old new
 on_same old new same = subst (λ (h : History). GoesOn old h) (sym same) (goes_nowhere old)
 
-forget_all_state : (w : World) (closed : List (ℕ × FrameFault)) → (forget_all w closed).state ≡ w.state
+forget_all_state : (w : World) (closed : List (ℕ × FrameFault)) → (forget_all w closed).collections ≡ w.collections
 forget_all_state w [] = refl
 forget_all_state w (f ∷ fs) = forget_all_state (forget w f.0) fs
 
 -- the cursors of closed connections end
-pub forgotten : {D : Type 0} (history : D → History) (old mid new : Engine D) (closed : List (ℕ × FrameFault)) → engines.past history new ≡ engines.past history mid → world new ≡ forget_all (world mid) closed
-    → LeavesOnly (engines.past history old) (engines.past history mid) (λ image. Holds image (world old).state ⊎ Holds image (world mid).state)
-    → LeavesOnly (engines.past history old) (engines.past history new) (λ image. Holds image (world old).state ⊎ Holds image (world new).state)
+pub forgotten : {D : Type 0} (history : D → History) (old mid new : Engine D) (closed : List (ℕ × FrameFault)) → engines.disk_history history new ≡ engines.disk_history history mid → world new ≡ forget_all (world mid) closed
+    → LeavesOnly (engines.disk_history history old) (engines.disk_history history mid) (λ image. Holds image (world old).collections ⊎ Holds image (world mid).collections)
+    → LeavesOnly (engines.disk_history history old) (engines.disk_history history new) (λ image. Holds image (world old).collections ⊎ Holds image (world new).collections)
 forgotten history old mid new closed same is leaves =
-    let state : (world new).state ≡ (world mid).state = ap (λ (w : World). w.state) is ∙ forget_all_state (world mid) closed in
-    subst (λ (h : History). LeavesOnly (engines.past history old) h (λ image. Holds image (world old).state ⊎ Holds image (world new).state)) (sym same)
-    (subst (λ (x : List Collection). LeavesOnly (engines.past history old) (engines.past history mid) (λ image. Holds image (world old).state ⊎ Holds image x)) (sym state) leaves)
+    let collections : (world new).collections ≡ (world mid).collections = ap (λ (w : World). w.collections) is ∙ forget_all_state (world mid) closed in
+    subst (λ (h : History). LeavesOnly (engines.disk_history history old) h (λ image. Holds image (world old).collections ⊎ Holds image (world new).collections)) (sym same)
+    (subst (λ (x : List Collection). LeavesOnly (engines.disk_history history old) (engines.disk_history history mid) (λ image. Holds image (world old).collections ⊎ Holds image x)) (sym collections) leaves)
 
-pub unmoved : {D : Type 0} (history : D → History) (old new : Core D) → IsSound history old → past history new ≡ past history old → store_of new ≡ store_of old → GoesSafely history old new
+pub unmoved : {D : Type 0} (history : D → History) (old new : Core D) → IsSound history old → disk_history history new ≡ disk_history history old → store_of new ≡ store_of old → GoesSafely history old new
 unmoved history old new sound same store = record {
-  on = subst (λ (h : History). GoesOn (past history old) h) (sym same) (goes_nowhere (past history old));
-  any_moment = stays history old.engine new.engine (λ image. Holds image (state_of new)) sound old.idle same;
+  on = subst (λ (h : History). GoesOn (disk_history history old) h) (sym same) (goes_nowhere (disk_history history old));
+  any_moment = stays history old.engine new.engine (λ image. Holds image (collections_of new)) sound old.idle same;
   idle = λ _. same;
   limit = ap limit_of store;
 }
 
 -- between turns every image holds the collections as they are
-pub engine_holds : {D : Type 0} (history : D → History) (engine : Engine D) → engines.IsSound history engine → begun engine ≡ world engine → engines.IsRunning engine → LeavesNow (engines.past history engine) (λ image. Holds image (world engine).state)
-engine_holds history engine sound idle running = subst (λ (w : World). LeavesNow (engines.past history engine) (λ image. Holds image w.state)) idle (sound.holds running)
+pub engine_holds : {D : Type 0} (history : D → History) (engine : Engine D) → engines.IsSound history engine → turn_start engine ≡ world engine → engines.IsRunning engine → LeavesNow (engines.disk_history history engine) (λ image. Holds image (world engine).collections)
+engine_holds history engine sound idle running = subst (λ (w : World). LeavesNow (engines.disk_history history engine) (λ image. Holds image w.collections)) idle (sound.holds running)
 
 -- one state more
 pub among : (states : List (List Collection)) (more : List Collection) (image : ℕ → List ℕ) → HoldsOneOf states image → HoldsOneOf (states ++ more ∷ []) image
-among states more image one = record { state = one.state; one = Contains-append_left states (more ∷ []) one.state one.one; holds = one.holds }
+among states more image one = record { collections = one.collections; one = Contains-append_left states (more ∷ []) one.collections one.one; holds = one.holds }
 
 pub last_among : (first : List Collection) (states : List (List Collection)) → Contains (first ∷ states) (last_state first states)
 last_among first [] = (0, omega arith, refl)
-last_among first (state ∷ states) = Contains-append_right (first ∷ []) (state ∷ states) (last_state state states) (last_among state states)
+last_among first (collections ∷ states) = Contains-append_right (first ∷ []) (collections ∷ states) (last_state collections states) (last_among collections states)
 
 pub last_of_pushed : (first : List Collection) (states : List (List Collection)) (last : List Collection) → last_state first (states ++ last ∷ []) ≡ last
 last_of_pushed first [] last = refl
-last_of_pushed first (state ∷ states) last = last_of_pushed state states last
+last_of_pushed first (collections ∷ states) last = last_of_pushed collections states last

@@ -2,8 +2,9 @@ pub mod Refusing
 pub mod BodyAnswers
 pub mod TurnParts
 pub mod Images
+pub mod Order
 pub mod Histories
 pub mod Places
-pub mod LinkServed
-pub mod LinksServed
+pub mod ConnectionServed
+pub mod ConnectionsServed
 pub mod StreamsTaken

@@ -14,7 +14,7 @@ use Rattle.path.specs.declared.refusal.Refusal.TheVariants.{OutOfMemory, Full}
 use Rattle.server.specs.Turn.{Call, calls, frame_unless, frame_for, frames_of, refused_calls, refused_frames, next_number}
 use Rattle.server.specs.Taking.{full_body, respelled_frames, HaveRoom}
 use Rattle.server.specs.View.{frames_in}
-use Rattle.server.specs.declared.link.Link.{Link}
+use Rattle.server.specs.declared.connection.Connection.{Connection}
 
 -- ---- one refusal
 
@@ -25,40 +25,40 @@ fits : length full_body + 21 ≤ length (framed (pairs_bytes (refusal_reply OutO
 unfolding is_utf8 chars digits encode tree_bytes pairs_bytes items_bytes
 fits = omega arith
 
-one_room : (more : Bool) (connection number request : ℕ) → All HasRoom (frame_unless more connection number request (refusal_reply OutOfMemory))
+one_room : (more : Bool) (id number request : ℕ) → All HasRoom (frame_unless more id number request (refusal_reply OutOfMemory))
 unfolding reply_bytes
-one_room true connection number request = All-nil HasRoom
-one_room false connection number request = λ k d within. elim_one k d within
+one_room true id number request = All-nil HasRoom
+one_room false id number request = λ k d within. elim_one k d within
   where
-    elim_one : (k : ℕ) (d : ℕ × List ℕ) → k < 1 → HasRoom (get_or (frame_unless false connection number request (refusal_reply OutOfMemory)) k d)
+    elim_one : (k : ℕ) (d : ℕ × List ℕ) → k < 1 → HasRoom (get_or (frame_unless false id number request (refusal_reply OutOfMemory)) k d)
     elim_one zero d within = omega (arith, fits)
     elim_one (suc k) d within = absurd (omega arith)
 
 rooms : (cs : List Call) → All HasRoom (frames_of cs (refused_calls OutOfMemory cs))
 rooms [] = All-nil HasRoom
-rooms (c ∷ cs) = All-append HasRoom (frame_for c (refusal_reply OutOfMemory)) (frames_of cs (refused_calls OutOfMemory cs)) (one_room c.frame.more_to_come c.link.connection (next_number c.link.last_reply) c.frame.number) (rooms cs)
+rooms (c ∷ cs) = All-append HasRoom (frame_for c (refusal_reply OutOfMemory)) (frames_of cs (refused_calls OutOfMemory cs)) (one_room c.frame.more_to_come c.connection.id (next_number c.connection.last_reply) c.frame.number) (rooms cs)
 
-pub refused_room : (links : List Link) → HaveRoom (refused_frames OutOfMemory links)
-refused_room links = rooms (calls links)
+pub refused_room : (connections : List Connection) → HaveRoom (refused_frames OutOfMemory connections)
+refused_room connections = rooms (calls connections)
 
 respelled-append : (fs gs : List (ℕ × List ℕ)) → respelled_frames (fs ++ gs) ≡ respelled_frames fs ++ respelled_frames gs
 respelled-append [] gs = refl
 respelled-append (f ∷ fs) gs = ap (λ (hs : List (ℕ × List ℕ)). (f.0, respelled f.1 full_body) ∷ hs) (respelled-append fs gs)
 
-one_respelled : (more : Bool) (connection number request : ℕ) → respelled_frames (frame_unless more connection number request (refusal_reply OutOfMemory)) ≡ frame_unless more connection number request (refusal_reply Full)
+one_respelled : (more : Bool) (id number request : ℕ) → respelled_frames (frame_unless more id number request (refusal_reply OutOfMemory)) ≡ frame_unless more id number request (refusal_reply Full)
 unfolding reply_bytes
-one_respelled true connection number request = refl
-one_respelled false connection number request =
-    ap (λ (bytes : List ℕ). (connection, bytes) ∷ []) (respelled_frame number request (framed (pairs_bytes (refusal_reply OutOfMemory))) full_body)
+one_respelled true id number request = refl
+one_respelled false id number request =
+    ap (λ (bytes : List ℕ). (id, bytes) ∷ []) (respelled_frame number request (framed (pairs_bytes (refusal_reply OutOfMemory))) full_body)
 
 all_respelled : (cs : List Call) → respelled_frames (frames_of cs (refused_calls OutOfMemory cs)) ≡ frames_of cs (refused_calls Full cs)
 all_respelled [] = refl
 all_respelled (c ∷ cs) =
     respelled-append (frame_for c (refusal_reply OutOfMemory)) (frames_of cs (refused_calls OutOfMemory cs))
-    ∙ (λ i. one_respelled c.frame.more_to_come c.link.connection (next_number c.link.last_reply) c.frame.number i ++ all_respelled cs i)
+    ∙ (λ i. one_respelled c.frame.more_to_come c.connection.id (next_number c.connection.last_reply) c.frame.number i ++ all_respelled cs i)
 
-pub refused_respelled : (links : List Link) → respelled_frames (refused_frames OutOfMemory links) ≡ refused_frames Full links
-refused_respelled links = all_respelled (calls links)
+pub refused_respelled : (connections : List Connection) → respelled_frames (refused_frames OutOfMemory connections) ≡ refused_frames Full connections
+refused_respelled connections = all_respelled (calls connections)
 
 -- ---- the loop over the frames
 

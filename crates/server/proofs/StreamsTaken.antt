@@ -5,54 +5,54 @@ use Rattle.op_msg.specs.Frame.{Frame, front}
 use Rattle.op_msg.specs.Stream.{Begins}
 use Rattle.op_msg.specs.declared.fault.FrameFault.{FrameFault}
 use Rattle.op_msg.proofs.Streams.{stays}
-use Rattle.server.specs.Site.{add_bytes}
-use Rattle.server.specs.Turn.{front_of, front_if_open, link_at, link_after}
-use Rattle.server.specs.Streams.{Event, bytes, turn, stream_of, link_over, message_at, taken_over, IsLeft}
-use Rattle.server.specs.declared.link.Link.{Link}
+use Rattle.server.specs.ServerState.{add_bytes}
+use Rattle.server.specs.Turn.{front_of, front_if_open, connection_at, connection_after}
+use Rattle.server.specs.Streams.{Event, bytes, turn, stream_of, connection_over, message_at, taken_over, IsLeft}
+use Rattle.server.specs.declared.connection.Connection.{Connection}
 
 abbrev Front : Type 0
 Front = Result (Option (Frame × List ℕ)) FrameFault
 
 -- the law at one link, for these messages and this link at the end
-abbrev Takes : List ℕ → List Frame → Link → Type 0
+abbrev Takes : List ℕ → List Frame → Connection → Type 0
 Takes stream frames last = (rest : List ℕ) × Begins stream frames rest × IsLeft last.fault last.frames rest
 
 -- nothing is taken from a link that a fault closed
-closed_stays : (link : Link) (fault : FrameFault) (events : List Event) → link.fault ≡ Some fault → (taken_over link events ≡ []) × (link_over link events ≡ link)
-closed_stays link fault [] e = (refl, refl)
-closed_stays link fault (bytes chunk ∷ later) e =
-    let same : add_bytes link link.fault chunk ≡ link = ap (λ (f : Option FrameFault). add_bytes link f chunk) e in
-    let then = closed_stays link fault later e in
-    (ap (λ (l : Link). taken_over l later) same ∙ then.0, ap (λ (l : Link). link_over l later) same ∙ then.1)
-closed_stays link fault (turn ∷ later) e =
-    let nothing : front_of link ≡ Ok None = ap (λ (f : Option FrameFault). front_if_open f link.frames) e in
-    let same : link_after link ≡ link = ap (λ (f : Front). link_at link f) nothing in
-    let then = closed_stays link fault later e in (
-      ap (λ (f : Front). message_at f ++ taken_over (link_after link) later) nothing ∙ ap (λ (l : Link). taken_over l later) same ∙ then.0,
-      ap (λ (l : Link). link_over l later) same ∙ then.1,
+closed_stays : (connection : Connection) (fault : FrameFault) (events : List Event) → connection.fault ≡ Some fault → (taken_over connection events ≡ []) × (connection_over connection events ≡ connection)
+closed_stays connection fault [] e = (refl, refl)
+closed_stays connection fault (bytes chunk ∷ later) e =
+    let same : add_bytes connection connection.fault chunk ≡ connection = ap (λ (f : Option FrameFault). add_bytes connection f chunk) e in
+    let then = closed_stays connection fault later e in
+    (ap (λ (l : Connection). taken_over l later) same ∙ then.0, ap (λ (l : Connection). connection_over l later) same ∙ then.1)
+closed_stays connection fault (turn ∷ later) e =
+    let nothing : front_of connection ≡ Ok None = ap (λ (f : Option FrameFault). front_if_open f connection.frames) e in
+    let same : connection_after connection ≡ connection = ap (λ (f : Front). connection_at connection f) nothing in
+    let then = closed_stays connection fault later e in (
+      ap (λ (f : Front). message_at f ++ taken_over (connection_after connection) later) nothing ∙ ap (λ (l : Connection). taken_over l later) same ∙ then.0,
+      ap (λ (l : Connection). connection_over l later) same ∙ then.1,
     )
 
-closed : (link : Link) (fault : FrameFault) (events : List Event) (stream : List ℕ) → link.fault ≡ Some fault → front stream ≡ Err fault → Takes stream (taken_over link events) (link_over link events)
-closed link fault events stream e f =
-    let s = closed_stays link fault events e in
-    (stream, subst (λ (fs : List Frame). Begins stream fs stream) (sym s.0) refl, subst (λ (x : Option FrameFault). IsLeft x (link_over link events).frames stream) (sym (ap (λ (l : Link). l.fault) s.1 ∙ e)) f)
+closed : (connection : Connection) (fault : FrameFault) (events : List Event) (stream : List ℕ) → connection.fault ≡ Some fault → front stream ≡ Err fault → Takes stream (taken_over connection events) (connection_over connection events)
+closed connection fault events stream e f =
+    let s = closed_stays connection fault events e in
+    (stream, subst (λ (fs : List Frame). Begins stream fs stream) (sym s.0) refl, subst (λ (x : Option FrameFault). IsLeft x (connection_over connection events).frames stream) (sym (ap (λ (l : Connection). l.fault) s.1 ∙ e)) f)
 
-module _ (link : Link) (later : List Event) (is_open : link.fault ≡ None) (goes_on : (l : Link) → l.fault ≡ None → Takes (l.frames ++ stream_of later) (taken_over l later) (link_over l later)) where
-  by_front : (f : Front) → front link.frames ≡ f → Takes (link.frames ++ stream_of later) (message_at f ++ taken_over (link_at link f) later) (link_over (link_at link f) later)
-  by_front (Ok None) e = goes_on link is_open
+module _ (connection : Connection) (later : List Event) (is_open : connection.fault ≡ None) (goes_on : (l : Connection) → l.fault ≡ None → Takes (l.frames ++ stream_of later) (taken_over l later) (connection_over l later)) where
+  by_front : (f : Front) → front connection.frames ≡ f → Takes (connection.frames ++ stream_of later) (message_at f ++ taken_over (connection_at connection f) later) (connection_over (connection_at connection f) later)
+  by_front (Ok None) e = goes_on connection is_open
   by_front (Ok (Some x)) e =
-      let t = goes_on (link_at link (Ok (Some x))) is_open in
-      (t.0, (x.1 ++ stream_of later, (stays link.frames (stream_of later)).0 x.0 x.1 e, t.1), t.2)
-  by_front (Err fault) e = closed (link_at link (Err fault)) fault later (link.frames ++ stream_of later) refl ((stays link.frames (stream_of later)).1 fault e)
+      let t = goes_on (connection_at connection (Ok (Some x))) is_open in
+      (t.0, (x.1 ++ stream_of later, (stays connection.frames (stream_of later)).0 x.0 x.1 e, t.1), t.2)
+  by_front (Err fault) e = closed (connection_at connection (Err fault)) fault later (connection.frames ++ stream_of later) refl ((stays connection.frames (stream_of later)).1 fault e)
 
-pub takes : (link : Link) (events : List Event) → link.fault ≡ None → Takes (link.frames ++ stream_of events) (taken_over link events) (link_over link events)
-takes link [] is_open = (link.frames, sym (append-nil link.frames), subst (λ (x : Option FrameFault). IsLeft x link.frames link.frames) (sym is_open) refl)
-takes link (bytes chunk ∷ later) is_open =
-    let fed : add_bytes link link.fault chunk ≡ record link { frames = link.frames ++ chunk } = ap (λ (f : Option FrameFault). add_bytes link f chunk) is_open in
-    let t = takes (record link { frames = link.frames ++ chunk }) later is_open in
-    subst (λ (l : Link). Takes (link.frames ++ (chunk ++ stream_of later)) (taken_over l later) (link_over l later)) (sym fed)
-    (subst (λ (s : List ℕ). Takes s (taken_over (record link { frames = link.frames ++ chunk }) later) (link_over (record link { frames = link.frames ++ chunk }) later)) (append_assoc link.frames chunk (stream_of later)) t)
-takes link (turn ∷ later) is_open =
-    let is : front_of link ≡ front link.frames = ap (λ (f : Option FrameFault). front_if_open f link.frames) is_open in
-    subst (λ (f : Front). Takes (link.frames ++ stream_of later) (message_at f ++ taken_over (link_at link f) later) (link_over (link_at link f) later)) (sym is)
-    (by_front link later is_open (λ l o. takes l later o) (front link.frames) refl)
+pub takes : (connection : Connection) (events : List Event) → connection.fault ≡ None → Takes (connection.frames ++ stream_of events) (taken_over connection events) (connection_over connection events)
+takes connection [] is_open = (connection.frames, sym (append-nil connection.frames), subst (λ (x : Option FrameFault). IsLeft x connection.frames connection.frames) (sym is_open) refl)
+takes connection (bytes chunk ∷ later) is_open =
+    let fed : add_bytes connection connection.fault chunk ≡ record connection { frames = connection.frames ++ chunk } = ap (λ (f : Option FrameFault). add_bytes connection f chunk) is_open in
+    let t = takes (record connection { frames = connection.frames ++ chunk }) later is_open in
+    subst (λ (l : Connection). Takes (connection.frames ++ (chunk ++ stream_of later)) (taken_over l later) (connection_over l later)) (sym fed)
+    (subst (λ (s : List ℕ). Takes s (taken_over (record connection { frames = connection.frames ++ chunk }) later) (connection_over (record connection { frames = connection.frames ++ chunk }) later)) (append_assoc connection.frames chunk (stream_of later)) t)
+takes connection (turn ∷ later) is_open =
+    let is : front_of connection ≡ front connection.frames = ap (λ (f : Option FrameFault). front_if_open f connection.frames) is_open in
+    subst (λ (f : Front). Takes (connection.frames ++ stream_of later) (message_at f ++ taken_over (connection_at connection f) later) (connection_over (connection_at connection f) later)) (sym is)
+    (by_front connection later is_open (λ l o. takes l later o) (front connection.frames) refl)

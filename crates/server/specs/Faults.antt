@@ -1,7 +1,7 @@
 -- The names of the server's faults.
 use Rattle.std.specs.Prelude.{ℕ, List, codes}
-use Rattle.server.specs.declared.link.FeedFault.{FeedFault}
-use Rattle.server.specs.declared.link.FeedFault.TheVariants as feeds
+use Rattle.server.specs.declared.connection.FeedFault.{FeedFault}
+use Rattle.server.specs.declared.connection.FeedFault.TheVariants as feeds
 use Rattle.server.specs.declared.turn.TurnFault.{TurnFault}
 use Rattle.server.specs.declared.turn.TurnFault.TheVariants as turns
 

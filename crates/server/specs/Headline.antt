@@ -4,62 +4,67 @@
 -- that took no message, changed nothing; where the frames of a turn found no memory the turn is done, and what is missing is that
 -- turn's replies and no other; a turn in which the device failed handed out nothing.
 --
--- A crash, at any moment of the run, leaves the collections after some whole turns of that history, in order. At its end it leaves
--- those after all turns that answered, or after one further turn where the device failed in it.
+-- A crash leaves the collections after some whole turns of that history, in order of time: between two turns' ends those of the
+-- one or of the other, and at the end of the run those after all turns that answered, or after one more where the device failed
+-- in it.
 use Rattle.std.specs.Prelude.{◌≡◌, ◌⊎◌, ◌<◌, ℕ, ◌+◌, Bool, true, List, [], ◌∷◌, ◌++◌, take, slice_get, Option, Some, None, Vec}
 use Rattle.std.specs.Global.{Global}
 use Rattle.page.specs.History.{History, KeepsWord}
-use Rattle.page.specs.Crash.{GoesOn, LeavesOnly, LeavesNow}
+use Rattle.page.specs.Crash.{GoesOn, LeavesNow}
 use Rattle.roots.specs.Store.{limit_of}
-use Rattle.engine.specs.World.{Collection}
+use Rattle.engine.specs.Step.{ForMemory}
 use Rattle.engine.specs.Durable.{Holds}
-use Rattle.server.specs.Site.{Site}
+use Rattle.server.specs.ServerState.{ServerState}
 use Rattle.server.specs.Turn.{Out, Turns, TurnFails}
-use Rattle.server.specs.History.{Happens, last_state, bytes_to, turns_in}
-use Rattle.server.specs.View.{site, frames_in}
-use Rattle.server.specs.Durable.{past, stopped, IsRunning, store_of, state_of, HoldsOneOf}
+use Rattle.server.specs.Moment.{TurnEnd, Instant, end_at, last_collections, last_moment, HoldsEither, LeavesInOrder}
+use Rattle.server.specs.History.{Happens, RoomRanOut, bytes_to, turns_in}
+use Rattle.server.specs.View.{frames_in}
+use Rattle.server.specs.Durable.{disk_history, is_stopped, IsRunning, store_of, collections_of, clock_of, instant_of}
 use Rattle.server.specs.declared.turn.Core.{Core}
 use Rattle.server.specs.declared.turn.TurnFault.{TurnFault}
 use Rattle.server.specs.declared.turn.TurnFault.TheVariants as turns
 use Rattle.server.specs.declared.step.Step.{Step}
 use Rattle.server.specs.declared.step.Step.TheVariants as steps
-use Rattle.server.specs.declared.link.FeedFault.TheVariants as feeds
+use Rattle.server.specs.declared.connection.FeedFault.TheVariants as feeds
 use Rattle.server.specs.declared.drive.DriveFault.{DriveFault}
 use Rattle.server.specs.declared.drive.DriveFault.TheVariants as stops
 use Rattle.server.specs.declared.drive.DriveOut.{DriveOut}
 
 -- the bytes that a run hands out for a connection
 abbrev pub bytes_for : ℕ → DriveOut → List ℕ
-bytes_for connection out = bytes_to connection (frames_in out.replies.items)
+bytes_for id out = bytes_to id (frames_in out.replies.items)
 
 abbrev pub BytesStandAt : ℕ → List Step → Type 0
-BytesStandAt i all = (connection : ℕ) × (chunk : Vec ℕ Global) × (slice_get all i ≡ Some (steps.Bytes connection chunk))
+BytesStandAt i all = (id : ℕ) × (chunk : Vec ℕ Global) × (slice_get all i ≡ Some (steps.Bytes id chunk))
 
 abbrev pub TurnStandsAt : ℕ → List Step → Type 0
 TurnStandsAt i all = slice_get all i ≡ Some steps.Turn
 
 -- A history of these steps, and then one turn, whose replies are missing.
-pub record LosesTurn (first : Site) (done : List Step) (given : List (ℕ × List ℕ)) (states : List (List Collection)) (last : Site) : Type 0 where
-  pub before : Site
-  pub earlier : List (List Collection)
+pub record LosesTurn (first : Instant) (done : List Step) (given : List (ℕ × List ℕ)) (ends : List TurnEnd) (last : Instant) : Type 0 where
+  pub before : ServerState
+  pub earlier : List TurnEnd
   pub lost : Out
-  pub happens : Happens first done given earlier before
-  pub turn : Turns before lost last
-  pub counted : states ≡ earlier ++ last.world.state ∷ []
+  pub happens : Happens first.moment first.state done given earlier before
+  pub turn : Turns ForMemory (RoomRanOut (last_moment first.moment earlier) last.moment) before lost last.state
+  pub counted : ends ≡ earlier ++ end_at last ∷ []
 
 -- A history of these steps, and then one turn that handed out nothing, by its fault and whether the server had stopped at the start.
-pub record FailsTurn (first : Site) (was_stopped : Bool) (done : List Step) (given : List (ℕ × List ℕ)) (states : List (List Collection)) (fault : TurnFault) (last : Site) : Type 0 where
-  pub before : Site
-  pub happens : Happens first done given states before
-  pub turn : TurnFails before fault was_stopped last
+pub record FailsTurn (first : Instant) (was_stopped : Bool) (done : List Step) (given : List (ℕ × List ℕ)) (ends : List TurnEnd) (fault : TurnFault) (last : ServerState) : Type 0 where
+  pub before : ServerState
+  pub happens : Happens first.moment first.state done given ends before
+  pub turn : TurnFails ForMemory before fault was_stopped last
 
 -- How a run ends, by the step and the fault at which it stopped, if it did.
-abbrev pub Ends : Site → Bool → List Step → Option (ℕ × DriveFault) → List (ℕ × List ℕ) → List (List Collection) → Site → Type 0
-Ends first was_stopped all None given states last = Happens first all given states last
-Ends first was_stopped all (Some (i, stops.Feed feeds.Memory)) given states last = BytesStandAt i all × Happens first (take i all) given states last
-Ends first was_stopped all (Some (i, stops.Feed feeds.Closed)) given states last = ⊥
-Ends first was_stopped all (Some (i, stops.Turn fault)) given states last = TurnStandsAt i all × FailsTurn first was_stopped (take i all) given states fault last
-Ends first was_stopped all (Some (i, stops.Gather)) given states last = TurnStandsAt i all × LosesTurn first (take i all) given states last
+abbrev pub Ends : Instant → Bool → List Step → Option (ℕ × DriveFault) → List (ℕ × List ℕ) → List TurnEnd → Instant → Type 0
+Ends first was_stopped all None given ends last = Happens first.moment first.state all given ends last.state
+Ends first was_stopped all (Some (i, stops.Feed feeds.Memory)) given ends last =
+    BytesStandAt i all × Happens first.moment first.state (take i all) given ends last.state
+Ends first was_stopped all (Some (i, stops.Feed feeds.Closed)) given ends last = ⊥
+Ends first was_stopped all (Some (i, stops.Turn fault)) given ends last =
+    TurnStandsAt i all × FailsTurn first was_stopped (take i all) given ends fault last.state
+Ends first was_stopped all (Some (i, stops.Gather)) given ends last =
+    TurnStandsAt i all × LosesTurn first (take i all) given ends last
 
 -- the turns that answered, of so many steps
 abbrev pub turns_done : Option (ℕ × DriveFault) → List Step → ℕ
@@ -79,17 +84,24 @@ IsStopped (Some (i, stops.Gather)) = ⊥
 -- A run over these steps, from the first moment to the last.
 pub record Drives {D : Type 0} (history : D → History) (first : Core D) (all : List Step) (out : DriveOut) (last : Core D) : Type 0 where
   pub given : List (ℕ × List ℕ)
-  pub states : List (List Collection)
-  pub happens : Ends (site first) (stopped first) all out.stopped given states (site last)
+  pub ends : List TurnEnd
+  pub happens : Ends (instant_of history first) (is_stopped first) all out.stopped given ends (instant_of history last)
   pub frames : frames_in out.replies.items ≡ given
-  pub bytes : (connection : ℕ) → bytes_for connection out ≡ bytes_to connection given
+  pub bytes : (id : ℕ) → bytes_for id out ≡ bytes_to id given
   pub turns : out.turns ≡ turns_done out.stopped all
-  pub on : GoesOn (past history first) (past history last)
-  pub any_moment : IsRunning first
-      → LeavesOnly (past history first) (past history last) (HoldsOneOf (state_of first ∷ states ++ state_of last ∷ []))
-  pub at_end : IsRunning first → (IsStopped out.stopped → ⊥) → LeavesNow (past history last) (λ image. Holds image (last_state (state_of first) states))
+  pub on : GoesOn (disk_history history first) (disk_history history last)
+
+  -- from each turn's end to the next one's, a crash leaves the collections of the one or of the other
+  pub in_order : IsRunning first → KeepsWord (disk_history history last)
+      → LeavesInOrder (disk_history history last) (clock_of history first) (collections_of first) ends (collections_of last)
+
+  -- at the end, those after all turns that answered, or after one more in which the device failed
+  pub at_end : IsRunning first → (IsStopped out.stopped → ⊥)
+      → LeavesNow (disk_history history last) (λ image. Holds image (last_collections (collections_of first) ends))
   pub at_stop : IsRunning first
-      → LeavesNow (past history last) (λ image. Holds image (last_state (state_of first) states) ⊎ Holds image (state_of last))
-  pub idle : stopped first ≡ true → past history last ≡ past history first
+      → LeavesNow (disk_history history last) (HoldsEither (last_collections (collections_of first) ends) (collections_of last))
+  pub idle : is_stopped first ≡ true → disk_history history last ≡ disk_history history first
+  pub running : (IsStopped out.stopped → ⊥) → is_stopped last ≡ is_stopped first
   pub limit : limit_of (store_of last) ≡ limit_of (store_of first)
-  pub device : IsStopped out.stopped → KeepsWord (past history last) → (stopped first ≡ true) ⊎ ((past history first).failures < (past history last).failures)
+  pub device : IsStopped out.stopped → KeepsWord (disk_history history last)
+      → (is_stopped first ≡ true) ⊎ ((disk_history history first).failures < (disk_history history last).failures)

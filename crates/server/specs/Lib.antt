@@ -1,6 +1,7 @@
 pub mod WorldCode
-pub mod Site
+pub mod ServerState
 pub mod Turn
+pub mod Moment
 pub mod History
 pub mod View
 pub mod Durable

@@ -14,27 +14,27 @@ use Rattle.engine.specs.Step.{Answers}
 use Rattle.path.specs.declared.refusal.Refusal.{Refusal}
 use Rattle.path.specs.declared.refusal.Refusal.TheVariants as refusals
 use Rattle.server.specs.Turn.{Call, Runs, calls, call_at, frames_of, front_of, refused_calls, refused_frames, taken_at, next_number}
-use Rattle.server.specs.declared.link.Link.{Link}
-use Rattle.server.specs.declared.link.Taken.{Taken}
-use Rattle.server.specs.declared.link.Taken.TheVariants as takes
+use Rattle.server.specs.declared.connection.Connection.{Connection}
+use Rattle.server.specs.declared.connection.Taken.{Taken}
+use Rattle.server.specs.declared.connection.Taken.TheVariants as takes
 
 -- the frame that an undone turn hands out for a link, by what stands at its front
-abbrev pub refused_at : Refusal → Link → Result (Option (Frame × List ℕ)) FrameFault → List (ℕ × List ℕ)
-refused_at refusal link front = frames_of (call_at link front) (refused_calls refusal (call_at link front))
+abbrev pub refused_at : Refusal → Connection → Result (Option (Frame × List ℕ)) FrameFault → List (ℕ × List ℕ)
+refused_at refusal connection front = frames_of (call_at connection front) (refused_calls refusal (call_at connection front))
 
 -- the fault at the front of a link, if one is there
 abbrev pub fault_in : Result (Option (Frame × List ℕ)) FrameFault → Option FrameFault
 fault_in (Ok x) = None
 fault_in (Err fault) = Some fault
 
-abbrev pub faults_in : List Link → List (Option FrameFault)
+abbrev pub faults_in : List Connection → List (Option FrameFault)
 faults_in [] = []
 faults_in (l ∷ ls) = fault_in (front_of l) ∷ faults_in ls
 
 -- a link that this fault closes
-abbrev pub closed_by : Link → Option FrameFault → Link
-closed_by link None = link
-closed_by link (Some fault) = record link { fault = Some fault }
+abbrev pub closed_by : Connection → Option FrameFault → Connection
+closed_by connection None = connection
+closed_by connection (Some fault) = record connection { fault = Some fault }
 
 -- the fault at this place
 abbrev pub fault_or_none : Option (Option FrameFault) → Option FrameFault
@@ -44,10 +44,10 @@ fault_or_none (Some fault) = fault
 abbrev pub fault_beside : List (Option FrameFault) → ℕ → Option FrameFault
 fault_beside faults i = fault_or_none (slice_get faults i)
 
-abbrev pub closed_links : List Link → List (Option FrameFault) → List Link
-closed_links [] fs = []
-closed_links (l ∷ ls) [] = l ∷ closed_links ls []
-closed_links (l ∷ ls) (f ∷ fs) = closed_by l f ∷ closed_links ls fs
+abbrev pub closed_connections : List Connection → List (Option FrameFault) → List Connection
+closed_connections [] fs = []
+closed_connections (l ∷ ls) [] = l ∷ closed_connections ls []
+closed_connections (l ∷ ls) (f ∷ fs) = closed_by l f ∷ closed_connections ls fs
 
 -- the document that says that there was no room
 abbrev pub full_body : List ℕ
@@ -62,7 +62,7 @@ abbrev pub HaveRoom : List (ℕ × List ℕ) → Type 0
 HaveRoom frames = All (λ f. length full_body + 21 ≤ length f.1) frames
 
 -- The message at the front is taken, if there is one.
-abbrev pub IsTaken : Link → Result (Option (Frame × List ℕ)) FrameFault → Taken → Link → Type 0
+abbrev pub IsTaken : Connection → Result (Option (Frame × List ℕ)) FrameFault → Taken → Connection → Type 0
 IsTaken old (Ok None) takes.Nothing new = new ≡ old
 IsTaken old (Err fault) takes.Nothing new = new ≡ old
 IsTaken old (Ok (Some x)) (takes.Call number request) new =
@@ -70,27 +70,28 @@ IsTaken old (Ok (Some x)) (takes.Call number request) new =
 IsTaken old front other new = ⊥
 
 -- The calls were answered so, and at ok each frame was put at the end.
-pub record Serves (calls : List Call) (old new : World) (ok : Bool) (given now : List (ℕ × List ℕ)) : Type 0 where
+pub record Serves (beside : Refusal → Type 0) (calls : List Call) (old new : World) (ok : Bool) (given now : List (ℕ × List ℕ)) : Type 0 where
   pub replies : List Pairs
-  pub runs : Runs old calls replies new
+  pub runs : Runs beside old calls replies new
   pub frames : ok ≡ true → now ≡ given ++ frames_of calls replies
 
 -- a request with this body, whatever frame it came in
-abbrev pub IsAnswer : World → ℕ → Request → World → Pairs → Type 0
-IsAnswer old connection request new reply = (read : Result Pairs BsonFault) → Gives (λ d. d) request.body read → Answers old connection read new reply
+abbrev pub IsAnswer : (Refusal → Type 0) → World → ℕ → Request → World → Pairs → Type 0
+IsAnswer beside old id request new reply =
+    (read : Result Pairs BsonFault) → Gives (λ d. d) request.body read → Answers beside old id read new reply
 
 -- The messages of the links ran. The turn kept what they changed and hands out these replies, or it took back what they changed
 -- and hands out refusals: for want of room only where there is none in the last world.
-pub record Settles (HasNoRoom : World → Type 0) (old : World) (links : List Link) (given : List (ℕ × List ℕ)) (new : World) : Type 0 where
+pub record EndsTurn (beside : Refusal → Type 0) (NoRoom : World → Type 0) (old : World) (connections : List Connection) (given : List (ℕ × List ℕ)) (new : World) : Type 0 where
   pub replies : List Pairs
   pub last : World
-  pub runs : Runs old (calls links) replies last
-  pub ends : ((given ≡ frames_of (calls links) replies) × (new ≡ settled last))
-      ⊎ (((given ≡ refused_frames refusals.OutOfMemory links) ⊎ ((given ≡ refused_frames refusals.Full links) × HasNoRoom last)) × (new ≡ undone old last))
+  pub runs : Runs beside old (calls connections) replies last
+  pub ends : ((given ≡ frames_of (calls connections) replies) × (new ≡ settled last))
+      ⊎ (((given ≡ refused_frames refusals.OutOfMemory connections) ⊎ ((given ≡ refused_frames refusals.Full connections) × NoRoom last)) × (new ≡ undone old last))
 
 -- The messages of the links ran, and the device failed when what they changed was to be made durable.
-pub record Breaks (old : World) (links : List Link) (new : World) : Type 0 where
+pub record BreaksTurn (beside : Refusal → Type 0) (old : World) (connections : List Connection) (new : World) : Type 0 where
   pub replies : List Pairs
   pub last : World
-  pub runs : Runs old (calls links) replies last
+  pub runs : Runs beside old (calls connections) replies last
   pub ends : new ≡ settled last

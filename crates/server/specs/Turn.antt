@@ -14,8 +14,8 @@ use Rattle.engine.specs.Refusals.{refusal_reply}
 use Rattle.engine.specs.Step.{Answers}
 use Rattle.path.specs.declared.refusal.Refusal.{Refusal}
 use Rattle.path.specs.declared.refusal.Refusal.TheVariants as refusals
-use Rattle.server.specs.Site.{Site}
-use Rattle.server.specs.declared.link.Link.{Link}
+use Rattle.server.specs.ServerState.{ServerState}
+use Rattle.server.specs.declared.connection.Connection.{Connection}
 use Rattle.server.specs.declared.turn.TurnFault.{TurnFault}
 use Rattle.server.specs.declared.turn.TurnFault.TheVariants as turns
 
@@ -24,30 +24,30 @@ abbrev pub front_if_open : Option FrameFault → List ℕ → Result (Option (Fr
 front_if_open None bytes = front bytes
 front_if_open (Some fault) bytes = Ok None
 
-abbrev pub front_of : Link → Result (Option (Frame × List ℕ)) FrameFault
-front_of link = front_if_open link.fault link.frames
+abbrev pub front_of : Connection → Result (Option (Frame × List ℕ)) FrameFault
+front_of connection = front_if_open connection.fault connection.frames
 
 -- a message that the turn takes: whose it is, and the message
 pub record Call : Type 0 where
-  pub link : Link
+  pub connection : Connection
   pub frame : Frame
 
-abbrev pub call_at : Link → Result (Option (Frame × List ℕ)) FrameFault → List Call
-call_at link (Ok (Some x)) = record { link = link; frame = x.0 } ∷ []
-call_at link (Ok None) = []
-call_at link (Err fault) = []
+abbrev pub call_at : Connection → Result (Option (Frame × List ℕ)) FrameFault → List Call
+call_at connection (Ok (Some x)) = record { connection = connection; frame = x.0 } ∷ []
+call_at connection (Ok None) = []
+call_at connection (Err fault) = []
 
 -- the messages that a turn takes, in rising connection number
-abbrev pub calls : List Link → List Call
+abbrev pub calls : List Connection → List Call
 calls [] = []
 calls (l ∷ ls) = call_at l (front_of l) ++ calls ls
 
 -- a fault of a frame closes its connection
-abbrev pub fault_at : Link → Result (Option (Frame × List ℕ)) FrameFault → List (ℕ × FrameFault)
-fault_at link (Ok x) = []
-fault_at link (Err fault) = (link.connection, fault) ∷ []
+abbrev pub fault_at : Connection → Result (Option (Frame × List ℕ)) FrameFault → List (ℕ × FrameFault)
+fault_at connection (Ok x) = []
+fault_at connection (Err fault) = (connection.id, fault) ∷ []
 
-abbrev pub faults : List Link → List (ℕ × FrameFault)
+abbrev pub faults : List Connection → List (ℕ × FrameFault)
 faults [] = []
 faults (l ∷ ls) = fault_at l (front_of l) ++ faults ls
 
@@ -61,43 +61,44 @@ number_after true last = last
 number_after false last = next_number last
 
 -- a link after the turn
-abbrev pub link_at : Link → Result (Option (Frame × List ℕ)) FrameFault → Link
-link_at link (Ok (Some x)) = record link { frames = x.1; last_reply = number_after x.0.more_to_come link.last_reply }
-link_at link (Ok None) = link
-link_at link (Err fault) = record link { fault = Some fault }
+abbrev pub connection_at : Connection → Result (Option (Frame × List ℕ)) FrameFault → Connection
+connection_at connection (Ok (Some x)) = record connection { frames = x.1; last_reply = number_after x.0.more_to_come connection.last_reply }
+connection_at connection (Ok None) = connection
+connection_at connection (Err fault) = record connection { fault = Some fault }
 
-abbrev pub link_after : Link → Link
-link_after link = link_at link (front_of link)
+abbrev pub connection_after : Connection → Connection
+connection_after connection = connection_at connection (front_of connection)
 
 -- the frame of a reply to a connection, by its number and the request's, unless none is wanted
 abbrev pub frame_unless : Bool → ℕ → ℕ → ℕ → Pairs → List (ℕ × List ℕ)
-frame_unless true connection number request reply = []
-frame_unless false connection number request reply = (connection, reply_bytes number request reply) ∷ []
+frame_unless true id number request reply = []
+frame_unless false id number request reply = (id, reply_bytes number request reply) ∷ []
 
 abbrev pub frame_for : Call → Pairs → List (ℕ × List ℕ)
-frame_for call reply = frame_unless call.frame.more_to_come call.link.connection (next_number call.link.last_reply) call.frame.number reply
+frame_for call reply = frame_unless call.frame.more_to_come call.connection.id (next_number call.connection.last_reply) call.frame.number reply
 
 abbrev pub frames_of : List Call → List Pairs → List (ℕ × List ℕ)
 frames_of [] replies = []
 frames_of (c ∷ cs) [] = []
 frames_of (c ∷ cs) (r ∷ rs) = frame_for c r ++ frames_of cs rs
 
--- the calls may be answered so, one after the other
-abbrev pub Runs : World → List Call → List Pairs → World → Type 0
-Runs world [] [] new = new ≡ world
-Runs world [] (r ∷ rs) new = ⊥
-Runs world (c ∷ cs) [] new = ⊥
-Runs world (c ∷ cs) (r ∷ rs) new =
-    (mid : World) × Answers world c.link.connection (body_of c.frame) mid r × Runs mid cs rs new
+-- The calls may be answered so, one after the other, with these refusals beside the definition.
+abbrev pub Runs : (Refusal → Type 0) → World → List Call → List Pairs → World → Type 0
+Runs beside world [] [] new = new ≡ world
+Runs beside world [] (r ∷ rs) new = ⊥
+Runs beside world (c ∷ cs) [] new = ⊥
+Runs beside world (c ∷ cs) (r ∷ rs) new =
+    (mid : World) × Answers beside world c.connection.id (body_of c.frame) mid r × Runs beside mid cs rs new
 
 -- However the messages are answered, none of them changes the collections.
-abbrev pub ChangeNothing : World → List Call → Type 0
-ChangeNothing world [] = Unit {0}
-ChangeNothing world (c ∷ cs) =
-    (mid : World) (reply : Pairs) → Answers world c.link.connection (body_of c.frame) mid reply → (mid.state ≡ world.state) × ChangeNothing mid cs
+abbrev pub ChangeNothing : (Refusal → Type 0) → World → List Call → Type 0
+ChangeNothing beside world [] = Unit {0}
+ChangeNothing beside world (c ∷ cs) =
+    (mid : World) (reply : Pairs) → Answers beside world c.connection.id (body_of c.frame) mid reply
+    → (mid.collections ≡ world.collections) × ChangeNothing beside mid cs
 
-abbrev pub ChangesNothing : Site → Type 0
-ChangesNothing site = ChangeNothing site.world (calls site.links)
+abbrev pub ChangesNothing : (Refusal → Type 0) → ServerState → Type 0
+ChangesNothing beside state = ChangeNothing beside state.world (calls state.connections)
 
 -- connections that a fault closed lose their cursors
 abbrev pub forget_all : World → List (ℕ × FrameFault) → World
@@ -110,19 +111,19 @@ pub record Out : Type 0 where
   pub closed : List (ℕ × FrameFault)
 
 -- the links after the turn
-abbrev pub links_after : List Link → List Link
-links_after [] = []
-links_after (l ∷ ls) = link_after l ∷ links_after ls
+abbrev pub connections_after : List Connection → List Connection
+connections_after [] = []
+connections_after (l ∷ ls) = connection_after l ∷ connections_after ls
 
 -- a link of which the message at the front is taken, and a fault stays where it is
-abbrev pub taken_at : Link → Result (Option (Frame × List ℕ)) FrameFault → Link
-taken_at link (Ok x) = link_at link (Ok x)
-taken_at link (Err fault) = link
+abbrev pub taken_at : Connection → Result (Option (Frame × List ℕ)) FrameFault → Connection
+taken_at connection (Ok x) = connection_at connection (Ok x)
+taken_at connection (Err fault) = connection
 
 -- the links after a turn that is cut
-abbrev pub links_taken : List Link → List Link
-links_taken [] = []
-links_taken (l ∷ ls) = taken_at l (front_of l) ∷ links_taken ls
+abbrev pub connections_taken : List Connection → List Connection
+connections_taken [] = []
+connections_taken (l ∷ ls) = taken_at l (front_of l) ∷ connections_taken ls
 
 -- each call's reply in a turn that is undone
 abbrev pub refused_calls : Refusal → List Call → List Pairs
@@ -130,45 +131,47 @@ refused_calls refusal [] = []
 refused_calls refusal (c ∷ cs) = refusal_reply refusal ∷ refused_calls refusal cs
 
 -- the frames of a turn that is undone
-abbrev pub refused_frames : Refusal → List Link → List (ℕ × List ℕ)
-refused_frames refusal links = frames_of (calls links) (refused_calls refusal (calls links))
+abbrev pub refused_frames : Refusal → List Connection → List (ℕ × List ℕ)
+refused_frames refusal connections = frames_of (calls connections) (refused_calls refusal (calls connections))
 
 -- The messages are taken, and answered so. Done: the world is the last step's.
-pub record Done (site : Site) (out : Out) (new : Site) : Type 0 where
+pub record Done (beside : Refusal → Type 0) (state : ServerState) (out : Out) (new : ServerState) : Type 0 where
   pub replies : List Pairs
   pub last : World
-  pub runs : Runs site.world (calls site.links) replies last
-  pub hands_out : out ≡ record { replies = frames_of (calls site.links) replies; closed = faults site.links }
-  pub leaves : new ≡ record { world = forget_all (settled last) (faults site.links); links = links_after site.links }
+  pub runs : Runs beside state.world (calls state.connections) replies last
+  pub hands_out : out ≡ record { replies = frames_of (calls state.connections) replies; closed = faults state.connections }
+  pub leaves : new ≡ record { world = forget_all (settled last) (faults state.connections); connections = connections_after state.connections }
 
 -- Undone: the state is the one before, and each reply is this refusal.
-pub record Undone (site : Site) (refusal : Refusal) (out : Out) (new : Site) : Type 0 where
+pub record Undone (beside : Refusal → Type 0) (state : ServerState) (refusal : Refusal) (out : Out) (new : ServerState) : Type 0 where
   pub replies : List Pairs
   pub last : World
-  pub runs : Runs site.world (calls site.links) replies last
-  pub hands_out : out ≡ record { replies = refused_frames refusal site.links; closed = faults site.links }
-  pub leaves : new ≡ record { world = forget_all (undone site.world last) (faults site.links); links = links_after site.links }
+  pub runs : Runs beside state.world (calls state.connections) replies last
+  pub hands_out : out ≡ record { replies = refused_frames refusal state.connections; closed = faults state.connections }
+  pub leaves : new ≡ record { world = forget_all (undone state.world last) (faults state.connections); connections = connections_after state.connections }
 
--- A turn that answers: done, or undone for want of memory or of room.
-abbrev pub Turns : Site → Out → Site → Type 0
-Turns site out new = Done site out new ⊎ (Undone site refusals.OutOfMemory out new ⊎ Undone site refusals.Full out new)
+-- A turn that answers: done, or undone for want of memory, or for want of room, by its cause.
+abbrev pub Turns : (Refusal → Type 0) → Type 0 → ServerState → Out → ServerState → Type 0
+Turns beside no_room state out new =
+    Done beside state out new
+    ⊎ (Undone beside state refusals.OutOfMemory out new ⊎ (no_room × Undone beside state refusals.Full out new))
 
 -- Cut: the messages are taken and ran, no reply is handed out, and no connection is closed.
-pub record Cut (site : Site) (new : Site) : Type 0 where
+pub record Cut (beside : Refusal → Type 0) (state new : ServerState) : Type 0 where
   pub replies : List Pairs
   pub last : World
-  pub runs : Runs site.world (calls site.links) replies last
-  pub leaves : new ≡ record { world = settled last; links = links_taken site.links }
+  pub runs : Runs beside state.world (calls state.connections) replies last
+  pub leaves : new ≡ record { world = settled last; connections = connections_taken state.connections }
 
 -- A turn that answers no messages, by its fault and whether the server had stopped before. A server that had stopped changes
 -- nothing. One that had not stops where the turn is cut, and changes nothing where memory runs out before a message is taken.
-abbrev pub TurnFails : Site → TurnFault → Bool → Site → Type 0
-TurnFails site turns.Stopped true new = new ≡ site
-TurnFails site turns.Stopped false new = Cut site new
-TurnFails site turns.Memory true new = ⊥
-TurnFails site turns.Memory false new = new ≡ site
+abbrev pub TurnFails : (Refusal → Type 0) → ServerState → TurnFault → Bool → ServerState → Type 0
+TurnFails beside state turns.Stopped true new = new ≡ state
+TurnFails beside state turns.Stopped false new = Cut beside state new
+TurnFails beside state turns.Memory true new = ⊥
+TurnFails beside state turns.Memory false new = new ≡ state
 
 -- a message or a fault stands at the front of the open connection
-abbrev pub is_waiting_in : Option Link → Bool
+abbrev pub is_waiting_in : Option Connection → Bool
 is_waiting_in None = false
-is_waiting_in (Some link) = is_waiting (front_of link)
+is_waiting_in (Some connection) = is_waiting (front_of connection)

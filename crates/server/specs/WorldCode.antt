@@ -24,8 +24,8 @@ coded_cursor =
 abbrev coded_world : Coded World
 coded_world =
     code_by ((List Collection × List Cursor) × (ℕ × List ℕ)) (coded× (coded× (coded_list coded_collection) (coded_list coded_cursor)) (coded× coded_ℕ coded_bytes))
-    (λ w. ((w.state, w.cursors), (w.next, w.touched)))
-    (λ p. record { state = p.0.0; cursors = p.0.1; next = p.1.0; touched = p.1.1 }) (λ _. refl)
+    (λ w. ((w.collections, w.cursors), (w.next, w.touched)))
+    (λ p. record { collections = p.0.0; cursors = p.0.1; next = p.1.0; touched = p.1.1 }) (λ _. refl)
 
 pub world_set : (a b : World) → IsProp (a ≡ b)
 world_set = Coded-set coded_world

@@ -2,12 +2,11 @@
 
 ghost use Rattle.std.specs.Prelude.{◌≡◌, ◌≢◌, ◌⊎◌, ◌+◌, ◌<◌, ◌^◌, Err, true};
 ghost use Rattle.page.specs.History.{KeepsWord};
-ghost use Rattle.server.specs.Durable.{IsSound, GoesSafely, past, stopped};
+ghost use Rattle.server.specs.Durable.{IsSound, GoesSafely, disk_history, is_stopped, instant_of};
 ghost use Rattle.server.specs.Headline.{Drives};
 ghost use Rattle.server.specs.OneStep.{Does};
-ghost use Rattle.server.specs.View.{site};
 
-use crate::link::FeedFault;
+use crate::connection::FeedFault;
 use crate::step::Step;
 use crate::turn::{Core, TurnFault};
 use engine::ConnId;
@@ -40,14 +39,15 @@ impl<D: Disk> Core<D> {
         requires sound { IsSound D.history self.old }
         requires counts { out.old.turns + 1 < 2 ^ 64 }
         ensures sound { IsSound D.history self.new }
-        ensures does { Does (site self.old) step.now out.old result (stopped self.old) out.new (site self.new) }
+        ensures does { Does (instant_of D.history self.old) step.now out.old result
+            (is_stopped self.old) out.new (instant_of D.history self.new) }
         ensures disk { GoesSafely D.history self.old self.new }
-        ensures device { result ≡ Err (DriveFault.Turn TurnFault.Stopped) → KeepsWord (past D.history self.new)
-            → (stopped self.old ≡ true) ⊎ ((past D.history self.old).failures < (past D.history self.new).failures) }
-        ensures running { result ≢ Err (DriveFault.Turn TurnFault.Stopped) → stopped self.new ≡ stopped self.old }
+        ensures device { result ≡ Err (DriveFault.Turn TurnFault.Stopped) → KeepsWord (disk_history D.history self.new)
+            → (is_stopped self.old ≡ true) ⊎ ((disk_history D.history self.old).failures < (disk_history D.history self.new).failures) }
+        ensures running { result ≢ Err (DriveFault.Turn TurnFault.Stopped) → is_stopped self.new ≡ is_stopped self.old }
     {
         match step {
-            Step::Bytes(connection, chunk) => match self.feed(*connection, chunk) {
+            Step::Bytes(id, chunk) => match self.feed(*id, chunk) {
                 Err(FeedFault::Memory) => Err(DriveFault::Feed(FeedFault::Memory)),
                 Err(FeedFault::Closed) => Ok(()),
                 Ok(()) => Ok(()),
@@ -62,8 +62,8 @@ impl<D: Disk> Core<D> {
                 }
                 Err(fault) => Err(DriveFault::Turn(fault)),
             },
-            Step::Gone(connection) => {
-                self.gone(*connection);
+            Step::Gone(id) => {
+                self.gone(*id);
                 Ok(())
             }
         }

@@ -3,7 +3,7 @@
 
 mod drive;
 pub mod laws;
-mod link;
+mod connection;
 mod preparing;
 pub mod program;
 mod serving;
@@ -11,7 +11,7 @@ mod step;
 mod turn;
 
 pub use drive::{DriveFault, DriveOut};
-pub use link::FeedFault;
+pub use connection::FeedFault;
 pub use roots::{Config, OpenFault};
 pub use step::Step;
 pub use turn::{Core, TurnFault, TurnOut};

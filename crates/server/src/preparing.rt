@@ -8,7 +8,7 @@ ghost use Rattle.server.specs.Turn.{front_of, faults, fault_at, frame_unless, ne
 ghost use Rattle.server.specs.Taking.{refused_at, fault_in, faults_in, HaveRoom, respelled_frames};
 ghost use Rattle.server.specs.View.{frames_in};
 
-use crate::link::{Link, next_number};
+use crate::connection::{Connection, next_number};
 use bson::NoMemory;
 use engine::{ConnId, full_bytes, out_of_memory_bytes};
 use op_msg::{FrameFault, Head, respell, spelled_reply};
@@ -24,13 +24,13 @@ pub(crate) struct Prepared {
 }
 
 /// What the message at the front of an open link says of itself.
-fn head_at(link: &Link) -> Result<Option<Head>, FrameFault>
-    ensures { result ≡ head_of (front_of link.now) }
+fn head_at(connection: &Connection) -> Result<Option<Head>, FrameFault>
+    ensures { result ≡ head_of (front_of connection.now) }
 {
-    if link.fault.is_some() {
+    if connection.fault.is_some() {
         return Ok(None);
     }
-    link.frames.head()
+    connection.frames.head()
 }
 
 /// The frame that says that memory ran out. Its body is ready-made, so a turn that goes well pays for a copy and no more.
@@ -43,57 +43,57 @@ fn no_memory_frame(alloc: Global, number: u32, request_id: u32) -> Result<Vec<u8
 /// Puts the frame of a refusal at the end, unless no reply is wanted.
 fn push_refusal(
     frames: &mut Vec<(ConnId, Vec<u8>)>,
-    link: &Link,
+    connection: &Connection,
     head: Head,
 ) -> Result<(), NoMemory>
     ensures { OnOk result (frames_in frames.new.items ≡ frames_in frames.old.items
-        ++ frame_unless head.more_to_come link.now.connection (next_number link.now.last_reply)
+        ++ frame_unless head.more_to_come connection.now.id (next_number connection.now.last_reply)
         head.request_id (refusal_reply OutOfMemory)) }
 {
     if head.more_to_come {
         return Ok(());
     }
     let alloc = *frames.allocator();
-    let frame = no_memory_frame(alloc, next_number(link.last_reply), head.request_id)?;
-    frames.push((link.connection, frame))?;
+    let frame = no_memory_frame(alloc, next_number(connection.last_reply), head.request_id)?;
+    frames.push((connection.id, frame))?;
     Ok(())
 }
 
 /// Puts a link's part at the end: the refusal of the message at its front, or its fault.
-fn prepare_link(prepared: &mut Prepared, link: &Link) -> Result<(), NoMemory>
+fn prepare_connection(prepared: &mut Prepared, connection: &Connection) -> Result<(), NoMemory>
     ensures refusals { OnOk result (frames_in prepared.new.refusals.items
-        ≡ frames_in prepared.old.refusals.items ++ refused_at OutOfMemory link.now (front_of link.now)) }
+        ≡ frames_in prepared.old.refusals.items ++ refused_at OutOfMemory connection.now (front_of connection.now)) }
     ensures closed { OnOk result (prepared.new.closed.items
-        ≡ prepared.old.closed.items ++ fault_at link.now (front_of link.now)) }
+        ≡ prepared.old.closed.items ++ fault_at connection.now (front_of connection.now)) }
     ensures faults { OnOk result (prepared.new.faults.items
-        ≡ prepared.old.faults.items ++ fault_in (front_of link.now) ∷ []) }
+        ≡ prepared.old.faults.items ++ fault_in (front_of connection.now) ∷ []) }
 {
-    match head_at(link) {
+    match head_at(connection) {
         Ok(None) => Ok(prepared.faults.push(None)?),
         Ok(Some(head)) => {
             prepared.faults.push(None)?;
-            push_refusal(&mut prepared.refusals, link, head)
+            push_refusal(&mut prepared.refusals, connection, head)
         }
         Err(fault) => {
             prepared.faults.push(Some(fault))?;
-            Ok(prepared.closed.push((link.connection, fault))?)
+            Ok(prepared.closed.push((connection.id, fault))?)
         }
     }
 }
 
 /// Makes ready what an undone turn hands out, and the lists of what the turn closes.
-pub(crate) fn prepare(alloc: Global, links: &[Link]) -> Result<Prepared, NoMemory>
-    ensures refusals { IfOk result (λ p. frames_in p.refusals.items ≡ refused_frames OutOfMemory links.now) }
-    ensures closed { IfOk result (λ p. p.closed.items ≡ faults links.now) }
-    ensures faults { IfOk result (λ p. p.faults.items ≡ faults_in links.now) }
+pub(crate) fn prepare(alloc: Global, connections: &[Connection]) -> Result<Prepared, NoMemory>
+    ensures refusals { IfOk result (λ p. frames_in p.refusals.items ≡ refused_frames OutOfMemory connections.now) }
+    ensures closed { IfOk result (λ p. p.closed.items ≡ faults connections.now) }
+    ensures faults { IfOk result (λ p. p.faults.items ≡ faults_in connections.now) }
 {
     let mut prepared = Prepared {
         refusals: Vec::new(alloc),
         closed: Vec::new(alloc),
         faults: Vec::new(alloc),
     };
-    'links: for link in links {
-        prepare_link(&mut prepared, link)?;
+    'connections: for connection in connections {
+        prepare_connection(&mut prepared, connection)?;
     }
     Ok(prepared)
 }

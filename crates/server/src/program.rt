@@ -139,7 +139,7 @@ fn exec<D: Disk>(
     requires sound { IsSound D.history core.old }
     ensures sound { IsSound D.history core.new }
 {
-    let Some(connection) = ConnId::new(0) else {
+    let Some(id) = ConnId::new(0) else {
         unreachable!()
     };
     let mut buffer = Vec::from_elem(alloc, 0u8, READ_BYTES).map_err(|_| ProgramFault::Memory)?;
@@ -149,10 +149,10 @@ fn exec<D: Disk>(
             break;
         }
         // A fault of a frame ends the program, so the connection is open and only memory can be wanting.
-        if core.feed(connection, &buffer[..count]).is_err() {
+        if core.feed(id, &buffer[..count]).is_err() {
             return Err(ProgramFault::Memory);
         }
-        let ended = answer_waiting(core, connection, output);
+        let ended = answer_waiting(core, id, output);
         output.flush().map_err(|_| ProgramFault::Device)?;
         ended?;
     }
@@ -179,14 +179,14 @@ fn read_chunk(input: &mut impl Read, buffer: &mut [u8]) -> Result<usize, Program
 /// Makes a turn for each message that waits, and writes the replies.
 fn answer_waiting<D: Disk>(
     core: &mut Core<D>,
-    connection: ConnId,
+    id: ConnId,
     output: &mut impl Write,
 ) -> Result<(), ProgramFault>
     requires sound { IsSound D.history core.old }
     ensures sound { IsSound D.history core.new }
 {
     for _ in 0..u64::MAX {
-        if !core.waiting(connection) {
+        if !core.waiting(id) {
             break;
         }
         match core.turn() {

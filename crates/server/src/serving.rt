@@ -5,14 +5,15 @@ ghost use Rattle.page.specs.History.{KeepsWord};
 ghost use Rattle.page.specs.Crash.{GoesOn, LeavesOnly, LeavesNow};
 ghost use Rattle.roots.specs.Store.{limit_of};
 ghost use Rattle.op_msg.specs.Request.{reply_bytes};
-ghost use Rattle.engine.specs.View.{world, begun, reply_of, IsSendable};
-ghost use Rattle.engine.specs.Durable.{Holds, past, wrote, stopped, IsRunning, store_of, IsSound, HasNoRoom};
+ghost use Rattle.engine.specs.View.{world, turn_start, reply_of, IsSendable};
+ghost use Rattle.engine.specs.Durable.{Holds, disk_history, has_changes, is_stopped, IsRunning, store_of, IsSound, HasNoRoom};
 ghost use Rattle.path.specs.declared.refusal.Refusal.TheVariants.{OutOfMemory};
-ghost use Rattle.server.specs.Turn.{front_of, links_taken, taken_at, call_at, calls, refused_frames, forget_all, ChangeNothing};
-ghost use Rattle.server.specs.Taking.{Serves, IsAnswer, Settles, Breaks};
+ghost use Rattle.engine.specs.Step.{ForMemory};
+ghost use Rattle.server.specs.Turn.{front_of, connections_taken, taken_at, call_at, calls, refused_frames, forget_all, ChangeNothing};
+ghost use Rattle.server.specs.Taking.{Serves, IsAnswer, EndsTurn, BreaksTurn};
 ghost use Rattle.server.specs.View.{frames_in};
 
-use crate::link::{Link, Taken, take_call};
+use crate::connection::{Connection, Taken, take_call};
 use crate::preparing::say_full;
 use bson::NoMemory;
 use engine::{ConnId, Engine, Reply, body_refusal, refusal_document};
@@ -41,75 +42,75 @@ fn frame_of_reply(
 }
 
 /// Runs a request. One whose body found no memory, or is no document, is refused.
-fn answer<D: Disk>(engine: &mut Engine<D>, connection: ConnId, request: &Request) -> Reply
+fn answer<D: Disk>(engine: &mut Engine<D>, id: ConnId, request: &Request) -> Reply
     requires sound { IsSound D.history engine.old }
     ensures sound { IsSound D.history engine.new }
-    ensures disk { past D.history engine.new ≡ past D.history engine.old }
-    ensures running { stopped engine.new ≡ stopped engine.old }
+    ensures disk { disk_history D.history engine.new ≡ disk_history D.history engine.old }
+    ensures running { is_stopped engine.new ≡ is_stopped engine.old }
     ensures store { store_of engine.new ≡ store_of engine.old }
-    ensures answer { IsAnswer (world engine.old) connection request.now (world engine.new) (reply_of result) }
-    ensures begun { begun engine.new ≡ begun engine.old }
-    ensures wrote { (world engine.new).state ≡ (world engine.old).state → wrote engine.new ≡ wrote engine.old }
+    ensures answer { IsAnswer ForMemory (world engine.old) id request.now (world engine.new) (reply_of result) }
+    ensures turn_start { turn_start engine.new ≡ turn_start engine.old }
+    ensures has_changes { (world engine.new).collections ≡ (world engine.old).collections → has_changes engine.new ≡ has_changes engine.old }
     ensures sendable { IsSendable (reply_of result) }
 {
     match &request.body {
-        Ok(document) => engine.execute(connection, document),
+        Ok(document) => engine.execute(id, document),
         Err(fault) => Reply::Refused(body_refusal(*fault)),
     }
 }
 
 /// Answers the message at the front of a link, if there is one, and puts the frame at the end. It says whether the
 /// frame found memory.
-fn serve_link<D: Disk>(
+fn serve_connection<D: Disk>(
     engine: &mut Engine<D>,
-    link: &mut Link,
+    connection: &mut Connection,
     frames: &mut Vec<(ConnId, Vec<u8>)>,
 ) -> bool
     requires sound { IsSound D.history engine.old }
     ensures sound { IsSound D.history engine.new }
-    ensures disk { past D.history engine.new ≡ past D.history engine.old }
-    ensures running { stopped engine.new ≡ stopped engine.old }
+    ensures disk { disk_history D.history engine.new ≡ disk_history D.history engine.old }
+    ensures running { is_stopped engine.new ≡ is_stopped engine.old }
     ensures store { store_of engine.new ≡ store_of engine.old }
-    ensures serves { Serves (call_at link.old (front_of link.old)) (world engine.old) (world engine.new) result
+    ensures serves { Serves ForMemory (call_at connection.old (front_of connection.old)) (world engine.old) (world engine.new) result
         (frames_in frames.old.items) (frames_in frames.new.items) }
-    ensures link { link.new ≡ taken_at link.old (front_of link.old) }
-    ensures begun { begun engine.new ≡ begun engine.old }
-    ensures wrote { (world engine.new).state ≡ (world engine.old).state → wrote engine.new ≡ wrote engine.old }
+    ensures connection { connection.new ≡ taken_at connection.old (front_of connection.old) }
+    ensures turn_start { turn_start engine.new ≡ turn_start engine.old }
+    ensures has_changes { (world engine.new).collections ≡ (world engine.old).collections → has_changes engine.new ≡ has_changes engine.old }
 {
-    let connection = link.connection;
-    let Taken::Call(number, request) = take_call(link) else {
+    let id = connection.id;
+    let Taken::Call(number, request) = take_call(connection) else {
         return true;
     };
-    let reply = answer(engine, connection, &request);
+    let reply = answer(engine, id, &request);
     if request.more_to_come {
         return true;
     }
     match frame_of_reply(*frames.allocator(), number, request.request_id, &reply) {
-        Ok(bytes) => frames.push((connection, bytes)).is_ok(),
+        Ok(bytes) => frames.push((id, bytes)).is_ok(),
         Err(_) => false,
     }
 }
 
 /// Answers the message at the front of each link. It says whether every frame found memory.
-fn serve_links<D: Disk>(
+fn serve_connections<D: Disk>(
     engine: &mut Engine<D>,
-    links: &mut [Link],
+    connections: &mut [Connection],
     frames: &mut Vec<(ConnId, Vec<u8>)>,
 ) -> bool
     requires sound { IsSound D.history engine.old }
     ensures sound { IsSound D.history engine.new }
-    ensures disk { past D.history engine.new ≡ past D.history engine.old }
-    ensures running { stopped engine.new ≡ stopped engine.old }
+    ensures disk { disk_history D.history engine.new ≡ disk_history D.history engine.old }
+    ensures running { is_stopped engine.new ≡ is_stopped engine.old }
     ensures store { store_of engine.new ≡ store_of engine.old }
-    ensures serves { Serves (calls links.old) (world engine.old) (world engine.new) result
+    ensures serves { Serves ForMemory (calls connections.old) (world engine.old) (world engine.new) result
         (frames_in frames.old.items) (frames_in frames.new.items) }
-    ensures links { links.new ≡ links_taken links.old }
-    ensures begun { begun engine.new ≡ begun engine.old }
-    ensures quiet { ChangeNothing (world engine.old) (calls links.old) → wrote engine.new ≡ wrote engine.old }
+    ensures connections { connections.new ≡ connections_taken connections.old }
+    ensures turn_start { turn_start engine.new ≡ turn_start engine.old }
+    ensures quiet { ChangeNothing ForMemory (world engine.old) (calls connections.old) → has_changes engine.new ≡ has_changes engine.old }
 {
     let mut all = true;
-    'links: for link in links.iter_mut() {
-        let found = serve_link(engine, link, frames);
+    'connections: for connection in connections.iter_mut() {
+        let found = serve_connection(engine, connection, frames);
         all &= found;
     }
     all
@@ -120,32 +121,32 @@ fn serve_links<D: Disk>(
 /// were made before. `None` says that the device failed.
 pub(crate) fn run_messages<D: Disk>(
     engine: &mut Engine<D>,
-    links: &mut Vec<Link>,
+    connections: &mut Vec<Connection>,
     mut refusals: Vec<(ConnId, Vec<u8>)>,
 ) -> Option<Vec<(ConnId, Vec<u8>)>>
     requires sound { IsSound D.history engine.old }
-    requires idle { begun engine.old ≡ world engine.old }
-    requires rests { wrote engine.old ≡ false }
-    requires refusals { frames_in refusals.items ≡ refused_frames OutOfMemory links.old.items }
+    requires idle { turn_start engine.old ≡ world engine.old }
+    requires rests { has_changes engine.old ≡ false }
+    requires refusals { frames_in refusals.items ≡ refused_frames OutOfMemory connections.old.items }
     ensures sound { IsSound D.history engine.new }
-    ensures settles { IfSome result (λ given. Settles (λ last. HasNoRoom (store_of engine.old) last.state) (world engine.old) links.old.items (frames_in given.items) (world engine.new)) }
-    ensures breaks { result ≡ None → Breaks (world engine.old) links.old.items (world engine.new) }
-    ensures links { links.new.items ≡ links_taken links.old.items }
-    ensures idle { begun engine.new ≡ world engine.new }
-    ensures rests { wrote engine.new ≡ false }
-    ensures on { GoesOn (past D.history engine.old) (past D.history engine.new) }
-    ensures any_moment { IsRunning engine.old → LeavesOnly (past D.history engine.old) (past D.history engine.new)
-        (λ image. Holds image (world engine.old).state ⊎ Holds image (world engine.new).state) }
-    ensures running { IfSome result (λ _. stopped engine.new ≡ stopped engine.old) }
-    ensures stops { result ≡ None → stopped engine.new ≡ true }
-    ensures device { result ≡ None → KeepsWord (past D.history engine.new)
-        → (stopped engine.old ≡ true) ⊎ ((past D.history engine.old).failures < (past D.history engine.new).failures) }
-    ensures unchanged { stopped engine.old ≡ true → past D.history engine.new ≡ past D.history engine.old }
+    ensures settles { IfSome result (λ given. EndsTurn ForMemory (λ last. HasNoRoom (store_of engine.old) last.collections) (world engine.old) connections.old.items (frames_in given.items) (world engine.new)) }
+    ensures breaks { result ≡ None → BreaksTurn ForMemory (world engine.old) connections.old.items (world engine.new) }
+    ensures connections { connections.new.items ≡ connections_taken connections.old.items }
+    ensures idle { turn_start engine.new ≡ world engine.new }
+    ensures rests { has_changes engine.new ≡ false }
+    ensures on { GoesOn (disk_history D.history engine.old) (disk_history D.history engine.new) }
+    ensures any_moment { IsRunning engine.old → LeavesOnly (disk_history D.history engine.old) (disk_history D.history engine.new)
+        (λ image. Holds image (world engine.old).collections ⊎ Holds image (world engine.new).collections) }
+    ensures running { IfSome result (λ _. is_stopped engine.new ≡ is_stopped engine.old) }
+    ensures stops { result ≡ None → is_stopped engine.new ≡ true }
+    ensures device { result ≡ None → KeepsWord (disk_history D.history engine.new)
+        → (is_stopped engine.old ≡ true) ⊎ ((disk_history D.history engine.old).failures < (disk_history D.history engine.new).failures) }
+    ensures unchanged { is_stopped engine.old ≡ true → disk_history D.history engine.new ≡ disk_history D.history engine.old }
     ensures limit { limit_of (store_of engine.new) ≡ limit_of (store_of engine.old) }
-    ensures quiet { ChangeNothing (world engine.old) (calls links.old.items) → store_of engine.new ≡ store_of engine.old }
+    ensures quiet { ChangeNothing ForMemory (world engine.old) (calls connections.old.items) → store_of engine.new ≡ store_of engine.old }
 {
-    let mut replies = Vec::new(*links.allocator());
-    if !serve_links(engine, links, &mut replies) {
+    let mut replies = Vec::new(*connections.allocator());
+    if !serve_connections(engine, connections, &mut replies) {
         engine.undo_turn();
         return Some(refusals);
     }
@@ -163,16 +164,16 @@ pub(crate) fn run_messages<D: Disk>(
 /// The cursors of connections that a fault closed end.
 pub(crate) fn forget_closed<D: Disk>(engine: &mut Engine<D>, closed: &[(ConnId, FrameFault)])
     requires sound { IsSound D.history engine.old }
-    requires idle { begun engine.old ≡ world engine.old }
+    requires idle { turn_start engine.old ≡ world engine.old }
     ensures sound { IsSound D.history engine.new }
-    ensures disk { past D.history engine.new ≡ past D.history engine.old }
-    ensures running { stopped engine.new ≡ stopped engine.old }
+    ensures disk { disk_history D.history engine.new ≡ disk_history D.history engine.old }
+    ensures running { is_stopped engine.new ≡ is_stopped engine.old }
     ensures store { store_of engine.new ≡ store_of engine.old }
     ensures world { world engine.new ≡ forget_all (world engine.old) closed.now }
-    ensures idle { begun engine.new ≡ world engine.new }
-    ensures wrote { wrote engine.new ≡ wrote engine.old }
+    ensures idle { turn_start engine.new ≡ world engine.new }
+    ensures has_changes { has_changes engine.new ≡ has_changes engine.old }
 {
-    'closed: for (connection, _) in closed {
-        engine.gone(*connection);
+    'closed: for (id, _) in closed {
+        engine.gone(*id);
     }
 }

@@ -5,7 +5,7 @@ use Rattle.page.proofs.Moments.{goes_further, leaves_further}
 use Rattle.roots.specs.Image.{StandsFor}
 use Rattle.roots.specs.Pairs.{spelled}
 use Rattle.roots.specs.declared.store.CommitFault.TheVariants as faults
-use Rattle.roots.specs.Store.{past, committed, handed, is_stopped}
+use Rattle.roots.specs.Store.{past as disk_history, committed, handed, is_stopped}
 use Rattle.engine.proofs.Saving.{only_full, done_or_full, map_ok, same_fault, not_both}
 use Rattle.engine.proofs.engine.save.Goals as goal
 
@@ -20,13 +20,13 @@ returns-in-Ok g c =
     let m = c.commit.ensures in
     let pages = c.in-Ok.pages in
     let running = w.running in
-    let same_after : KeepsWord (past history last) → committed history mid ≡ committed history first = λ k. w.same (m.on.kept k) in
-    let bytes_after : KeepsWord (past history last) → handed history mid pages ≡ bytes = λ k. w.bytes (m.on.kept k) in
+    let same_after : KeepsWord (disk_history history last) → committed history mid ≡ committed history first = λ k. w.same (m.on.kept k) in
+    let bytes_after : KeepsWord (disk_history history last) → handed history mid pages ≡ bytes = λ k. w.bytes (m.on.kept k) in
     record {
       sound = m.sound;
-      on = goes_further (past history first) (past history mid) (past history last) w.on m.on;
+      on = goes_further (disk_history history first) (disk_history history mid) (disk_history history last) w.on m.on;
       any_moment = λ run.
-          leaves_further (past history first) (past history mid) (past history last) (λ image. StandsFor image (committed history first) ⊎ StandsFor image bytes) m.on
+          leaves_further (disk_history history first) (disk_history history mid) (disk_history history last) (λ image. StandsFor image (committed history first) ⊎ StandsFor image bytes) m.on
           (λ k image left. inl (w.any_moment run k image left))
           (λ k image left. elim (m.any_moment running.1 k image left) [
             | inl old ↦ inl (subst (StandsFor image) (same_after k) old)
@@ -34,7 +34,7 @@ returns-in-Ok g c =
           ]);
       kept = λ run no_device.
           only_full c.commit.result no_device m.no_memory (λ full.
-          subst (λ s. LeavesOnly (past history first) (past history s) (λ image. StandsFor image (committed history first))) (sym (m.full full).1) (w.any_moment run));
+          subst (λ s. LeavesOnly (disk_history history first) (disk_history history s) (λ image. StandsFor image (committed history first))) (sym (m.full full).1) (w.any_moment run));
       acknowledged = map_ok c.commit.result (λ now k image left. subst (StandsFor image) (bytes_after k) (now k image left)) m.acknowledged;
       committed = λ k. map_ok c.commit.result (λ e. e ∙ bytes_after k) (m.same k);
       before = λ no_device. only_full c.commit.result no_device m.no_memory (λ full k. ap (committed history) (m.full full).1 ∙ same_after k);

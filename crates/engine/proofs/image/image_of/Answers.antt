@@ -6,7 +6,6 @@ use Rattle.roots.specs.Pairs.{spelled, pairs_bytes}
 use Rattle.engine.specs.World.{Collection}
 use Rattle.engine.specs.Lawful.{IsReadable}
 use Rattle.engine.specs.Stored.{catalogue_pair, document_pair, documents_numbered, documents_to}
-use Rattle.engine.specs.declared.TheConstants.{MOST_COLLECTIONS}
 use Rattle.engine.proofs.Loops.{whole_image, numbers_one}
 use Rattle.engine.proofs.image.image_of.Goals as goal
 
@@ -27,7 +26,7 @@ numbers-preserved c =
 pub returns-clause-spelled : goal.returns-clause-spelled
 returns-clause-spelled c =
     let cs = c.args.collections.now.now in
-    let whole : c.numbers.before ≡ MOST_COLLECTIONS = omega (arith, c.numbers-test.false, c.numbers.auto.before-end) in
+    let whole : c.numbers.before ≡ 1000 = omega (arith, c.numbers-test.false, c.numbers.auto.before-end) in
     let start : spelled c.push_catalogue.new.list ≡ pairs_bytes (map catalogue_pair cs) =
     c.in_ok-push_catalogue.ensures.pushed ∙ ap (λ (bs : List ℕ). bs ++ pairs_bytes (map catalogue_pair c.list.result.now)) c.new-list.ensures ∙ ap (λ (ds : List Collection). pairs_bytes (map catalogue_pair ds)) c.list.ensures in
     c.numbers.invariant ∙ (λ i. start i ++ pairs_bytes (documents_to (whole i) cs))

@@ -1,12 +1,11 @@
 use Rattle.std.proofs.Common.{◌≤◌, length, sym, ap, subst, arith}
 use Rattle.bson.specs.Tree.{Pairs}
 use Rattle.bson.specs.Spelling.{framed, pairs_bytes}
-use Rattle.engine.specs.declared.TheConstants.{STORED_LIMIT}
 use Rattle.engine.proofs.PairSizes.{entry_small, name_size, key_size}
 use Rattle.engine.proofs.image.push_entry.Goals as goal
 
 pub spelling-requires : goal.spelling-requires
-spelling-requires c = subst (λ (ps : Pairs). length (framed (pairs_bytes ps)) ≤ STORED_LIMIT) (sym c.in_ok-entry.ensures) (entry_small c.number.result)
+spelling-requires c = subst (λ (ps : Pairs). length (framed (pairs_bytes ps)) ≤ 65535) (sym c.in_ok-entry.ensures) (entry_small c.number.result)
 
 pub push-requires : goal.push-requires
 push-requires c = record {

@@ -6,7 +6,6 @@ use Rattle.engine.specs.Documents.{key_of}
 use Rattle.engine.specs.Refusals.{words}
 use Rattle.engine.specs.Stored.{key_under}
 use Rattle.engine.specs.Loading.{AddsEntry, AddsDocument}
-use Rattle.engine.specs.declared.TheConstants.{MOST_COLLECTIONS}
 use Rattle.engine.proofs.loading.load_pair.Goals as goal
 
 entry_key : (pair : Pair) (cs next : List Collection) (h : AddsEntry cs pair next) → pair.key ≡ key_under 0 0 (tree_text (words h.new.name))
@@ -15,7 +14,7 @@ entry_key pair cs next h = ap (λ (p : Pair). p.key) h.pair_is
 document_key : (pair : Pair) (cs next : List Collection) (h : AddsDocument cs pair next) → pair.key ≡ key_under h.number 0 (tree_text (key_of h.document))
 document_key pair cs next h = ap (λ (p : Pair). p.key) h.pair_is
 
-small : (n : ℕ) → n ≤ MOST_COLLECTIONS → n < 2 ^ 32
+small : (n : ℕ) → n ≤ 1000 → n < 2 ^ 32
 small n most = omega (arith, most)
 
 pub returns-in_default-clause-adds : goal.returns-in_default-clause-adds

@@ -4,7 +4,7 @@ use Rattle.std.proofs.lemmas.List.Elements.{All-head, All-tail}
 use Rattle.bson.specs.Tree.{document, Pairs, Items, append_items}
 use Rattle.bson.specs.Edits.{append_items-none, append_items-one}
 use Rattle.engine.specs.Lawful.{IsWithin}
-use Rattle.engine.specs.Step.{items_of_documents}
+use Rattle.engine.specs.Cursors.{items_of_documents}
 use Rattle.engine.proofs.Batches.{empty_rest}
 use Rattle.engine.proofs.reply.array_of.Goals as goal
 

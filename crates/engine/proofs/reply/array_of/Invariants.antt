@@ -2,7 +2,7 @@ use Rattle.std.proofs.Common.{◌≡◌}
 use Rattle.std.specs.Prelude.{All}
 use Rattle.bson.specs.Tree.{append_items}
 use Rattle.engine.specs.Lawful.{IsWithin}
-use Rattle.engine.specs.Step.{items_of_documents}
+use Rattle.engine.specs.Cursors.{items_of_documents}
 use Rattle.engine.proofs.reply.array_of.Given as goal
 
 abbrev pub invariant-documents : goal.invariant-documents

@@ -3,7 +3,7 @@ use Rattle.std.specs.Prelude.{codes}
 use Rattle.bson.specs.Tree.{array, Pairs, no_pairs, pair}
 use Rattle.bson.specs.Lawful.{pairs_levels}
 use Rattle.engine.specs.Refusals.{long, words}
-use Rattle.engine.specs.Step.{items_of_documents}
+use Rattle.engine.specs.Cursors.{items_of_documents}
 use Rattle.engine.proofs.Replying.{items_levels-within}
 use Rattle.engine.proofs.reply.find_reply.Goals as goal
 

@@ -4,22 +4,22 @@ use Rattle.path.specs.declared.refusal.Refusal.TheVariants.{OutOfMemory}
 use Rattle.op_msg.specs.declared.fault.FrameFault.{FrameFault}
 use Rattle.server.specs.Turn.{front_of, faults, fault_at, refused_frames}
 use Rattle.server.specs.Taking.{refused_at, fault_in, faults_in}
-use Rattle.server.specs.declared.link.Link.{Link}
-use Rattle.server.proofs.LinksServed.{refused_more, faults_more, faults_in-more}
+use Rattle.server.specs.declared.connection.Connection.{Connection}
+use Rattle.server.proofs.ConnectionsServed.{refused_more, faults_more, faults_in-more}
 use Rattle.server.proofs.preparing.prepare.Goals as goal
 
-pub links-preserved : goal.links-preserved
-links-preserved c =
-    let i = c.links.link-index in
-    let ls = c.args.links.now in
-    let d = c.link-item.result in
-    let call = c.in_ok-prepare_link.ensures in
-    let inv = c.links.invariant in
+pub connections-preserved : goal.connections-preserved
+connections-preserved c =
+    let i = c.connections.connection-index in
+    let ls = c.args.connections.now in
+    let d = c.connection-item.result in
+    let call = c.in_ok-prepare_connection.ensures in
+    let inv = c.connections.invariant in
     record {
       refusals = call.refusals ∙ ap (λ (fs : List (ℕ × List ℕ)). fs ++ refused_at OutOfMemory d (front_of d)) inv.refusals
-          ∙ ap (λ (l : Link). refused_frames OutOfMemory (take i ls) ++ refused_at OutOfMemory l (front_of l)) c.link-item.is ∙ sym (refused_more OutOfMemory ls i d c.links-test.true);
+          ∙ ap (λ (l : Connection). refused_frames OutOfMemory (take i ls) ++ refused_at OutOfMemory l (front_of l)) c.connection-item.is ∙ sym (refused_more OutOfMemory ls i d c.connections-test.true);
       closed = call.closed ∙ ap (λ (fs : List (ℕ × FrameFault)). fs ++ fault_at d (front_of d)) inv.closed
-          ∙ ap (λ (l : Link). faults (take i ls) ++ fault_at l (front_of l)) c.link-item.is ∙ sym (faults_more ls i d c.links-test.true);
+          ∙ ap (λ (l : Connection). faults (take i ls) ++ fault_at l (front_of l)) c.connection-item.is ∙ sym (faults_more ls i d c.connections-test.true);
       faults = call.faults ∙ ap (λ (fs : List (Option FrameFault)). fs ++ fault_in (front_of d) ∷ []) inv.faults
-          ∙ ap (λ (l : Link). faults_in (take i ls) ++ fault_in (front_of l) ∷ []) c.link-item.is ∙ sym (faults_in-more ls i d c.links-test.true);
+          ∙ ap (λ (l : Connection). faults_in (take i ls) ++ fault_in (front_of l) ∷ []) c.connection-item.is ∙ sym (faults_in-more ls i d c.connections-test.true);
     }

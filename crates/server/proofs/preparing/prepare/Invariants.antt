@@ -5,9 +5,9 @@ use Rattle.server.specs.Taking.{faults_in}
 use Rattle.server.specs.View.{frames_in}
 use Rattle.server.proofs.preparing.prepare.Given as goal
 
-abbrev pub invariant-links : goal.invariant-links
-invariant-links l = record {
-  refusals : frames_in l.prepared.refusals.items ≡ refused_frames OutOfMemory (take l.link-index l.links);
-  closed : l.prepared.closed.items ≡ faults (take l.link-index l.links);
-  faults : l.prepared.faults.items ≡ faults_in (take l.link-index l.links);
+abbrev pub invariant-connections : goal.invariant-connections
+invariant-connections l = record {
+  refusals : frames_in l.prepared.refusals.items ≡ refused_frames OutOfMemory (take l.connection-index l.connections);
+  closed : l.prepared.closed.items ≡ faults (take l.connection-index l.connections);
+  faults : l.prepared.faults.items ≡ faults_in (take l.connection-index l.connections);
 }

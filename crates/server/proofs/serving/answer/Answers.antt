@@ -5,7 +5,7 @@ use Rattle.bson.specs.Reading.{Gives}
 use Rattle.bson.specs.declared.fault.BsonFault.{BsonFault}
 use Rattle.engine.proofs.SpelledSizes.{refusal-sendable}
 use Rattle.engine.specs.View.{world, reply_of}
-use Rattle.engine.specs.Step.{Answers}
+use Rattle.engine.specs.Step.{Answers, ForMemory}
 use Rattle.server.proofs.BodyAnswers.{refused_body}
 use Rattle.server.proofs.serving.answer.Goals as goal
 
@@ -15,9 +15,9 @@ returns-in-Err-clause-sendable g c = refusal-sendable c.body_refusal.result
 pub returns-in-Ok-clause-answer : goal.returns-in-Ok-clause-answer
 returns-in-Ok-clause-answer g c read gives =
     let same : read ≡ Ok c.in-Ok.document = subst (λ body. Gives (λ d. d) body read) c.in-Ok.is gives in
-    subst (λ (r : Result Pairs BsonFault). Answers (world c.args.engine.now) c.args.connection r (world c.execute.new.self) (reply_of c.execute.result)) (sym same) c.execute.ensures.answers
+    subst (λ (r : Result Pairs BsonFault). Answers ForMemory (world c.args.engine.now) c.args.id r (world c.execute.new.self) (reply_of c.execute.result)) (sym same) c.execute.ensures.answers
 
 pub returns-in-Err-clause-answer : goal.returns-in-Err-clause-answer
 returns-in-Err-clause-answer g c read gives =
-    refused_body (world c.args.engine.now) c.args.connection c.in-Err.fault c.body_refusal.result read c.body_refusal.ensures.memory c.body_refusal.ensures.other
+    refused_body (world c.args.engine.now) c.args.id c.in-Err.fault c.body_refusal.result read c.body_refusal.ensures.memory c.body_refusal.ensures.other
     (subst (λ body. Gives (λ d. d) body read) c.in-Err.is gives)

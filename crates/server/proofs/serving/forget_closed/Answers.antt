@@ -1,7 +1,7 @@
 use Rattle.std.proofs.Common.{sym, ◌∙◌}
 use Rattle.engine.specs.View.{world}
 use Rattle.engine.specs.World.{forget}
-use Rattle.server.proofs.LinksServed.{forget_all_more}
+use Rattle.server.proofs.ConnectionsServed.{forget_all_more}
 use Rattle.server.proofs.serving.forget_closed.Goals as goal
 
 pub closed-preserved : goal.closed-preserved
@@ -18,6 +18,6 @@ closed-preserved g c =
       store = call.ensures.store ∙ inv.store;
       world_is = call.ensures.world ∙ (λ k. forget (inv.world_is k) (c.closed-item.is k).0)
           ∙ sym (forget_all_more (world c.args.engine.now) fs i d c.closed-test.true);
-      idle = call.ensures.begun inv.idle;
-      wrote = call.ensures.wrote ∙ inv.wrote;
+      idle = call.ensures.turn_start inv.idle;
+      has_changes = call.ensures.has_changes ∙ inv.has_changes;
     }

@@ -1,5 +1,4 @@
-use Rattle.std.proofs.Common.{List, sym, subst}
-use Rattle.std.proofs.Common.{ap}
+use Rattle.std.proofs.Common.{List, sym, subst, ap}
 use Rattle.bson.specs.Tree.{Pairs}
 use Rattle.bson.specs.Lawful.{IsDocument}
 use Rattle.value_order.specs.Total.{compare_total}

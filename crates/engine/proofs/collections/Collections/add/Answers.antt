@@ -2,7 +2,7 @@ use Rattle.std.proofs.Common.{◌≡◌, ℕ, List, [], sym, ap, subst, ◌∙�
 use Rattle.engine.specs.World.{Collection}
 use Rattle.engine.specs.Places.{IsGap, IsMissing, by_name}
 use Rattle.engine.specs.Progress.{Progress, CanRewind}
-use Rattle.engine.specs.declared.collections.Change.{Change}
+use Rattle.engine.specs.declared.collections.UndoEntry.{UndoEntry}
 use Rattle.engine.proofs.Rewinding.{apart-made}
 use Rattle.engine.proofs.collections.Collections.add.Goals as goal
 
@@ -16,5 +16,5 @@ invariant_of-self-2 c =
     let none : c.self.inside.changes.items ≡ [] = ap (λ (p : Progress). p.changes) c.self.view_is ∙ c.requires in
     rw c.in_ok-insert.ensures.items (record {
       apart = apart-made cs c.in-Err.at new gap c.self.invariant.apart;
-      undoable = subst (λ (xs : List Change). CanRewind xs (insert cs c.in-Err.at new)) (sym none) tt;
+      undoable = subst (λ (xs : List UndoEntry). CanRewind xs (insert cs c.in-Err.at new)) (sym none) tt;
     })

@@ -2,9 +2,8 @@ use Rattle.std.proofs.Common.{rules, ◌≡◌, ◌<◌, ℕ, List, ◌∷◌, [
 use Rattle.engine.specs.World.{Collection, unused}
 use Rattle.engine.specs.Places.{IsGap, IsMissing, by_name}
 use Rattle.engine.specs.Progress.{Progress, IsProgress, Extends, Stands}
-use Rattle.engine.specs.declared.collections.Change.TheVariants as changes
+use Rattle.engine.specs.declared.collections.UndoEntry.TheVariants as entries
 use Rattle.engine.proofs.Rewinding.{undo-made, CanUndo-made, apart-made, IsProgress-push, Extends-push, Stands-made}
-use Rattle.engine.specs.declared.TheConstants.{MOST_COLLECTIONS}
 use Rattle.engine.proofs.collections.Collections.find_or_make.Goals as goal
 use Rattle.engine.proofs.collections.Collections.find_or_make.Goals.{After-unwrap}
 
@@ -24,7 +23,7 @@ module _ (c : After-unwrap) where
   gap : IsGap (by_name new.name) cs c.in-Err.at
   gap = subst (λ (n : List ℕ). IsGap (by_name n) cs c.in-Err.at) (sym named) missing.gap
 
-  few : length cs < MOST_COLLECTIONS
+  few : length cs < 1000
   few = omega (arith, c.len.ensures, c.if-len-ge-MOST_COLLECTIONS.false, c.self.inside.list.ok)
 
   numbered : new ≡ record { name = c.args.namespace.now; number = unused cs; documents = [] }
@@ -33,27 +32,27 @@ module _ (c : After-unwrap) where
   put : c.insert.new.self.items ≡ insert cs c.in-Err.at new
   put = c.in_ok-insert-in-Err.ensures.items
 
-  pushed : c.push.new.self.items ≡ c.self.inside.changes.items ++ changes.Made c.in-Err.at ∷ []
+  pushed : c.push.new.self.items ≡ c.self.inside.changes.items ++ entries.Made c.in-Err.at ∷ []
   pushed = search rules
 
   abbrev old : Progress
   old = record { now = cs; changes = c.self.inside.changes.items }
 
   abbrev made : Progress
-  made = record { now = insert cs c.in-Err.at new; changes = c.self.inside.changes.items ++ changes.Made c.in-Err.at ∷ [] }
+  made = record { now = insert cs c.in-Err.at new; changes = c.self.inside.changes.items ++ entries.Made c.in-Err.at ∷ [] }
 
   same : made ≡ record { now = c.insert.new.self.items; changes = c.push.new.self.items }
   same = λ i. record { now = sym put i; changes = sym pushed i }
 
 pub invariant_of-self-in-Err : goal.invariant_of-self-in-Err
 invariant_of-self-in-Err c =
-    subst IsProgress (same c) (IsProgress-push (old c) (insert (cs c) c.in-Err.at (new c)) (changes.Made c.in-Err.at)
+    subst IsProgress (same c) (IsProgress-push (old c) (insert (cs c) c.in-Err.at (new c)) (entries.Made c.in-Err.at)
     (apart-made (cs c) c.in-Err.at (new c) (gap c) c.self.invariant.apart) (CanUndo-made (cs c) c.in-Err.at (new c) (gap c)) (undo-made (cs c) c.in-Err.at (new c) (gap c)) c.self.invariant.undoable)
 
 pub returns-in_ok-insert-in-Err-clause-extends : goal.returns-in_ok-insert-in-Err-clause-extends
 returns-in_ok-insert-in-Err-clause-extends c =
     subst (λ (p : Progress). Extends p (record { now = c.insert.new.self.items; changes = c.push.new.self.items })) c.self.view_is
-    (subst (Extends (old c)) (same c) (Extends-push (old c) (insert (cs c) c.in-Err.at (new c)) (changes.Made c.in-Err.at)
+    (subst (Extends (old c)) (same c) (Extends-push (old c) (insert (cs c) c.in-Err.at (new c)) (entries.Made c.in-Err.at)
     (apart-made (cs c) c.in-Err.at (new c) (gap c) c.self.invariant.apart) (CanUndo-made (cs c) c.in-Err.at (new c) (gap c)) (undo-made (cs c) c.in-Err.at (new c) (gap c))))
 
 pub returns-in_ok-insert-in-Err-clause-ok : goal.returns-in_ok-insert-in-Err-clause-ok

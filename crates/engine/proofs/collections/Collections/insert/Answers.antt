@@ -1,6 +1,6 @@
 use Rattle.std.proofs.Common.{rules, ◌≡◌, length, arith, ap}
-use Rattle.engine.specs.Progress.{Progress, begun_of}
-use Rattle.engine.proofs.Rewinding.{Extends-same, begun-extends}
+use Rattle.engine.specs.Progress.{Progress, turn_start_of}
+use Rattle.engine.proofs.Rewinding.{Extends-same, turn_start-extends}
 use Rattle.engine.proofs.collections.Collections.insert.Goals as goal
 use Rattle.engine.proofs.collections.Collections.insert.Goals.{After-undo_to}
 
@@ -10,11 +10,11 @@ taken_back c =
     let len : length c.undo_to.new.self.changes ≡ length c.args.self.now.changes = omega (arith, opened, c.undo_to.ensures.len, c.len-mark.ensures, c.self.inside.changes.ok) in
     Extends-same c.undo_to.new.self c.args.self.now c.store_each-outcome.new.self c.undo_to.ensures.extends c.store_each-outcome.ensures.extends len
 
-pub returns-then-is_err-clause-begun : goal.returns-then-is_err-clause-begun
-returns-then-is_err-clause-begun c = ap begun_of (taken_back c)
+pub returns-then-is_err-clause-turn_start : goal.returns-then-is_err-clause-turn_start
+returns-then-is_err-clause-turn_start c = ap turn_start_of (taken_back c)
 
 pub returns-then-is_err-clause-err : goal.returns-then-is_err-clause-err
 returns-then-is_err-clause-err c = search (rules, taken_back c)
 
-pub returns-else-is_err-clause-begun : goal.returns-else-is_err-clause-begun
-returns-else-is_err-clause-begun c = begun-extends c.args.self.now c.store_each-outcome.new.self c.store_each-outcome.ensures.extends
+pub returns-else-is_err-clause-turn_start : goal.returns-else-is_err-clause-turn_start
+returns-else-is_err-clause-turn_start c = turn_start-extends c.args.self.now c.store_each-outcome.new.self c.store_each-outcome.ensures.extends

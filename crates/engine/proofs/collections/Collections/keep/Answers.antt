@@ -3,10 +3,10 @@ use Rattle.bson.specs.Tree.{Pairs}
 use Rattle.engine.specs.World.{Collection}
 use Rattle.engine.specs.Lawful.{IsHeld}
 use Rattle.engine.specs.Places.{collection_at}
-use Rattle.engine.specs.Progress.{Progress, IsProgress, Extends, begun_of}
-use Rattle.engine.specs.declared.collections.Change.{Change}
-use Rattle.engine.specs.declared.collections.Change.TheVariants as changes
-use Rattle.engine.proofs.Rewinding.{at_place, undo-deleted, CanUndo-deleted, apart-deleted, IsProgress-push, Extends-push, begun-extends}
+use Rattle.engine.specs.Progress.{Progress, IsProgress, Extends, turn_start_of}
+use Rattle.engine.specs.declared.collections.UndoEntry.{UndoEntry}
+use Rattle.engine.specs.declared.collections.UndoEntry.TheVariants as entries
+use Rattle.engine.proofs.Rewinding.{at_place, undo-deleted, CanUndo-deleted, apart-deleted, IsProgress-push, Extends-push, turn_start-extends}
 use Rattle.engine.proofs.collections.Collections.keep.Goals as goal
 use Rattle.engine.proofs.collections.Collections.keep.Goals.{After-unwrap}
 
@@ -38,11 +38,11 @@ module _ (c : After-unwrap) where
   held : IsHeld (collection_at cs at)
   held = subst IsHeld is c.replace-documents.ensures.held
 
-  abbrev change : Change
-  change = changes.Deleted at (collection_at cs at).documents
+  abbrev change : UndoEntry
+  change = entries.Replaced at (collection_at cs at).documents
 
   pushed : c.push.new.self.items ≡ c.self.inside.changes.items ++ change ∷ []
-  pushed = search (rules, ap (λ (ds : List Pairs). let x : Change = changes.Deleted at ds in x) before)
+  pushed = search (rules, ap (λ (ds : List Pairs). let x : UndoEntry = entries.Replaced at ds in x) before)
 
   abbrev old : Progress
   old = record { now = cs; changes = c.self.inside.changes.items }
@@ -58,8 +58,8 @@ invariant_of-self-2 c =
     subst IsProgress (same c) (IsProgress-push (old c) (set (cs c) (at c) (next c)) (change c) (apart-deleted (cs c) (at c) (left c) (within c) c.self.invariant.apart)
     (CanUndo-deleted (cs c) (at c) (left c) (within c) (held c)) (undo-deleted (cs c) (at c) (left c) (within c)) c.self.invariant.undoable)
 
-pub returns-clause-begun : goal.returns-clause-begun
-returns-clause-begun c =
+pub returns-clause-turn_start : goal.returns-clause-turn_start
+returns-clause-turn_start c =
     let extended : Extends (old c) (made c) = Extends-push (old c) (set (cs c) (at c) (next c)) (change c) (apart-deleted (cs c) (at c) (left c) (within c) c.self.invariant.apart)
     (CanUndo-deleted (cs c) (at c) (left c) (within c) (held c)) (undo-deleted (cs c) (at c) (left c) (within c)) in
-    ap begun_of (sym (same c)) ∙ begun-extends (old c) (made c) extended ∙ ap begun_of c.self.view_is
+    ap turn_start_of (sym (same c)) ∙ turn_start-extends (old c) (made c) extended ∙ ap turn_start_of c.self.view_is

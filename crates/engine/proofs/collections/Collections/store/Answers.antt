@@ -7,7 +7,7 @@ use Rattle.engine.specs.Documents.{key_of, id_first, place}
 use Rattle.engine.specs.Lawful.{IsStored}
 use Rattle.engine.specs.Places.{collection_at, no_collection}
 use Rattle.engine.specs.Progress.{Progress, IsProgress, Extends}
-use Rattle.engine.specs.declared.collections.Change.TheVariants as changes
+use Rattle.engine.specs.declared.collections.UndoEntry.TheVariants as entries
 use Rattle.engine.proofs.Checked.{keeps}
 use Rattle.engine.proofs.Rewinding.{at_place, grown, undo-stored, CanUndo-stored, apart-stored, IsProgress-push, Extends-push, with_refused, with_there, with_placed}
 use Rattle.engine.proofs.collections.Collections.store.Goals as goal
@@ -44,18 +44,18 @@ module _ (c : After-unwrap) where
       c.in_ok-insert-in-Err.ensures.ok ∙ ap (λ (d : Pairs). record found { documents = insert found.documents c.in-Err.place d }) c.in_ok-new-in-Err.ensures
       ∙ ap (λ (x : Collection). record x { documents = insert x.documents c.in-Err.place c.in_ok-document.document }) is
 
-  pushed : c.push.new.self.items ≡ c.self.inside.changes.items ++ changes.Stored c.args.at c.in-Err.place ∷ []
+  pushed : c.push.new.self.items ≡ c.self.inside.changes.items ++ entries.Stored c.args.at c.in-Err.place ∷ []
   pushed = search rules
 
   abbrev made : Progress
-  made = record { now = set cs c.args.at next; changes = c.self.inside.changes.items ++ changes.Stored c.args.at c.in-Err.place ∷ [] }
+  made = record { now = set cs c.args.at next; changes = c.self.inside.changes.items ++ entries.Stored c.args.at c.in-Err.place ∷ [] }
 
   same : made ≡ record { now = set cs c.args.at c.insert.new.self; changes = c.push.new.self.items }
   same = λ i. record { now = set cs c.args.at (sym is_next i); changes = sym pushed i }
 
 pub invariant_of-self-in-Err : goal.invariant_of-self-in-Err
 invariant_of-self-in-Err c =
-    let made = IsProgress-push (record { now = cs c; changes = c.self.inside.changes.items }) (set (cs c) c.args.at (next c)) (changes.Stored c.args.at c.in-Err.place)
+    let made = IsProgress-push (record { now = cs c; changes = c.self.inside.changes.items }) (set (cs c) c.args.at (next c)) (entries.Stored c.args.at c.in-Err.place)
     (apart-stored (cs c) c.args.at c.in-Err.place c.in_ok-document.document (within c) (gap c) c.self.invariant.apart)
     (CanUndo-stored (cs c) c.args.at c.in-Err.place c.in_ok-document.document (within c) (gap c))
     (undo-stored (cs c) c.args.at c.in-Err.place c.in_ok-document.document (within c) (gap c)) c.self.invariant.undoable in
@@ -75,7 +75,7 @@ returns-in-Ok-clause-does c = λ _.
 pub returns-in_ok-insert-in-Err-clause-extends : goal.returns-in_ok-insert-in-Err-clause-extends
 returns-in_ok-insert-in-Err-clause-extends c =
     let old : Progress = record { now = cs c; changes = c.self.inside.changes.items } in
-    let extended = Extends-push old (set (cs c) c.args.at (next c)) (changes.Stored c.args.at c.in-Err.place)
+    let extended = Extends-push old (set (cs c) c.args.at (next c)) (entries.Stored c.args.at c.in-Err.place)
     (apart-stored (cs c) c.args.at c.in-Err.place c.in_ok-document.document (within c) (gap c) c.self.invariant.apart)
     (CanUndo-stored (cs c) c.args.at c.in-Err.place c.in_ok-document.document (within c) (gap c))
     (undo-stored (cs c) c.args.at c.in-Err.place c.in_ok-document.document (within c) (gap c)) in

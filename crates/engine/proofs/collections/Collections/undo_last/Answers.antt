@@ -8,21 +8,21 @@ use Rattle.engine.specs.World.{Collection}
 use Rattle.engine.specs.Lawful.{IsHeld}
 use Rattle.engine.specs.Places.{collection_at}
 use Rattle.engine.specs.Progress.{IsProgress, without_document}
-use Rattle.engine.specs.declared.collections.Change.{Change}
-use Rattle.engine.specs.declared.collections.Change.TheVariants as changes
+use Rattle.engine.specs.declared.collections.UndoEntry.{UndoEntry}
+use Rattle.engine.specs.declared.collections.UndoEntry.TheVariants as entries
 use Rattle.engine.proofs.Rewinding.{CanRewind-last, at_place, apart_set}
 use Rattle.engine.proofs.collections.Collections.undo_last.Goals as goal
 
 pub remove-collection-requires : goal.remove-collection-requires
 remove-collection-requires c =
-    let popped = c.in-Some-Made.ensures.items ∙ ap (λ (x : Change). c.pop.new.self.items ++ x ∷ []) c.in-Some-Made.field-0-is in
-    let h = CanRewind-last c.self.inside.changes.items c.pop.new.self.items (changes.Made c.in-Some-Made.at) c.self.inside.list.items popped c.self.invariant.undoable in
+    let popped = c.in-Some-Made.ensures.items ∙ ap (λ (x : UndoEntry). c.pop.new.self.items ++ x ∷ []) c.in-Some-Made.field-0-is in
+    let h = CanRewind-last c.self.inside.changes.items c.pop.new.self.items (entries.Made c.in-Some-Made.at) c.self.inside.list.items popped c.self.invariant.undoable in
     omega (arith, h.0, c.self.inside.list.ok)
 
 pub invariant_of-self : goal.invariant_of-self
 invariant_of-self c =
-    let popped = c.in-Some-Made.ensures.items ∙ ap (λ (x : Change). c.pop.new.self.items ++ x ∷ []) c.in-Some-Made.field-0-is in
-    let h = CanRewind-last c.self.inside.changes.items c.pop.new.self.items (changes.Made c.in-Some-Made.at) c.self.inside.list.items popped c.self.invariant.undoable in
+    let popped = c.in-Some-Made.ensures.items ∙ ap (λ (x : UndoEntry). c.pop.new.self.items ++ x ∷ []) c.in-Some-Made.field-0-is in
+    let h = CanRewind-last c.self.inside.changes.items c.pop.new.self.items (entries.Made c.in-Some-Made.at) c.self.inside.list.items popped c.self.invariant.undoable in
     rw c.remove-collection.ensures.items (record {
       apart = all_pairs_remove (λ (a b : Collection). slice_cmp nat_cmp a.name b.name ≡ orders.Less) c.self.inside.list.items c.in-Some-Made.at h.0 c.self.invariant.apart;
       undoable = h.1;
@@ -30,21 +30,21 @@ invariant_of-self c =
 
 pub index_mut-collection-requires : goal.index_mut-collection-requires
 index_mut-collection-requires c =
-    let popped = c.in-Some-Stored.ensures.items ∙ ap (λ (x : Change). c.pop.new.self.items ++ x ∷ []) c.in-Some-Stored.field-0-is in
-    let h = CanRewind-last c.self.inside.changes.items c.pop.new.self.items (changes.Stored c.in-Some-Stored.at c.in-Some-Stored.place) c.self.inside.list.items popped c.self.invariant.undoable in
+    let popped = c.in-Some-Stored.ensures.items ∙ ap (λ (x : UndoEntry). c.pop.new.self.items ++ x ∷ []) c.in-Some-Stored.field-0-is in
+    let h = CanRewind-last c.self.inside.changes.items c.pop.new.self.items (entries.Stored c.in-Some-Stored.at c.in-Some-Stored.place) c.self.inside.list.items popped c.self.invariant.undoable in
     omega (arith, h.0.0, c.self.inside.list.ok)
 
 pub remove-requires : goal.remove-requires
 remove-requires c =
-    let popped = c.in-Some-Stored.ensures.items ∙ ap (λ (x : Change). c.pop.new.self.items ++ x ∷ []) c.in-Some-Stored.field-0-is in
-    let h = CanRewind-last c.self.inside.changes.items c.pop.new.self.items (changes.Stored c.in-Some-Stored.at c.in-Some-Stored.place) c.self.inside.list.items popped c.self.invariant.undoable in
+    let popped = c.in-Some-Stored.ensures.items ∙ ap (λ (x : UndoEntry). c.pop.new.self.items ++ x ∷ []) c.in-Some-Stored.field-0-is in
+    let h = CanRewind-last c.self.inside.changes.items c.pop.new.self.items (entries.Stored c.in-Some-Stored.at c.in-Some-Stored.place) c.self.inside.list.items popped c.self.invariant.undoable in
     let is = at_place c.self.inside.list.items c.in-Some-Stored.at c.index_mut-collection.result.now h.0.0 c.index_mut-collection.ensures.value in
     subst (λ (x : Collection). c.in-Some-Stored.place < length x.documents) (sym is) h.0.1
 
 pub invariant_of-self-in-Some-Stored : goal.invariant_of-self-in-Some-Stored
 invariant_of-self-in-Some-Stored c =
-    let popped = c.in-Some-Stored.ensures.items ∙ ap (λ (x : Change). c.pop.new.self.items ++ x ∷ []) c.in-Some-Stored.field-0-is in
-    let h = CanRewind-last c.self.inside.changes.items c.pop.new.self.items (changes.Stored c.in-Some-Stored.at c.in-Some-Stored.place) c.self.inside.list.items popped c.self.invariant.undoable in
+    let popped = c.in-Some-Stored.ensures.items ∙ ap (λ (x : UndoEntry). c.pop.new.self.items ++ x ∷ []) c.in-Some-Stored.field-0-is in
+    let h = CanRewind-last c.self.inside.changes.items c.pop.new.self.items (entries.Stored c.in-Some-Stored.at c.in-Some-Stored.place) c.self.inside.list.items popped c.self.invariant.undoable in
     let cs = c.self.inside.list.items in
     let at = c.in-Some-Stored.at in
     let is = at_place cs at c.index_mut-collection.result.now h.0.0 c.index_mut-collection.ensures.value in
@@ -54,33 +54,33 @@ invariant_of-self-in-Some-Stored c =
       undoable = h.1;
     })
 
-pub index_mut-collection-requires-in-Some-Deleted : goal.index_mut-collection-requires-in-Some-Deleted
-index_mut-collection-requires-in-Some-Deleted c =
-    let popped = c.in-Some-Deleted.ensures.items ∙ ap (λ (x : Change). c.pop.new.self.items ++ x ∷ []) c.in-Some-Deleted.field-0-is in
-    let h = CanRewind-last c.self.inside.changes.items c.pop.new.self.items (changes.Deleted c.in-Some-Deleted.at c.in-Some-Deleted.before) c.self.inside.list.items popped c.self.invariant.undoable in
+pub index_mut-collection-requires-in-Some-Replaced : goal.index_mut-collection-requires-in-Some-Replaced
+index_mut-collection-requires-in-Some-Replaced c =
+    let popped = c.in-Some-Replaced.ensures.items ∙ ap (λ (x : UndoEntry). c.pop.new.self.items ++ x ∷ []) c.in-Some-Replaced.field-0-is in
+    let h = CanRewind-last c.self.inside.changes.items c.pop.new.self.items (entries.Replaced c.in-Some-Replaced.at c.in-Some-Replaced.before) c.self.inside.list.items popped c.self.invariant.undoable in
     omega (arith, h.0.0, c.self.inside.list.ok)
 
 pub replace-documents-requires : goal.replace-documents-requires
 replace-documents-requires c =
-    let popped = c.in-Some-Deleted.ensures.items ∙ ap (λ (x : Change). c.pop.new.self.items ++ x ∷ []) c.in-Some-Deleted.field-0-is in
+    let popped = c.in-Some-Replaced.ensures.items ∙ ap (λ (x : UndoEntry). c.pop.new.self.items ++ x ∷ []) c.in-Some-Replaced.field-0-is in
     let cs = c.self.inside.list.items in
-    let at = c.in-Some-Deleted.at in
-    let h = CanRewind-last c.self.inside.changes.items c.pop.new.self.items (changes.Deleted at c.in-Some-Deleted.before) cs popped c.self.invariant.undoable in
-    let is = at_place cs at c.index_mut-collection-in-Some-Deleted.result.now h.0.0 c.index_mut-collection-in-Some-Deleted.ensures.value in
-    subst (λ (x : Collection). IsHeld (record x { documents = c.before-in-Some-Deleted.inside.documents.items })) (sym is)
-    (subst (λ (ds : List Pairs). IsHeld (record (collection_at cs at) { documents = ds })) (sym c.before-in-Some-Deleted.view_is) h.0.1)
+    let at = c.in-Some-Replaced.at in
+    let h = CanRewind-last c.self.inside.changes.items c.pop.new.self.items (entries.Replaced at c.in-Some-Replaced.before) cs popped c.self.invariant.undoable in
+    let is = at_place cs at c.index_mut-collection-in-Some-Replaced.result.now h.0.0 c.index_mut-collection-in-Some-Replaced.ensures.value in
+    subst (λ (x : Collection). IsHeld (record x { documents = c.before-in-Some-Replaced.inside.documents.items })) (sym is)
+    (subst (λ (ds : List Pairs). IsHeld (record (collection_at cs at) { documents = ds })) (sym c.before-in-Some-Replaced.view_is) h.0.1)
 
-pub invariant_of-self-in-Some-Deleted : goal.invariant_of-self-in-Some-Deleted
-invariant_of-self-in-Some-Deleted c =
-    let popped = c.in-Some-Deleted.ensures.items ∙ ap (λ (x : Change). c.pop.new.self.items ++ x ∷ []) c.in-Some-Deleted.field-0-is in
+pub invariant_of-self-in-Some-Replaced : goal.invariant_of-self-in-Some-Replaced
+invariant_of-self-in-Some-Replaced c =
+    let popped = c.in-Some-Replaced.ensures.items ∙ ap (λ (x : UndoEntry). c.pop.new.self.items ++ x ∷ []) c.in-Some-Replaced.field-0-is in
     let cs = c.self.inside.list.items in
-    let at = c.in-Some-Deleted.at in
-    let h = CanRewind-last c.self.inside.changes.items c.pop.new.self.items (changes.Deleted at c.in-Some-Deleted.before) cs popped c.self.invariant.undoable in
-    let is = at_place cs at c.index_mut-collection-in-Some-Deleted.result.now h.0.0 c.index_mut-collection-in-Some-Deleted.ensures.value in
-    let back : Collection = record (collection_at cs at) { documents = c.in-Some-Deleted.before } in
+    let at = c.in-Some-Replaced.at in
+    let h = CanRewind-last c.self.inside.changes.items c.pop.new.self.items (entries.Replaced at c.in-Some-Replaced.before) cs popped c.self.invariant.undoable in
+    let is = at_place cs at c.index_mut-collection-in-Some-Replaced.result.now h.0.0 c.index_mut-collection-in-Some-Replaced.ensures.value in
+    let back : Collection = record (collection_at cs at) { documents = c.in-Some-Replaced.before } in
     let new : c.replace-documents.new.self ≡ back =
-    c.replace-documents.ensures.new ∙ ap (λ (x : Collection). record x { documents = c.before-in-Some-Deleted.inside.documents.items }) is
-    ∙ ap (λ (ds : List Pairs). record (collection_at cs at) { documents = ds }) c.before-in-Some-Deleted.view_is in
+    c.replace-documents.ensures.new ∙ ap (λ (x : Collection). record x { documents = c.before-in-Some-Replaced.inside.documents.items }) is
+    ∙ ap (λ (ds : List Pairs). record (collection_at cs at) { documents = ds }) c.before-in-Some-Replaced.view_is in
     subst (λ (x : Collection). IsProgress (record { now = set cs at x; changes = c.pop.new.self.items })) (sym new) (record {
       apart = apart_set cs at back h.0.0 refl c.self.invariant.apart;
       undoable = h.1;

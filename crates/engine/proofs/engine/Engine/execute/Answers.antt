@@ -11,14 +11,14 @@ returns-in-Err-clause-sendable g c = refusal-sendable c.in-Err.refusal
 pub returns-in-Ok-clause-sound : goal.returns-in-Ok-clause-sound
 returns-in-Ok-clause-sound g c =
     let new = c.run.new.self in
-    keeps_sound g.D.Disk.history c.args.self.now new c.requires.sound c.run.ensures.disk c.run.ensures.begun
-    (runs_lawful (world c.args.self.now).state (world new).state c.args.connection c.args.body.now c.run.result c.requires.sound.lawful c.run.ensures.runs)
+    keeps_sound g.D.Disk.history c.args.self.now new c.requires.sound c.run.ensures.disk c.run.ensures.turn_start
+    (runs_lawful (world c.args.self.now).collections (world new).collections c.args.connection c.args.body.now c.run.result c.requires.sound.lawful c.run.ensures.runs)
 
 pub returns-in-Err-clause-sound : goal.returns-in-Err-clause-sound
 returns-in-Err-clause-sound g c =
     let new = c.run.new.self in
-    keeps_sound g.D.Disk.history c.args.self.now new c.requires.sound c.run.ensures.disk c.run.ensures.begun
-    (runs_lawful (world c.args.self.now).state (world new).state c.args.connection c.args.body.now c.run.result c.requires.sound.lawful c.run.ensures.runs)
+    keeps_sound g.D.Disk.history c.args.self.now new c.requires.sound c.run.ensures.disk c.run.ensures.turn_start
+    (runs_lawful (world c.args.self.now).collections (world new).collections c.args.connection c.args.body.now c.run.result c.requires.sound.lawful c.run.ensures.runs)
 
 pub returns-in-Ok-clause-answers : goal.returns-in-Ok-clause-answers
 returns-in-Ok-clause-answers g c =

@@ -4,13 +4,12 @@ use Rattle.std.proofs.lemmas.List.{take_all}
 use Rattle.std.proofs.lemmas.Result.{err_from_is_err_and}
 use Rattle.bson.specs.Tree.{Pairs}
 use Rattle.bson.specs.Spelling.{items_bytes}
-use Rattle.engine.specs.Step.{batch_of, items_of_documents, cursor_reply}
+use Rattle.engine.specs.Cursors.{batch_of, items_of_documents, cursor_reply}
 use Rattle.engine.specs.World.{World, documents_of}
-use Rattle.engine.specs.Query.{found}
+use Rattle.engine.specs.Find.{query_result}
 use Rattle.engine.specs.Refusals.{ok_reply}
 use Rattle.path.specs.declared.refusal.Refusal.{Refusal}
 use Rattle.engine.specs.View.{world, with_ok, IsSendable}
-use Rattle.engine.specs.declared.TheConstants.{BATCH_LIMIT, STORED_LIMIT}
 use Rattle.engine.proofs.Running.{run_find-over, run_find-more, run_find-whole, too_many}
 use Rattle.engine.proofs.SpelledSizes.{batch_items, cursor-sendable}
 use Rattle.engine.proofs.engine.Engine.find.Goals as goal
@@ -43,8 +42,8 @@ returns-clause-sendable g c =
     let ds = c.in_ok-found.found.items in
     let whole : length ds ≤ batch_of c.args.most ds =
     subst (λ (es : List Pairs). length es ≤ batch_of c.args.most es) c.deref.ensures.value (omega (arith, c.batch_len.ensures, c.if-batch_len-len.false, c.len.ensures, c.in_ok-found.found.ok, ap length c.deref.ensures.value)) in
-    let small : length (items_bytes 0 (items_of_documents (take (batch_of c.args.most ds) ds))) ≤ max (BATCH_LIMIT - 5) (STORED_LIMIT + 3) = batch_items c.args.most (BATCH_LIMIT - 5) ds c.in_ok-found.ensures.within in
-    let fits = subst (λ (es : List Pairs). length (items_bytes 0 (items_of_documents es)) ≤ max (BATCH_LIMIT - 5) (STORED_LIMIT + 3)) (take_all (batch_of c.args.most ds) ds whole) small in
+    let small : length (items_bytes 0 (items_of_documents (take (batch_of c.args.most ds) ds))) ≤ max (900000 - 5) (65535 + 3) = batch_items c.args.most (900000 - 5) ds c.in_ok-found.ensures.within in
+    let fits = subst (λ (es : List Pairs). length (items_bytes 0 (items_of_documents es)) ≤ max (900000 - 5) (65535 + 3)) (take_all (batch_of c.args.most ds) ds whole) small in
     subst IsSendable (sym c.in_ok-find_reply.ensures) (cursor-sendable ds 0 c.args.namespace.now fits c.requires)
 
 pub find_reply-requires : goal.find_reply-requires

@@ -3,7 +3,7 @@ use Rattle.roots.specs.Pairs.{pairs_bytes}
 use Rattle.roots.specs.declared.store.CommitFault.{CommitFault}
 use Rattle.roots.specs.declared.store.CommitFault.TheVariants as faults
 use Rattle.engine.specs.World.{World, Collection}
-use Rattle.engine.specs.Progress.{Progress, begun_of, is_changed}
+use Rattle.engine.specs.Progress.{Progress, turn_start_of, is_changed}
 use Rattle.engine.proofs.Rewinding.{never_changed}
 use Rattle.engine.specs.Stored.{pairs_of}
 use Rattle.engine.specs.View.{world}
@@ -14,13 +14,13 @@ use Rattle.engine.proofs.engine.Engine.settle.Goals as goal
 
 -- a world without cursors, by its collections
 abbrev of_progress : Progress → World
-of_progress p = record { state = p.now; cursors = []; next = 1; touched = [] }
+of_progress p = record { collections = p.now; cursors = []; next = 1; touched = [] }
 
 abbrev of_state : List Collection → World
-of_state cs = record { state = cs; cursors = []; next = 1; touched = [] }
+of_state cs = record { collections = cs; cursors = []; next = 1; touched = [] }
 
 abbrev begun_by : Progress → World
-begun_by p = record { state = begun_of p; cursors = []; next = 1; touched = [] }
+begun_by p = record { collections = turn_start_of p; cursors = []; next = 1; touched = [] }
 
 pub returns-then-not-is_changed : goal.returns-then-not-is_changed
 returns-then-not-is_changed g c =
@@ -44,8 +44,8 @@ pub returns-in-Err-Device : goal.returns-in-Err-Device
 returns-in-Err-Device g c =
     let old = c.args.self.now in
     let new : Engine g.row.D.Denot = record { alloc = old.alloc; collections = c.commit-in-Err-Device.new.self; store = c.save.new.store } in
-    let saved : Saves g.D.Disk.history (pairs_bytes (pairs_of (world old).state)) (Err faults.Device) old.store new.store =
-    subst (λ (e : CommitFault). Saves g.D.Disk.history (pairs_bytes (pairs_of (world old).state)) (Err e) old.store new.store) c.in-Err-Device.field-0-is
+    let saved : Saves g.D.Disk.history (pairs_bytes (pairs_of (world old).collections)) (Err faults.Device) old.store new.store =
+    subst (λ (e : CommitFault). Saves g.D.Disk.history (pairs_bytes (pairs_of (world old).collections)) (Err e) old.store new.store) c.in-Err-Device.field-0-is
     (subst (λ bytes. Saves g.D.Disk.history bytes (Err c.in-Err-Device.field-0) old.store new.store) c.in-Ok.ensures.spelled c.in-Err-Device.ensures) in
     cut_now g.D.Disk.history old new c.requires (sym c.is_changed.ensures ∙ c.if-not-is_changed.false) (ap is_changed c.commit-in-Err-Device.ensures) (ap of_progress c.commit-in-Err-Device.ensures) (ap begun_by c.commit-in-Err-Device.ensures ∙ sym (ap of_progress c.commit-in-Err-Device.ensures)) c.in-Ok.ensures.readable saved
 
@@ -53,8 +53,8 @@ pub returns-in-Err-Memory : goal.returns-in-Err-Memory
 returns-in-Err-Memory g c =
     let old = c.args.self.now in
     let new : Engine g.row.D.Denot = record { alloc = old.alloc; collections = c.undo-in-Err-Memory.new.self; store = c.save.new.store } in
-    let saved : Saves g.D.Disk.history (pairs_bytes (pairs_of (world old).state)) (Err faults.Memory) old.store new.store =
-    subst (λ (e : CommitFault). Saves g.D.Disk.history (pairs_bytes (pairs_of (world old).state)) (Err e) old.store new.store) c.in-Err-Memory.field-0-is
+    let saved : Saves g.D.Disk.history (pairs_bytes (pairs_of (world old).collections)) (Err faults.Memory) old.store new.store =
+    subst (λ (e : CommitFault). Saves g.D.Disk.history (pairs_bytes (pairs_of (world old).collections)) (Err e) old.store new.store) c.in-Err-Memory.field-0-is
     (subst (λ bytes. Saves g.D.Disk.history bytes (Err c.in-Err-Memory.field-0) old.store new.store) c.in-Ok.ensures.spelled c.in-Err-Memory.ensures) in
     undone_after g.D.Disk.history old new c.requires (sym c.is_changed.ensures ∙ c.if-not-is_changed.false) (ap is_changed c.undo-in-Err-Memory.ensures) (ap of_progress c.undo-in-Err-Memory.ensures) (ap begun_by c.undo-in-Err-Memory.ensures ∙ sym (ap of_progress c.undo-in-Err-Memory.ensures)) faults.Memory (λ e. absurd cc) saved
 
@@ -62,7 +62,7 @@ pub returns : goal.returns
 returns g c =
     let old = c.args.self.now in
     let new : Engine g.row.D.Denot = record { alloc = old.alloc; collections = c.undo-in-Err-Full.new.self; store = c.save.new.store } in
-    let saved : Saves g.D.Disk.history (pairs_bytes (pairs_of (world old).state)) (Err faults.Full) old.store new.store =
-    subst (λ (e : CommitFault). Saves g.D.Disk.history (pairs_bytes (pairs_of (world old).state)) (Err e) old.store new.store) c.in-Err-Full.field-0-is
+    let saved : Saves g.D.Disk.history (pairs_bytes (pairs_of (world old).collections)) (Err faults.Full) old.store new.store =
+    subst (λ (e : CommitFault). Saves g.D.Disk.history (pairs_bytes (pairs_of (world old).collections)) (Err e) old.store new.store) c.in-Err-Full.field-0-is
     (subst (λ bytes. Saves g.D.Disk.history bytes (Err c.in-Err-Full.field-0) old.store new.store) c.in-Ok.ensures.spelled c.in-Err-Full.ensures) in
     undone_after g.D.Disk.history old new c.requires (sym c.is_changed.ensures ∙ c.if-not-is_changed.false) (ap is_changed c.undo-in-Err-Full.ensures) (ap of_progress c.undo-in-Err-Full.ensures) (ap begun_by c.undo-in-Err-Full.ensures ∙ sym (ap of_progress c.undo-in-Err-Full.ensures)) faults.Full (λ e. absurd cc) saved

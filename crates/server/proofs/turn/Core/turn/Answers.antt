@@ -2,13 +2,14 @@ use Rattle.std.proofs.Common.{◌≡◌, length, false, refl, sym, subst, ◌∙
 use Rattle.std.specs.Prelude.{Bool}
 use Rattle.engine.specs.View.{world}
 use Rattle.engine.specs.Durable.{Holds}
-use Rattle.server.specs.Durable.{stopped}
+use Rattle.engine.specs.Step.{ForMemory}
+use Rattle.server.specs.Durable.{is_stopped}
 use Rattle.server.specs.declared.turn.TurnFault.TheVariants as turns
-use Rattle.server.specs.Turn.{Cut, TurnFails, faults, forget_all, links_taken}
-use Rattle.server.specs.Taking.{closed_links, faults_in}
-use Rattle.server.specs.View.{site, frames_in}
+use Rattle.server.specs.Turn.{Cut, TurnFails, faults, forget_all, connections_taken}
+use Rattle.server.specs.Taking.{closed_connections, faults_in}
+use Rattle.server.specs.View.{state, frames_in}
 use Rattle.server.proofs.Images.{engine_holds, stays, forgotten}
-use Rattle.server.proofs.LinksServed.{all_closed}
+use Rattle.server.proofs.ConnectionsServed.{all_closed}
 use Rattle.server.proofs.Refusing.{whole}
 use Rattle.server.proofs.TurnParts.{turned, turned_for}
 use Rattle.server.proofs.turn.Core.turn.Goals as goal
@@ -16,28 +17,28 @@ use Rattle.server.proofs.turn.Core.turn.Goals as goal
 pub returns-clause-turns : goal.returns-clause-turns
 returns-clause-turns g c =
     let core = c.args.self.now in
-    let links = core.links.items in
+    let connections = core.connections.items in
     let prepared = c.in_ok-refusals.field-0 in
-    let closes : prepared.closed.items ≡ faults links = search rules in
-    let beside : prepared.faults.items ≡ faults_in links = search rules in
+    let closes : prepared.closed.items ≡ faults connections = search rules in
+    let beside : prepared.faults.items ≡ faults_in connections = search rules in
     let forgets : world c.forget_closed.new.engine ≡ forget_all (world c.run_messages.new.engine) prepared.closed.items = search rules in
-    let go_on : c.close_links.new.links ≡ closed_links (links_taken links) (faults_in links) = search rules in
-    let long : length c.close_links.new.links ≡ c.run_messages.new.links.len = search rules in
+    let go_on : c.close_connections.new.connections ≡ closed_connections (connections_taken connections) (faults_in connections) = search rules in
+    let long : length c.close_connections.new.connections ≡ c.run_messages.new.connections.len = search rules in
     turned core (frames_in c.in-Some.replies.items) (world c.run_messages.new.engine) prepared.closed.items (world c.forget_closed.new.engine) _
-    c.in-Some.ensures.settles closes forgets (whole c.close_links.new.links _ c.run_messages.new.links.len long ∙ go_on ∙ all_closed links)
+    c.in-Some.ensures.settles closes forgets (whole c.close_connections.new.connections _ c.run_messages.new.connections.len long ∙ go_on ∙ all_closed connections)
 
 pub returns-clause-full : goal.returns-clause-full
 returns-clause-full g c =
     let core = c.args.self.now in
-    let links = core.links.items in
+    let connections = core.connections.items in
     let prepared = c.in_ok-refusals.field-0 in
-    let closes : prepared.closed.items ≡ faults links = search rules in
-    let beside : prepared.faults.items ≡ faults_in links = search rules in
+    let closes : prepared.closed.items ≡ faults connections = search rules in
+    let beside : prepared.faults.items ≡ faults_in connections = search rules in
     let forgets : world c.forget_closed.new.engine ≡ forget_all (world c.run_messages.new.engine) prepared.closed.items = search rules in
-    let go_on : c.close_links.new.links ≡ closed_links (links_taken links) (faults_in links) = search rules in
-    let long : length c.close_links.new.links ≡ c.run_messages.new.links.len = search rules in
+    let go_on : c.close_connections.new.connections ≡ closed_connections (connections_taken connections) (faults_in connections) = search rules in
+    let long : length c.close_connections.new.connections ≡ c.run_messages.new.connections.len = search rules in
     turned_for core (frames_in c.in-Some.replies.items) (world c.run_messages.new.engine) prepared.closed.items (world c.forget_closed.new.engine) _
-    c.in-Some.ensures.settles closes forgets (whole c.close_links.new.links _ c.run_messages.new.links.len long ∙ go_on ∙ all_closed links)
+    c.in-Some.ensures.settles closes forgets (whole c.close_connections.new.connections _ c.run_messages.new.connections.len long ∙ go_on ∙ all_closed connections)
 
 pub returns-clause-acknowledged : goal.returns-clause-acknowledged
 returns-clause-acknowledged g c running = engine_holds g.D.Disk.history c.forget_closed.new.engine c.forget_closed.ensures.sound c.forget_closed.ensures.idle (c.forget_closed.ensures.running ∙ c.in-Some.ensures.running ∙ running)
@@ -45,7 +46,7 @@ returns-clause-acknowledged g c running = engine_holds g.D.Disk.history c.forget
 pub returns-in_err-refusals-clause-any_moment : goal.returns-in_err-refusals-clause-any_moment
 returns-in_err-refusals-clause-any_moment g c =
     let engine = c.args.self.now.engine in
-    stays g.D.Disk.history engine engine (λ image. Holds image (world engine).state) c.requires.sound c.args.self.now.idle refl
+    stays g.D.Disk.history engine engine (λ image. Holds image (world engine).collections) c.requires.sound c.args.self.now.idle refl
 
 pub returns-clause-any_moment : goal.returns-clause-any_moment
 returns-clause-any_moment g c running =
@@ -56,15 +57,15 @@ returns-clause-any_moment g c running =
 pub returns-in_default-clause-fails : goal.returns-in_default-clause-fails
 returns-in_default-clause-fails g c =
     let core = c.args.self.now in
-    let runs : stopped core ≡ false = sym c.is_stopped.ensures ∙ c.if-is_stopped.false in
+    let runs : is_stopped core ≡ false = sym c.is_stopped.ensures ∙ c.if-is_stopped.false in
     let broke = c.in_default.ensures.breaks refl in
-    let cut : Cut (site core) (record { world = world c.run_messages.new.engine; links = c.run_messages.new.links.items }) = record {
+    let cut : Cut ForMemory (state core) (record { world = world c.run_messages.new.engine; connections = c.run_messages.new.connections.items }) = record {
       replies = broke.replies;
       last = broke.last;
       runs = broke.runs;
-      leaves = λ i. record { world = broke.ends i; links = c.run_messages.ensures.links i };
+      leaves = λ i. record { world = broke.ends i; connections = c.run_messages.ensures.connections i };
     } in
-    subst (λ (b : Bool). TurnFails (site core) turns.Stopped b (record { world = world c.run_messages.new.engine; links = c.run_messages.new.links.items })) (sym runs) cut
+    subst (λ (b : Bool). TurnFails ForMemory (state core) turns.Stopped b (record { world = world c.run_messages.new.engine; connections = c.run_messages.new.connections.items })) (sym runs) cut
 
 pub returns-in_default-clause-device : goal.returns-in_default-clause-device
 returns-in_default-clause-device g c _ k = c.in_default.ensures.device refl k

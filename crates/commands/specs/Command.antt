@@ -1,0 +1,43 @@
+-- The command that a body spells, or its first refusal. The body's first name says which command it is: an unknown one goes
+-- first, then the value of that name, then the fields in the order written, then a missing field, then the namespace.
+use Rattle.std.specs.Prelude.{ℕ, ◌≤◌, if◌then◌else◌, List, codes, length, Result, Ok, Err}
+use Rattle.std.specs.Str.{bytes_eq}
+use Rattle.bson.specs.Tree.{Pairs, no_pairs, pair}
+use Rattle.path.specs.Outcomes.{◌>>=◌}
+use Rattle.path.specs.declared.refusal.Refusal.{Refusal}
+use Rattle.path.specs.declared.refusal.Refusal.TheVariants as refusals
+use Rattle.commands.specs.Ping.{read_ping}
+use Rattle.commands.specs.Insert.{Insert, read_insert}
+use Rattle.commands.specs.Find.{Find, read_find}
+use Rattle.commands.specs.Count.{Count, read_count}
+use Rattle.commands.specs.Delete.{Delete, read_delete}
+
+pub data Command : Type 0 where
+  ping : Command
+  insert : Insert → Command
+  find : Find → Command
+  count : Count → Command
+  delete : Delete → Command
+
+-- what was read, as a command
+abbrev pub as_command : {X : Type 0} → (X → Command) → Result X Refusal → Result Command Refusal
+as_command make read = read >>= (λ x. Ok (make x))
+
+-- the table of commands
+unfoldable pub command_of : Pairs → Result Command Refusal
+command_of no_pairs = Err refusals.CommandNotFound
+command_of (pair name t ps) =
+    if bytes_eq name (codes "ping") then as_command (λ _. ping) (read_ping t ps) else
+    if bytes_eq name (codes "insert") then as_command insert (read_insert t ps) else
+    if bytes_eq name (codes "find") then as_command find (read_find t ps) else
+    if bytes_eq name (codes "count") then as_command count (read_count t ps) else
+    if bytes_eq name (codes "delete") then as_command delete (read_delete t ps) else
+    Err refusals.CommandNotFound
+
+-- What a command that was read keeps: a namespace of at most 255 bytes, and from 1 to 1,000 documents.
+abbrev pub IsBounded : Command → Type 0
+IsBounded ping = Unit {0}
+IsBounded (insert c) = (length c.namespace ≤ 255) × (length c.documents ≤ 1000) × (1 ≤ length c.documents)
+IsBounded (find c) = length c.namespace ≤ 255
+IsBounded (count c) = Unit {0}
+IsBounded (delete c) = Unit {0}

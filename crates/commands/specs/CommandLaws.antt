@@ -1,0 +1,144 @@
+-- A command that was read has a namespace and documents within their limits.
+use Rattle.std.proofs.Common.{◌≡◌, ℕ, ◌+◌, ◌≤◌, Bool, true, false, List, [], ◌∷◌, ◌++◌, length, Option, Some, None, Result, Ok, Err, refl, ap, subst, arith, length-append}
+use Rattle.std.specs.Prelude.{◌||◌, ◌==◌, nat_lt, if◌then◌else◌, codes, unwrap_or, IfOk}
+use Rattle.std.specs.Str.{bytes_eq}
+use Rattle.std.proofs.lemmas.Bool.{ltb-false, eqb-false}
+use Rattle.bson.specs.Tree.{Tree, scalar, document, array, Pairs, no_pairs, pair, Items, no_items, item}
+use Rattle.bson.specs.Edits.{items_len}
+use Rattle.path.specs.Outcomes.{◌>>=◌, unless, or_refused}
+use Rattle.path.specs.View.{Gives}
+use Rattle.path.specs.declared.refusal.Refusal.{Refusal}
+use Rattle.path.specs.declared.refusal.Refusal.TheVariants as refusals
+use Rattle.commands.specs.OutcomeLaws.{step_of, passed}
+use Rattle.commands.specs.Values.{text_in, items_of, document_in}
+use Rattle.commands.specs.Fields.{CommonFields, read_fields, common_field, no_common}
+use Rattle.commands.specs.Statements.{statements_in, each_of}
+use Rattle.commands.specs.Names.{is_bad_database, is_bad_collection, is_too_long, namespace_of}
+use Rattle.commands.specs.Ping.{read_ping}
+use Rattle.commands.specs.Insert.{Insert, InsertFields, no_insert_fields, documents_in, insert_field, read_insert}
+use Rattle.commands.specs.Find.{Find, no_find_fields, find_field, query_of, read_find}
+use Rattle.commands.specs.Count.{Count, read_count}
+use Rattle.commands.specs.Delete.{Delete, read_delete}
+use Rattle.commands.specs.Command.{Command, ping, insert, find, count, delete, as_command, command_of, IsBounded}
+
+later_false : (a b : Bool) → (a || b) ≡ false → b ≡ false
+later_false true b e = absurd cc
+later_false false b e = e
+
+-- ---- namespaces
+
+short : (database name namespace : List ℕ) → namespace_of database name ≡ Ok namespace → length namespace ≤ 255
+short database name namespace e =
+    let p = passed (is_bad_database database || is_bad_collection name || is_too_long database name) refusals.InvalidNamespace (Ok (database ++ 46 ∷ name)) namespace e in
+    let few = ltb-false 255 (length database + 1 + length name) (later_false (is_bad_database database || is_bad_collection name) (is_too_long database name) p.0) in
+    let same : database ++ 46 ∷ name ≡ namespace = cc in
+    omega (arith, few, length-append database (46 ∷ name), ap length same)
+
+-- ---- documents
+
+as_many : {X : Type 0} (read : Tree → Result X Refusal) (ts : Items) (xs : List X) → each_of read ts ≡ Ok xs → length xs ≡ items_len ts
+as_many read no_items xs e = let none : xs ≡ [] = cc in ap length none
+as_many {X} read (item t ts) xs e =
+    let s = step_of (read t) (λ x. each_of read ts >>= (λ others. let r : Result (List X) Refusal = Ok (x ∷ others) in r)) xs e in
+    let more : List X → Result (List X) Refusal = λ others. Ok (s.0 ∷ others) in
+    let o = step_of (each_of read ts) more xs s.2 in
+    let same : s.0 ∷ o.0 ≡ xs = cc in
+    omega (arith, as_many read ts o.0 o.1, ap length same)
+
+few_items : (t : Tree) (ts : Items) → statements_in t ≡ Ok ts → (items_len ts ≤ 1000) × (1 ≤ items_len ts)
+few_items t ts e =
+    let s = step_of (or_refused (items_of t) refusals.TypeMismatch) (λ us. unless (nat_lt 1000 (items_len us)) refusals.TooMany (unless (items_len us == 0) refusals.BadValue (Ok us))) ts e in
+    let p = passed (nat_lt 1000 (items_len s.0)) refusals.TooMany (unless (items_len s.0 == 0) refusals.BadValue (Ok s.0)) ts s.2 in
+    let q = passed (items_len s.0 == 0) refusals.BadValue (Ok s.0) ts p.1 in
+    let same : s.0 ≡ ts = cc in
+    (omega (arith, ap items_len same, ltb-false 1000 (items_len s.0) p.0), omega (arith, ap items_len same, eqb-false (items_len s.0) 0 q.0))
+
+-- some documents, and not too many
+abbrev AreFew : List Pairs → Type 0
+AreFew ds = (length ds ≤ 1000) × (1 ≤ length ds)
+
+few : (t : Tree) (ds : List Pairs) → documents_in t ≡ Ok ds → AreFew ds
+few t ds e =
+    let s = step_of (statements_in t) (each_of document_in) ds e in
+    let items = few_items t s.0 s.1 in
+    (omega (arith, as_many document_in s.0 ds s.2, items.0), omega (arith, as_many document_in s.0 ds s.2, items.1))
+
+abbrev FewAt : Option (List Pairs) → Type 0
+FewAt None = Unit {0}
+FewAt (Some ds) = AreFew ds
+
+few_field : (found next : InsertFields) (name : List ℕ) (t : Tree) → FewAt found.documents → insert_field found name t ≡ Ok next → FewAt next.documents
+few_field found next name t h e = at (bytes_eq name (codes "documents")) e
+  where
+    put : (r : Result (List Pairs) Refusal) → documents_in t ≡ r → (r >>= (λ ds. let x : Result InsertFields Refusal = Ok (record found { documents = Some ds }) in x)) ≡ Ok next → FewAt next.documents
+    put (Err f) is e = absurd cc
+    put (Ok ds) is e = let same : record found { documents = Some ds } ≡ next = cc in subst (λ (f : InsertFields). FewAt f.documents) same (few t ds is)
+
+    keep : (r : Result CommonFields Refusal) → (r >>= (λ c. let x : Result InsertFields Refusal = Ok (record found { common = c }) in x)) ≡ Ok next → FewAt next.documents
+    keep (Err f) e = absurd cc
+    keep (Ok c) e = let same : record found { common = c } ≡ next = cc in subst (λ (f : InsertFields). FewAt f.documents) same h
+
+    at : (b : Bool) → (if b then (documents_in t >>= (λ ds. let x : Result InsertFields Refusal = Ok (record found { documents = Some ds }) in x)) else (common_field found.common name t >>= (λ c. let x : Result InsertFields Refusal = Ok (record found { common = c }) in x))) ≡ Ok next → FewAt next.documents
+    at true e = put (documents_in t) refl e
+    at false e = keep (common_field found.common name t) e
+
+few_fields : (ps : Pairs) (found next : InsertFields) → FewAt found.documents → read_fields insert_field found ps ≡ Ok next → FewAt next.documents
+few_fields no_pairs found next h e = let same : found ≡ next = cc in subst (λ (f : InsertFields). FewAt f.documents) same h
+few_fields (pair name t ps) found next h e =
+    let s = step_of (insert_field found name t) (λ mid. read_fields insert_field mid ps) next e in
+    few_fields ps s.0 next (few_field found s.0 name t h s.1) s.2
+
+few_there : (o : Option (List Pairs)) (ds : List Pairs) → FewAt o → or_refused o refusals.FailedToParse ≡ Ok ds → AreFew ds
+few_there None ds h e = absurd cc
+few_there (Some es) ds h e = let same : es ≡ ds = cc in subst AreFew same h
+
+-- ---- commands
+
+pub insert_bounded : (t : Tree) (ps : Pairs) (c : Insert) → read_insert t ps ≡ Ok c → (length c.namespace ≤ 255) × (length c.documents ≤ 1000) × (1 ≤ length c.documents)
+insert_bounded t ps c e =
+    let n = step_of (text_in t) _ c e in
+    let s = step_of (read_fields insert_field no_insert_fields ps) _ c n.2 in
+    let b = step_of (or_refused s.0.common.database refusals.FailedToParse) _ c s.2 in
+    let d = step_of (or_refused s.0.documents refusals.FailedToParse) _ c b.2 in
+    let m = step_of (namespace_of b.0 n.0) _ c d.2 in
+    let made : Insert = record { namespace = m.0; documents = d.0 } in
+    let same : made ≡ c = cc in
+    let some = few_there s.0.documents d.0 (few_fields ps no_insert_fields s.0 tt s.1) d.1 in
+    subst (λ (x : Insert). (length x.namespace ≤ 255) × (length x.documents ≤ 1000) × (1 ≤ length x.documents)) same (short b.0 n.0 m.0 m.1, some.0, some.1)
+
+pub find_bounded : (t : Tree) (ps : Pairs) (c : Find) → read_find t ps ≡ Ok c → length c.namespace ≤ 255
+find_bounded t ps c e =
+    let n = step_of (text_in t) _ c e in
+    let s = step_of (read_fields find_field no_find_fields ps) _ c n.2 in
+    let b = step_of (or_refused s.0.common.database refusals.FailedToParse) _ c s.2 in
+    let m = step_of (namespace_of b.0 n.0) _ c b.2 in
+    let made : Find = record { namespace = m.0; query = query_of s.0; batch_size = s.0.batch_size } in
+    let same : made ≡ c = cc in
+    subst (λ (x : Find). length x.namespace ≤ 255) same (short b.0 n.0 m.0 m.1)
+
+-- what was read is bounded, so the command is
+made_bounded : {X : Type 0} (make : X → Command) (read : Result X Refusal) (c : Command) → ((x : X) → read ≡ Ok x → IsBounded (make x)) → as_command make read ≡ Ok c → IsBounded c
+made_bounded {X} make read c keeps e =
+    let last : X → Result Command Refusal = λ x. Ok (make x) in
+    let s = step_of read last c e in
+    let same : make s.0 ≡ c = cc in
+    subst IsBounded same (keeps s.0 s.1)
+
+pub bounded : (ps : Pairs) (c : Command) → command_of ps ≡ Ok c → IsBounded c
+unfolding command_of
+bounded no_pairs c e = absurd cc
+bounded (pair name t ps) c e = at (bytes_eq name (codes "ping")) (bytes_eq name (codes "insert")) (bytes_eq name (codes "find")) (bytes_eq name (codes "count")) (bytes_eq name (codes "delete")) e
+  where
+    at : (is_ping is_insert is_find is_count is_delete : Bool)
+        → (if is_ping then as_command (λ _. ping) (read_ping t ps) else (if is_insert then as_command insert (read_insert t ps) else (if is_find then as_command find (read_find t ps) else (if is_count then as_command count (read_count t ps) else (if is_delete then as_command delete (read_delete t ps) else Err refusals.CommandNotFound))))) ≡ Ok c → IsBounded c
+    at true is_insert is_find is_count is_delete e = made_bounded (λ _. ping) (read_ping t ps) c (λ x h. tt) e
+    at false true is_find is_count is_delete e = made_bounded insert (read_insert t ps) c (insert_bounded t ps) e
+    at false false true is_count is_delete e = made_bounded find (read_find t ps) c (find_bounded t ps) e
+    at false false false true is_delete e = made_bounded count (read_count t ps) c (λ x h. tt) e
+    at false false false false true e = made_bounded delete (read_delete t ps) c (λ x h. tt) e
+    at false false false false false e = absurd cc
+
+-- a reader that gives what was planned gives a bounded command
+pub gives-bounded : {X : Type 0} (view : X → Command) (planned : Result Command Refusal) (r : Result X Refusal) → Gives view planned r → ((c : Command) → planned ≡ Ok c → IsBounded c) → IfOk r (λ x. IsBounded (view x))
+gives-bounded view planned (Ok x) h keeps = keeps (view x) h
+gives-bounded view planned (Err e) h keeps = tt

@@ -1,0 +1,13 @@
+pub mod Values
+pub mod Fields
+pub mod Statements
+pub mod Names
+pub mod Ping
+pub mod Insert
+pub mod Find
+pub mod Count
+pub mod Delete
+pub mod Command
+pub mod View
+pub mod OutcomeLaws
+pub mod CommandLaws

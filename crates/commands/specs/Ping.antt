@@ -1,0 +1,14 @@
+-- `ping` has no fields of its own. Its value is read over.
+use Rattle.bson.specs.Tree.{Tree, Pairs}
+use Rattle.std.specs.Prelude.{Result, Ok}
+use Rattle.path.specs.Outcomes.{◌>>=◌, unless, or_refused}
+use Rattle.path.specs.declared.refusal.Refusal.{Refusal}
+use Rattle.path.specs.declared.refusal.Refusal.TheVariants as refusals
+use Rattle.commands.specs.Fields.{read_fields, common_field, no_common}
+use Rattle.commands.specs.Names.{is_bad_database}
+
+abbrev pub read_ping : Tree → Pairs → Result (Unit {0}) Refusal
+read_ping t ps = do
+  found ← read_fields common_field no_common ps
+  database ← or_refused found.database refusals.FailedToParse
+  unless (is_bad_database database) refusals.InvalidNamespace (Ok tt)

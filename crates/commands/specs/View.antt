@@ -1,0 +1,37 @@
+-- What the values of the crate stand for.
+use Rattle.std.specs.Prelude.{ℕ, List, map, string_bytes}
+use Rattle.std.specs.Borrow.{Bor}
+use Rattle.bson.specs.Tree.{Pairs}
+use Rattle.commands.specs.Command as commands
+use Rattle.commands.specs.Insert as inserts
+use Rattle.commands.specs.Find as finds
+use Rattle.commands.specs.Count as counts
+use Rattle.commands.specs.Delete as deletes
+use Rattle.commands.specs.declared.insert.Insert.{Insert}
+use Rattle.commands.specs.declared.find.Find.{Find}
+use Rattle.commands.specs.declared.count.Count.{Count}
+use Rattle.commands.specs.declared.delete.Delete.{Delete}
+use Rattle.commands.specs.declared.command.Command.{Command}
+use Rattle.commands.specs.declared.command.Command.TheVariants as cases
+
+abbrev pub documents_at : List (Bor Pairs) → List Pairs
+documents_at ds = map (λ d. d.now) ds
+
+abbrev pub insert_read : Insert → inserts.Insert
+insert_read c = record { namespace = string_bytes c.namespace; documents = documents_at c.documents.items }
+
+abbrev pub find_read : Find → finds.Find
+find_read c = record { namespace = string_bytes c.namespace; query = c.query; batch_size = c.batch_size }
+
+abbrev pub count_read : Count → counts.Count
+count_read c = record { namespace = string_bytes c.namespace; filter = c.filter; skip = c.skip; limit = c.limit }
+
+abbrev pub delete_read : Delete → deletes.Delete
+delete_read c = record { namespace = string_bytes c.namespace; deletions = c.deletions.items }
+
+abbrev pub command_read : Command → commands.Command
+command_read cases.Ping = commands.ping
+command_read (cases.Insert c) = commands.insert (insert_read c)
+command_read (cases.Find c) = commands.find (find_read c)
+command_read (cases.Count c) = commands.count (count_read c)
+command_read (cases.Delete c) = commands.delete (delete_read c)

@@ -1,0 +1,58 @@
+//! The command that a body spells.
+
+ghost use Rattle.std.specs.Prelude.{IfOk};
+ghost use Rattle.path.specs.View.{Gives};
+ghost use Rattle.commands.specs.Command.{command_of, IsBounded};
+ghost use Rattle.commands.specs.View.{command_read};
+
+use crate::count::{Count, read_count};
+use crate::delete::{Delete, read_delete};
+use crate::find::{Find, read_find};
+use crate::insert::{Insert, read_insert};
+use crate::ping::read_ping;
+use bson::Document;
+use path::Refusal;
+use std::alloc::Global;
+
+/// A command that was read.
+#[derive(Drop)]
+pub enum Command<'a> {
+    Ping,
+    Insert(Insert<'a>),
+    Find(Find),
+    Count(Count),
+    Delete(Delete),
+}
+
+impl<'a> Command<'a> {
+    /// The command that a body spells, which its first name says.
+    ///
+    /// The first of these refusals: `CommandNotFound`; `TypeMismatch` where the collection's name is no
+    /// string; what is wrong with a field, in the order written; `FailedToParse` where a field
+    /// is missing; `InvalidNamespace`.
+    #[tactic(auto, unfolding(crate::specs::Command::command_of))]
+    pub fn read(alloc: Global, body: &'a Document) -> Result<Command<'a>, Refusal>
+        ensures gives { Gives command_read (command_of body.now) result }
+        ensures bounded { IfOk result (λ c. IsBounded (command_read c)) }
+    {
+        let Some((first, rest)) = body.pairs().split_first() else {
+            return Err(Refusal::CommandNotFound);
+        };
+        let name = first.name.as_str();
+        let value = &first.value;
+        if name == "ping" {
+            read_ping(alloc, value, rest)?;
+            Ok(Command::Ping)
+        } else if name == "insert" {
+            Ok(Command::Insert(read_insert(alloc, value, rest)?))
+        } else if name == "find" {
+            Ok(Command::Find(read_find(alloc, value, rest)?))
+        } else if name == "count" {
+            Ok(Command::Count(read_count(alloc, value, rest)?))
+        } else if name == "delete" {
+            Ok(Command::Delete(read_delete(alloc, value, rest)?))
+        } else {
+            Err(Refusal::CommandNotFound)
+        }
+    }
+}

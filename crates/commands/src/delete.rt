@@ -1,0 +1,179 @@
+//! `delete`: documents to be taken away from a collection, statement by statement.
+
+ghost use Rattle.std.specs.Prelude.{◌≡◌};
+ghost use Rattle.bson.specs.View.{tree, pairs_of, items_of};
+ghost use Rattle.path.specs.View.{Gives};
+ghost use Rattle.path.specs.Outcomes.{Does};
+ghost use Rattle.commands.specs.Delete.{no_deletion_fields, only_first_in, deletion_field, read_deletion, no_delete_fields, deletions_in, delete_field, read_delete};
+ghost use Rattle.commands.specs.Statements.{each_of};
+ghost use Rattle.commands.specs.Values.{spelled_in};
+ghost use Rattle.commands.specs.View.{delete_read};
+
+use crate::fields::{CommonFields, Fields, read_fields};
+use crate::names::namespace_of;
+use crate::statements::statements_in;
+use crate::values::{count_in, document_in, text_in};
+use bson::{Document, Pair, Value};
+use filter::Filter;
+use path::Refusal;
+use std::alloc::Global;
+use std::marker::Model;
+
+/// A statement of a delete: it takes away the first document that matches, or all of them.
+#[derive(Drop)]
+pub struct Deletion {
+    pub filter: Filter,
+    pub only_first: bool,
+}
+
+impl Model for Deletion {
+    ghost use Rattle.commands.specs.Delete as deletes;
+    ghost use Rattle.std.specs.Coded.{codes};
+    ghost use Rattle.filter.specs.RuleCode.{coded_rules};
+
+    ghost Value = { deletes.Deletion };
+
+    ghost coded = { Prim.hlevel (codes, coded_rules) };
+
+    ghost view = { λ a. record { filter = a.filter; only_first = a.only_first } };
+}
+
+/// From 1 to 1,000 statements over a collection.
+#[derive(Drop)]
+pub struct Delete {
+    pub namespace: String,
+    pub deletions: Vec<Deletion>,
+}
+
+/// The fields of a statement that were met so far.
+#[derive(Drop)]
+struct DeletionFields {
+    filter: Option<Filter>,
+    only_first: Option<bool>,
+}
+
+impl Model for DeletionFields {
+    ghost use Rattle.commands.specs.Delete as deletes;
+    ghost use Rattle.std.specs.Coded.{codes};
+    ghost use Rattle.filter.specs.RuleCode.{coded_rules};
+
+    ghost Value = { deletes.DeletionFields };
+
+    ghost coded = { Prim.hlevel (codes, coded_rules) };
+
+    ghost view = { λ a. record { filter = a.filter; only_first = a.only_first } };
+}
+
+/// Whether the first document alone is meant: 1, and not 0.
+fn only_first_in(value: &Value) -> Result<bool, Refusal>
+    ensures { Gives (λ b. b) (only_first_in (tree value.now)) result }
+{
+    match count_in(value)? {
+        0 => Ok(false),
+        1 => Ok(true),
+        _ => Err(Refusal::BadValue),
+    }
+}
+
+impl<'a> Fields<'a> for DeletionFields {
+    ghost field = { deletion_field };
+
+    fn read_field(&mut self, alloc: Global, name: &str, value: &'a Value) -> Result<(), Refusal> {
+        if name == "q" {
+            self.filter = Some(Filter::read(alloc, document_in(value)?)?);
+            Ok(())
+        } else if name == "limit" {
+            self.only_first = Some(only_first_in(value)?);
+            Ok(())
+        } else {
+            Err(Refusal::FailedToParse)
+        }
+    }
+}
+
+/// The statement that a document spells: a filter `q`, and a `limit` of 0 or 1. Neither may be missing.
+fn read_deletion(alloc: Global, statement: &Document) -> Result<Deletion, Refusal>
+    ensures { Gives (λ d. d) (read_deletion statement.now) result }
+{
+    let none = DeletionFields {
+        filter: None,
+        only_first: None,
+    };
+    let found = read_fields(alloc, none, statement.pairs())?;
+    let filter = found.filter.ok_or(Refusal::FailedToParse)?;
+    let only_first = found.only_first.ok_or(Refusal::FailedToParse)?;
+    Ok(Deletion { filter, only_first })
+}
+
+/// The statements that the items of an array spell.
+fn all_deletions(alloc: Global, items: &[Value]) -> Result<Vec<Deletion>, Refusal>
+    ensures { Gives (λ v. v.items) (each_of (spelled_in read_deletion) (items_of items.now)) result }
+{
+    let mut deletions = Vec::with_capacity(alloc, items.len())?;
+    'items: for item in items {
+        deletions.push(read_deletion(alloc, document_in(item)?)?)?;
+    }
+    Ok(deletions)
+}
+
+/// The statements of a delete.
+fn deletions_in(alloc: Global, value: &Value) -> Result<Vec<Deletion>, Refusal>
+    ensures { Gives (λ v. v.items) (deletions_in (tree value.now)) result }
+{
+    all_deletions(alloc, statements_in(value)?)
+}
+
+/// The fields of a `delete` that were met so far.
+#[derive(Drop)]
+struct DeleteFields<'a> {
+    common: CommonFields<'a>,
+    deletions: Option<Vec<Deletion>>,
+}
+
+impl<'a> Model for DeleteFields<'a> {
+    ghost use Rattle.std.specs.Prelude.{option_map};
+    ghost use Rattle.commands.specs.Delete as deletes;
+    ghost use Rattle.std.specs.Coded.{codes};
+    ghost use Rattle.filter.specs.RuleCode.{coded_rules};
+
+    ghost Value = { deletes.DeleteFields };
+
+    ghost coded = { Prim.hlevel (codes, coded_rules) };
+
+    ghost view = { λ a. record { common = a.common; deletions = option_map (λ v. v.items) a.deletions } };
+}
+
+impl<'a> Fields<'a> for DeleteFields<'a> {
+    ghost field = { delete_field };
+
+    fn read_field(&mut self, alloc: Global, name: &str, value: &'a Value) -> Result<(), Refusal> {
+        if name == "deletes" {
+            self.deletions = Some(deletions_in(alloc, value)?);
+            Ok(())
+        } else {
+            self.common.read_field(alloc, name, value)
+        }
+    }
+}
+
+/// Reads a `delete` from the value of its name, which is the collection's, and its further fields.
+pub(crate) fn read_delete(
+    alloc: Global,
+    collection: &Value,
+    pairs: &[Pair],
+) -> Result<Delete, Refusal>
+    ensures { Gives delete_read (read_delete (tree collection.now) (pairs_of pairs.now)) result }
+{
+    let name = text_in(collection)?;
+    let none = DeleteFields {
+        common: CommonFields::new(),
+        deletions: None,
+    };
+    let DeleteFields { common, deletions } = read_fields(alloc, none, pairs)?;
+    let database = common.database()?;
+    let deletions = deletions.ok_or(Refusal::FailedToParse)?;
+    Ok(Delete {
+        namespace: namespace_of(alloc, database, name)?,
+        deletions,
+    })
+}

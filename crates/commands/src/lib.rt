@@ -1,0 +1,19 @@
+//! Commands: what the body of a message asks for, or why it is refused.
+#![tactic(auto)]
+
+mod command;
+mod count;
+mod delete;
+mod fields;
+mod find;
+mod insert;
+mod names;
+mod ping;
+mod statements;
+mod values;
+
+pub use command::Command;
+pub use count::Count;
+pub use delete::{Delete, Deletion};
+pub use find::{Find, Query};
+pub use insert::Insert;

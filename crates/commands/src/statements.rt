@@ -1,0 +1,28 @@
+//! The documents or statements of one command.
+
+ghost use Rattle.bson.specs.View.{tree, items_of};
+ghost use Rattle.path.specs.View.{Gives};
+ghost use Rattle.commands.specs.Statements.{statements_in};
+
+use bson::Value;
+use path::Refusal;
+
+/// The most documents or statements of one command.
+const MOST_STATEMENTS: usize = 1_000;
+
+/// The items of the array that a value is: at least one (else `BadValue`), and at most 1,000 (else `TooMany`);
+/// `TypeMismatch` where it is no array.
+pub(crate) fn statements_in(value: &Value) -> Result<&[Value], Refusal>
+    ensures { Gives (λ items. items_of items.now) (statements_in (tree value.now)) result }
+{
+    let Value::Array(array) = value else {
+        return Err(Refusal::TypeMismatch);
+    };
+    if MOST_STATEMENTS < array.len() {
+        return Err(Refusal::TooMany);
+    }
+    if array.is_empty() {
+        return Err(Refusal::BadValue);
+    }
+    Ok(array.items())
+}

@@ -1,0 +1,44 @@
+//! The values that fields take.
+
+ghost use Rattle.std.specs.Prelude.{◌≡◌};
+ghost use Rattle.bson.specs.View.{tree};
+ghost use Rattle.path.specs.View.{Gives};
+ghost use Rattle.commands.specs.Values.{text_in, count_in, document_in};
+
+use bson::{Document, Value};
+use path::Refusal;
+
+/// The text that a value is; `TypeMismatch` where it is none.
+pub(crate) fn text_in(value: &Value) -> Result<&str, Refusal>
+    ensures { Gives (λ s. s.now) (text_in (tree value.now)) result }
+{
+    match value {
+        Value::String(text) => Ok(text.as_str()),
+        _ => Err(Refusal::TypeMismatch),
+    }
+}
+
+/// The count that a value is: a number (else `TypeMismatch`) that is not negative (else `BadValue`).
+pub(crate) fn count_in(value: &Value) -> Result<usize, Refusal>
+    ensures { Gives (λ n. n) (count_in (tree value.now)) result }
+{
+    let number = match value {
+        Value::Int32(number) => i64::from(*number),
+        Value::Int64(number) => *number,
+        _ => return Err(Refusal::TypeMismatch),
+    };
+    if number < 0 {
+        return Err(Refusal::BadValue);
+    }
+    Ok(number as usize)
+}
+
+/// The document that a value is; `TypeMismatch` where it is none.
+pub(crate) fn document_in(value: &Value) -> Result<&Document, Refusal>
+    ensures { Gives (λ d. d.now) (document_in (tree value.now)) result }
+{
+    match value {
+        Value::Document(document) => Ok(document),
+        _ => Err(Refusal::TypeMismatch),
+    }
+}

@@ -1,0 +1,20 @@
+-- `insert`: all documents are stored, or none.
+use Rattle.std.specs.Prelude.{ℕ, ◌&&◌, not, nat_le, length, codes, Result, Ok, is_some}
+use Rattle.bson.specs.Tree.{Pairs, no_pairs, pair}
+use Rattle.path.specs.Outcomes.{◌>>=◌, unless}
+use Rattle.path.specs.declared.refusal.Refusal.{Refusal}
+use Rattle.path.specs.declared.refusal.Refusal.TheVariants as refusals
+use Rattle.commands.specs.Insert.{Insert}
+use Rattle.engine.specs.World.{World, find_collection, documents_of, with_documents, put_collection}
+use Rattle.engine.specs.Documents.{insert_all}
+use Rattle.engine.specs.Refusals.{int}
+
+-- a missing collection is made, where there are not 1,000 yet
+unfoldable pub run_insert : World → Insert → Result (World × Pairs) Refusal
+run_insert world c =
+    unless (nat_le 1000 (length world.collections) && not (is_some (find_collection world.collections c.namespace))) refusals.TooMany (do
+      stored ← insert_all (documents_of world.collections c.namespace) c.documents
+      Ok (
+        record world { collections = put_collection (with_documents world.collections c.namespace stored) world.collections },
+        pair (codes "n") (int (length c.documents)) no_pairs,
+      ))

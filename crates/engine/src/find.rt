@@ -1,0 +1,175 @@
+//! `find`: which documents, in which order, and what is given of each.
+
+ghost use Rattle.std.specs.Prelude.{◌≡◌, ◌≢◌, ◌≤◌, ◌<◌, Some, IfOk, IfErr, All, length, map, take};
+ghost use Rattle.filter.specs.Matches.{matches};
+ghost use Rattle.filter.specs.Projection.{project};
+ghost use Rattle.commands.specs.View.{documents_at};
+ghost use Rattle.engine.specs.Lawful.{IsWithin};
+ghost use Rattle.engine.specs.World.{documents_of};
+ghost use Rattle.engine.specs.Find.{matching, window, selection, query_result, run_find, Suffices};
+ghost use Rattle.engine.specs.View.{world, IsSendable, Runs};
+
+use crate::batch::batch_len;
+use crate::connection::ConnId;
+use crate::engine::Engine;
+use crate::reply::find_reply;
+use crate::shared_document::SharedDocument;
+use bson::{Document, NoMemory};
+use commands::Query;
+use filter::{Filter, Projection};
+use page::Disk;
+use path::Refusal;
+use std::alloc::Global;
+
+/// Whether a document matches a filter. It takes no memory.
+pub(crate) fn matches(filter: &Filter, document: &Document) -> bool
+    ensures { result ≡ matches filter.now document.now }
+{
+    filter.matches(document).unwrap()
+}
+
+/// The documents that match a filter, in their order: the first ones, up to so many.
+fn first_matching<'a>(
+    alloc: Global,
+    documents: &'a [SharedDocument],
+    filter: &Filter,
+    most: usize,
+) -> Result<Vec<&'a Document>, NoMemory>
+    ensures { IfOk result (λ v. documents_at v.items
+        ≡ take most (matching filter.now documents.now)) }
+{
+    let mut found = Vec::new(alloc);
+    'documents: for document in documents {
+        if found.len() == most {
+            return Ok(found);
+        }
+        if matches(filter, document.document()) {
+            found.push(document.document())?;
+        }
+    }
+    Ok(found)
+}
+
+/// What is left of items without those that are skipped and those past the limit; a limit of 0 is none.
+fn window<T>(items: &[T], skip: usize, limit: usize) -> &[T]
+    ensures { result.now ≡ window skip limit items.now }
+{
+    let rest = &items[skip.min(items.len())..];
+    if limit == 0 {
+        rest
+    } else {
+        &rest[..limit.min(rest.len())]
+    }
+}
+
+/// What a projection leaves of each document.
+fn projected(
+    alloc: Global,
+    projection: &Projection,
+    documents: &[&Document],
+) -> Result<Vec<Document>, NoMemory>
+    ensures { IfOk result (λ v. v.items
+        ≡ map (project projection.now) (documents_at documents.now)) }
+{
+    let mut given = Vec::with_capacity(alloc, documents.len())?;
+    'documents: for document in documents {
+        given.push(projection.of(document)?)?;
+    }
+    Ok(given)
+}
+
+/// What a query gives of the documents that it selects.
+fn given(alloc: Global, query: &Query, selected: &[&Document]) -> Result<Vec<Document>, NoMemory>
+    ensures { IfOk result (λ v. v.items
+        ≡ map (project query.now.projection) (documents_at selected.now)) }
+{
+    projected(alloc, &query.projection, selected)
+}
+
+/// Those of ordered documents that are not skipped and within the limit.
+fn selected<'s, 'a>(query: &Query, ordered: &'s [&'a Document]) -> &'s [&'a Document]
+    ensures { documents_at result.now
+        ≡ window query.now.skip query.now.limit (documents_at ordered.now) }
+{
+    window(ordered, query.skip, query.limit)
+}
+
+/// How many have to be found among so many documents: all, or none past the limit where nothing is sorted.
+fn enough(query: &Query, count: usize) -> usize
+    ensures { Suffices query.now count result }
+{
+    if query.limit == 0 || !query.sort.is_empty() {
+        return count;
+    }
+    query.skip.saturating_add(query.limit)
+}
+
+/// The documents that match, in the order of the sort, as far as they are asked for.
+fn ordered<'a>(
+    alloc: Global,
+    query: &Query,
+    documents: &'a [SharedDocument],
+) -> Result<Vec<&'a Document>, NoMemory>
+    ensures { IfOk result (λ v. window query.now.skip query.now.limit (documents_at v.items)
+        ≡ selection query.now documents.now) }
+{
+    let found = first_matching(
+        alloc,
+        documents,
+        &query.filter,
+        enough(query, documents.len()),
+    )?;
+    if query.sort.is_empty() {
+        return Ok(found);
+    }
+    query.sort.order_shared(found)
+}
+
+impl<D: Disk> Engine<D> {
+    /// What a query gives, where there is not more of it than may go into a batch. A cursor on the others may not be
+    /// opened yet: `TooMany`.
+    fn run_query(
+        &self,
+        namespace: &str,
+        query: &Query,
+        most: usize,
+    ) -> Result<Vec<Document>, Refusal>
+        ensures given { IfOk result (λ v. v.items
+            ≡ query_result query.now (documents_of (world self.now).collections namespace.now)) }
+        ensures within { IfOk result (λ v. All IsWithin v.items) }
+        ensures over { IfErr result (λ e. e ≢ Refusal.OutOfMemory → (e ≡ Refusal.TooMany)
+            × (most < length (query_result query.now (documents_of (world self.now).collections namespace.now)))) }
+    {
+        let documents = self.collections.documents(namespace);
+        let ordered = ordered(self.alloc, query, documents)?;
+        let selected = selected(query, &ordered);
+        if most < selected.len() {
+            return Err(Refusal::TooMany);
+        }
+        Ok(given(self.alloc, query, selected)?)
+    }
+
+    /// Finds documents, where they all go into one batch. A cursor on the others may not be opened yet: `TooMany`.
+    pub(crate) fn find(
+        &self,
+        connection: ConnId,
+        namespace: &str,
+        query: &Query,
+        most: usize,
+    ) -> Result<Document, Refusal>
+        requires { length namespace.now ≤ 255 }
+        ensures runs { Runs (world self.now)
+            (run_find (world self.now) connection
+            (record { namespace = namespace.now; query = query.now; batch_size = Some most }))
+            (world self.now) result }
+        ensures sendable { IfOk result (λ d. IsSendable d) }
+    {
+        // It would own the cursor.
+        let _ = connection;
+        let found = self.run_query(namespace, query, most)?;
+        if batch_len(&found, most) < found.len() {
+            return Err(Refusal::TooMany);
+        }
+        Ok(find_reply(self.alloc, namespace, found)?)
+    }
+}

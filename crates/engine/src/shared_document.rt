@@ -1,0 +1,49 @@
+//! Documents with several owners.
+
+ghost use Rattle.std.specs.Prelude.{◌≡◌, IfOk};
+
+use bson::{Document, NoMemory};
+use std::alloc::Global;
+use std::marker::Model;
+use std::rc::Rc;
+
+/// A stored document. The collection that has it, and what undoes a change of that collection, own it together, so that
+/// taking it away and putting it back copies nothing.
+#[derive(Drop)]
+pub(crate) struct SharedDocument {
+    document: Rc<Document>,
+}
+
+impl Model for SharedDocument {
+    ghost use Rattle.bson.specs.Tree.{Pairs};
+    ghost use Rattle.bson.specs.TreeCode.{coded_pairs};
+
+    ghost Value = { Pairs };
+
+    ghost coded = { coded_pairs };
+
+    ghost view = { λ a. a.document.value };
+}
+
+impl SharedDocument {
+    pub(crate) fn new(alloc: Global, document: Document) -> Result<SharedDocument, NoMemory>
+        ensures { IfOk result (λ shared. shared ≡ document) }
+    {
+        let document = Rc::new(alloc, document)?;
+        Ok(SharedDocument { document })
+    }
+
+    pub(crate) fn document(&self) -> &Document
+        ensures { result.now ≡ self.now }
+    {
+        self.document.as_ref()
+    }
+
+    /// One more owner.
+    pub(crate) fn share(&self) -> Result<SharedDocument, NoMemory>
+        ensures { IfOk result (λ shared. shared ≡ self.now) }
+    {
+        let document = self.document.clone()?;
+        Ok(SharedDocument { document })
+    }
+}

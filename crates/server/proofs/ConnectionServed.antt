@@ -1,0 +1,45 @@
+-- What a link's part of a turn is.
+use Rattle.std.proofs.Common.{◌≡◌, ℕ, List, [], ◌∷◌, ◌++◌, refl, sym, ◌∙◌, ap, append-nil}
+use Rattle.std.specs.Prelude.{Bool, true, Result, Ok, Err, Option, Some, None}
+use Rattle.bson.specs.Tree.{Pairs}
+use Rattle.op_msg.specs.Frame.{Frame}
+use Rattle.op_msg.specs.Request.{body_of}
+use Rattle.op_msg.specs.declared.fault.FrameFault.{FrameFault}
+use Rattle.op_msg.specs.declared.request.Request.{Request}
+use Rattle.engine.specs.World.{World}
+use Rattle.engine.specs.Step.{ForMemory}
+use Rattle.server.specs.Turn.{frame_unless, frame_for, call_at, taken_at}
+use Rattle.server.specs.Taking.{IsTaken, IsAnswer, Serves}
+use Rattle.server.specs.declared.connection.Connection.{Connection}
+use Rattle.server.specs.declared.connection.Taken.{Taken}
+use Rattle.server.specs.declared.connection.Taken.TheVariants as takes
+
+abbrev Front : Type 0
+Front = Result (Option (Frame × List ℕ)) FrameFault
+
+pub taken_link : (old new : Connection) (front : Front) (t : Taken) → IsTaken old front t new → new ≡ taken_at old front
+taken_link old new (Ok None) takes.Nothing h = h
+taken_link old new (Ok None) (takes.Call n r) h = absurd h
+taken_link old new (Ok (Some x)) takes.Nothing h = absurd h
+taken_link old new (Ok (Some x)) (takes.Call n r) h = h.2
+taken_link old new (Err e) takes.Nothing h = h
+taken_link old new (Err e) (takes.Call n r) h = absurd h
+
+pub nothing_served : (old new : Connection) (front : Front) (t : Taken) (w : World) (given : List (ℕ × List ℕ)) → IsTaken old front t new → ((n : ℕ) (r : Request) → t ≡ takes.Call n r → ⊥) → Serves ForMemory (call_at old front) w w true given given
+nothing_served old new (Ok None) t w given h none = record { replies = []; runs = refl; frames = λ e. sym (append-nil given) }
+nothing_served old new (Err e) t w given h none = record { replies = []; runs = refl; frames = λ e. sym (append-nil given) }
+nothing_served old new (Ok (Some x)) takes.Nothing w given h none = absurd h
+nothing_served old new (Ok (Some x)) (takes.Call n r) w given h none = absurd (none n r refl)
+
+pub one_served : (old new : Connection) (front : Front) (n : ℕ) (r : Request) (w w' : World) (reply : Pairs) (ok : Bool) (given now : List (ℕ × List ℕ)) → IsTaken old front (takes.Call n r) new
+    → IsAnswer ForMemory w old.id r w' reply → (ok ≡ true → now ≡ given ++ frame_unless r.more_to_come old.id n r.request_id reply) → Serves ForMemory (call_at old front) w w' ok given now
+one_served old new (Ok None) n r w w' reply ok given now h a f = absurd h
+one_served old new (Err e) n r w w' reply ok given now h a f = absurd h
+one_served old new (Ok (Some x)) n r w w' reply ok given now h a f = record {
+  replies = reply ∷ [];
+  runs = (w', a (body_of x.0) h.1.body, refl);
+  frames = λ e. f e ∙ ap (λ (fs : List (ℕ × List ℕ)). given ++ fs) (same ∙ sym (append-nil (frame_for (record { connection = old; frame = x.0 }) reply)));
+}
+  where
+    same : frame_unless r.more_to_come old.id n r.request_id reply ≡ frame_for (record { connection = old; frame = x.0 }) reply
+    same = λ i. frame_unless (h.1.more i) old.id (h.0 i) (h.1.number i) reply

@@ -1,0 +1,169 @@
+-- How the links are served, one after the other.
+use Rattle.std.proofs.Common.{◌≡◌, ℕ, zero, suc, ◌+◌, ◌<◌, List, [], ◌∷◌, ◌++◌, length, take, drop, get_or, set, refl, sym, ◌∙◌, ap, subst, arith, append_assoc, append-nil}
+use Rattle.std.proofs.lemmas.List.{take_more}
+use Rattle.std.specs.Prelude.{Bool, true, false, ◌&&◌, Option, Result, Ok, Err}
+use Rattle.bson.specs.Tree.{Pairs}
+use Rattle.engine.specs.World.{World, forget}
+use Rattle.engine.specs.Refusals.{refusal_reply}
+use Rattle.path.specs.declared.refusal.Refusal.{Refusal}
+use Rattle.op_msg.specs.Frame.{Frame}
+use Rattle.op_msg.specs.declared.fault.FrameFault.{FrameFault}
+use Rattle.engine.specs.Step.{ForMemory}
+use Rattle.server.specs.Turn.{Call, Runs, ChangeNothing, frames_of, frame_for, calls, call_at, front_of, connection_at, connections_after, taken_at, connections_taken, forget_all, refused_calls, refused_frames, faults, fault_at}
+use Rattle.server.specs.Taking.{Serves, refused_at, fault_in, faults_in, closed_by, closed_connections, fault_beside}
+use Rattle.server.specs.declared.connection.Connection.{Connection}
+
+runs_on : (cs ds : List Call) (a b c : World) (rs ss : List Pairs) → Runs ForMemory a cs rs b → Runs ForMemory b ds ss c → Runs ForMemory a (cs ++ ds) (rs ++ ss) c
+runs_on [] ds a b c [] ss h k = subst (λ (w : World). Runs ForMemory w ds ss c) h k
+runs_on [] ds a b c (r ∷ rs) ss h k = absurd h
+runs_on (x ∷ cs) ds a b c [] ss h k = absurd h
+runs_on (x ∷ cs) ds a b c (r ∷ rs) ss h k = (h.0, h.1, runs_on cs ds h.0 b c rs ss h.2 k)
+
+frames_on : (cs ds : List Call) (a b : World) (rs ss : List Pairs) → Runs ForMemory a cs rs b → frames_of (cs ++ ds) (rs ++ ss) ≡ frames_of cs rs ++ frames_of ds ss
+frames_on [] ds a b [] ss h = refl
+frames_on [] ds a b (r ∷ rs) ss h = absurd h
+frames_on (x ∷ cs) ds a b [] ss h = absurd h
+frames_on (x ∷ cs) ds a b (r ∷ rs) ss h =
+    ap (λ (fs : List (ℕ × List ℕ)). frame_for x r ++ fs) (frames_on cs ds h.0 b rs ss h.2)
+    ∙ sym (append_assoc (frame_for x r) (frames_of cs rs) (frames_of ds ss))
+
+-- calls that change nothing leave the collections as they are, and so do those after them
+pub quiet_runs : (cs ds : List Call) (a b : World) (rs : List Pairs) → Runs ForMemory a cs rs b → ChangeNothing ForMemory a (cs ++ ds) → (b.collections ≡ a.collections) × ChangeNothing ForMemory b ds
+quiet_runs [] ds a b [] h quiet = (ap (λ (w : World). w.collections) h, subst (λ (w : World). ChangeNothing ForMemory w ds) (sym h) quiet)
+quiet_runs [] ds a b (r ∷ rs) h quiet = absurd h
+quiet_runs (x ∷ cs) ds a b [] h quiet = absurd h
+quiet_runs (x ∷ cs) ds a b (r ∷ rs) h quiet =
+    let one = quiet h.0 r h.1 in
+    let later = quiet_runs cs ds h.0 b rs h.2 one.1 in
+    (later.0 ∙ one.0, later.1)
+
+both : (p q : Bool) → (p && q) ≡ true → (p ≡ true) × (q ≡ true)
+both true q e = (refl, e)
+both false q e = absurd cc
+
+pub serves_on : (cs ds : List Call) (a b c : World) (p q : Bool) (f g h : List (ℕ × List ℕ)) → Serves ForMemory cs a b p f g → Serves ForMemory ds b c q g h → Serves ForMemory (cs ++ ds) a c (p && q) f h
+serves_on cs ds a b c p q f g h s t = record {
+  replies = s.replies ++ t.replies;
+  runs = runs_on cs ds a b c s.replies t.replies s.runs t.runs;
+  frames = λ e.
+      let e2 = both p q e in
+      t.frames e2.1 ∙ ap (λ (fs : List (ℕ × List ℕ)). fs ++ frames_of ds t.replies) (s.frames e2.0)
+      ∙ append_assoc f (frames_of cs s.replies) (frames_of ds t.replies)
+      ∙ ap (λ (fs : List (ℕ × List ℕ)). f ++ fs) (sym (frames_on cs ds a b s.replies t.replies s.runs));
+}
+
+calls_append : (ks ls : List Connection) → calls (ks ++ ls) ≡ calls ks ++ calls ls
+calls_append [] ls = refl
+calls_append (k ∷ ks) ls = ap (λ (cs : List Call). call_at k (front_of k) ++ cs) (calls_append ks ls) ∙ sym (append_assoc (call_at k (front_of k)) (calls ks) (calls ls))
+
+pub calls_more : (ls : List Connection) (i : ℕ) (d : Connection) → i < length ls → calls (take (i + 1) ls) ≡ calls (take i ls) ++ call_at (get_or ls i d) (front_of (get_or ls i d))
+calls_more ls i d within =
+    ap calls (take_more ls i d within) ∙ calls_append (take i ls) (get_or ls i d ∷ []) ∙ ap (λ (cs : List Call). calls (take i ls) ++ cs) (append-nil (call_at (get_or ls i d) (front_of (get_or ls i d))))
+
+abbrev taken : Connection → Connection
+taken l = taken_at l (front_of l)
+
+-- one link more
+pub record Stepped (now first : List Connection) (i : ℕ) (x : Connection) : Type 0 where
+  pub done : take (suc i) now ≡ connections_taken (take (suc i) first)
+  pub left : drop (suc i) now ≡ drop (suc i) first
+  pub same : x ≡ get_or first i x
+  pub within : i < length first
+
+head_is : (x y : Connection) (xs ys : List Connection) → x ∷ xs ≡ y ∷ ys → x ≡ y
+head_is x y xs ys e = cc
+
+tail_is : (x y : Connection) (xs ys : List Connection) → x ∷ xs ≡ y ∷ ys → xs ≡ ys
+tail_is x y xs ys e = cc
+
+pub links_step : (now first : List Connection) (i : ℕ) (x new : Connection) → i < length now → take i now ≡ connections_taken (take i first) → drop i now ≡ drop i first → x ≡ get_or now i x → new ≡ taken_at x (front_of x) → Stepped (set now i new) first i x
+links_step [] first i x new within t d e n = absurd (omega arith)
+links_step (m ∷ ms) [] zero x new within t d e n = absurd cc
+links_step (m ∷ ms) [] (suc i) x new within t d e n = absurd cc
+links_step (m ∷ ms) (f ∷ fs) zero x new within t d e n = record {
+  done = λ k. (n ∙ ap taken (e ∙ head_is m f ms fs d)) k ∷ [];
+  left = tail_is m f ms fs d;
+  same = e ∙ head_is m f ms fs d;
+  within = omega arith;
+}
+links_step (m ∷ ms) (f ∷ fs) (suc i) x new within t d e n =
+    let s = links_step ms fs i x new (omega arith) (tail_is m (taken f) (take i ms) (connections_taken (take i fs)) t) d e n in
+    record {
+      done = λ k. head_is m (taken f) (take i ms) (connections_taken (take i fs)) t k ∷ s.done k;
+      left = s.left;
+      same = s.same;
+      within = omega (arith, s.within);
+    }
+
+-- ---- connections that a fault closed
+
+forget_all_append : (w : World) (fs gs : List (ℕ × FrameFault)) → forget_all w (fs ++ gs) ≡ forget_all (forget_all w fs) gs
+forget_all_append w [] gs = refl
+forget_all_append w (f ∷ fs) gs = forget_all_append (forget w f.0) fs gs
+
+pub forget_all_more : (w : World) (fs : List (ℕ × FrameFault)) (i : ℕ) (d : ℕ × FrameFault) → i < length fs → forget_all w (take (i + 1) fs) ≡ forget (forget_all w (take i fs)) (get_or fs i d).0
+forget_all_more w fs i d within = ap (forget_all w) (take_more fs i d within) ∙ forget_all_append w (take i fs) (get_or fs i d ∷ [])
+
+-- ---- what a turn makes ready
+
+refused_append : (r : Refusal) (cs ds : List Call) → frames_of (cs ++ ds) (refused_calls r (cs ++ ds)) ≡ frames_of cs (refused_calls r cs) ++ frames_of ds (refused_calls r ds)
+refused_append r [] ds = refl
+refused_append r (c ∷ cs) ds =
+    ap (λ (fs : List (ℕ × List ℕ)). frame_for c (refusal_reply r) ++ fs) (refused_append r cs ds)
+    ∙ sym (append_assoc (frame_for c (refusal_reply r)) (frames_of cs (refused_calls r cs)) (frames_of ds (refused_calls r ds)))
+
+pub refused_more : (r : Refusal) (ls : List Connection) (i : ℕ) (d : Connection) → i < length ls → refused_frames r (take (i + 1) ls) ≡ refused_frames r (take i ls) ++ refused_at r (get_or ls i d) (front_of (get_or ls i d))
+refused_more r ls i d within =
+    ap (λ (cs : List Call). frames_of cs (refused_calls r cs)) (calls_more ls i d within) ∙ refused_append r (calls (take i ls)) (call_at (get_or ls i d) (front_of (get_or ls i d)))
+
+faults_append : (ks ls : List Connection) → faults (ks ++ ls) ≡ faults ks ++ faults ls
+faults_append [] ls = refl
+faults_append (k ∷ ks) ls =
+    ap (λ (fs : List (ℕ × FrameFault)). fault_at k (front_of k) ++ fs) (faults_append ks ls) ∙ sym (append_assoc (fault_at k (front_of k)) (faults ks) (faults ls))
+
+pub faults_more : (ls : List Connection) (i : ℕ) (d : Connection) → i < length ls → faults (take (i + 1) ls) ≡ faults (take i ls) ++ fault_at (get_or ls i d) (front_of (get_or ls i d))
+faults_more ls i d within =
+    ap faults (take_more ls i d within) ∙ faults_append (take i ls) (get_or ls i d ∷ []) ∙ ap (λ (fs : List (ℕ × FrameFault)). faults (take i ls) ++ fs) (append-nil (fault_at (get_or ls i d) (front_of (get_or ls i d))))
+
+faults_in-append : (ks ls : List Connection) → faults_in (ks ++ ls) ≡ faults_in ks ++ faults_in ls
+faults_in-append [] ls = refl
+faults_in-append (k ∷ ks) ls = ap (λ (fs : List (Option FrameFault)). fault_in (front_of k) ∷ fs) (faults_in-append ks ls)
+
+pub faults_in-more : (ls : List Connection) (i : ℕ) (d : Connection) → i < length ls → faults_in (take (i + 1) ls) ≡ faults_in (take i ls) ++ fault_in (front_of (get_or ls i d)) ∷ []
+faults_in-more ls i d within = ap faults_in (take_more ls i d within) ∙ faults_in-append (take i ls) (get_or ls i d ∷ [])
+
+-- ---- links that a fault closes
+
+-- one link more
+pub record Closed (now first : List Connection) (fs : List (Option FrameFault)) (i : ℕ) : Type 0 where
+  pub done : take (suc i) now ≡ closed_connections (take (suc i) first) fs
+  pub left : drop (suc i) now ≡ drop (suc i) first
+
+pub close_step : (now first : List Connection) (fs : List (Option FrameFault)) (i : ℕ) (x new : Connection) → i < length now → take i now ≡ closed_connections (take i first) fs → drop i now ≡ drop i first → x ≡ get_or now i x
+    → new ≡ closed_by x (fault_beside fs i) → Closed (set now i new) first fs i
+close_step [] first fs i x new within t d e n = absurd (omega arith)
+close_step (m ∷ ms) [] fs zero x new within t d e n = absurd cc
+close_step (m ∷ ms) [] fs (suc i) x new within t d e n = absurd cc
+close_step (m ∷ ms) (f ∷ ls) [] zero x new within t d e n = record {
+  done = λ k. (n ∙ e ∙ head_is m f ms ls d) k ∷ [];
+  left = tail_is m f ms ls d;
+}
+close_step (m ∷ ms) (f ∷ ls) (g ∷ gs) zero x new within t d e n = record {
+  done = λ k. (n ∙ ap (λ (l : Connection). closed_by l g) (e ∙ head_is m f ms ls d)) k ∷ [];
+  left = tail_is m f ms ls d;
+}
+close_step (m ∷ ms) (f ∷ ls) [] (suc i) x new within t d e n =
+    let s = close_step ms ls [] i x new (omega arith) (tail_is m f (take i ms) (closed_connections (take i ls) []) t) d e n in
+    record { done = λ k. head_is m f (take i ms) (closed_connections (take i ls) []) t k ∷ s.done k; left = s.left }
+close_step (m ∷ ms) (f ∷ ls) (g ∷ gs) (suc i) x new within t d e n =
+    let s = close_step ms ls gs i x new (omega arith) (tail_is m (closed_by f g) (take i ms) (closed_connections (take i ls) gs) t) d e n in
+    record { done = λ k. head_is m (closed_by f g) (take i ms) (closed_connections (take i ls) gs) t k ∷ s.done k; left = s.left }
+
+-- what a fault closes after the messages were taken
+closed_after : (l : Connection) (front : Result (Option (Frame × List ℕ)) FrameFault) → closed_by (taken_at l front) (fault_in front) ≡ connection_at l front
+closed_after l (Ok x) = refl
+closed_after l (Err fault) = refl
+
+pub all_closed : (ls : List Connection) → closed_connections (connections_taken ls) (faults_in ls) ≡ connections_after ls
+all_closed [] = refl
+all_closed (l ∷ ls) = λ k. closed_after l (front_of l) k ∷ all_closed ls k

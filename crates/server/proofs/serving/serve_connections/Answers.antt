@@ -1,0 +1,39 @@
+use Rattle.std.proofs.Common.{◌≡◌, ℕ, suc, ◌+◌, List, ◌∷◌, ◌++◌, drop-cons, take, drop, set, get_or, ◌&&◌, sym, ◌∙◌, ap, subst, arith}
+use Rattle.engine.specs.View.{world}
+use Rattle.engine.specs.Step.{ForMemory}
+use Rattle.server.specs.Turn.{Call, calls, call_at, front_of, connections_taken, ChangeNothing}
+use Rattle.server.specs.Taking.{Serves}
+use Rattle.server.specs.View.{frames_in}
+use Rattle.server.specs.declared.connection.Connection.{Connection}
+use Rattle.server.proofs.ConnectionsServed.{serves_on, calls_more, links_step, quiet_runs}
+use Rattle.server.proofs.serving.serve_connections.Goals as goal
+
+pub connections-preserved : goal.connections-preserved
+connections-preserved g c =
+    let i = c.connections.connection-index in
+    let first = c.args.connections.now in
+    let x = get_or c.connections.connections i c.connection-item.result in
+    let is : x ≡ get_or c.connections.connections i x = ap (λ (d : Connection). get_or c.connections.connections i d) c.connection-item.is in
+    let inv = c.connections.invariant in
+    let call = c.serve_connection-found in
+    let s = links_step c.connections.connections first i x call.new.connection (omega (arith, c.connections-test.true, c.connections.auto.connections)) inv.done inv.left is call.ensures.connection in
+    let next : i + 1 ≡ suc i = omega arith in
+    let more : calls (take i first) ++ call_at x (front_of x) ≡ calls (take (i + 1) first) =
+    ap (λ (y : Connection). calls (take i first) ++ call_at y (front_of y)) s.same ∙ sym (calls_more first i x s.within) in
+    record {
+      sound = call.ensures.sound;
+      disk = call.ensures.disk ∙ inv.disk;
+      running = call.ensures.running ∙ inv.running;
+      store = call.ensures.store ∙ inv.store;
+      serves = subst (λ (cs : List Call). Serves ForMemory cs (world c.args.engine.now) (world call.new.engine) (c.connections.all && call.result) (frames_in c.args.frames.now.items) (frames_in call.new.frames.items)) more
+          (serves_on (calls (take i first)) (call_at x (front_of x)) (world c.args.engine.now) (world c.connections.engine) (world call.new.engine) c.connections.all call.result (frames_in c.args.frames.now.items) (frames_in c.connections.frames.items) (frames_in call.new.frames.items) inv.serves call.ensures.serves);
+      done = ap (λ (m : ℕ). take m (set c.connections.connections i call.new.connection)) next ∙ s.done ∙ ap (λ (m : ℕ). connections_taken (take m first)) (sym next);
+      left = ap (λ (m : ℕ). drop m (set c.connections.connections i call.new.connection)) next ∙ s.left ∙ ap (λ (m : ℕ). drop m first) (sym next);
+      turn_start = call.ensures.turn_start ∙ inv.turn_start;
+      quiet = λ h.
+          let so_far = inv.quiet h in
+          let here : drop i first ≡ x ∷ drop (i + 1) first = drop-cons first i x s.within ∙ (λ j. sym s.same j ∷ drop (sym next j) first) in
+          let rest = subst (ChangeNothing ForMemory (world c.connections.engine)) (ap calls here) so_far.1 in
+          let one = quiet_runs (call_at x (front_of x)) (calls (drop (i + 1) first)) (world c.connections.engine) (world call.new.engine) call.ensures.serves.replies call.ensures.serves.runs rest in
+          (call.ensures.has_changes one.0 ∙ so_far.0, one.1);
+    }
