@@ -2,7 +2,7 @@
 
 ghost use Rattle.std.specs.Prelude.{◌≡◌, ◌≢◌, ◌≤◌, ◌<◌, ◌++◌, length};
 ghost use Rattle.byteorder.specs.Endian.{little_bytes};
-ghost use Rattle.page.specs.Format.{chain, header, IsFit, page_bytes, are_zeros, chain_in, born_in, content_in, sheet_in};
+ghost use Rattle.page.specs.Format.{chain, header, IsFit, page_bytes, are_zeros, chain_in, generation_in, content_in, sheet_in};
 ghost use Rattle.page.specs.View.{content_of, sheet_of, Gives};
 
 use byteorder::{ByteOrder, LittleEndian};
@@ -17,21 +17,21 @@ pub const CHAIN_BYTES: usize = 4076;
 #[derive(Clone, Copy, Debug, PartialEq, Eq)]
 pub enum PageFault {
     /// The kind byte is that of no page that may stand there, or the byte behind it isn't zero.
-    Kind,
+    Kind = 1,
     /// The page's own number is another, or its generation is 0 or above the root's.
     Number,
-    /// Keys don't rise, or a page number can't be.
+    /// Keys aren't ascending, or a page number is impossible.
     Order,
     /// A count or a length goes past the end, or the tail isn't zero.
     Length,
     /// The device failed.
     Device,
-    /// Memory ran out.
+    /// Out of memory.
     Memory,
 }
 
 impl From<AllocError> for PageFault {
-    ghost use Rattle.page.specs.declared.image.PageFault.TheVariants.{Memory};
+    ghost use Rattle.page.specs.declared.page_image.PageFault.TheVariants.{Memory};
 
     ghost from_gives = { λ _ e. e ≡ Memory };
 
@@ -73,7 +73,8 @@ pub struct PageImage {
     pub content: PageContent,
 }
 
-fn all_zero(bytes: &[u8]) -> bool
+/// Whether all bytes are zero.
+pub fn is_all_zero(bytes: &[u8]) -> bool
     ensures { result ≡ are_zeros bytes.now }
 {
     bytes.iter().all(|b| *b == 0)
@@ -93,7 +94,7 @@ fn read_chain(
         return Err(PageFault::Length);
     }
     let (front, rest) = bytes.split_at(count);
-    if !all_zero(rest) {
+    if !is_all_zero(rest) {
         return Err(PageFault::Length);
     }
     let bytes = Vec::from_slice(alloc, front)?;
@@ -101,9 +102,9 @@ fn read_chain(
 }
 
 /// The generation of the page of this number, in a file whose root has this generation.
-fn read_born(bytes: &[u8], page: u32, generation: u64) -> Result<u64, PageFault>
+fn read_generation(bytes: &[u8], page: u32, generation: u64) -> Result<u64, PageFault>
     requires { length bytes.now ≡ 4096 }
-    ensures { Gives (λ n. n) result (born_in page generation bytes.now) }
+    ensures { Gives (λ n. n) result (generation_in page generation bytes.now) }
 {
     if bytes[0] != 3 || bytes[1] != 0 {
         return Err(PageFault::Kind);
@@ -141,13 +142,17 @@ fn chain_head(generation: u64, page: u32, next: u32, count: u16) -> [u8; 20]
 /// A page that holds these bytes of a chain, and names the page that goes on.
 pub fn chain_page(generation: u64, page: u32, next: u32, content: &[u8]) -> [u8; 4096]
     requires { length content.now ≤ 4076 }
-    ensures { result ≡ page_bytes (record { page = page; generation = generation; content = chain next content.now }) }
+    ensures { result ≡ page_bytes (record {
+      page = page;
+      generation = generation;
+      content = chain next content.now;
+    }) }
 {
     let count = content.len();
-    let mut image = [0; 4096];
-    image[..20].copy_from_slice(&chain_head(generation, page, next, count as u16));
-    image[20..20 + count].copy_from_slice(content);
-    image
+    let mut bytes = [0; 4096];
+    bytes[..20].copy_from_slice(&chain_head(generation, page, next, count as u16));
+    bytes[20..20 + count].copy_from_slice(content);
+    bytes
 }
 
 impl PageImage {
@@ -175,7 +180,7 @@ impl PageImage {
     ) -> Result<PageImage, PageFault>
         ensures { Gives sheet_of result (sheet_in page generation bytes.now) }
     {
-        let generation = read_born(bytes, page, generation)?;
+        let generation = read_generation(bytes, page, generation)?;
         let content = read_content(alloc, bytes)?;
         Ok(PageImage {
             page,

@@ -4,5 +4,5 @@ use Rattle.std.specs.Ordering.{nat_cmp}
 use Rattle.std.specs.BTreeMap.{BTreeMap, get}
 
 -- a sector that was never written is zeros
-abbrev pub kept : BTreeMap ℕ (List ℕ) → ℕ → List ℕ
-kept latest k = unwrap_or (get nat_cmp latest k) (replicate 512 0)
+abbrev pub bytes_in : BTreeMap ℕ (List ℕ) → ℕ → List ℕ
+bytes_in latest k = unwrap_or (get nat_cmp latest k) (replicate 512 0)
