@@ -2,12 +2,18 @@
 use Rattle.std.proofs.Common.{◌≡◌, inl, inr, ℕ, ◌+◌, ◌≤◌, Bool, true, false, List, refl, ap, ◌∙◌, subst, arith}
 use Rattle.std.specs.Prelude.{if◌then◌else◌}
 use Rattle.std.proofs.lemmas.Bool.{cases_lt}
-use Rattle.page.specs.History.{History, Sector, KeepsWord, now, IsImage, LeftSince, Ticks, Settles}
+use Rattle.page.specs.History.{History, Sector, KeepsWord, now, IsImage, LeftSince, Ticks, Syncs}
 use Rattle.page.specs.Crash.{GoesOn, LeavesOnly, LeavesNow, ReadsOnly, OnlySyncs}
 
 -- before the first call
 pub goes_nowhere : (h : History) → GoesOn h h
-goes_nowhere h = record { kept = λ k. k; clock = λ k. omega arith; past = λ k t le. refl; failures = λ k. omega arith }
+goes_nowhere h = record {
+  kept = λ k. k;
+  keeps = λ k time. k;
+  clock = omega arith;
+  past = λ k t le. refl;
+  failures = λ k. omega arith;
+}
 
 -- the sectors as they are now, where no time went by
 only_now : (h : History) (image : ℕ → List ℕ) → LeftSince h h.clock image → IsImage (now h) image
@@ -22,7 +28,8 @@ started h P here k image left = here k image (only_now h image left)
 pub goes_one : (old new : History) (ok : Bool) → Ticks old new ok → GoesOn old new
 goes_one old new ok tick = record {
   kept = tick.kept;
-  clock = λ k. omega (arith, tick.clock k);
+  keeps = λ k time. tick.keeps k (omega (arith, tick.later, time));
+  clock = tick.later;
   past = tick.past;
   failures = λ k. le_if ok old.failures new.failures (tick.failures k);
 }
@@ -35,8 +42,9 @@ goes_one old new ok tick = record {
 pub goes_further : (a b c : History) → GoesOn a b → GoesOn b c → GoesOn a c
 goes_further a b c first second = record {
   kept = λ k. first.kept (second.kept k);
-  clock = λ k. omega (arith, first.clock (second.kept k), second.clock k);
-  past = λ k t le. second.past k t (omega (arith, le, first.clock (second.kept k))) ∙ first.past (second.kept k) t le;
+  keeps = λ k time. second.keeps (first.keeps k (omega (arith, second.clock, time))) time;
+  clock = omega (arith, first.clock, second.clock);
+  past = λ k t le. second.past k t (omega (arith, le, first.clock)) ∙ first.past (second.kept k) t le;
   failures = λ k. omega (arith, first.failures (second.kept k), second.failures k);
 }
 
@@ -72,7 +80,7 @@ leaves_call a b c ok P tick so_far here k image left =
 
 -- what holds since an earlier moment holds now
 pub leaves_now : (a b : History) (P : (ℕ → List ℕ) → Type 0) → GoesOn a b → LeavesOnly a b P → LeavesNow b P
-leaves_now a b P goes since k image is = since k image (record { at = b.clock; after = goes.clock k; before = omega arith; left = is })
+leaves_now a b P goes since k image is = since k image (record { at = b.clock; after = goes.clock; before = omega arith; left = is })
 
 pub leaves_weaker : (a b : History) (P Q : (ℕ → List ℕ) → Type 0) → ((image : ℕ → List ℕ) → P image → Q image) → LeavesOnly a b P → LeavesOnly a b Q
 leaves_weaker a b P Q to since k image left = to image (since k image left)
@@ -117,8 +125,8 @@ reads_one old new ok tick same = record {
 }
 
 -- a sync after them
-pub then_syncs : (a b c : History) (ok : Bool) → ReadsOnly a b → Ticks b c ok → (KeepsWord c → (k : ℕ) → Settles (now b k) (now c k)) → OnlySyncs a c
-then_syncs a b c ok first tick settles = record {
+pub then_syncs : (a b c : History) (ok : Bool) → ReadsOnly a b → Ticks b c ok → (KeepsWord c → (k : ℕ) → Syncs (now b k) (now c k)) → OnlySyncs a c
+then_syncs a b c ok first tick syncs = record {
   still = λ keeps t low high. still_further a b c first (goes_one b c ok tick) keeps t low (omega (arith, tick.clock keeps));
-  settles = λ keeps k. subst (λ (s : ℕ → Sector). Settles (s k) (now c k)) (first.same (tick.kept keeps)) (settles keeps k);
+  syncs = λ keeps k. subst (λ (s : ℕ → Sector). Syncs (s k) (now c k)) (first.same (tick.kept keeps)) (syncs keeps k);
 }

@@ -6,8 +6,8 @@ use Rattle.std.proofs.Math.Seq.{drop-append_seam, take-append_seam}
 use Rattle.byteorder.specs.Endian.{little_number}
 use Rattle.byteorder.specs.Numbers.{little_number-reads_back}
 use Rattle.page.specs.Format.{Content, chain, Sheet, page_bytes, ◌>>=◌, unless, are_zeros, sheet_in}
-use Rattle.page.specs.declared.image.PageFault.{PageFault}
-use Rattle.page.specs.declared.image.PageFault.TheVariants as faults
+use Rattle.page.specs.declared.page_image.PageFault.{PageFault}
+use Rattle.page.specs.declared.page_image.PageFault.TheVariants as faults
 
 zeros_are : (n : ℕ) → are_zeros (replicate n 0) ≡ true
 zeros_are zero = refl

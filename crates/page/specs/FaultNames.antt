@@ -1,8 +1,8 @@
 -- The word of each fault.
 use Rattle.std.specs.Prelude.{ℕ, List, codes}
 use Rattle.page.specs.declared.disk.DeviceFault.{DeviceFault}
-use Rattle.page.specs.declared.image.PageFault.{PageFault}
-use Rattle.page.specs.declared.image.PageFault.TheVariants as pages
+use Rattle.page.specs.declared.page_image.PageFault.{PageFault}
+use Rattle.page.specs.declared.page_image.PageFault.TheVariants as pages
 
 abbrev pub device_fault_name : DeviceFault → List ℕ
 device_fault_name fault = codes "Device"

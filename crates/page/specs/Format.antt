@@ -3,8 +3,8 @@
 use Rattle.std.specs.Prelude.{ℕ, ◌-◌, Bool, not, ◌||◌, ◌&&◌, ◌==◌, nat_lt, ◌≤◌, if◌then◌else◌, List, ◌∷◌, ◌++◌, length, take, drop, replicate, slice_index, Result, Ok, Err}
 use Rattle.std.specs.List.{list_all}
 use Rattle.byteorder.specs.Endian.{little_bytes, little_number}
-use Rattle.page.specs.declared.image.PageFault.{PageFault}
-use Rattle.page.specs.declared.image.PageFault.TheVariants as faults
+use Rattle.page.specs.declared.page_image.PageFault.{PageFault}
+use Rattle.page.specs.declared.page_image.PageFault.TheVariants as faults
 
 -- What a page holds: some bytes of a chain and the next page of it, or 0 at its end.
 pub data Content : Type 0 where
@@ -59,8 +59,8 @@ chain_in count next bytes =
     (Ok (chain next (take count bytes)))
 
 -- The generation of the page of this number, in a file whose root has this generation.
-abbrev pub born_in : ℕ → ℕ → List ℕ → Result ℕ PageFault
-born_in page generation bytes =
+abbrev pub generation_in : ℕ → ℕ → List ℕ → Result ℕ PageFault
+generation_in page generation bytes =
     unless (not (slice_index bytes 0 == 3) || not (slice_index bytes 1 == 0)) faults.Kind
     (unless (not (little_number 4 (drop 4 bytes) == page) || little_number 8 (drop 8 bytes) == 0 || nat_lt generation (little_number 8 (drop 8 bytes))) faults.Number
     (Ok (little_number 8 (drop 8 bytes))))
@@ -70,6 +70,6 @@ content_in bytes = chain_in (little_number 2 (drop 2 bytes)) (little_number 4 (d
 
 abbrev pub sheet_in : ℕ → ℕ → List ℕ → Result Sheet PageFault
 sheet_in number generation bytes = do
-  born ← born_in number generation bytes
+  born ← generation_in number generation bytes
   inside ← content_in bytes
   Ok (record { page = number; generation = born; content = inside })

@@ -2,10 +2,11 @@ pub mod Crash
 pub mod FaultNames
 pub mod Faulty
 pub mod History
-pub mod Kept
+pub mod Latest
 pub mod Memory
-pub mod Nothing
 pub mod Page
+pub mod Numbers
 pub mod Replay
 pub mod Format
+pub mod Unknown
 pub mod View

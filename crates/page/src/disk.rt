@@ -1,8 +1,8 @@
-// A disk as its users see it: what a read gives, and what a crash may leave.
+//! A disk as its users see it: what a read gives, and what a crash may leave.
 ghost use Rattle.std.specs.Prelude.{◌≡◌, ◌≢◌, ℕ, OnOk, OnErr, is_ok};
-ghost use Rattle.page.specs.History.{History, Sector, KeepsWord, now, Ticks, Takes, Settles};
+ghost use Rattle.page.specs.History.{History, Sector, KeepsWord, now, Ticks, Takes, Syncs};
 
-/// The device failed, or had no memory for the call.
+/// The device failed, or found no memory for the call.
 #[derive(Clone, Copy, Debug, PartialEq, Eq)]
 pub struct DeviceFault;
 
@@ -20,7 +20,8 @@ impl DeviceFault {
 /// Sectors of 512 bytes. A sector is written whole or not at all.
 ///
 /// What is said of a call holds while the disk keeps its word after it. A device that promises nothing
-/// never keeps its word.
+/// never keeps its word. One that keeps it loses it only where its clock, the number of its calls, has no
+/// greater value.
 pub trait Disk {
     /// Each moment of the disk so far.
     ghost history: { Self → History };
@@ -28,18 +29,25 @@ pub trait Disk {
     /// Reads a sector. One that was never written reads as zeros.
     fn read(&mut self, sector: u64, bytes: &mut [u8; 512]) -> Result<(), DeviceFault>
         ensures time { Ticks (history self.old) (history self.new) (is_ok result) }
-        ensures value { KeepsWord (history self.new) → OnOk result (bytes.new ≡ (now (history self.old) sector).read) }
+        ensures value { KeepsWord (history self.new)
+            → OnOk result (bytes.new ≡ (now (history self.old) sector).read) }
         ensures same { KeepsWord (history self.new) → now (history self.new) ≡ now (history self.old) };
 
     /// Writes a sector. Until a sync succeeds, a crash may leave what was written or what was there.
     fn write(&mut self, sector: u64, bytes: &[u8; 512]) -> Result<(), DeviceFault>
         ensures time { Ticks (history self.old) (history self.new) (is_ok result) }
-        ensures takes { KeepsWord (history self.new) → Takes bytes.now (is_ok result) (now (history self.old) sector) (now (history self.new) sector) }
-        ensures others { KeepsWord (history self.new) → (k : ℕ) → k ≢ sector → now (history self.new) k ≡ now (history self.old) k };
+        ensures takes { let before = now (history self.old) sector in
+            KeepsWord (history self.new)
+            → Takes bytes.now (is_ok result) before (now (history self.new) sector) }
+        ensures others { KeepsWord (history self.new)
+            → (k : ℕ) → k ≢ sector → now (history self.new) k ≡ now (history self.old) k };
 
     /// After a sync that succeeds, a crash leaves what a read gives.
     fn sync(&mut self) -> Result<(), DeviceFault>
         ensures time { Ticks (history self.old) (history self.new) (is_ok result) }
-        ensures settles { KeepsWord (history self.new) → OnOk result ((k : ℕ) → Settles (now (history self.old) k) (now (history self.new) k)) }
-        ensures unchanged { KeepsWord (history self.new) → OnErr result (now (history self.new) ≡ now (history self.old)) };
+        ensures syncs { let before = now (history self.old) in
+            KeepsWord (history self.new)
+            → OnOk result ((k : ℕ) → Syncs (before k) (now (history self.new) k)) }
+        ensures unchanged { KeepsWord (history self.new)
+            → OnErr result (now (history self.new) ≡ now (history self.old)) };
 }

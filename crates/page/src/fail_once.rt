@@ -1,4 +1,4 @@
-// A disk in memory of which one call fails, for tests.
+//! A disk in memory of which one call fails, for tests.
 ghost use Rattle.std.specs.Prelude.{◌≡◌, true};
 
 use crate::{DeviceFault, Disk, MemDisk};
@@ -8,15 +8,15 @@ use crate::{DeviceFault, Disk, MemDisk};
 #[derive(Drop)]
 pub struct FailDisk {
     disk: MemDisk,
-    left: u64,
+    calls_left: u64,
     lands: bool,
     // a write landed and was answered as failed
     failed: bool,
-    ghost spent: { failed ≡ true → left ≡ 0 },
+    ghost spent: { failed ≡ true → calls_left ≡ 0 },
 }
 
 impl FailDisk {
-    ghost use Rattle.page.specs.History.{now};
+    ghost use Rattle.page.specs.History.{KeepsWord, now};
     ghost use Rattle.page.specs.Faulty.{fail_history};
     ghost use Rattle.page.specs.Memory.{memory_history};
 
@@ -25,18 +25,19 @@ impl FailDisk {
     {
         FailDisk {
             disk,
-            left: n,
+            calls_left: n,
             lands,
             failed: false,
         }
     }
 
     pub fn into_inner(self) -> MemDisk
-        ensures { now (memory_history result) ≡ now (fail_history self) }
+        ensures now { now (memory_history result) ≡ now (fail_history self) }
+        ensures word { KeepsWord (fail_history self) → KeepsWord (memory_history result) }
     {
         let FailDisk {
             disk,
-            left: _,
+            calls_left: _,
             lands: _,
             failed: _,
         } = self;
@@ -50,18 +51,18 @@ impl Disk for FailDisk {
     ghost history = { fail_history };
 
     fn read(&mut self, sector: u64, bytes: &mut [u8; 512]) -> Result<(), DeviceFault> {
-        if self.left == 1 {
-            self.left = 0;
+        if self.calls_left == 1 {
+            self.calls_left = 0;
             self.disk.fail();
             return Err(DeviceFault);
         }
-        self.left = self.left.saturating_sub(1);
+        self.calls_left = self.calls_left.saturating_sub(1);
         self.disk.read(sector, bytes)
     }
 
     fn write(&mut self, sector: u64, bytes: &[u8; 512]) -> Result<(), DeviceFault> {
-        if self.left == 1 {
-            self.left = 0;
+        if self.calls_left == 1 {
+            self.calls_left = 0;
             if !self.lands {
                 self.disk.fail();
                 return Err(DeviceFault);
@@ -70,17 +71,17 @@ impl Disk for FailDisk {
             self.failed = true;
             return Err(DeviceFault);
         }
-        self.left = self.left.saturating_sub(1);
+        self.calls_left = self.calls_left.saturating_sub(1);
         self.disk.write(sector, bytes)
     }
 
     fn sync(&mut self) -> Result<(), DeviceFault> {
-        if self.left == 1 {
-            self.left = 0;
+        if self.calls_left == 1 {
+            self.calls_left = 0;
             self.disk.fail();
             return Err(DeviceFault);
         }
-        self.left = self.left.saturating_sub(1);
+        self.calls_left = self.calls_left.saturating_sub(1);
         self.disk.sync()
     }
 }

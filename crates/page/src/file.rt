@@ -1,7 +1,7 @@
 //! A disk in a file. It promises nothing: what a file keeps can't be known here.
 
 ghost use Rattle.std.specs.Prelude.{◌≤◌, length};
-ghost use Rattle.page.specs.Nothing.{nothing_known};
+ghost use Rattle.page.specs.Unknown.{unknown_history};
 
 use crate::{DeviceFault, Disk};
 use std::alloc::Global;
@@ -114,7 +114,7 @@ fn read_or_zeros(file: &File, buffer: &mut [u8], place: u64) -> io::Result<()> {
 }
 
 impl Disk for FileDisk {
-    ghost history = { λ _. nothing_known };
+    ghost history = { λ _. unknown_history };
 
     fn read(&mut self, sector: u64, bytes: &mut [u8; 512]) -> Result<(), DeviceFault> {
         self.flush()?;

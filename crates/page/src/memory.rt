@@ -1,10 +1,10 @@
-// A disk in memory. It records its writes and its syncs that succeeded, each with the moment that it made. Beside the
-// record it keeps what a read of each written sector gives.
+//! A disk in memory. It records its writes and its syncs that succeeded, each with the moment that it made. Beside the
+//! record it keeps what a read of each written sector gives.
 ghost use Rattle.std.specs.Prelude.{◌≡◌, ℕ, ◌≤◌, ◌+◌, All, not, length};
 ghost use Rattle.page.specs.History.{reads, now};
 ghost use Rattle.std.specs.Prelude.{◌<◌, slice_index_or, true};
 ghost use Rattle.page.specs.Replay.{replay, blank, read_after, IsWrite};
-ghost use Rattle.page.specs.Kept.{kept};
+ghost use Rattle.page.specs.Latest.{bytes_in};
 ghost use Rattle.std.specs.Prelude.{OnOk, OnErr, is_ok, ◌++◌, ◌∷◌, [], if◌then◌else◌};
 ghost use Rattle.page.specs.declared.memory.Call.{Call};
 
@@ -35,7 +35,7 @@ pub struct MemDisk {
     ended: bool,
     ghost recorded: { All (λ c. c.moment ≤ clock) calls.items },
     ghost counted: { failures ≤ clock },
-    ghost current: { (k : ℕ) → kept latest k ≡ (replay clock calls.items blank k).read },
+    ghost current: { (k : ℕ) → bytes_in latest k ≡ (replay clock calls.items blank k).read },
 }
 
 // Records a call, and what a read gives after it. Without memory nothing changes.
@@ -45,8 +45,8 @@ fn record(
     call: Call,
 ) -> Result<(), AllocError>
     ensures calls { calls.new.items ≡ (if is_ok result then calls.old.items ++ call ∷ [] else calls.old.items) }
-    ensures latest { OnOk result ((k : ℕ) → kept latest.new k ≡ read_after call.step k (kept latest.old k)) }
-    ensures same { OnErr result ((k : ℕ) → kept latest.new k ≡ kept latest.old k) }
+    ensures latest { OnOk result ((k : ℕ) → bytes_in latest.new k ≡ read_after call.step k (bytes_in latest.old k)) }
+    ensures same { OnErr result ((k : ℕ) → bytes_in latest.new k ≡ bytes_in latest.old k) }
 {
     calls.reserve(1)?;
     if let Step::Write(sector, bytes) = call.step {
@@ -61,7 +61,8 @@ fn record(
 // After how many of these calls the last sync stands.
 fn after_sync(calls: &[Call]) -> usize
     ensures within { result ≤ length calls.now }
-    ensures writes { (k : ℕ) (d : Call) → result ≤ k → k < length calls.now → IsWrite (slice_index_or calls.now k d).step }
+    ensures writes { (k : ℕ) (d : Call) → result ≤ k → k < length calls.now
+        → IsWrite (slice_index_or calls.now k d).step }
 {
     let mut after = 0;
     for (i, call) in calls.iter().enumerate() {
@@ -103,18 +104,28 @@ impl MemDisk {
     ghost use Rattle.std.specs.Prelude.{◌≡◌, OnOk, OnErr, is_ok, None, false};
     ghost use Rattle.std.specs.Prelude.{IfOk};
     ghost use Rattle.page.specs.History.{KeepsWord, now, Ticks, IsImage, reads};
-    ghost use Rattle.page.specs.Crash.{IsSettled};
-    ghost use Rattle.page.specs.Replay.{blank, apply_some};
+    ghost use Rattle.page.specs.Crash.{IsFresh};
+    ghost use Rattle.page.specs.Replay.{blank, apply_some, history_of};
     ghost use Rattle.page.specs.Memory.{memory_history};
 
-    /// A disk of zeros.
+    /// A disk of zeros. It keeps its word.
     pub fn new(alloc: Global) -> Self
-        ensures { now (memory_history result) ≡ blank }
+        ensures fresh { IsFresh (memory_history result) }
+        ensures zeros { now (memory_history result) ≡ blank }
+    {
+        MemDisk::over(alloc, Vec::new(alloc), BTreeMap::new(alloc))
+    }
+
+    /// A disk that holds what these calls made of zeros, before its own first call.
+    fn over(alloc: Global, calls: Vec<Call>, latest: BTreeMap<u64, [u8; 512]>) -> Self
+        requires stamped { All (λ c. c.moment ≤ 0) calls.items }
+        requires current { (k : ℕ) → bytes_in latest k ≡ (replay 0 calls.items blank k).read }
+        ensures { memory_history result ≡ history_of calls.items 0 0 false }
     {
         MemDisk {
             alloc,
-            calls: Vec::new(alloc),
-            latest: BTreeMap::new(alloc),
+            calls,
+            latest,
             clock: 0,
             failures: 0,
             ended: false,
@@ -128,11 +139,12 @@ impl MemDisk {
         self.clock
     }
 
-    /// The disk that a crash may leave, all of it synced. Bit i of the mask says whether the i-th of the last ten
-    /// pending writes lands, the oldest of them first, and bit 10 whether the earlier ones do.
+    /// The disk that a crash may leave, all of it synced. It keeps its word. Bit i of the mask says whether the i-th of
+    /// the last ten pending writes lands, the oldest of them first, and bit 10 whether the earlier ones do.
     pub fn image(&self, mask: u16) -> Result<MemDisk, AllocError>
-        ensures image { IfOk result (λ disk. IsImage (now (memory_history self.now)) (reads (now (memory_history disk)))) }
-        ensures synced { IfOk result (λ disk. IsSettled (now (memory_history disk))) }
+        ensures fresh { IfOk result (λ disk. IsFresh (memory_history disk)) }
+        ensures image { let before = now (memory_history self.now) in
+            IfOk result (λ disk. IsImage before (reads (now (memory_history disk)))) }
     {
         let after = after_sync(&self.calls);
         let mut calls = Vec::new(self.alloc);
@@ -151,20 +163,14 @@ impl MemDisk {
             step: Step::Sync,
         };
         record(&mut calls, &mut latest, sync)?;
-        Ok(MemDisk {
-            alloc: self.alloc,
-            calls,
-            latest,
-            clock: 0,
-            failures: 0,
-            ended: false,
-        })
+        Ok(MemDisk::over(self.alloc, calls, latest))
     }
 
     /// A call that fails, and does nothing else.
     pub(crate) fn fail(&mut self)
         ensures time { Ticks (memory_history self.old) (memory_history self.new) false }
-        ensures same { KeepsWord (memory_history self.new) → now (memory_history self.new) ≡ now (memory_history self.old) }
+        ensures same { KeepsWord (memory_history self.new)
+            → now (memory_history self.new) ≡ now (memory_history self.old) }
     {
         if self.clock == u64::MAX {
             self.ended = true;
@@ -177,8 +183,11 @@ impl MemDisk {
     // One call: counts it, and records its step.
     fn advance(&mut self, step: Option<Step>) -> Result<(), DeviceFault>
         ensures time { Ticks (memory_history self.old) (memory_history self.new) (is_ok result) }
-        ensures ok { OnOk result (now (memory_history self.new) ≡ apply_some step (now (memory_history self.old))) }
-        ensures err { KeepsWord (memory_history self.new) → OnErr result (now (memory_history self.new) ≡ now (memory_history self.old)) }
+        ensures ok { let before = now (memory_history self.old) in
+            OnOk result (now (memory_history self.new) ≡ apply_some step before) }
+        ensures err { let before = now (memory_history self.old) in
+            KeepsWord (memory_history self.new)
+            → OnErr result (now (memory_history self.new) ≡ before) }
     {
         if self.clock == u64::MAX {
             self.ended = true;

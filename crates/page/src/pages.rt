@@ -1,5 +1,5 @@
-// Pages of eight sectors.
-ghost use Rattle.std.specs.Prelude.{◌≡◌, ℕ, ◌<◌, ◌≤◌, ◌*◌, ◌+◌, OnOk, OnErr, take, drop, length};
+//! Pages of eight sectors.
+ghost use Rattle.std.specs.Prelude.{◌≡◌, ℕ, ◌<◌, OnOk, OnErr};
 ghost use Rattle.page.specs.History.{KeepsWord, now, reads};
 ghost use Rattle.page.specs.Crash.{GoesOn, LeavesOnly, IsImageOutside, ReadsOnly};
 ghost use Rattle.page.specs.Page.{IsSectorOf, page_at};
@@ -11,10 +11,16 @@ pub fn write_page<D: Disk>(disk: &mut D, page: u32, bytes: &[u8; 4096]) -> Resul
     ensures on { GoesOn (D.history disk.old) (D.history disk.new) }
 
     // Elsewhere a crash leaves what it could leave before.
-    ensures any_moment { LeavesOnly (D.history disk.old) (D.history disk.new) (IsImageOutside (now (D.history disk.old)) (IsSectorOf page)) }
-    ensures others { KeepsWord (D.history disk.new) → (k : ℕ) → (IsSectorOf page k → ⊥) → now (D.history disk.new) k ≡ now (D.history disk.old) k }
-    ensures written { KeepsWord (D.history disk.new) → OnOk result (page_at (reads (now (D.history disk.new))) page ≡ bytes.now) }
-    ensures failed { KeepsWord (D.history disk.new) → OnErr result ((D.history disk.old).failures < (D.history disk.new).failures) }
+    ensures any_moment { let before = now (D.history disk.old) in
+        LeavesOnly (D.history disk.old) (D.history disk.new)
+        (IsImageOutside before (IsSectorOf page)) }
+    ensures others { let before = now (D.history disk.old) in
+        KeepsWord (D.history disk.new)
+        → (k : ℕ) → (IsSectorOf page k → ⊥) → now (D.history disk.new) k ≡ before k }
+    ensures written { KeepsWord (D.history disk.new)
+        → OnOk result (page_at (reads (now (D.history disk.new))) page ≡ bytes.now) }
+    ensures failed { KeepsWord (D.history disk.new)
+        → OnErr result ((D.history disk.old).failures < (D.history disk.new).failures) }
 {
     for i in 0..8u64 {
         let at = 512 * i as usize;
@@ -32,8 +38,10 @@ pub fn read_page<D: Disk>(
     bytes: &mut [u8; 4096],
 ) -> Result<(), DeviceFault>
     ensures reads { ReadsOnly (D.history disk.old) (D.history disk.new) }
-    ensures value { KeepsWord (D.history disk.new) → OnOk result (bytes.new ≡ page_at (reads (now (D.history disk.old))) page) }
-    ensures failed { KeepsWord (D.history disk.new) → OnErr result ((D.history disk.old).failures < (D.history disk.new).failures) }
+    ensures value { KeepsWord (D.history disk.new)
+        → OnOk result (bytes.new ≡ page_at (reads (now (D.history disk.old))) page) }
+    ensures failed { KeepsWord (D.history disk.new)
+        → OnErr result ((D.history disk.old).failures < (D.history disk.new).failures) }
 {
     for i in 0..8u64 {
         let at = 512 * i as usize;

@@ -1,4 +1,4 @@
-// A disk in memory that stops for good, for tests.
+//! A disk in memory that stops for good, for tests.
 ghost use Rattle.std.specs.Prelude.{◌≡◌};
 
 use crate::{DeviceFault, Disk, MemDisk};
@@ -7,23 +7,26 @@ use crate::{DeviceFault, Disk, MemDisk};
 #[derive(Drop)]
 pub struct StopDisk {
     disk: MemDisk,
-    left: u64,
+    calls_left: u64,
 }
 
 impl StopDisk {
     ghost use Rattle.page.specs.Faulty.{stop_history};
     ghost use Rattle.page.specs.Memory.{memory_history};
 
-    pub fn new(disk: MemDisk, left: u64) -> Self
+    pub fn new(disk: MemDisk, calls_left: u64) -> Self
         ensures { stop_history result ≡ memory_history disk }
     {
-        StopDisk { disk, left }
+        StopDisk { disk, calls_left }
     }
 
     pub fn into_inner(self) -> MemDisk
         ensures { memory_history result ≡ stop_history self }
     {
-        let StopDisk { disk, left: _ } = self;
+        let StopDisk {
+            disk,
+            calls_left: _,
+        } = self;
         disk
     }
 }
@@ -38,20 +41,20 @@ impl Disk for StopDisk {
     }
 
     fn write(&mut self, sector: u64, bytes: &[u8; 512]) -> Result<(), DeviceFault> {
-        if self.left == 0 {
+        if self.calls_left == 0 {
             self.disk.fail();
             return Err(DeviceFault);
         }
-        self.left -= 1;
+        self.calls_left -= 1;
         self.disk.write(sector, bytes)
     }
 
     fn sync(&mut self) -> Result<(), DeviceFault> {
-        if self.left == 0 {
+        if self.calls_left == 0 {
             self.disk.fail();
             return Err(DeviceFault);
         }
-        self.left -= 1;
+        self.calls_left -= 1;
         self.disk.sync()
     }
 }

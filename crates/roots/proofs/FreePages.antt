@@ -21,9 +21,9 @@ all_snoc : (P : ℕ → Type 0) (pages : List ℕ) (page : ℕ) → AllByRecursi
 all_snoc P [] page all here = (here, tt)
 all_snoc P (first ∷ pages) page all here = (all.0, all_snoc P pages page all.1 here)
 
-rise_snoc : (pages : List ℕ) (page : ℕ) → AreApart pages → AllByRecursion (λ (other : ℕ). other < page) pages → 0 < page → AreApart (pages ++ page ∷ [])
-rise_snoc [] page rise below some = (some, tt, tt)
-rise_snoc (first ∷ pages) page rise below some = (rise.0, all_snoc (λ other. first < other) pages page rise.1 below.0, rise_snoc pages page rise.2 below.1 some)
+ascend_snoc : (pages : List ℕ) (page : ℕ) → AreApart pages → AllByRecursion (λ (other : ℕ). other < page) pages → 0 < page → AreApart (pages ++ page ∷ [])
+ascend_snoc [] page ascend below some = (some, tt, tt)
+ascend_snoc (first ∷ pages) page ascend below some = (ascend.0, all_snoc (λ other. first < other) pages page ascend.1 below.0, ascend_snoc pages page ascend.2 below.1 some)
 
 sector_snoc : (pages : List ℕ) (page k : ℕ) → IsSectorIn (pages ++ page ∷ []) k → IsSectorIn pages k ⊎ IsSectorOf page k
 sector_snoc [] page k (inl here) = inr here
@@ -45,14 +45,14 @@ free_apart (other ∷ live) page is k inside (from, to) =
 
 pub free_step : (live pages : List ℕ) (end page : ℕ) → AreFree live pages end → end ≤ page → 1 ≤ page → is_free live page ≡ true → AreFree live (pages ++ page ∷ []) (page + 1)
 free_step live pages end page free le some is = record {
-  rise = rise_snoc pages page free.rise (below_weaker end page le pages free.inside) some;
+  ascend = ascend_snoc pages page free.ascend (below_weaker end page le pages free.inside) some;
   inside = all_snoc (λ other. other < page + 1) pages page (below_weaker end (page + 1) (omega arith) pages free.inside) (omega arith);
   few = omega (arith, free.few, length-append pages (page ∷ []));
   apart = λ k old new. elim (sector_snoc pages page k new) [ inl before ↦ free.apart k old before | inr here ↦ free_apart live page is k old here ];
 }
 
 pub free_none : (live : List ℕ) → AreFree live [] 1
-free_none live = record { rise = tt; inside = tt; few = omega arith; apart = λ k old new. new }
+free_none live = record { ascend = tt; inside = tt; few = omega arith; apart = λ k old new. new }
 
 pub free_yes : (live : List ℕ) (n : ℕ) → 1 ≤ n → is_free live n ≡ true → free_pages live (n + 1) ≡ free_pages live n ++ n ∷ []
 unfolding free_pages

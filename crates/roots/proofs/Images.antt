@@ -3,11 +3,11 @@ use Rattle.std.proofs.Common.{◌≡◌, ◌≢◌, inl, inr, ℕ, ◌+◌, ◌%
 use Rattle.std.specs.Prelude.{◌⊎◌, ◌==◌, Ok}
 use Rattle.std.proofs.lemmas.Bool.Decides.{nat_tests}
 use Rattle.page.specs.History.{Sector, IsImage, reads}
-use Rattle.page.specs.Crash.{Settled, Secures, put}
+use Rattle.page.specs.Crash.{IsDurable, Secures, put}
 use Rattle.page.proofs.TwoFacts.{secured, put_same, put_other}
-use Rattle.roots.specs.Root.{root_in, root_of, both, newer, root_bytes, IsPossible}
+use Rattle.roots.specs.Root.{root_in, root_of, both, newer_root, root_bytes, IsPossible}
 use Rattle.roots.specs.Chain.{IsPath, IsSectorIn, path_bytes}
-use Rattle.roots.specs.Image.{HasRoot, HasChain, StandsFor, Kept}
+use Rattle.roots.specs.Image.{HasRoot, HasChain, HoldsBytes, Kept}
 use Rattle.roots.specs.Replace.{IsOldOrPut}
 use Rattle.roots.specs.declared.root.Root.{Root}
 use Rattle.roots.proofs.Links.{path_same, bytes_same}
@@ -20,7 +20,7 @@ pub chain_same : (a b : ℕ → List ℕ) (root : Root) (pages : List ℕ) → (
 chain_same a b root pages same has = record { chain = path_same a b root.generation root.tree pages 0 same has.chain; inside = has.inside; few = has.few }
 
 -- What a root reaches decides what an image stands for.
-pub decides : (reads image : ℕ → List ℕ) (root : Root) (pages : List ℕ) → HasRoot reads root → HasChain reads root pages → ((k : ℕ) → Kept pages k → image k ≡ reads k) → StandsFor image (path_bytes reads root.generation pages)
+pub decides : (reads image : ℕ → List ℕ) (root : Root) (pages : List ℕ) → HasRoot reads root → HasChain reads root pages → ((k : ℕ) → Kept pages k → image k ≡ reads k) → HoldsBytes image (path_bytes reads root.generation pages)
 decides reads image root pages opens has same = record {
   root = root;
   pages = pages;
@@ -29,8 +29,8 @@ decides reads image root pages opens has same = record {
   bytes_are = bytes_same reads image root.generation pages (λ k inside. same k (inr inside));
 }
 
-pub secures : (sectors : ℕ → Sector) (root : Root) (pages : List ℕ) → HasRoot (reads sectors) root → HasChain (reads sectors) root pages → ((k : ℕ) → Kept pages k → Settled (sectors k))
-    → Secures sectors (Kept pages) (λ image. StandsFor image (path_bytes (reads sectors) root.generation pages))
+pub secures : (sectors : ℕ → Sector) (root : Root) (pages : List ℕ) → HasRoot (reads sectors) root → HasChain (reads sectors) root pages → ((k : ℕ) → Kept pages k → IsDurable (sectors k))
+    → Secures sectors (Kept pages) (λ image. HoldsBytes image (path_bytes (reads sectors) root.generation pages))
 secures sectors root pages opens has durable = record { durable = durable; decides = λ image same. decides (reads sectors) image root pages opens has same }
 
 -- pages above 0 have no root sector
@@ -39,7 +39,7 @@ above_roots image generation first [] end k path inside = absurd inside
 above_roots image generation first (page ∷ pages) end k (is, some, rest) (inl (low, high)) = omega arith
 above_roots image generation first (page ∷ pages) end k (is, some, (sheet, found, path)) (inr inside) = above_roots image generation _ pages end k path inside
 
-newer_even : (even odd : Root) → even.generation % 2 ≡ 0 → odd.generation % 2 ≡ 1 → even.generation ≡ odd.generation + 1 → newer even odd ≡ Ok even
+newer_even : (even odd : Root) → even.generation % 2 ≡ 0 → odd.generation % 2 ≡ 1 → even.generation ≡ odd.generation + 1 → newer_root even odd ≡ Ok even
 newer_even even odd pe po up =
     let t1 : (even.generation % 2 == 0) ≡ true = grind (arith, nat_tests, pe) in
     let t2 : (odd.generation == even.generation + 1) ≡ false = grind (arith, nat_tests, up) in
@@ -49,7 +49,7 @@ newer_even even odd pe po up =
     let t5 : (odd.generation == even.generation - 1) ≡ true = grind (arith, nat_tests, up) in
     rw (t1, t2, t3, t4, t5) refl
 
-newer_odd : (even odd : Root) → even.generation % 2 ≡ 0 → odd.generation ≡ even.generation + 1 → newer even odd ≡ Ok odd
+newer_odd : (even odd : Root) → even.generation % 2 ≡ 0 → odd.generation ≡ even.generation + 1 → newer_root even odd ≡ Ok odd
 newer_odd even odd pe up =
     let t1 : (even.generation % 2 == 0) ≡ true = grind (arith, nat_tests, pe) in
     let t2 : (odd.generation == even.generation + 1) ≡ true = grind (arith, nat_tests, up) in
@@ -94,21 +94,21 @@ module _ (image : ℕ → List ℕ) (old new : Root) (opens : HasRoot image old)
     pub put_bytes : path_bytes with_root new.generation pages ≡ path_bytes image new.generation pages
     put_bytes = bytes_same image with_root new.generation pages beside
 
-    pub put_stands : StandsFor with_root (path_bytes image new.generation pages)
+    pub put_stands : HoldsBytes with_root (path_bytes image new.generation pages)
     put_stands = record { root = new; pages = pages; opens = put_opens; has = put_chain; bytes_are = put_bytes }
 
 module _ (sectors : ℕ → Sector) (old new : Root) (live pages : List ℕ) (opens : HasRoot (reads sectors) old) (had : HasChain (reads sectors) old live)
-    (durable : (k : ℕ) → Kept live k → Settled (sectors k)) (possible : IsPossible new) (next : new.generation ≡ old.generation + 1) (has : HasChain (reads sectors) new pages) where
+    (durable : (k : ℕ) → Kept live k → IsDurable (sectors k)) (possible : IsPossible new) (next : new.generation ≡ old.generation + 1) (has : HasChain (reads sectors) new pages) where
   -- an image from before
-  pub stands_before : (image : ℕ → List ℕ) → IsImage sectors image → StandsFor image (path_bytes (reads sectors) old.generation live)
-  stands_before image is = secured sectors (Kept live) (λ image. StandsFor image (path_bytes (reads sectors) old.generation live)) (secures sectors old live opens had durable) image is
+  pub stands_before : (image : ℕ → List ℕ) → IsImage sectors image → HoldsBytes image (path_bytes (reads sectors) old.generation live)
+  stands_before image is = secured sectors (Kept live) (λ image. HoldsBytes image (path_bytes (reads sectors) old.generation live)) (secures sectors old live opens had durable) image is
 
-  image_stands : StandsFor (reads sectors) (path_bytes (reads sectors) old.generation live)
+  image_stands : HoldsBytes (reads sectors) (path_bytes (reads sectors) old.generation live)
   image_stands = record { root = old; pages = live; opens = opens; has = had; bytes_are = refl }
 
   -- an image while the root is written
   pub stands_during : (image : ℕ → List ℕ) → IsOldOrPut sectors (new.generation % 2) (root_bytes new) image
-      → StandsFor image (path_bytes (reads sectors) old.generation live) ⊎ StandsFor image (path_bytes (reads sectors) new.generation pages)
+      → HoldsBytes image (path_bytes (reads sectors) old.generation live) ⊎ HoldsBytes image (path_bytes (reads sectors) new.generation pages)
   stands_during image (inl is) = inl (stands_before image is)
-  stands_during image (inr (inl same)) = inl (subst (λ (f : ℕ → List ℕ). StandsFor f (path_bytes (reads sectors) old.generation live)) (sym same) image_stands)
-  stands_during image (inr (inr other)) = inr (subst (λ (f : ℕ → List ℕ). StandsFor f (path_bytes (reads sectors) new.generation pages)) (sym other) (put_stands (reads sectors) old new opens possible next pages has))
+  stands_during image (inr (inl same)) = inl (subst (λ (f : ℕ → List ℕ). HoldsBytes f (path_bytes (reads sectors) old.generation live)) (sym same) image_stands)
+  stands_during image (inr (inr other)) = inr (subst (λ (f : ℕ → List ℕ). HoldsBytes f (path_bytes (reads sectors) new.generation pages)) (sym other) (put_stands (reads sectors) old new opens possible next pages has))

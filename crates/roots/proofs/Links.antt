@@ -12,7 +12,7 @@ use Rattle.page.specs.Format.{chain, page_bytes, sheet_in}
 use Rattle.page.proofs.Moments.{leaves_further}
 use Rattle.page.proofs.PageSteps.{bytes_from_same}
 use Rattle.page.proofs.ReadsBack.{chain_read_back}
-use Rattle.roots.specs.Chain.{IsPath, IsSectorIn, AreApart, sheet_at, next_of, piece_in, path_bytes, first_of}
+use Rattle.roots.specs.Chain.{IsPath, IsSectorIn, AreApart, AreOfCommit, sheet_at, next_of, piece_in, generation_of, path_bytes, first_of}
 
 sheet_same : (a b : ℕ → List ℕ) (generation page : ℕ) → ((k : ℕ) → IsSectorOf page k → b k ≡ a k) → sheet_at b generation page ≡ sheet_at a generation page
 sheet_same a b generation page same = ap (sheet_in page generation) (bytes_from_same a b (8 * page) 8 (λ k le lt. same k (le, lt)))
@@ -23,13 +23,19 @@ path_same a b generation first [] end same path = path
 path_same a b generation first (page ∷ pages) end same (is, some, (sheet, found, path)) =
     (is, some, (sheet, sheet_same a b generation page (λ k here. same k (inl here)) ∙ found, path_same a b generation (next_of sheet.content) pages end (λ k inside. same k (inr inside)) path))
 
--- and so do its bytes.
+-- and so do its bytes
 pub bytes_same : (a b : ℕ → List ℕ) (generation : ℕ) (pages : List ℕ) → ((k : ℕ) → IsSectorIn pages k → b k ≡ a k) → path_bytes b generation pages ≡ path_bytes a generation pages
 bytes_same a b generation [] same = refl
 bytes_same a b generation (page ∷ pages) same =
     let front : piece_in (sheet_at b generation page) ≡ piece_in (sheet_at a generation page) = ap piece_in (sheet_same a b generation page (λ k here. same k (inl here))) in
     let rest : path_bytes b generation pages ≡ path_bytes a generation pages = bytes_same a b generation pages (λ k inside. same k (inr inside)) in
     (λ i. front i ++ rest i)
+
+-- and the generations that they bear.
+own_same : (a b : ℕ → List ℕ) (generation : ℕ) (pages : List ℕ) → ((k : ℕ) → IsSectorIn pages k → b k ≡ a k) → AreOfCommit a generation pages → AreOfCommit b generation pages
+own_same a b generation [] same own = tt
+own_same a b generation (page ∷ pages) same own =
+    (ap generation_of (sheet_same a b generation page (λ k here. same k (inl here))) ∙ own.0, own_same a b generation pages (λ k inside. same k (inr inside)) own.1)
 
 -- a page below the others has none of their sectors
 pub below_apart : (page : ℕ) (pages : List ℕ) → AllByRecursion (λ (other : ℕ). page < other) pages → (k : ℕ) → IsSectorIn pages k → IsSectorOf page k → ⊥
@@ -81,8 +87,8 @@ module _ (old new : ℕ → List ℕ) (generation next : ℕ) (pages bytes piece
   cut : drop i pages ≡ get_or pages i 0 ∷ drop left pages
   cut = let up : suc i ≡ left = omega arith in drop-cons pages i 0 within ∙ ap (λ (n : ℕ). get_or pages i 0 ∷ drop n pages) up
 
-  rises : AreApart (get_or pages i 0 ∷ drop left pages)
-  rises = subst AreApart cut (apart_drop i pages apart)
+  ascends : AreApart (get_or pages i 0 ∷ drop left pages)
+  ascends = subst AreApart cut (apart_drop i pages apart)
 
   split : drop (4076 * i) bytes ≡ piece ++ drop (4076 * left) bytes
   split = split_piece bytes (4076 * i) to (4076 * left) le is_to (omega arith) ∙ ap (λ (l : List ℕ). l ++ drop (4076 * left) bytes) (sym is_piece)
@@ -101,11 +107,14 @@ module _ (old new : ℕ → List ℕ) (generation next : ℕ) (pages bytes piece
   sheet_is = ap (sheet_in (get_or pages i 0) generation) holds ∙ chain_read_back (get_or pages i 0) generation next generation piece small near short some (omega arith) fits full
 
   rest_same : (k : ℕ) → IsSectorIn (drop left pages) k → new k ≡ old k
-  rest_same k inside = others k (λ here. below_apart (get_or pages i 0) (drop left pages) rises.1 k inside here)
+  rest_same k inside = others k (λ here. below_apart (get_or pages i 0) (drop left pages) ascends.1 k inside here)
 
   pub chain_step : IsPath old generation next (drop left pages) 0 → IsPath new generation (get_or pages i 0) (drop i pages) 0
   chain_step path = subst (λ (l : List ℕ). IsPath new generation (get_or pages i 0) l 0) (sym cut)
-      (refl, rises.0, (record { page = get_or pages i 0; generation = generation; content = chain next piece }, sheet_is, path_same old new generation next (drop left pages) 0 rest_same path))
+      (refl, ascends.0, (record { page = get_or pages i 0; generation = generation; content = chain next piece }, sheet_is, path_same old new generation next (drop left pages) 0 rest_same path))
+
+  pub own_step : AreOfCommit old generation (drop left pages) → AreOfCommit new generation (drop i pages)
+  own_step own = subst (AreOfCommit new generation) (sym cut) (ap generation_of sheet_is, own_same old new generation (drop left pages) rest_same own)
 
   pub bytes_step : path_bytes old generation (drop left pages) ≡ drop (4076 * left) bytes → path_bytes new generation (drop i pages) ≡ drop (4076 * i) bytes
   bytes_step so_far =

@@ -6,7 +6,7 @@ use Rattle.std.proofs.lemmas.List.{take_all}
 use Rattle.byteorder.specs.Endian.{little_number}
 use Rattle.byteorder.specs.Numbers.{little_number-reads_back}
 use Rattle.page.specs.Format.{are_zeros}
-use Rattle.roots.specs.Root.{begins_right, fields_in, is_possible, is_sound, root_in, no_root, newer, both, root_of, IsKnown, IsPossible, root_bytes}
+use Rattle.roots.specs.Root.{begins_right, fields_in, is_possible, is_sound, root_in, no_root, newer_root, both, root_of, IsKnown, IsPossible, root_bytes}
 use Rattle.roots.specs.declared.root.Root.{Root}
 use Rattle.roots.specs.declared.opening.OpenFault.{OpenFault}
 use Rattle.roots.specs.declared.opening.OpenFault.TheVariants as faults
@@ -32,7 +32,7 @@ pick_gives false false false false even odd root is = absurd (grind (arith, is))
 abbrev IsFrom : Result Root OpenFault → Result Root OpenFault → Root → Type 0
 IsFrom even odd root = ((even ≡ Ok root) × (root.generation % 2 ≡ 0)) ⊎ ((odd ≡ Ok root) × (root.generation % 2 ≡ 1))
 
-newer_gives : (even odd root : Root) → newer even odd ≡ Ok root → ((root ≡ even) × (root.generation % 2 ≡ 0)) ⊎ ((root ≡ odd) × (root.generation % 2 ≡ 1))
+newer_gives : (even odd root : Root) → newer_root even odd ≡ Ok root → ((root ≡ even) × (root.generation % 2 ≡ 0)) ⊎ ((root ≡ odd) × (root.generation % 2 ≡ 1))
 unfolding pick
 newer_gives even odd root is =
     let gives = pick_gives (not (even.generation % 2 == 0)) (odd.generation == even.generation + 1) ((odd.generation == 0) && (even.generation == 0))
@@ -126,7 +126,7 @@ pub known_both : (even odd : List ℕ) (found : Result Root OpenFault) → found
 known_both even odd (Ok root) is = known even odd root (sym is)
 known_both even odd (Err e) is = tt
 
-pub known_newer : (even odd : List ℕ) (first second : Root) (found : Result Root OpenFault) → Ok first ≡ root_in even → Ok second ≡ root_in odd → found ≡ newer first second → IfOk found IsKnown
+pub known_newer : (even odd : List ℕ) (first second : Root) (found : Result Root OpenFault) → Ok first ≡ root_in even → Ok second ≡ root_in odd → found ≡ newer_root first second → IfOk found IsKnown
 known_newer even odd first second found one two is = known_both even odd found (is ∙ (λ i. both (one i) (two i)))
 
 -- ---- what the code reads

@@ -4,7 +4,7 @@ use Rattle.std.specs.Prelude.{Result, Ok}
 use Rattle.std.specs.List.{AllByRecursion}
 use Rattle.std.proofs.lemmas.List.{length-append, append-nil, append_assoc}
 use Rattle.page.specs.Format.{Sheet}
-use Rattle.page.specs.declared.image.PageFault.{PageFault}
+use Rattle.page.specs.declared.page_image.PageFault.{PageFault}
 use Rattle.roots.specs.Chain.{IsPath, sheet_at, next_of, piece_in, path_bytes}
 use Rattle.roots.specs.Image.{HasChain}
 use Rattle.roots.specs.Reading.{IsLink}
@@ -67,7 +67,7 @@ module _ (image : ℕ → List ℕ) (root : Root) (front : List ℕ) (next : ℕ
   outside_by [] end within some far = some end
   outside_by (page ∷ rest) (is, above, more) within some far = omega (arith, is, within.0, far)
 
-  -- a page number past the end
+  -- a page number disk_history the end
   pub outside : next ≢ 0 → root.pages ≤ next → ⊥
   outside some far = outside_by left.rest left.path inside some far
 

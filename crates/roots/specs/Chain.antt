@@ -4,7 +4,7 @@ use Rattle.std.specs.Prelude.{◌≡◌, ◌⊎◌, ℕ, ◌<◌, List, [], ◌�
 use Rattle.std.specs.List.{AllByRecursion}
 use Rattle.page.specs.Page.{page_at, IsSectorOf}
 use Rattle.page.specs.Format.{Content, chain, Sheet, sheet_in}
-use Rattle.page.specs.declared.image.PageFault.{PageFault}
+use Rattle.page.specs.declared.page_image.PageFault.{PageFault}
 
 -- what a page of the image holds, in a file whose root has this generation
 abbrev pub sheet_at : (ℕ → List ℕ) → ℕ → ℕ → Result Sheet PageFault
@@ -29,12 +29,21 @@ abbrev pub piece_in : Result Sheet PageFault → List ℕ
 piece_in (Ok sheet) = bytes_of sheet.content
 piece_in (Err fault) = []
 
+abbrev pub generation_of : Result Sheet PageFault → ℕ
+generation_of (Ok sheet) = sheet.generation
+generation_of (Err fault) = 0
+
+-- each of these pages bears the generation of this commit, which wrote it
+abbrev pub AreOfCommit : (ℕ → List ℕ) → ℕ → List ℕ → Type 0
+AreOfCommit image generation pages =
+    AllByRecursion (λ page. generation_of (sheet_at image generation page) ≡ generation) pages
+
 -- the bytes of the chain that has these pages
 abbrev pub path_bytes : (ℕ → List ℕ) → ℕ → List ℕ → List ℕ
 path_bytes image generation [] = []
 path_bytes image generation (page ∷ pages) = piece_in (sheet_at image generation page) ++ path_bytes image generation pages
 
--- the pages rise, from above 0
+-- the pages ascend, from above 0
 abbrev pub AreApart : List ℕ → Type 0
 AreApart [] = Unit {0}
 AreApart (page ∷ pages) = (0 < page) × AllByRecursion (λ other. page < other) pages × AreApart pages

@@ -7,9 +7,9 @@ use Rattle.roots.specs.Chain.{AreApart, IsSectorIn}
 abbrev pub is_free : List ℕ → ℕ → Bool
 is_free live page = list_all (λ other. not (other == page)) live
 
--- These pages rise and lie below an end, and none of their sectors is one of the live pages'.
+-- These pages ascend and lie below an end, and none of their sectors is one of the live pages'.
 pub record AreFree (live pages : List ℕ) (end : ℕ) : Type 0 where
-  pub rise : AreApart pages
+  pub ascend : AreApart pages
   pub inside : AllByRecursion (λ page. page < end) pages
   pub few : length pages < end
   pub apart : (k : ℕ) → IsSectorIn live k → IsSectorIn pages k → ⊥

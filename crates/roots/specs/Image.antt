@@ -1,9 +1,9 @@
--- What an image of the disk stands for: the bytes of the chain that its root names.
+-- What an image of the disk stands for: the entries that the chain of its root spells.
 use Rattle.std.specs.Prelude.{◌≡◌, ◌⊎◌, ℕ, ◌<◌, List, length, Ok}
 use Rattle.std.specs.List.{AllByRecursion}
 use Rattle.roots.specs.Root.{root_of}
 use Rattle.roots.specs.Chain.{IsChain, IsSectorIn, path_bytes}
-use Rattle.roots.specs.Pairs.{Pair, IsRow, pairs_bytes}
+use Rattle.roots.specs.Entries.{Entry, IsFit, Ascend, SameEntries, entries_bytes}
 use Rattle.roots.specs.declared.root.Root.{Root}
 
 -- the root sectors of the image give this root
@@ -16,19 +16,26 @@ pub record HasChain (image : ℕ → List ℕ) (root : Root) (pages : List ℕ) 
   pub inside : AllByRecursion (λ page. page < root.pages) pages
   pub few : length pages < root.pages
 
--- The image stands for these bytes.
-pub record StandsFor (image : ℕ → List ℕ) (bytes : List ℕ) : Type 0 where
+-- the image's root names a chain of these bytes
+pub record HoldsBytes (image : ℕ → List ℕ) (bytes : List ℕ) : Type 0 where
   pub root : Root
   pub pages : List ℕ
   pub opens : HasRoot image root
   pub has : HasChain image root pages
   pub bytes_are : path_bytes image root.generation pages ≡ bytes
 
--- The image holds these pairs.
-pub record Holds (image : ℕ → List ℕ) (pairs : List Pair) : Type 0 where
-  pub row : IsRow pairs
-  pub stands : StandsFor image (pairs_bytes pairs)
+-- The image stands for these entries, in this order.
+pub record StandsFor (image : ℕ → List ℕ) (entries : List Entry) : Type 0 where
+  pub fit : AllByRecursion IsFit entries
+  pub holds : HoldsBytes image (entries_bytes entries)
 
--- A root that names the chain of these pages reaches this sector: it is a root sector, or one of a page of the chain.
+-- The image holds these entries and no others, in whatever order they are listed.
+pub record Holds (image : ℕ → List ℕ) (listed : List Entry) : Type 0 where
+  pub entries : List Entry
+  pub ascend : Ascend entries
+  pub same : SameEntries entries listed
+  pub stands : StandsFor image entries
+
+-- A root that names the chain of these pages reaches this sector: a root sector, or one of a page of the chain.
 abbrev pub Kept : List ℕ → ℕ → Type 0
 Kept pages k = (k < 2) ⊎ IsSectorIn pages k

@@ -1,11 +1,14 @@
 pub mod Chain
+pub mod Committing
+pub mod Entries
+pub mod EntriesLeft
+pub mod EntryLaws
+pub mod EntryView
 pub mod FaultNames
 pub mod Free
 pub mod Image
+pub mod Numbers
 pub mod Opening
-pub mod PairLaws
-pub mod Pairs
-pub mod PairsLeft
 pub mod Reading
 pub mod Replace
 pub mod Root

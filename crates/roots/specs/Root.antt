@@ -52,26 +52,26 @@ root_in bytes =
 -- ---- reading both
 
 -- Of the root in sector 0 and that in sector 1 the later one counts. The other is the one before it.
-abbrev pub newer : Root → Root → Result Root OpenFault
-newer even odd =
+abbrev pub newer_root : Root → Root → Result Root OpenFault
+newer_root even odd =
     if not (even.generation % 2 == 0) then Err faults.Damaged else
     if odd.generation == even.generation + 1 then Ok odd else
     if (odd.generation == 0) && (even.generation == 0) then Ok even else
     if not (odd.generation == 0) && (not (even.generation == 0) && (odd.generation == even.generation - 1)) then Ok even else Err faults.Damaged
 
 -- what is no database goes before what is of a newer format, and that before damage
-abbrev pub worse : OpenFault → OpenFault → OpenFault
-worse faults.NotADatabase odd = faults.NotADatabase
-worse even faults.NotADatabase = faults.NotADatabase
-worse faults.NewerFormat odd = faults.NewerFormat
-worse even faults.NewerFormat = faults.NewerFormat
-worse even odd = faults.Damaged
+abbrev pub worse_fault : OpenFault → OpenFault → OpenFault
+worse_fault faults.NotADatabase odd = faults.NotADatabase
+worse_fault even faults.NotADatabase = faults.NotADatabase
+worse_fault faults.NewerFormat odd = faults.NewerFormat
+worse_fault even faults.NewerFormat = faults.NewerFormat
+worse_fault even odd = faults.Damaged
 
 abbrev pub both : Result Root OpenFault → Result Root OpenFault → Result Root OpenFault
-both (Ok even) (Ok odd) = newer even odd
+both (Ok even) (Ok odd) = newer_root even odd
 both (Ok even) (Err fault) = Err fault
 both (Err fault) (Ok odd) = Err fault
-both (Err even) (Err odd) = Err (worse even odd)
+both (Err even) (Err odd) = Err (worse_fault even odd)
 
 -- the root that sectors 0 and 1 give
 abbrev pub root_of : List ℕ → List ℕ → Result Root OpenFault

@@ -2,7 +2,7 @@
 ghost use Rattle.std.specs.Prelude.{◌≡◌, ℕ, ◌<◌, ◌≤◌, ◌*◌, ◌+◌, ◌-◌, OnOk, OnErr, length, min};
 ghost use Rattle.page.specs.History.{KeepsWord, now, reads};
 ghost use Rattle.page.specs.Crash.{GoesOn, LeavesOnly, IsImageOutside};
-ghost use Rattle.roots.specs.Chain.{IsChain, IsSectorIn, AreApart, first_of, path_bytes};
+ghost use Rattle.roots.specs.Chain.{IsChain, AreOfCommit, IsSectorIn, AreApart, first_of, path_bytes};
 
 use page::{DeviceFault, Disk, chain_page, write_page};
 
@@ -29,11 +29,22 @@ pub(crate) fn write_chain<D: Disk>(
     ensures on { GoesOn (D.history disk.old) (D.history disk.new) }
 
     // Elsewhere a crash leaves what it could leave before.
-    ensures any_moment { LeavesOnly (D.history disk.old) (D.history disk.new) (IsImageOutside (now (D.history disk.old)) (IsSectorIn pages.now)) }
-    ensures others { KeepsWord (D.history disk.new) → (k : ℕ) → (IsSectorIn pages.now k → ⊥) → now (D.history disk.new) k ≡ now (D.history disk.old) k }
-    ensures chain { KeepsWord (D.history disk.new) → OnOk result (IsChain (reads (now (D.history disk.new))) generation (first_of pages.now) pages.now) }
-    ensures bytes { KeepsWord (D.history disk.new) → OnOk result (path_bytes (reads (now (D.history disk.new))) generation pages.now ≡ bytes.now) }
-    ensures failed { KeepsWord (D.history disk.new) → OnErr result ((D.history disk.old).failures < (D.history disk.new).failures) }
+    ensures any_moment { let before = now (D.history disk.old) in
+        LeavesOnly (D.history disk.old) (D.history disk.new)
+        (IsImageOutside before (IsSectorIn pages.now)) }
+    ensures others { let before = now (D.history disk.old) in
+        KeepsWord (D.history disk.new)
+        → (k : ℕ) → (IsSectorIn pages.now k → ⊥) → now (D.history disk.new) k ≡ before k }
+    ensures chain { let image = reads (now (D.history disk.new)) in
+        KeepsWord (D.history disk.new)
+        → OnOk result (IsChain image generation (first_of pages.now) pages.now) }
+    ensures own { KeepsWord (D.history disk.new)
+        → OnOk result (AreOfCommit (reads (now (D.history disk.new))) generation pages.now) }
+    ensures bytes { let image = reads (now (D.history disk.new)) in
+        KeepsWord (D.history disk.new)
+        → OnOk result (path_bytes image generation pages.now ≡ bytes.now) }
+    ensures failed { KeepsWord (D.history disk.new)
+        → OnErr result ((D.history disk.old).failures < (D.history disk.new).failures) }
 {
     let mut next = 0;
     let mut left = pages.len();

@@ -4,7 +4,7 @@ ghost use Rattle.roots.specs.Free.{is_free, AreFree, end_of, free_pages};
 
 use std::alloc::{AllocError, Global};
 
-/// Pages that were taken for a chain, in rising order, and the end behind them.
+/// Pages that were taken for a chain, in ascending order, and the end behind them.
 #[derive(Drop)]
 pub struct ChainPages {
     pub(crate) pages: Vec<u32>,
@@ -25,9 +25,11 @@ pub(crate) fn take(
     limit: u32,
 ) -> Result<Option<ChainPages>, AllocError>
     requires { 1 ≤ limit }
-    ensures free { IfOk result (λ found. IfSome found (λ taken. AreFree live.now taken.pages.items taken.end)) }
+    ensures free { IfOk result (λ found. IfSome found (λ taken.
+        AreFree live.now taken.pages.items taken.end)) }
     ensures count { IfOk result (λ found. IfSome found (λ taken. length taken.pages.items ≡ count)) }
-    ensures least { IfOk result (λ found. IfSome found (λ taken. taken.pages.items ≡ free_pages live.now taken.end)) }
+    ensures least { IfOk result (λ found. IfSome found (λ taken.
+        taken.pages.items ≡ free_pages live.now taken.end)) }
     ensures ends { IfOk result (λ found. IfSome found (λ taken. taken.end ≡ end_of taken.pages.items)) }
     ensures none { IfOk result (λ found. IfNone found (length (free_pages live.now limit) < count)) }
     ensures within { IfOk result (λ found. IfSome found (λ taken. taken.end ≤ limit)) }

@@ -2,18 +2,17 @@
 #![tactic(auto)]
 
 mod chain;
+mod entries;
 mod free;
-mod laws;
+pub mod laws;
 mod opening;
-mod pairs;
 mod reading;
 mod replace;
 mod root;
 mod store;
 
+pub use entries::{EntryList, SplitEntry, split_entry};
 pub use free::ChainPages;
-pub use laws::{one_image, one_pair, one_row, one_state};
 pub use opening::OpenFault;
-pub use pairs::{PairList, SplitPair, split_pair};
-pub use root::Root;
-pub use store::{CommitFault, Config, Store};
+pub use root::{MAX_PAGES, Root};
+pub use store::{CommitFault, Config, LEAST_LIMIT, Store};

@@ -3,7 +3,7 @@ ghost use Rattle.std.specs.Prelude.{◌≡◌, ◌≢◌, ◌<◌, IfOk, IfErr, 
 ghost use Rattle.page.specs.History.{KeepsWord, now, reads};
 ghost use Rattle.page.specs.Crash.{ReadsOnly};
 ghost use Rattle.roots.specs.Image.{HasRoot};
-ghost use Rattle.roots.specs.Root.{newer, worse, root_of, IsKnown};
+ghost use Rattle.roots.specs.Root.{newer_root, worse_fault, root_of, IsKnown};
 ghost use Rattle.roots.specs.declared.opening.OpenFault.TheVariants.{Device, Memory};
 
 use crate::root::Root;
@@ -14,8 +14,8 @@ use std::alloc::AllocError;
 #[derive(Clone, Copy, Debug, PartialEq, Eq)]
 pub enum OpenFault {
     /// A read or a sync failed.
-    Device,
-    /// Memory ran out.
+    Device = 1,
+    /// Out of memory.
     Memory,
     /// A root sector begins otherwise than with the mark of this product.
     NotADatabase,
@@ -59,8 +59,8 @@ impl From<AllocError> for OpenFault {
 }
 
 /// Of the roots in sectors 0 and 1 the one that counts.
-fn newer(even: Root, odd: Root) -> Result<Root, OpenFault>
-    ensures { result ≡ newer even odd }
+fn newer_root(even: Root, odd: Root) -> Result<Root, OpenFault>
+    ensures { result ≡ newer_root even odd }
 {
     if even.generation % 2 != 0 {
         return Err(OpenFault::Damaged);
@@ -78,8 +78,8 @@ fn newer(even: Root, odd: Root) -> Result<Root, OpenFault>
 }
 
 /// Of the faults of two sectors the one that is answered.
-fn worse(even: OpenFault, odd: OpenFault) -> OpenFault
-    ensures { result ≡ worse even odd }
+fn worse_fault(even: OpenFault, odd: OpenFault) -> OpenFault
+    ensures { result ≡ worse_fault even odd }
 {
     match (even, odd) {
         (OpenFault::NotADatabase, _) | (_, OpenFault::NotADatabase) => OpenFault::NotADatabase,
@@ -94,20 +94,24 @@ pub(crate) fn choose(even: &[u8; 512], odd: &[u8; 512]) -> Result<Root, OpenFaul
     ensures known { IfOk result IsKnown }
 {
     match (Root::read(even), Root::read(odd)) {
-        (Ok(first), Ok(second)) => newer(first, second),
+        (Ok(first), Ok(second)) => newer_root(first, second),
         (Ok(_), Err(fault)) => Err(fault),
         (Err(fault), Ok(_)) => Err(fault),
-        (Err(first), Err(second)) => Err(worse(first, second)),
+        (Err(first), Err(second)) => Err(worse_fault(first, second)),
     }
 }
 
 /// Reads the root that counts.
 pub(crate) fn read_root<D: Disk>(disk: &mut D) -> Result<Root, OpenFault>
     ensures reads { ReadsOnly (D.history disk.old) (D.history disk.new) }
-    ensures root { KeepsWord (D.history disk.new) → IfOk result (HasRoot (reads (now (D.history disk.old)))) }
-    ensures refused { KeepsWord (D.history disk.new) → IfErr result (λ fault. fault ≢ OpenFault.Device → root_of (reads (now (D.history disk.old)) 0) (reads (now (D.history disk.old)) 1) ≡ Err fault) }
+    ensures root { KeepsWord (D.history disk.new)
+        → IfOk result (HasRoot (reads (now (D.history disk.old)))) }
+    ensures refused { let image = reads (now (D.history disk.old)) in
+        KeepsWord (D.history disk.new) → IfErr result (λ fault. fault ≢ OpenFault.Device
+        → root_of (image 0) (image 1) ≡ Err fault) }
     ensures known { IfOk result IsKnown }
-    ensures device { KeepsWord (D.history disk.new) → IfErr result (λ fault. fault ≡ OpenFault.Device → (D.history disk.old).failures < (D.history disk.new).failures) }
+    ensures device { KeepsWord (D.history disk.new) → IfErr result (λ fault. fault ≡ OpenFault.Device
+        → (D.history disk.old).failures < (D.history disk.new).failures) }
     ensures memory { result ≢ Err OpenFault.Memory }
 {
     let mut even = [0; 512];

@@ -44,10 +44,16 @@ fn read_link<D: Disk>(
     generation: u64,
 ) -> Result<Link, OpenFault>
     ensures reads { ReadsOnly (D.history disk.old) (D.history disk.new) }
-    ensures link { KeepsWord (D.history disk.new) → IfOk result (λ link. IsLink (sheet_at (reads (now (D.history disk.old))) generation page) link.next link.bytes.items) }
-    ensures damaged { KeepsWord (D.history disk.new) → IfErr result (λ fault. fault ≢ OpenFault.Device → fault ≢ OpenFault.Memory → (sheet : Sheet) → sheet_at (reads (now (D.history disk.old))) generation page ≡ Ok sheet → ⊥) }
+    ensures link { let sheet = sheet_at (reads (now (D.history disk.old))) generation page in
+        KeepsWord (D.history disk.new)
+        → IfOk result (λ link. IsLink sheet link.next link.bytes.items) }
+    ensures damaged { let read = sheet_at (reads (now (D.history disk.old))) generation page in
+        KeepsWord (D.history disk.new)
+        → IfErr result (λ fault. fault ≢ OpenFault.Device → fault ≢ OpenFault.Memory
+        → (sheet : Sheet) → read ≡ Ok sheet → ⊥) }
     ensures kinds { IfErr result (λ fault. (fault ≢ OpenFault.NotADatabase) × (fault ≢ OpenFault.NewerFormat)) }
-    ensures device { KeepsWord (D.history disk.new) → IfErr result (λ fault. fault ≡ OpenFault.Device → (D.history disk.old).failures < (D.history disk.new).failures) }
+    ensures device { KeepsWord (D.history disk.new) → IfErr result (λ fault. fault ≡ OpenFault.Device
+        → (D.history disk.old).failures < (D.history disk.new).failures) }
 {
     let mut bytes = [0; 4096];
     read_page(disk, page, &mut bytes)?;
@@ -68,11 +74,19 @@ pub(crate) fn read_chain<D: Disk>(
     root: Root,
 ) -> Result<Chain, OpenFault>
     ensures reads { ReadsOnly (D.history disk.old) (D.history disk.new) }
-    ensures chain { KeepsWord (D.history disk.new) → IfOk result (λ chain. HasChain (reads (now (D.history disk.old))) root chain.pages.items) }
-    ensures bytes { KeepsWord (D.history disk.new) → IfOk result (λ chain. path_bytes (reads (now (D.history disk.old))) root.generation chain.pages.items ≡ chain.bytes.items) }
-    ensures damaged { KeepsWord (D.history disk.new) → IfErr result (λ fault. fault ≢ OpenFault.Device → fault ≢ OpenFault.Memory → (pages : List ℕ) → HasChain (reads (now (D.history disk.old))) root pages → ⊥) }
+    ensures chain { let image = reads (now (D.history disk.old)) in
+        KeepsWord (D.history disk.new)
+        → IfOk result (λ chain. HasChain image root chain.pages.items) }
+    ensures bytes { let image = reads (now (D.history disk.old)) in
+        KeepsWord (D.history disk.new) → IfOk result (λ chain.
+        path_bytes image root.generation chain.pages.items ≡ chain.bytes.items) }
+    ensures damaged { let image = reads (now (D.history disk.old)) in
+        KeepsWord (D.history disk.new)
+        → IfErr result (λ fault. fault ≢ OpenFault.Device → fault ≢ OpenFault.Memory
+        → (pages : List ℕ) → HasChain image root pages → ⊥) }
     ensures kinds { IfErr result (λ fault. (fault ≢ OpenFault.NotADatabase) × (fault ≢ OpenFault.NewerFormat)) }
-    ensures device { KeepsWord (D.history disk.new) → IfErr result (λ fault. fault ≡ OpenFault.Device → (D.history disk.old).failures < (D.history disk.new).failures) }
+    ensures device { KeepsWord (D.history disk.new) → IfErr result (λ fault. fault ≡ OpenFault.Device
+        → (D.history disk.old).failures < (D.history disk.new).failures) }
 {
     let mut chain = Chain {
         pages: Vec::new(alloc),

@@ -1,7 +1,7 @@
 //! A sector is replaced behind everything that was written before.
 ghost use Rattle.std.specs.Prelude.{◌≡◌, ◌⊎◌, ◌<◌, OnOk, OnErr};
 ghost use Rattle.page.specs.History.{KeepsWord, now, reads, IsImage};
-ghost use Rattle.page.specs.Crash.{GoesOn, LeavesOnly, IsSettled, put};
+ghost use Rattle.page.specs.Crash.{GoesOn, LeavesOnly, AreDurable, put};
 ghost use Rattle.roots.specs.Replace.{IsOldOrPut};
 
 use page::{DeviceFault, Disk};
@@ -17,10 +17,12 @@ pub(crate) fn replace<D: Disk>(
     // Until the first sync a crash leaves what it could leave before; then what reads gave, with the sector or without.
     ensures any_moment { LeavesOnly (D.history disk.old) (D.history disk.new)
         (IsOldOrPut (now (D.history disk.old)) sector bytes.now) }
-
-    ensures settled { KeepsWord (D.history disk.new) → OnOk result (IsSettled (now (D.history disk.new))) }
-    ensures reads { KeepsWord (D.history disk.new) → OnOk result (reads (now (D.history disk.new)) ≡ put (reads (now (D.history disk.old))) sector bytes.now) }
-    ensures failed { KeepsWord (D.history disk.new) → OnErr result ((D.history disk.old).failures < (D.history disk.new).failures) }
+    ensures synced { KeepsWord (D.history disk.new) → OnOk result (AreDurable (now (D.history disk.new))) }
+    ensures reads { let before = reads (now (D.history disk.old)) in
+        KeepsWord (D.history disk.new)
+        → OnOk result (reads (now (D.history disk.new)) ≡ put before sector bytes.now) }
+    ensures failed { KeepsWord (D.history disk.new)
+        → OnErr result ((D.history disk.old).failures < (D.history disk.new).failures) }
 {
     disk.sync()?;
     disk.write(sector, bytes)?;

@@ -1,10 +1,10 @@
 //! A root sector.
 ghost use Rattle.std.specs.Prelude.{◌≡◌, length};
-ghost use Rattle.page.specs.Format.{are_zeros};
 ghost use Rattle.roots.specs.Root.{root_head, root_bytes, begins_right, fields_in, is_possible, is_sound, root_in};
 
 use crate::opening::OpenFault;
 use byteorder::{ByteOrder, LittleEndian};
+use page::is_all_zero;
 
 /// The bytes that a root sector begins with.
 const MAGIC: [u8; 8] = *b"DOCPAGE1";
@@ -15,7 +15,7 @@ const PAGE_SIZE: u32 = 4096;
 /// The most pages that a file has.
 pub const MAX_PAGES: u32 = 1_048_576;
 
-/// What a commit makes durable: its number, the first page of its chain (0 for no pairs), and how many pages the file
+/// What a commit makes durable: its number, the first page of its chain (0 where there are no entries), and how many pages the file
 /// has, with page 0.
 #[derive(Clone, Copy, Debug, PartialEq, Eq)]
 pub struct Root {
@@ -30,12 +30,6 @@ const NO_ROOT: Root = Root {
     tree: 0,
     pages: 1,
 };
-
-fn all_zero(bytes: &[u8]) -> bool
-    ensures { result ≡ are_zeros bytes.now }
-{
-    bytes.iter().all(|b| *b == 0)
-}
 
 fn begins_right(sector: &[u8]) -> bool
     requires { length sector.now ≡ 512 }
@@ -101,14 +95,14 @@ impl Root {
         if !Root::fields(sector).is_possible() {
             return false;
         }
-        all_zero(&sector[32..])
+        is_all_zero(&sector[32..])
     }
 
     /// The root in a sector. Zeros are the root of a file that was never committed.
     pub(crate) fn read(sector: &[u8; 512]) -> Result<Root, OpenFault>
         ensures { result ≡ root_in sector.now }
     {
-        if all_zero(sector) {
+        if is_all_zero(sector) {
             return Ok(NO_ROOT);
         }
         if !begins_right(sector) {

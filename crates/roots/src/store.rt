@@ -1,28 +1,25 @@
 //! A store: its disk, the root that it committed last, and the pages of that root's chain.
-ghost use Rattle.std.specs.Prelude.{◌≡◌, ◌≢◌, ◌⊎◌, ◌<◌, ◌≤◌, ◌+◌, ◌-◌, ◌^◌, ◌*◌, Ok, Err, false, true, ℕ, List, IfOk, IfErr, OnOk, OnErr, length, max};
-ghost use Rattle.page.specs.History.{KeepsWord, now, reads, IsImage};
-ghost use Rattle.page.specs.Crash.{GoesOn, LeavesOnly, LeavesNow, ReadsOnly};
-ghost use Rattle.roots.specs.Root.{root_of};
-ghost use Rattle.roots.specs.Image.{HasRoot, StandsFor};
-ghost use Rattle.roots.specs.declared.root.Root.{Root};
-ghost use Rattle.roots.specs.declared.store.CommitFault.TheVariants.{Memory};
+ghost use Rattle.std.specs.Prelude.{◌≡◌, ◌<◌, ◌≤◌, ◌+◌, ◌*◌, IfOk, IfErr, max};
+ghost use Rattle.page.specs.History.{KeepsWord};
 ghost use Rattle.roots.specs.Chain.{first_of};
+ghost use Rattle.roots.specs.Committing.{WritesEntries, CommitsPages};
+ghost use Rattle.roots.specs.Entries.{AreAscending};
+ghost use Rattle.roots.specs.EntryView.{entries_of};
 ghost use Rattle.roots.specs.Opening.{IsOpened, IsRefused};
-ghost use Rattle.roots.specs.Pairs.{SpellsRow, spelled};
-ghost use Rattle.roots.specs.Store.{AreLeast, IsTooLong, is_stopped, pages_of, reach, IsSound, IsRunning, IsWritten, limit_in, limit_of, past, committed, handed, version_of};
+ghost use Rattle.roots.specs.Store.{is_stopped, IsSound, IsWritten, limit_in, limit_of, disk_history, committed_entries, version_of, full_takes_of};
 
 use crate::chain::write_chain;
+use crate::entries::{EntryList, are_ascending};
 use crate::free::{ChainPages, take};
 use crate::opening::{OpenFault, read_root};
-use crate::pairs::{PairList, are_rising};
 use crate::reading::{Chain, read_chain};
 use crate::replace::replace;
 use crate::root::{MAX_PAGES, Root};
 use page::{CHAIN_BYTES, DeviceFault, Disk};
-use std::alloc::{AllocError, Global};
+use std::alloc::Global;
 
 /// The fewest pages that a limit leaves to a file.
-const LEAST_LIMIT: u32 = 16;
+pub const LEAST_LIMIT: u32 = 16;
 
 /// How a store is opened.
 #[derive(Clone, Copy, Debug, PartialEq, Eq)]
@@ -49,10 +46,10 @@ impl Config {
 #[derive(Clone, Copy, Debug, PartialEq, Eq)]
 pub enum CommitFault {
     /// A write or a sync failed, in this call or an earlier one. The store has stopped.
-    Device,
-    /// Memory ran out. Nothing changed.
+    Device = 1,
+    /// Out of memory. Nothing changed.
     Memory,
-    /// The pages don't reach, or no greater generation is left. Nothing changed.
+    /// No free page was found, or no greater generation is left. Nothing changed but the count of takes that found none.
     Full,
 }
 
@@ -68,14 +65,6 @@ impl CommitFault {
             CommitFault::Memory => "Memory",
             CommitFault::Full => "Full",
         }
-    }
-}
-
-impl From<AllocError> for CommitFault {
-    ghost from_gives = { λ _ fault. fault ≡ Memory };
-
-    fn from(_: AllocError) -> Self {
-        CommitFault::Memory
     }
 }
 
@@ -110,6 +99,7 @@ fn first(pages: &[u32]) -> u32
     }
 }
 
+/// Entries on a disk, made durable by one commit after another.
 #[derive(Drop)]
 pub struct Store<D> {
     alloc: Global,
@@ -117,20 +107,23 @@ pub struct Store<D> {
     root: Root,
     live: Vec<u32>,
     limit: u32,
+    // how often no free page was found
+    full_takes: u64,
     stopped: bool,
 }
 
 impl<D: Disk> Store<D> {
-    /// Opens a disk that a crash may have left, and hands on the pairs that it holds. It writes nothing, and syncs before
+    /// Opens a disk that a crash may have left, and hands on the entries that it holds. It writes nothing, and syncs before
     /// it answers. An `Err` hands the disk back.
-    pub fn open_pairs(
+    pub fn open_entries(
         alloc: Global,
         mut disk: D,
         config: Config,
-    ) -> Result<(Store<D>, PairList), (D, OpenFault)>
+    ) -> Result<(Store<D>, EntryList), (D, OpenFault)>
         ensures opened { IfOk result (λ found. IsOpened D.history disk found.0) }
-        ensures row { IfOk result (λ found. SpellsRow (spelled found.1)) }
-        ensures pairs { IfOk result (λ found. KeepsWord (past D.history found.0) → spelled found.1 ≡ committed D.history found.0) }
+        ensures ascending { IfOk result (λ found. AreAscending (entries_of found.1)) }
+        ensures entries { IfOk result (λ found. KeepsWord (disk_history D.history found.0)
+            → entries_of found.1 ≡ committed_entries D.history found.0) }
         ensures limit { IfOk result (λ found. limit_of found.0 ≡ limit_in config) }
         ensures refused { IfErr result (λ e. IsRefused D.history disk e.0 e.1) }
     {
@@ -142,7 +135,7 @@ impl<D: Disk> Store<D> {
             Ok(chain) => chain,
             Err(fault) => return Err((disk, fault)),
         };
-        if !are_rising(&bytes) {
+        if !are_ascending(&bytes) {
             return Err((disk, OpenFault::Damaged));
         }
         match disk.sync() {
@@ -153,21 +146,22 @@ impl<D: Disk> Store<D> {
                     root,
                     live: pages,
                     limit: config.limit(),
+                    full_takes: 0,
                     stopped: false,
                 };
-                Ok((store, PairList::from_bytes(bytes)))
+                Ok((store, EntryList::from_bytes(bytes)))
             }
             Err(DeviceFault) => Err((disk, OpenFault::Device)),
         }
     }
 
-    /// Opens a disk as `open_pairs` does.
+    /// Opens a disk as `open_entries` does.
     pub fn open(alloc: Global, disk: D, config: Config) -> Result<Store<D>, (D, OpenFault)>
         ensures opened { IfOk result (IsOpened D.history disk) }
         ensures limit { IfOk result (λ store. limit_of store ≡ limit_in config) }
         ensures refused { IfErr result (λ e. IsRefused D.history disk e.0 e.1) }
     {
-        match Store::open_pairs(alloc, disk, config) {
+        match Store::open_entries(alloc, disk, config) {
             Ok((store, _)) => Ok(store),
             Err(refused) => Err(refused),
         }
@@ -175,7 +169,7 @@ impl<D: Disk> Store<D> {
 
     /// Hands the disk back as it is.
     pub fn into_disk(self) -> D
-        ensures { D.history result ≡ past D.history self }
+        ensures { D.history result ≡ disk_history D.history self }
     {
         self.disk
     }
@@ -187,6 +181,13 @@ impl<D: Disk> Store<D> {
         self.root.generation
     }
 
+    /// How often no free page was found; at most 2^64 - 1.
+    pub fn full_takes(&self) -> u64
+        ensures { result ≡ full_takes_of self.now }
+    {
+        self.full_takes
+    }
+
     /// Whether a write or a sync has failed. A stopped store commits nothing any more.
     pub fn is_stopped(&self) -> bool
         ensures { result ≡ is_stopped self.now }
@@ -194,32 +195,11 @@ impl<D: Disk> Store<D> {
         self.stopped
     }
 
-    /// Writes a row of pairs into the least pages that the committed root doesn't reach, for a commit of these pages. Only
-    /// a row whose keys rise is opened again.
-    pub fn write_image(&mut self, pairs: &PairList) -> Result<ChainPages, CommitFault>
+    /// Writes entries into the least pages that the committed root doesn't reach, for a commit of these pages. Only
+    /// ascending entries are opened again.
+    pub fn write_entries(&mut self, entries: &EntryList) -> Result<ChainPages, CommitFault>
         requires sound { IsSound D.history self.old }
-
-        ensures sound { IsSound D.history self.new }
-        ensures on { GoesOn (past D.history self.old) (past D.history self.new) }
-
-        // A crash at any moment of the call leaves what was committed before.
-        ensures any_moment { IsRunning self.old → LeavesOnly (past D.history self.old) (past D.history self.new) (λ image. StandsFor image (committed D.history self.old)) }
-
-        ensures running { OnOk result (IsRunning self.old × IsRunning self.new) }
-        ensures same { KeepsWord (past D.history self.new) → OnOk result (committed D.history self.new ≡ committed D.history self.old) }
-        ensures written { IfOk result (IsWritten D.history self.new) }
-        ensures bytes { KeepsWord (past D.history self.new) → IfOk result (λ taken. handed D.history self.new taken ≡ spelled pairs.now) }
-
-        ensures least { IfOk result (λ taken. AreLeast self.old taken (length (spelled pairs.now))) }
-        ensures limit { limit_of self.new ≡ limit_of self.old }
-
-        ensures full { result ≡ Err CommitFault.Full → (version_of self.old ≡ 2 ^ 64 - 1) ⊎ IsTooLong self.old (length (spelled pairs.now)) }
-        ensures device { result ≡ Err CommitFault.Device → KeepsWord (past D.history self.new)
-            → (self.old.stopped ≡ true) ⊎ ((past D.history self.old).failures < (past D.history self.new).failures) }
-        ensures stops { result ≡ Err CommitFault.Device → self.new.stopped ≡ true }
-        ensures version { version_of self.new ≡ version_of self.old }
-        ensures nothing { result ≢ Err CommitFault.Device → OnErr result (self.new ≡ self.old) }
-        ensures idle { self.old.stopped ≡ true → self.new ≡ self.old }
+        ensures { WritesEntries D.history (entries_of entries.now) result self.old self.new }
     {
         if self.stopped {
             return Err(CommitFault::Device);
@@ -227,11 +207,18 @@ impl<D: Disk> Store<D> {
         if self.root.generation == u64::MAX {
             return Err(CommitFault::Full);
         }
-        let bytes = pairs.bytes();
+        let bytes = entries.bytes();
         let limit = greater(self.limit, self.root.pages);
-        let found = take(self.alloc, &self.live, pages_for(bytes.len()), limit)?;
-        let Some(taken) = found else {
-            return Err(CommitFault::Full);
+        let found = match take(self.alloc, &self.live, pages_for(bytes.len()), limit) {
+            Ok(found) => found,
+            Err(_) => return Err(CommitFault::Memory),
+        };
+        let taken = match found {
+            Some(taken) => taken,
+            None => {
+                self.full_takes = self.full_takes.saturating_add(1);
+                return Err(CommitFault::Full);
+            }
         };
         match write_chain(
             &mut self.disk,
@@ -247,33 +234,11 @@ impl<D: Disk> Store<D> {
         }
     }
 
-    /// Makes the bytes in these pages the committed ones.
+    /// Makes the entries in these pages the committed ones.
     pub fn commit(&mut self, pages: ChainPages) -> Result<(), CommitFault>
         requires sound { IsSound D.history self.old }
         requires written { IsWritten D.history self.old pages }
-
-        ensures sound { IsSound D.history self.new }
-        ensures on { GoesOn (past D.history self.old) (past D.history self.new) }
-
-        // A crash at any moment of the call leaves what was committed before or what was handed in.
-        ensures any_moment { IsRunning self.old → LeavesOnly (past D.history self.old) (past D.history self.new)
-            (λ image. StandsFor image (committed D.history self.old) ⊎ StandsFor image (handed D.history self.old pages)) }
-
-        // At Ok it leaves what was handed in, and nothing else.
-        ensures acknowledged { OnOk result (LeavesNow (past D.history self.new) (λ image. StandsFor image (handed D.history self.old pages))) }
-        ensures same { KeepsWord (past D.history self.new) → OnOk result (committed D.history self.new ≡ handed D.history self.old pages) }
-        ensures version { OnOk result (version_of self.new ≡ version_of self.old + 1) }
-        ensures pages { OnOk result (pages_of self.new ≡ max (pages_of self.old) (reach pages)) }
-        ensures limit { limit_of self.new ≡ limit_of self.old }
-
-        ensures full { result ≡ Err CommitFault.Full → (version_of self.old ≡ 2 ^ 64 - 1) × (self.new ≡ self.old) }
-        ensures kept { result ≡ Err CommitFault.Full → LeavesNow (past D.history self.new) (λ image. StandsFor image (committed D.history self.old)) }
-        ensures no_memory { result ≢ Err CommitFault.Memory }
-        ensures device { result ≡ Err CommitFault.Device → KeepsWord (past D.history self.new)
-            → (self.old.stopped ≡ true) ⊎ ((past D.history self.old).failures < (past D.history self.new).failures) }
-        ensures stops { result ≡ Err CommitFault.Device → self.new.stopped ≡ true }
-        ensures idle { self.old.stopped ≡ true → self.new ≡ self.old }
-        ensures running { OnOk result (IsRunning self.old × IsRunning self.new) }
+        ensures { CommitsPages D.history pages result self.old self.new }
     {
         if self.stopped {
             return Err(CommitFault::Device);

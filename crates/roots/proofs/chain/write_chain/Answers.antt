@@ -1,7 +1,7 @@
 use Rattle.std.proofs.Common.{◌-◌, refl, ◌∙◌, ap, arith}
 use Rattle.page.specs.History.{Sector, now, reads}
 use Rattle.page.proofs.Moments.{goes_further}
-use Rattle.roots.proofs.Links.{others_so_far, moments_so_far, sector_in, chain_step, bytes_step, named_step}
+use Rattle.roots.proofs.Links.{others_so_far, moments_so_far, sector_in, chain_step, own_step, bytes_step, named_step}
 use Rattle.roots.proofs.chain.write_chain.Goals as goal
 
 pub returns-in_err-write_page-clause-any_moment : goal.returns-in_err-write_page-clause-any_moment
@@ -40,6 +40,10 @@ loop-left-preserved g c =
           chain_step (reads (now h1)) (reads (now h2)) c.args.generation c.loop-left.next c.args.pages.now c.args.bytes.now _ (c.loop-left.left - 1) c.loop-left.left c.piece_end-to.result
           (omega arith) (omega arith) c.requires.apart c.requires.some (omega arith) (omega arith) inv.near inv.named c.requires.needed (omega arith) c.piece_end-to.ensures refl
           (λ k outside. ap (λ (x : Sector). x.read) (e.others keeps k outside)) (c.in_ok-write_page.ensures.written keeps ∙ c.chain_page.ensures) (inv.chain (e.on.kept keeps));
+      own = λ keeps.
+          own_step (reads (now h1)) (reads (now h2)) c.args.generation c.loop-left.next c.args.pages.now c.args.bytes.now _ (c.loop-left.left - 1) c.loop-left.left c.piece_end-to.result
+          (omega arith) (omega arith) c.requires.apart c.requires.some (omega arith) (omega arith) inv.near inv.named c.requires.needed (omega arith) c.piece_end-to.ensures refl
+          (λ k outside. ap (λ (x : Sector). x.read) (e.others keeps k outside)) (c.in_ok-write_page.ensures.written keeps ∙ c.chain_page.ensures) (inv.own (e.on.kept keeps));
       written = λ keeps.
           bytes_step (reads (now h1)) (reads (now h2)) c.args.generation c.loop-left.next c.args.pages.now c.args.bytes.now _ (c.loop-left.left - 1) c.loop-left.left c.piece_end-to.result
           (omega arith) (omega arith) c.requires.apart c.requires.some (omega arith) (omega arith) inv.near inv.named c.requires.needed (omega arith) c.piece_end-to.ensures refl

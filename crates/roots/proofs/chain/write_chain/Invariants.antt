@@ -1,7 +1,7 @@
 use Rattle.std.proofs.Common.{◌≡◌, ℕ, ◌*◌, ◌≤◌, ◌<◌, ◌^◌, drop, length}
 use Rattle.page.specs.History.{KeepsWord, now, reads}
 use Rattle.page.specs.Crash.{GoesOn, LeavesOnly, IsImageOutside}
-use Rattle.roots.specs.Chain.{IsPath, IsSectorIn, path_bytes, first_of}
+use Rattle.roots.specs.Chain.{IsPath, AreOfCommit, IsSectorIn, path_bytes, first_of}
 use Rattle.roots.proofs.chain.write_chain.Given as goal
 
 abbrev pub invariant-loop-left : goal.invariant-loop-left
@@ -16,6 +16,7 @@ invariant-loop-left g l =
       any_moment : LeavesOnly start h (IsImageOutside (now start) (IsSectorIn l.pages));
       others : KeepsWord h → (k : ℕ) → (IsSectorIn l.pages k → ⊥) → now h k ≡ now start k;
       chain : KeepsWord h → IsPath (reads (now h)) l.generation l.next (drop l.left l.pages) 0;
+      own : KeepsWord h → AreOfCommit (reads (now h)) l.generation (drop l.left l.pages);
       written : KeepsWord h → path_bytes (reads (now h)) l.generation (drop l.left l.pages) ≡ drop (4076 * l.left) l.bytes;
     }
 

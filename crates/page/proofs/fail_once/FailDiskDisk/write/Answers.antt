@@ -23,6 +23,7 @@ counted old new true e t = absurd cc
 counted old new false e t = record {
   kept = t.kept;
   keeps = t.keeps;
+  later = t.later;
   clock = t.clock;
   past = t.past;
   failures = λ keeps. omega (arith, t.failures keeps);
@@ -31,4 +32,4 @@ counted old new false e t = record {
 pub returns-then-self-eq1-clause-time : goal.returns-then-self-eq1-clause-time
 returns-then-self-eq1-clause-time c =
     counted (memory_history c.args.self.now.disk) (memory_history c.write.new.self) c.args.self.now.failed
-    (not_failed c.args.self.now.failed c.args.self.now.left c.args.self.now.spent c.if-self-eq1.true) c.in_ok-write.ensures.time
+    (not_failed c.args.self.now.failed c.args.self.now.calls_left c.args.self.now.spent c.if-self-eq1.true) c.in_ok-write.ensures.time
