@@ -7,6 +7,7 @@ mod order;
 mod texts;
 mod wrapper;
 
+pub use class::class;
 pub use order::{compare, compare_keys};
 pub use texts::{Direction, KeyFault, KeyPart, group_text, key_text};
 pub use wrapper::Order;

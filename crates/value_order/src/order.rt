@@ -32,7 +32,9 @@ fn compare_content(a: &Value, b: &Value) -> Ordering
 
 /// Two pairs before their values' contents: the class of the value, then the name.
 fn compare_heads(a: &Pair, b: &Pair) -> Ordering
-    ensures { result ≡ ordering_then (nat_cmp (class (tree a.now.value)) (class (tree b.now.value))) (bytes_cmp a.now.name b.now.name) }
+    ensures { result ≡ ordering_then
+        (nat_cmp (class (tree a.now.value)) (class (tree b.now.value)))
+        (bytes_cmp a.now.name b.now.name) }
 {
     class(&a.value)
         .cmp(&class(&b.value))

@@ -3,7 +3,7 @@
 ghost use Rattle.std.specs.Prelude.{◌≡◌, ◌≤◌, ◌<◌, ◌++◌, length, [], ◌∷◌, IfOk, IsErrOf};
 ghost use Rattle.std.specs.Int.{w32, w64, to_be_bytes};
 ghost use Rattle.bson.specs.View.{tree, pairs_of, items_of};
-ghost use Rattle.value_order.specs.KeyText.{escaped, raised, content_text, pairs_text, items_text, tree_text, key_text, inverted, directed_text};
+ghost use Rattle.value_order.specs.KeyText.{escaped_text, sortable_bits, content_text, pairs_text, items_text, tree_text, key_text, complement, directed_text};
 ghost use Rattle.value_order.specs.Order.{class};
 ghost use Rattle.value_order.specs.View.{key_of};
 ghost use Rattle.value_order.specs.Writing.{IsPut};
@@ -33,13 +33,13 @@ pub enum KeyPart<'a> {
 #[derive(Clone, Copy, Debug, PartialEq, Eq)]
 pub enum KeyFault {
     /// The text has more than 500 bytes.
-    TooLong,
+    TooLong = 1,
     /// Memory ran out.
     Memory,
 }
 
 impl KeyFault {
-    ghost use Rattle.value_order.specs.FaultNames.{key_fault_name};
+    ghost use Rattle.value_order.specs.Faults.{key_fault_name};
 
     /// The fault's word.
     pub fn name(self) -> &'static str
@@ -77,7 +77,7 @@ fn put(out: &mut Vec<u8>, limit: usize, bytes: &[u8]) -> Result<(), KeyFault>
 /// A string with its zero bytes marked and its end.
 fn put_escaped(out: &mut Vec<u8>, limit: usize, bytes: &[u8]) -> Result<(), KeyFault>
     requires { length out.old.items ≤ limit }
-    ensures { IsPut limit (escaped bytes.now) out.old.items out.new.items result }
+    ensures { IsPut limit (escaped_text bytes.now) out.old.items out.new.items result }
 {
     'bytes: for byte in bytes {
         if *byte == 0 {
@@ -90,8 +90,8 @@ fn put_escaped(out: &mut Vec<u8>, limit: usize, bytes: &[u8]) -> Result<(), KeyF
 }
 
 /// A signed number of 64 bits with its top bit turned.
-fn raised(number: i64) -> u64
-    ensures { result ≡ raised number }
+fn sortable_bits(number: i64) -> u64
+    ensures { result ≡ sortable_bits number }
 {
     if number < 0 {
         (number - i64::MIN) as u64
@@ -118,11 +118,11 @@ fn put_content(out: &mut Vec<u8>, limit: usize, value: &Value) -> Result<(), Key
     ensures { IsPut limit (content_text (tree value.now)) out.old.items out.new.items result }
 {
     match value {
-        Value::Int32(number) => put(out, limit, &raised(i64::from(*number)).to_be_bytes()),
+        Value::Int32(number) => put(out, limit, &sortable_bits(i64::from(*number)).to_be_bytes()),
         Value::Int64(number) | Value::Date(number) => put(
             out,
             limit,
-            &raised(*number).to_be_bytes(),
+            &sortable_bits(*number).to_be_bytes(),
         ),
         Value::Timestamp(number) => put(out, limit, &number.to_be_bytes()),
         Value::Bool(truth) => put(out, limit, &[u8::from(*truth)]),
@@ -205,7 +205,7 @@ pub fn key_text(alloc: Global, key: &KeyPart<'_>, direction: Direction) -> Resul
 
 /// Complements every byte.
 fn invert(text: &mut [u8])
-    ensures { text.new ≡ inverted text.old }
+    ensures { text.new ≡ complement text.old }
 {
     'bytes: for byte in text.iter_mut() {
         *byte = 0xff - *byte;
