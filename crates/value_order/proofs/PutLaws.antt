@@ -12,7 +12,7 @@ use Rattle.value_order.specs.declared.texts.KeyFault.TheVariants as faults
 
 -- a piece that passes the limit is part of a text that does
 pub piece_refused : (limit : ℕ) (piece whole old mid new last : List ℕ) (e : KeyFault) → length mid + length piece ≤ length old + length whole → IsPut limit piece mid new (Err e) → IsPut limit whole old last (Err e)
-piece_refused limit piece whole old mid new last faults.TooLong within h = omega (arith, h)
+piece_refused limit piece whole old mid new last faults.TooLong within h = (omega (arith, h.0), h.1)
 piece_refused limit piece whole old mid new last faults.Memory within h = tt
 
 -- the last piece

@@ -6,7 +6,7 @@ ghost use Rattle.bson.specs.View.{tree, pairs_of, items_of};
 ghost use Rattle.value_order.specs.Order.{class, leaf, leaf_cmp, bytes_cmp, compare, content_cmp, pairs_cmp, items_cmp, key_class, key_cmp};
 ghost use Rattle.value_order.specs.View.{key_of};
 
-use crate::class::{class, parts};
+use crate::classes::{class, parts};
 use crate::texts::KeyPart;
 use bson::{Pair, Value};
 use std::cmp::Ordering;
