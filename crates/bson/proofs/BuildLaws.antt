@@ -9,7 +9,8 @@ use Rattle.std.proofs.lemmas.List.Quantifiers.{position-Some}
 use Rattle.bson.specs.Tree.{Tree, Pairs, no_pairs, pair, append, append_items, Items, item, no_items}
 use Rattle.bson.specs.View.{tree, pairs_of, items_of, names_of}
 use Rattle.bson.specs.Lawful.{levels, pairs_levels, items_levels, NoZero, IsName, Lacks, IsTree, IsDocument, IsArray, HoldsDocument, HoldsArray}
-use Rattle.bson.specs.Edits.{pairs_len, items_len, pairs_len-pairs_of, items_len-items_of, place, place-absent, PushFault, SetFault, Refused, pair_at, item_at, with_value, with_item, without_pair, without_item, Lacks-append, IsPairs-append, IsItems-append, pairs_of-push, items_of-push, pairs_levels-with_deeper, items_levels-with_deeper, pairs_levels-without_flat, items_levels-without_flat, pairs_of-set, items_of-set, pairs_of-remove, items_of-remove, pair_at-pairs_of, item_at-items_of}
+use Rattle.bson.specs.EditsLaws.{pairs_len-pairs_of, items_len-items_of, place-absent, place-Lacks, Lacks-append, IsPairs-append, IsItems-append, pairs_of-push, items_of-push, pairs_levels-with_deeper, items_levels-with_deeper, pairs_levels-without_flat, items_levels-without_flat, pairs_of-set, items_of-set, pairs_of-remove, items_of-remove, pair_at-pairs_of, item_at-items_of}
+use Rattle.bson.specs.Edits.{pairs_len, items_len, place, PushFault, SetFault, ReplaceFault, Refused, pair_at, item_at, with_value, with_item, without_pair, without_item}
 use Rattle.bson.specs.Reading.{stands_in}
 use Rattle.bson.specs.declared.value.Pair.{Pair}
 use Rattle.bson.specs.declared.value.Value.{Value}
@@ -17,7 +18,7 @@ use Rattle.bson.specs.declared.fault.BuildFault.{BuildFault}
 use Rattle.bson.specs.declared.fault.BuildFault.TheVariants as builds
 use Rattle.bson.proofs.FrameLaws.{or_false, NoZero-take}
 use Rattle.bson.proofs.TreeLaws.{bytes_eq-ne, ne-bytes_eq}
-use Rattle.bson.proofs.ReadLoops.{pairs_levels-push, items_levels-push}
+use Rattle.bson.proofs.ReadLoopLaws.{pairs_levels-push, items_levels-push}
 
 -- ---- names
 
@@ -182,12 +183,19 @@ place_found (q ∷ qs) (suc i) p name lt is same lacks = rw (bytes_eq-ne name q.
 set_fault : (ps : Pairs) (name : List ℕ) (t : Tree) (e : BuildFault) → place ps name ≡ None → PushFault ps name t e → SetFault ps name t e
 set_fault ps name t builds.Name absent f = ((place-absent ps name absent).0, f)
 set_fault ps name t builds.Repeated absent f = f.1 (place-absent ps name absent).0
-set_fault ps name t builds.Deep absent f = f.2
+set_fault ps name t builds.Deep absent f = (λ _. f.0, f.2)
 set_fault ps name t builds.Memory absent f = f
 
 pub set_faults : (ps : Pairs) (name : List ℕ) (t : Tree) (r : Result (Unit {0}) BuildFault) → place ps name ≡ None → IfErr r (λ e. PushFault ps name t e) → IfErr r (λ e. SetFault ps name t e)
 set_faults ps name t (Ok u) absent f = f
 set_faults ps name t (Err e) absent f = set_fault ps name t e absent f
+
+-- a name that has a place is a lawful one, so only a value that is too deep keeps it from being set
+pub replace_fault : (ps : Pairs) (name : List ℕ) (t : Tree) (i : ℕ) (e : BuildFault) → place ps name ≡ Some i → ReplaceFault 99 t e → SetFault ps name t e
+replace_fault ps name t i builds.Name there f = absurd f
+replace_fault ps name t i builds.Repeated there f = f
+replace_fault ps name t i builds.Deep there f = (λ lacks. let none = place-Lacks ps name lacks in absurd cc, f)
+replace_fault ps name t i builds.Memory there f = absurd f
 
 -- ---- pair after pair
 

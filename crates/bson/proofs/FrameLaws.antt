@@ -16,8 +16,9 @@ use Rattle.bson.specs.declared.kind.Kind.TheVariants as kinds
 use Rattle.bson.specs.Tree.{text}
 use Rattle.bson.specs.Kinds.{kind_byte}
 use Rattle.bson.specs.Lawful.{IsBytes, NoZero, IsName}
-use Rattle.bson.specs.Spelling.{scalar_bytes, framed}
-use Rattle.bson.specs.Reading.{◌>>=◌, unless, is_below, fixed_at, count_at, ended_at, text_at, content_at, kind_of, zero_at, name_at}
+use Rattle.bson.specs.Spelling.{scalar_bytes, frame_of}
+use Rattle.bson.specs.Outcome.{◌>>=◌, unless}
+use Rattle.bson.specs.Reading.{is_below, fixed_at, count_at, ended_at, text_at, content_at, kind_of, zero_at, name_at}
 
 pub IsBytes-drop : (n : ℕ) (bytes : List ℕ) → IsBytes bytes → IsBytes (drop n bytes)
 IsBytes-drop n bytes h i = rw get_or-drop (h (n + i))
@@ -217,7 +218,7 @@ text_again s rest utf8 short =
 
 -- ---- a document's frame
 
-pub content_takes : (bytes : List ℕ) (x : List ℕ × List ℕ) → IsBytes bytes → content_at bytes ≡ Ok x → Takes bytes (framed x.0) x.1 × IsBytes x.0
+pub content_takes : (bytes : List ℕ) (x : List ℕ × List ℕ) → IsBytes bytes → content_at bytes ≡ Ok x → Takes bytes (frame_of x.0) x.1 × IsBytes x.0
 unfolding content_at
 content_takes bytes x fits e =
     let a = bind_ok (count_at 5 bytes) (λ n. ended_at faults.Length (n.0 - 5) n.1) x e in
@@ -228,10 +229,10 @@ content_takes bytes x fits e =
     let both = Takes-then bytes (to_le_bytes w32 n.0) n.1 (x.0 ++ 0 ∷ []) x.1 first.0 second.0 in
     (subst (λ (k : ℕ). Takes bytes (to_le_bytes w32 k ++ (x.0 ++ 0 ∷ [])) x.1) len both, second.1)
 
-pub content_again : (content rest : List ℕ) → length content + 5 < 2 ^ 31 → content_at (framed content ++ rest) ≡ Ok (content, rest)
+pub content_again : (content rest : List ℕ) → length content + 5 < 2 ^ 31 → content_at (frame_of content ++ rest) ≡ Ok (content, rest)
 unfolding content_at
 content_again content rest short =
-    let regrouped : framed content ++ rest ≡ to_le_bytes w32 (length content + 5) ++ (content ++ 0 ∷ rest) = ap (λ (t : List ℕ). to_le_bytes w32 (length content + 5) ++ t) (regroup_zero content rest) in
+    let regrouped : frame_of content ++ rest ≡ to_le_bytes w32 (length content + 5) ++ (content ++ 0 ∷ rest) = ap (λ (t : List ℕ). to_le_bytes w32 (length content + 5) ++ t) (regroup_zero content rest) in
     ap content_at regrouped ∙ rw (count_again 5 (length content + 5) (content ++ 0 ∷ rest) (omega arith) short, ended_again faults.Length (length content + 5 - 5) content rest (omega arith)) refl
 
 -- ---- names

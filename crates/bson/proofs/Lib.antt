@@ -2,9 +2,9 @@ pub mod NameLaws
 pub mod FrameLaws
 pub mod ScalarLaws
 pub mod TreeLaws
-pub mod ReadLoops
-pub mod Fronts
-pub mod WriteLoops
+pub mod ReadLoopLaws
+pub mod FrontLaws
+pub mod WriteLoopLaws
 pub mod FaultLaws
 pub mod RawLaws
 pub mod CheckLaws

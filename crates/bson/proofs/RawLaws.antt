@@ -9,8 +9,8 @@ use Rattle.bson.specs.declared.kind.Kind.{Kind}
 use Rattle.bson.specs.Tree.{Scalar, text, binary, object_id, boolean, date, null, int32, timestamp, int64, min_key, max_key, Tree, scalar, document, array, Pairs, no_pairs, pair}
 use Rattle.bson.specs.Kinds.{kind}
 use Rattle.bson.specs.Lawful.{IsBytes, IsScalar, IsTree}
-use Rattle.bson.specs.Spelling.{Spells, HasNoDocument, scalar_bytes, framed, element, type_byte, tree_bytes, pairs_bytes, items_bytes}
-use Rattle.bson.specs.Sizing.{framed-length, element-length, pairs_bytes-none, pairs_bytes-pair}
+use Rattle.bson.specs.Spelling.{Spells, HasNoDocument, scalar_bytes, frame_of, element, type_byte, tree_bytes, pairs_bytes, items_bytes}
+use Rattle.bson.specs.SizingLaws.{frame_of-length, element-length, pairs_bytes-none, pairs_bytes-pair}
 use Rattle.bson.specs.Reading.{kind_of, name_at, stands_in, value_at, document_at, FirstFault}
 use Rattle.bson.specs.Lookup.{lookup}
 use Rattle.bson.specs.Raw.{tree_names, pairs_or_none, pairs_spelled, Elements, IsFirst, number_at, len_at, value_or_null, value_spelled, SpellsValue, document_or_none, document_spelled, only_length, only_document}
@@ -49,10 +49,10 @@ scalar_len (int64 z) rest lawful short = refl
 scalar_len min_key rest lawful short = refl
 scalar_len max_key rest lawful short = refl
 
-frame_len : (content rest : List ℕ) → length (framed content) < 2 ^ 31 → number_at (framed content ++ rest) ≡ length (framed content)
+frame_len : (content rest : List ℕ) → length (frame_of content) < 2 ^ 31 → number_at (frame_of content ++ rest) ≡ length (frame_of content)
 frame_len content rest short =
-    let n = number_at-is (length content + 5) ((content ++ 0 ∷ []) ++ rest) (omega (arith, short, framed-length content)) in
-    omega (arith, n, framed-length content)
+    let n = number_at-is (length content + 5) ((content ++ 0 ∷ []) ++ rest) (omega (arith, short, frame_of-length content)) in
+    omega (arith, n, frame_of-length content)
 
 tree_len : (t : Tree) (rest : List ℕ) → IsTree t → length (tree_bytes t) < 2 ^ 31 → len_at (kind t) (tree_bytes t ++ rest) ≡ length (tree_bytes t)
 unfolding tree_bytes len_at
@@ -189,7 +189,7 @@ content_elements bytes rest content ps n s e1 e2 e3 =
     let tail : rest ≡ pairs_bytes ps ++ 0 ∷ [] = e1 ∙ ap (drop 4) s.spelled in
     let size : length (pairs_bytes ps) ≡ n = omega (arith, ap length tail, length-append (pairs_bytes ps) (0 ∷ []), e2) in
     let same : content ≡ pairs_bytes ps = e3 ∙ ap (take n) tail ∙ take_at (pairs_bytes ps) (0 ∷ []) n size in
-    let whole = ap length s.spelled ∙ framed-length (pairs_bytes ps) in
+    let whole = ap length s.spelled ∙ frame_of-length (pairs_bytes ps) in
     record { lawful = s.lawful.lawful; depth = s.lawful.depth; spelled = same; short = omega (arith, ap length same, whole, s.size) }
 
 -- what reading found at the front of the input

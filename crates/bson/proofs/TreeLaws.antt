@@ -5,7 +5,7 @@ use Rattle.std.specs.Str.{bytes_eq}
 use Rattle.std.specs.List.{list_any}
 use Rattle.std.specs.Fmt.{decimal}
 use Rattle.std.specs.Int.{w32, to_le_bytes, from_le_bytes}
-use Rattle.bson.specs.declared.TheConstants.{MESSAGE_LIMIT}
+use Rattle.bson.specs.Limits.{message_limit}
 use Rattle.std.proofs.lemmas.List.{length-append, length-take, take_at, take-append-drop}
 use Rattle.std.proofs.lemmas.Bool.{ltb-false, le-ltb}
 use Rattle.std.proofs.lemmas.List.Folds.{list_any-append}
@@ -19,8 +19,9 @@ use Rattle.bson.specs.declared.kind.Kind.TheVariants as kinds
 use Rattle.bson.specs.Tree.{Scalar, text, binary, object_id, boolean, date, null, int32, timestamp, int64, min_key, max_key, Tree, scalar, document, array, Pairs, no_pairs, pair, Items, no_items, item}
 use Rattle.bson.specs.Kinds.{kind_byte, scalar_kind, kind}
 use Rattle.bson.specs.Lawful.{IsBytes, levels, pairs_levels, items_levels, NoZero, IsName, Lacks, IsScalar, IsTree, IsPairs, IsItems}
-use Rattle.bson.specs.Spelling.{Spells, HasNoDocument, scalar_bytes, framed, type_byte, element, tree_bytes, pairs_bytes, items_bytes}
-use Rattle.bson.specs.Reading.{◌>>=◌, Read, Gives, FirstFault, unless, element_by, item_by, stands_in, is_no_index, kind_of, name_at, leaf, scalar_at, content_at, pairs_by, items_by, pairs_in, items_in, value_at, is_below, ended_at, length_at, document_at}
+use Rattle.bson.specs.Spelling.{Spells, HasNoDocument, scalar_bytes, frame_of, type_byte, element, tree_bytes, pairs_bytes, items_bytes}
+use Rattle.bson.specs.Outcome.{◌>>=◌, Gives, unless}
+use Rattle.bson.specs.Reading.{Read, FirstFault, element_by, item_by, stands_in, is_no_index, kind_of, name_at, leaf, scalar_at, content_at, pairs_by, items_by, pairs_in, items_in, value_at, is_below, ended_at, length_at, document_at}
 use Rattle.bson.proofs.FrameLaws.{or_false, is_below-false, not_below, bind_ok, unless_ok, done, ok_is, Takes, Takes-then, content_takes, content_again, name_takes, name_again, kind_again, kind_takes, front32, wide32, ended_takes, ended_again}
 use Rattle.bson.proofs.ScalarLaws.{scalar_takes, scalar_again}
 
@@ -256,7 +257,7 @@ document_is_read more reads bytes x fits e =
     let r = pairs_take (value_at more) more reads (length content.0) [] content.0 ps frame.1 b.1 in
     let made : Tree × List ℕ = (document ps, content.1) in
     subst (λ (y : Tree × List ℕ). IsRead (suc more) kinds.Document bytes y.0 y.1) (ok_is made x b.2)
-    (record { takes = subst (λ (c : List ℕ). Takes bytes (framed c) content.1) r.spelled frame.0; lawful = r.lawful; depth = omega (arith, r.depth); same_kind = refl })
+    (record { takes = subst (λ (c : List ℕ). Takes bytes (frame_of c) content.1) r.spelled frame.0; lawful = r.lawful; depth = omega (arith, r.depth); same_kind = refl })
 
 array_is_read : (more : ℕ) → Reads (value_at more) more → (bytes : List ℕ) (x : Tree × List ℕ) → IsBytes bytes
     → (content_at bytes >>= λ content. items_in (value_at more) content.0 >>= λ ts. Ok (array ts, content.1)) ≡ Ok x → IsRead (suc more) kinds.Array bytes x.0 x.1
@@ -270,13 +271,13 @@ array_is_read more reads bytes x fits e =
     let r = items_take (value_at more) more reads (length content.0) 0 content.0 ts frame.1 b.1 in
     let made : Tree × List ℕ = (array ts, content.1) in
     subst (λ (y : Tree × List ℕ). IsRead (suc more) kinds.Array bytes y.0 y.1) (ok_is made x b.2)
-    (record { takes = subst (λ (c : List ℕ). Takes bytes (framed c) content.1) r.spelled frame.0; lawful = r.lawful; depth = omega (arith, r.depth); same_kind = refl })
+    (record { takes = subst (λ (c : List ℕ). Takes bytes (frame_of c) content.1) r.spelled frame.0; lawful = r.lawful; depth = omega (arith, r.depth); same_kind = refl })
 
 pub AreNew-none : (ps : Pairs) → AreNew ps []
 AreNew-none no_pairs = tt
 AreNew-none (pair name t ps) = (refl, AreNew-none ps)
 
-framed_length : (content : List ℕ) → length (framed content) ≡ length content + 5
+framed_length : (content : List ℕ) → length (frame_of content) ≡ length content + 5
 framed_length content = omega (arith, length-append content (0 ∷ []))
 
 -- what is read of a kind other than documents and arrays
@@ -369,16 +370,16 @@ value_reads (suc more) = record { takes = value_takes_more more (value_reads mor
 pub record HasLength (bytes : List ℕ) (n : ℕ) : Type 0 where
   pub takes : Takes bytes (to_le_bytes w32 n) (drop 4 bytes)
   pub low : 5 ≤ n
-  pub high : n ≤ MESSAGE_LIMIT
+  pub high : n ≤ message_limit
   pub whole : n ≤ length bytes
 
 pub length_takes : (bytes : List ℕ) (n : ℕ) → IsBytes bytes → length_at bytes ≡ Ok n → HasLength bytes n
 unfolding length_at
 length_takes bytes n fits e =
     let m = from_le_bytes w32 (take 4 bytes) in
-    let a = unless_ok (ltb (length bytes) 4) faults.Truncated (unless (is_below 5 m) faults.Length (unless (ltb MESSAGE_LIMIT m) faults.TooLarge (unless (ltb (length bytes) m) faults.Truncated (Ok m)))) n e in
-    let b = unless_ok (is_below 5 m) faults.Length (unless (ltb MESSAGE_LIMIT m) faults.TooLarge (unless (ltb (length bytes) m) faults.Truncated (Ok m))) n a.1 in
-    let c = unless_ok (ltb MESSAGE_LIMIT m) faults.TooLarge (unless (ltb (length bytes) m) faults.Truncated (Ok m)) n b.1 in
+    let a = unless_ok (ltb (length bytes) 4) faults.Truncated (unless (is_below 5 m) faults.Length (unless (ltb message_limit m) faults.TooLarge (unless (ltb (length bytes) m) faults.Truncated (Ok m)))) n e in
+    let b = unless_ok (is_below 5 m) faults.Length (unless (ltb message_limit m) faults.TooLarge (unless (ltb (length bytes) m) faults.Truncated (Ok m))) n a.1 in
+    let c = unless_ok (ltb message_limit m) faults.TooLarge (unless (ltb (length bytes) m) faults.Truncated (Ok m)) n b.1 in
     let d = unless_ok (ltb (length bytes) m) faults.Truncated (Ok m) n c.1 in
     let low = is_below-false 5 m b.0 in
     subst (λ (k : ℕ). HasLength bytes k) (ok_is m n d.1)
@@ -399,10 +400,10 @@ document_takes bytes x fits e =
     let r = pairs_take (value_at 99) 99 (value_reads 99) (length content.0) [] content.0 ps f.1 c.1 in
     let size : len ≡ length content.0 + 5 = omega (arith, f.2, l.low) in
     let both = Takes-then bytes (to_le_bytes w32 len) (drop 4 bytes) (content.0 ++ 0 ∷ []) content.1 l.takes f.0 in
-    let framed-is : Takes bytes (framed content.0) content.1 = subst (λ (k : ℕ). Takes bytes (to_le_bytes w32 k ++ (content.0 ++ 0 ∷ [])) content.1) size both in
-    let front : take len bytes ≡ framed content.0 = ap (take len) framed-is.parts ∙ take_at (framed content.0) content.1 len (omega (arith, framed_length content.0)) in
+    let frame_of-is : Takes bytes (frame_of content.0) content.1 = subst (λ (k : ℕ). Takes bytes (to_le_bytes w32 k ++ (content.0 ++ 0 ∷ [])) content.1) size both in
+    let front : take len bytes ≡ frame_of content.0 = ap (take len) frame_of-is.parts ∙ take_at (frame_of content.0) content.1 len (omega (arith, framed_length content.0)) in
     subst (λ (y : Pairs × ℕ). (y.1 ≤ length bytes) × Spells (take y.1 bytes) y.0) (ok_is (ps, len) x c.2)
-    (l.whole, record { lawful = record { lawful = r.lawful; depth = r.depth }; spelled = front ∙ ap framed r.spelled; size = omega (arith, length-take len bytes, l.high) })
+    (l.whole, record { lawful = record { lawful = r.lawful; depth = r.depth }; spelled = front ∙ ap frame_of r.spelled; size = omega (arith, length-take len bytes, l.high) })
 
 pub document_again : (bytes : List ℕ) (ps : Pairs) (rest : List ℕ) → Spells bytes ps → document_at (bytes ++ rest) ≡ Ok (ps, length bytes)
 unfolding document_at length_at
@@ -412,24 +413,24 @@ document_again bytes ps rest s =
     let size : length bytes ≡ n = ap length s.spelled ∙ framed_length content in
     let regrouped : bytes ++ rest ≡ to_le_bytes w32 n ++ (content ++ 0 ∷ rest) = ap (λ (t : List ℕ). t ++ rest) s.spelled ∙ ap (λ (t : List ℕ). to_le_bytes w32 n ++ t) (append_assoc content (0 ∷ []) rest) in
     let all = length-append content (0 ∷ rest) in
-    let high : n ≤ MESSAGE_LIMIT = omega (arith, s.size) in
+    let high : n ≤ message_limit = omega (arith, s.size) in
     let back = wide32.again n (omega (arith, high)) in
     let long : ltb (length (to_le_bytes w32 n ++ (content ++ 0 ∷ rest))) 4 ≡ false = le-ltb _ _ (omega arith) in
-    let large : ltb MESSAGE_LIMIT n ≡ false = le-ltb _ _ high in
+    let large : ltb message_limit n ≡ false = le-ltb _ _ high in
     let whole : ltb (length (to_le_bytes w32 n ++ (content ++ 0 ∷ rest))) n ≡ false = le-ltb _ _ (omega (arith, all)) in
     let inner = pairs_again (value_at 99) 99 (value_reads 99) (length content) [] ps s.lawful.lawful s.lawful.depth (AreNew-none ps) (omega arith) (omega (arith, high)) in
     ap document_at regrouped ∙ rw (long, back, not_below 5 n (omega arith) (omega (arith, high)), large, whole, ended_again faults.Length (n - 5) content rest (omega arith), inner, size) refl
 
 -- ---- what decode promises
 
-pub is_found : (bytes : List ℕ) (r : Result (Pairs × ℕ) BsonFault) → IsBytes bytes → Gives (λ x. x) r (document_at bytes) → IfOk r (λ x. (x.1 ≤ length bytes) × Spells (take x.1 bytes) x.0)
+pub is_found : (bytes : List ℕ) (r : Result (Pairs × ℕ) BsonFault) → IsBytes bytes → Gives faults.Memory (λ x. x) r (document_at bytes) → IfOk r (λ x. (x.1 ≤ length bytes) × Spells (take x.1 bytes) x.0)
 is_found bytes (Ok x) fits given = document_takes bytes x fits given
 is_found bytes (Err e) fits given = tt
 
-pub is_only : (bytes front rest : List ℕ) (ps : Pairs) (r : Result (Pairs × ℕ) BsonFault) → Gives (λ x. x) r (document_at bytes) → Spells front ps → bytes ≡ front ++ rest → Gives (λ x. x) r (Ok (ps, length front))
-is_only bytes front rest ps r given s e = subst (λ (read : Result (Pairs × ℕ) BsonFault). Gives (λ x. x) r read) (ap document_at e ∙ document_again front ps rest s) given
+pub is_only : (bytes front rest : List ℕ) (ps : Pairs) (r : Result (Pairs × ℕ) BsonFault) → Gives faults.Memory (λ x. x) r (document_at bytes) → Spells front ps → bytes ≡ front ++ rest → Gives faults.Memory (λ x. x) r (Ok (ps, length front))
+is_only bytes front rest ps r given s e = subst (λ (read : Result (Pairs × ℕ) BsonFault). Gives faults.Memory (λ x. x) r read) (ap document_at e ∙ document_again front ps rest s) given
 
-pub is_fault : (bytes : List ℕ) (r : Result (Pairs × ℕ) BsonFault) → Gives (λ x. x) r (document_at bytes) → IfErr r (λ e. e ≢ faults.Memory → FirstFault bytes e × HasNoDocument bytes)
+pub is_fault : (bytes : List ℕ) (r : Result (Pairs × ℕ) BsonFault) → Gives faults.Memory (λ x. x) r (document_at bytes) → IfErr r (λ e. e ≢ faults.Memory → FirstFault bytes e × HasNoDocument bytes)
 is_fault bytes (Ok x) given = tt
 is_fault bytes (Err e) given = λ not_memory. (
   record { found = given not_memory },
@@ -446,7 +447,7 @@ one_spelling a b x y ps qs s u e =
     let both : done {A = Pairs × ℕ} (ps, length a) ≡ done (qs, length b) = sym (document_again a ps x s) ∙ ap document_at e ∙ document_again b qs y u in
     let pair-is : ◌≡◌ {A = Pairs × ℕ} (ps, length a) (qs, length b) = ok_is (ps, length a) (qs, length b) both in
     let same : ps ≡ qs = ap (λ (p : Pairs × ℕ). p.0) pair-is in
-    (same, s.spelled ∙ ap (λ (p : Pairs). framed (pairs_bytes p)) same ∙ sym u.spelled)
+    (same, s.spelled ∙ ap (λ (p : Pairs). frame_of (pairs_bytes p)) same ∙ sym u.spelled)
 
 pub one_value : (t u : Tree) (x y : List ℕ) → IsTree t → IsTree u → levels t ≤ 99 → levels u ≤ 99 → length (tree_bytes t) < 2 ^ 31 → length (tree_bytes u) < 2 ^ 31 → kind t ≡ kind u → tree_bytes t ++ x ≡ tree_bytes u ++ y → (t ≡ u) × (x ≡ y)
 one_value t u x y t_lawful u_lawful t_deep u_deep t_short u_short same_kind e =

@@ -2,43 +2,22 @@
 -- further left decides: of an element first its type byte, then its name, then its value; of a value first its
 -- count, and whether that fits what is left of the document's content, then what the count is of. A document or
 -- array at level 101 is too deep whatever stands there.
-use Rattle.std.specs.Prelude.{◌≡◌, ◌≢◌, ℕ, zero, suc, ◌+◌, ◌-◌, ◌^◌, Bool, true, false, not, ◌||◌, ◌==◌, nat_lt, nat_le, if◌then◌else◌, List, [], ◌∷◌, ◌++◌, length, take, drop, slice_index, Result, Ok, Err}
+use Rattle.std.specs.Prelude.{◌≡◌, ℕ, zero, suc, ◌+◌, ◌-◌, ◌^◌, Bool, true, false, not, ◌||◌, ◌==◌, nat_lt, nat_le, if◌then◌else◌, List, [], ◌∷◌, ◌++◌, length, take, drop, slice_index, Result, Ok, Err}
 use Rattle.std.specs.Int.{w32, w64, from_le_bytes, cast_signed}
 use Rattle.std.specs.Str.{is_utf8, bytes_eq}
 use Rattle.std.specs.List.{list_any, position_or_len}
 use Rattle.std.specs.Fmt.{decimal}
 use Rattle.bson.specs.Tree.{Scalar, text, binary, object_id, boolean, date, null, int32, timestamp, int64, min_key, max_key, Tree, scalar, document, array, Pairs, no_pairs, pair, Items, no_items, item}
-use Rattle.bson.specs.declared.TheConstants.{MESSAGE_LIMIT}
+use Rattle.bson.specs.Limits.{message_limit}
+use Rattle.bson.specs.Outcome.{◌>>=◌, unless}
 use Rattle.bson.specs.declared.fault.BsonFault.{BsonFault}
 use Rattle.bson.specs.declared.fault.BsonFault.TheVariants as faults
 use Rattle.bson.specs.declared.kind.Kind.{Kind}
 use Rattle.bson.specs.declared.kind.Kind.TheVariants as kinds
 
-infixl 10 ◌>>=◌
-abbrev pub ◌>>=◌ : {A B : Type 0} → Result A BsonFault → (A → Result B BsonFault) → Result B BsonFault
-(Ok x) >>= f = f x
-(Err e) >>= f = Err e
-
--- What a function returned, seen by view, is what reading gives, unless memory ran out.
-abbrev pub Fails : {Y : Type 0} → BsonFault → Result Y BsonFault → Type 0
-Fails e read = e ≢ faults.Memory → read ≡ Err e
-
-abbrev pub Gives : {X Y : Type 0} → (X → Y) → Result X BsonFault → Result Y BsonFault → Type 0
-Gives view (Ok x) read = read ≡ Ok (view x)
-Gives view (Err e) read = Fails e read
-
--- What a function that takes no memory returned, seen by view, is what reading gives.
-abbrev pub GivesExactly : {X Y : Type 0} → (X → Y) → Result X BsonFault → Result Y BsonFault → Type 0
-GivesExactly view (Ok x) read = read ≡ Ok (view x)
-GivesExactly view (Err e) read = read ≡ Err e
-
 -- what is read at the front, and the bytes after it
 abbrev pub Read : Type 0 → Type 0
 Read X = Result (X × List ℕ) BsonFault
-
--- goes on with what a test lets pass
-abbrev pub unless : {X : Type 0} → Bool → BsonFault → Result X BsonFault → Result X BsonFault
-unless test fault read = if test then Err fault else read
 
 -- the four bytes of an int32 that is below the least, which may be because it is negative
 abbrev pub is_below : ℕ → ℕ → Bool
@@ -234,7 +213,7 @@ unfoldable pub length_at : List ℕ → Result ℕ BsonFault
 length_at bytes =
     unless (nat_lt (length bytes) 4) faults.Truncated
     (unless (is_below 5 (from_le_bytes w32 (take 4 bytes))) faults.Length
-    (unless (nat_lt MESSAGE_LIMIT (from_le_bytes w32 (take 4 bytes))) faults.TooLarge
+    (unless (nat_lt message_limit (from_le_bytes w32 (take 4 bytes))) faults.TooLarge
     (unless (nat_lt (length bytes) (from_le_bytes w32 (take 4 bytes))) faults.Truncated
     (Ok (from_le_bytes w32 (take 4 bytes))))))
 

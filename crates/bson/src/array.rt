@@ -1,6 +1,6 @@
 //! Arrays: building.
 
-ghost use Rattle.std.specs.Prelude.{◌≡◌, ◌==◌, ◌<◌, Some, OnOk, OnErr, IfOk, IfErr, max, ◌≤◌};
+ghost use Rattle.std.specs.Prelude.{◌≡◌, ◌==◌, ◌+◌, ◌<◌, Some, OnOk, OnErr, IfOk, IfErr, max, ◌≤◌};
 ghost use Rattle.bson.specs.Tree.{no_items, item, append_items};
 ghost use Rattle.bson.specs.Edits.{items_len, item_at, with_item, without_item, ReplaceFault, GrowFault};
 ghost use Rattle.bson.specs.View.{tree, items_of};
@@ -42,16 +42,16 @@ impl Array {
     {
         Array {
             items: Vec::new(alloc),
-            levels: 0,
+            inner_levels: 0,
         }
     }
 
-    /// How deep the items nest; the array itself is one level more.
+    /// How deep the array nests: 1 where it holds no document and no array.
     pub fn levels(&self) -> u32
-        ensures levels { result ≡ items_levels self.now }
+        ensures levels { result ≡ items_levels self.now + 1 }
         ensures lawful { IsArray self.now }
     {
-        self.levels
+        self.inner_levels + 1
     }
 
     /// The values, in order.
@@ -90,7 +90,10 @@ impl Array {
         ensures { result ≡ items_of items.items }
     {
         let levels = deepest(&items);
-        Array { items, levels }
+        Array {
+            items,
+            inner_levels: levels,
+        }
     }
 
     /// Adds an item at the end. An error leaves the array as it was: `Deep` where the item nests more
@@ -105,7 +108,7 @@ impl Array {
             return Err(BuildFault::Deep);
         }
         self.items.push(value)?;
-        self.levels = self.levels.max(levels);
+        self.inner_levels = self.inner_levels.max(levels);
         Ok(())
     }
 
@@ -123,7 +126,7 @@ impl Array {
             return Err(BuildFault::Deep);
         }
         let old = mem::replace(&mut self.items[at], value);
-        self.levels = deepest_after(self.levels, old.levels(), new_levels, &self.items);
+        self.inner_levels = deepest_after(self.inner_levels, old.levels(), new_levels, &self.items);
         Ok(old)
     }
 
@@ -134,7 +137,7 @@ impl Array {
         ensures rest { self.new ≡ without_item self.old at }
     {
         let value = self.items.remove(at);
-        self.levels = deepest_after(self.levels, value.levels(), 0, &self.items);
+        self.inner_levels = deepest_after(self.inner_levels, value.levels(), 0, &self.items);
         value
     }
 }

@@ -108,7 +108,8 @@ pub struct Binary {
 impl Binary {
     /// An equal binary of its own.
     pub fn copy(&self) -> Result<Binary, AllocError>
-        ensures { IfOk result (λ b. (b.subtype ≡ self.now.subtype) × (b.bytes ≡ self.now.bytes)) }
+        ensures { IfOk result
+            (λ b. (b.subtype ≡ self.now.subtype) × (b.bytes ≡ self.now.bytes)) }
     {
         Ok(Binary {
             subtype: self.subtype,

@@ -2,7 +2,8 @@
 //! `reading` accepts, with the same faults.
 
 ghost use Rattle.std.specs.Prelude.{◌≡◌, ◌^◌, ◌<◌, ◌≤◌, length};
-ghost use Rattle.bson.specs.Reading.{GivesExactly, leaf, scalar_at, value_at, element_by, item_by, stands_in, pairs_in, items_in, document_at};
+ghost use Rattle.bson.specs.Outcome.{GivesExactly};
+ghost use Rattle.bson.specs.Reading.{leaf, scalar_at, value_at, element_by, item_by, stands_in, pairs_in, items_in, document_at};
 ghost use Rattle.bson.specs.Raw.{tree_names, pairs_spelled, Elements, rest_of, outcome_of, only_length};
 ghost use Rattle.bson.specs.declared.fault.BsonFault.TheVariants as faults;
 
@@ -74,7 +75,8 @@ fn check_pair<'a>(
     requires more { more ≤ 99 }
     requires earlier { Elements earlier.now (pairs_spelled earlier.now) }
     ensures { GivesExactly (λ r. r.now) result
-        (rest_of (element_by (value_at more) (stands_in (tree_names (pairs_spelled earlier.now))) faults.Repeated type_byte bytes.now)) }
+        (rest_of (element_by (value_at more) (stands_in (tree_names (pairs_spelled earlier.now)))
+        faults.Repeated type_byte bytes.now)) }
 {
     let kind = read_kind(type_byte)?;
     let (name, rest) = read_name(bytes)?;
@@ -89,7 +91,8 @@ fn check_pair<'a>(
 #[tactic(auto, unfolding(crate::specs::Reading::element_by, crate::specs::Reading::item_by))]
 fn check_item(more: u32, i: usize, type_byte: u8, bytes: &[u8]) -> Result<&[u8], BsonFault>
     requires { more ≤ 99 }
-    ensures { GivesExactly (λ r. r.now) result (rest_of (item_by (value_at more) i type_byte bytes.now)) }
+    ensures { GivesExactly (λ r. r.now) result
+        (rest_of (item_by (value_at more) i type_byte bytes.now)) }
 {
     let kind = read_kind(type_byte)?;
     let (name, rest) = read_name(bytes)?;

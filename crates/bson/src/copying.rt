@@ -45,7 +45,7 @@ impl Document {
         }
         Ok(Document {
             pairs,
-            levels: self.levels,
+            inner_levels: self.inner_levels,
         })
     }
 }
@@ -63,7 +63,7 @@ impl Array {
         }
         Ok(Array {
             items,
-            levels: self.levels,
+            inner_levels: self.inner_levels,
         })
     }
 }

@@ -1,6 +1,6 @@
 //! Documents: look-up and building.
 
-ghost use Rattle.std.specs.Prelude.{◌≡◌, ◌==◌, ◌<◌, Some, OnOk, OnErr, IfOk, IfErr, option_map, max, ◌≤◌};
+ghost use Rattle.std.specs.Prelude.{◌≡◌, ◌==◌, ◌+◌, ◌<◌, Some, OnOk, OnErr, IfOk, IfErr, option_map, max, ◌≤◌};
 ghost use Rattle.bson.specs.Tree.{pair, no_pairs, append};
 ghost use Rattle.bson.specs.Lookup.{lookup};
 ghost use Rattle.bson.specs.Edits.{pairs_len, place, pair_at, with_value, without_pair, put, cut, PushFault, SetFault, ReplaceFault, Refused};
@@ -71,16 +71,16 @@ impl Document {
     {
         Document {
             pairs: Vec::new(alloc),
-            levels: 0,
+            inner_levels: 0,
         }
     }
 
-    /// How deep the values nest; the document itself is one level more.
+    /// How deep the document nests: 1 where it holds no document and no array.
     pub fn levels(&self) -> u32
-        ensures levels { result ≡ pairs_levels self.now }
+        ensures levels { result ≡ pairs_levels self.now + 1 }
         ensures lawful { IsDocument self.now }
     {
-        self.levels
+        self.inner_levels + 1
     }
 
     /// The names with their values, in order.
@@ -143,7 +143,10 @@ impl Document {
         ensures { result ≡ pairs_of pairs.items }
     {
         let levels = deepest(&pairs);
-        Document { pairs, levels }
+        Document {
+            pairs,
+            inner_levels: levels,
+        }
     }
 
     /// The document of these pairs, where they make one: the way to build a document of many fields, since
@@ -154,7 +157,10 @@ impl Document {
         ensures fault { IfErr result (λ e. Refused (pairs_of pairs.items) e) }
     {
         let levels = check_all(alloc, &pairs)?;
-        Ok(Document { pairs, levels })
+        Ok(Document {
+            pairs,
+            inner_levels: levels,
+        })
     }
 
     /// Adds a pair at the end, in time in proportion to the number of pairs. An error leaves the document
@@ -162,7 +168,8 @@ impl Document {
     /// where it stands in the document, `Deep` where the value nests more than 99 levels, `Memory` where
     /// memory ran out.
     pub fn push(&mut self, name: &str, value: Value) -> Result<(), BuildFault>
-        ensures ok { OnOk result (self.new ≡ append self.old (pair name.now (tree value) no_pairs)) }
+        ensures ok { OnOk result
+            (self.new ≡ append self.old (pair name.now (tree value) no_pairs)) }
         ensures err { OnErr result (self.new ≡ self.old) }
         ensures fault { IfErr result (λ e. PushFault self.old name.now (tree value) e) }
     {
@@ -179,7 +186,7 @@ impl Document {
         let alloc = *self.pairs.allocator();
         let name = Text::from_str(alloc, name)?;
         self.pairs.push(Pair { name, value })?;
-        self.levels = self.levels.max(levels);
+        self.inner_levels = self.inner_levels.max(levels);
         Ok(())
     }
 
@@ -188,7 +195,8 @@ impl Document {
     pub fn replace_at(&mut self, at: usize, value: Value) -> Result<Value, BuildFault>
         requires { at < pairs_len self.old }
         ensures ok { OnOk result (self.new ≡ with_value self.old at (tree value)) }
-        ensures old { IfOk result (λ v. option_map (λ p. p.1) (pair_at self.old at) ≡ Some (tree v)) }
+        ensures old { IfOk result
+            (λ v. option_map (λ p. p.1) (pair_at self.old at) ≡ Some (tree v)) }
         ensures err { OnErr result (self.new ≡ self.old) }
         ensures fault { IfErr result (λ e. ReplaceFault 99 (tree value) e) }
     {
@@ -197,7 +205,7 @@ impl Document {
             return Err(BuildFault::Deep);
         }
         let old = mem::replace(&mut self.pairs[at].value, value);
-        self.levels = deepest_after(self.levels, old.levels(), new_levels, &self.pairs);
+        self.inner_levels = deepest_after(self.inner_levels, old.levels(), new_levels, &self.pairs);
         Ok(old)
     }
 
@@ -208,7 +216,7 @@ impl Document {
         ensures rest { self.new ≡ without_pair self.old at }
     {
         let pair = self.pairs.remove(at);
-        self.levels = deepest_after(self.levels, pair.value.levels(), 0, &self.pairs);
+        self.inner_levels = deepest_after(self.inner_levels, pair.value.levels(), 0, &self.pairs);
         pair
     }
 

@@ -47,7 +47,8 @@ fn value_len(kind: Kind, bytes: &[u8]) -> usize
 /// The first element, where there is one. It steps over the element's value without a look into it.
 pub(crate) fn split_element(elements: &[u8]) -> Option<Element<'_>>
     requires { Elements elements.now (pairs_spelled elements.now) }
-    ensures { MatchOption result (pairs_spelled elements.now ≡ no_pairs) (λ e. IsFirst (pairs_spelled elements.now) e.kind e.name.now e.value.now e.rest.now) }
+    ensures { MatchOption result (pairs_spelled elements.now ≡ no_pairs)
+        (λ e. IsFirst (pairs_spelled elements.now) e.kind e.name.now e.value.now e.rest.now) }
 {
     let Some((type_byte, after)) = elements.split_first() else {
         return None;

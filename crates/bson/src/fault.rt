@@ -1,7 +1,7 @@
 //! Why bytes are no document, and why one was not built or written.
 
 ghost use Rattle.std.specs.Prelude.{◌≡◌};
-ghost use Rattle.bson.specs.FaultNames.{bson_fault_name, build_fault_name, encode_fault_name};
+ghost use Rattle.bson.specs.Faults.{bson_fault_name, build_fault_name, encode_fault_name};
 ghost use Rattle.bson.specs.declared.fault.BsonFault.TheVariants.{Memory};
 ghost use Rattle.bson.specs.declared.fault.BuildFault.TheVariants as build;
 ghost use Rattle.bson.specs.declared.fault.EncodeFault.TheVariants as encode;

@@ -3,7 +3,8 @@
 ghost use Rattle.std.specs.Prelude.{◌≡◌, ℕ, ◌<◌, ◌≤◌, ◌-◌, ◌^◌, List, length, IfOk, Ok, MatchOption, false, true, position, ◌==◌};
 ghost use Rattle.std.specs.Str.{is_utf8};
 ghost use Rattle.std.specs.Int.{w32, w64};
-ghost use Rattle.bson.specs.Reading.{GivesExactly, fixed_at, count_at, ended_at, text_at, content_at, name_at};
+ghost use Rattle.bson.specs.Outcome.{GivesExactly};
+ghost use Rattle.bson.specs.Reading.{fixed_at, count_at, ended_at, text_at, content_at, name_at};
 
 use crate::fault::BsonFault;
 
@@ -100,7 +101,8 @@ pub(crate) fn read_content(bytes: &[u8]) -> Result<(&[u8], &[u8]), BsonFault>
 
 /// The bytes as text, where they are UTF-8.
 pub(crate) fn text_in(bytes: &[u8]) -> Option<&str>
-    ensures { MatchOption result (is_utf8 bytes.now ≡ false) (λ s. (s.now ≡ bytes.now) × (is_utf8 bytes.now ≡ true)) }
+    ensures { MatchOption result (is_utf8 bytes.now ≡ false)
+        (λ s. (s.now ≡ bytes.now) × (is_utf8 bytes.now ≡ true)) }
 {
     match str::from_utf8(bytes) {
         Ok(text) => Some(text),

@@ -67,7 +67,8 @@ impl<'a> Names<'a> {
 
     /// Takes one more name in.
     pub(crate) fn insert(&mut self, name: &'a str) -> Result<(), NoMemory>
-        ensures { OnOk result ((other : List ℕ) → stands_in self.new other ≡ (bytes_eq other name.now || stands_in self.old other)) }
+        ensures { OnOk result ((other : List ℕ)
+            → stands_in self.new other ≡ (bytes_eq other name.now || stands_in self.old other)) }
     {
         if self.count < FEW {
             self.few[self.count] = name;

@@ -16,7 +16,8 @@ pub(crate) fn put_u32(out: &mut Vec<u8>, number: u32) -> Result<(), AllocError>
 }
 
 pub(crate) fn put_i32(out: &mut Vec<u8>, number: i32) -> Result<(), AllocError>
-    ensures ok { OnOk result (out.new.items ≡ out.old.items ++ to_le_bytes w32 (cast_unsigned w32 number)) }
+    ensures ok { OnOk result
+        (out.new.items ≡ out.old.items ++ to_le_bytes w32 (cast_unsigned w32 number)) }
     ensures err { OnErr result (out.new.items ≡ out.old.items) }
 {
     let mut bytes = [0; 4];
@@ -34,7 +35,8 @@ pub(crate) fn put_u64(out: &mut Vec<u8>, number: u64) -> Result<(), AllocError>
 }
 
 pub(crate) fn put_i64(out: &mut Vec<u8>, number: i64) -> Result<(), AllocError>
-    ensures ok { OnOk result (out.new.items ≡ out.old.items ++ to_le_bytes w64 (cast_unsigned w64 number)) }
+    ensures ok { OnOk result
+        (out.new.items ≡ out.old.items ++ to_le_bytes w64 (cast_unsigned w64 number)) }
     ensures err { OnErr result (out.new.items ≡ out.old.items) }
 {
     let mut bytes = [0; 8];

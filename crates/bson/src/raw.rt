@@ -73,7 +73,8 @@ impl<'a> RawDoc<'a> {
         // What the reading definition gives.
         ensures gives { result ≡ only_document (document_at bytes.now) }
         // What is spelled so is read, whatever follows it.
-        ensures only { (front rest : List ℕ) (ps : Pairs) → Spells front ps → bytes.now ≡ front ++ rest → result ≡ Ok ps }
+        ensures only { (front rest : List ℕ) (ps : Pairs)
+            → Spells front ps → bytes.now ≡ front ++ rest → result ≡ Ok ps }
         // A fault is the first from the left, and no front of the input is a document.
         ensures fault { IfErr result (λ e. FirstFault bytes.now e × HasNoDocument bytes.now) }
         ensures memory { IfErr result (λ e. e ≢ faults.Memory) }

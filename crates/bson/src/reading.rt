@@ -4,7 +4,9 @@ ghost use Rattle.std.specs.Prelude.{◌≡◌, ℕ, ◌<◌, ◌≤◌, ◌-◌,
 ghost use Rattle.std.specs.Str.{bytes_eq};
 ghost use Rattle.std.specs.Fmt.{decimal};
 ghost use Rattle.bson.specs.View.{tree};
-ghost use Rattle.bson.specs.Reading.{Gives, GivesExactly, value_at, element_by, item_by, stands_in, pairs_in, items_in, length_at, document_at, FirstFault};
+ghost use Rattle.bson.specs.Outcome.{Gives, GivesExactly};
+ghost use Rattle.bson.specs.Reading.{value_at, element_by, item_by, stands_in, pairs_in, items_in, length_at, document_at, FirstFault};
+ghost use Rattle.bson.specs.Limits.{message_limit};
 ghost use Rattle.bson.specs.Spelling.{Spells, HasNoDocument};
 ghost use Rattle.bson.specs.Tree.{Pairs};
 ghost use Rattle.bson.specs.declared.fault.BsonFault.TheVariants as faults;
@@ -30,7 +32,7 @@ pub(crate) fn read_value(
     bytes: &[u8],
 ) -> Result<(Value, &[u8]), BsonFault>
     requires { more ≤ 99 }
-    ensures { Gives (λ x. (tree x.0, x.1.now)) result (value_at more kind bytes.now) }
+    ensures { Gives faults.Memory (λ x. (tree x.0, x.1.now)) result (value_at more kind bytes.now) }
 {
     match kind {
         Kind::Document => {
@@ -72,7 +74,7 @@ fn read_pair<'a>(
     bytes: &'a [u8],
 ) -> Result<((&'a str, Value), &'a [u8]), BsonFault>
     requires { more ≤ 99 }
-    ensures { Gives (λ x. ((x.0.0.now, tree x.0.1), x.1.now)) result
+    ensures { Gives faults.Memory (λ x. ((x.0.0.now, tree x.0.1), x.1.now)) result
         (element_by (value_at more) (stands_in earlier.now) faults.Repeated type_byte bytes.now) }
 {
     let kind = read_kind(type_byte)?;
@@ -95,7 +97,7 @@ fn read_item(
     bytes: &[u8],
 ) -> Result<(Value, &[u8]), BsonFault>
     requires { more ≤ 99 }
-    ensures { Gives (λ x. (tree x.0, x.1.now)) result
+    ensures { Gives faults.Memory (λ x. (tree x.0, x.1.now)) result
         (item_by (value_at more) i type_byte bytes.now) }
 {
     let kind = read_kind(type_byte)?;
@@ -109,7 +111,7 @@ fn read_item(
 #[cycle(reading)]
 fn read_pairs(alloc: Global, more: u32, content: &[u8]) -> Result<Document, BsonFault>
     requires { more ≤ 99 }
-    ensures { Gives (λ d. d) result (pairs_in (value_at more) content.now) }
+    ensures { Gives faults.Memory (λ d. d) result (pairs_in (value_at more) content.now) }
 {
     let mut pairs = Vec::new(alloc);
     let mut names = Names::new(alloc);
@@ -123,13 +125,16 @@ fn read_pairs(alloc: Global, more: u32, content: &[u8]) -> Result<Document, Bson
         pairs.push(Pair { name, value })?;
         rest = after;
     }
-    Ok(Document { pairs, levels })
+    Ok(Document {
+        pairs,
+        inner_levels: levels,
+    })
 }
 
 #[cycle(reading)]
 fn read_items(alloc: Global, more: u32, content: &[u8]) -> Result<Array, BsonFault>
     requires { more ≤ 98 }
-    ensures { Gives (λ a. a) result (items_in (value_at more) content.now) }
+    ensures { Gives faults.Memory (λ a. a) result (items_in (value_at more) content.now) }
 {
     let mut items = Vec::new(alloc);
     let mut levels = 0u32;
@@ -140,14 +145,18 @@ fn read_items(alloc: Global, more: u32, content: &[u8]) -> Result<Array, BsonFau
         items.push(item)?;
         rest = after;
     }
-    Ok(Array { items, levels })
+    Ok(Array {
+        items,
+        inner_levels: levels,
+    })
 }
 
 #[tactic(auto, unfolding(crate::specs::Reading::length_at))]
 /// The length of the document at the front of the input.
 pub(crate) fn read_length(bytes: &[u8]) -> Result<usize, BsonFault>
     ensures gives { GivesExactly (λ n. n) result (length_at bytes.now) }
-    ensures within { IfOk result (λ n. (5 ≤ n) × (n ≤ MESSAGE_LIMIT) × (4 ≤ length bytes.now)) }
+    ensures within { IfOk result
+        (λ n. (5 ≤ n) × (n ≤ message_limit) × (4 ≤ length bytes.now)) }
 {
     if bytes.len() < 4 {
         return Err(BsonFault::Truncated);
@@ -169,7 +178,7 @@ pub(crate) fn read_length(bytes: &[u8]) -> Result<usize, BsonFault>
 
 #[tactic(auto, unfolding(crate::specs::Reading::document_at))]
 fn read_document(alloc: Global, bytes: &[u8]) -> Result<(Document, usize), BsonFault>
-    ensures { Gives (λ x. x) result (document_at bytes.now) }
+    ensures { Gives faults.Memory (λ x. x) result (document_at bytes.now) }
 {
     let len = read_length(bytes)?;
     let (_, rest) = bytes.split_at(4);
@@ -181,13 +190,16 @@ fn read_document(alloc: Global, bytes: &[u8]) -> Result<(Document, usize), BsonF
 /// The document at the front of the input, and its length.
 pub fn decode(alloc: Global, bytes: &[u8]) -> Result<(Document, usize), BsonFault>
     // What is read is spelled so.
-    ensures found { IfOk result (λ x. (x.1 ≤ length bytes.now) × Spells (take x.1 bytes.now) x.0) }
+    ensures found { IfOk result
+        (λ x. (x.1 ≤ length bytes.now) × Spells (take x.1 bytes.now) x.0) }
     // What is spelled so is read, whatever follows it, unless memory runs out.
-    ensures only { (front rest : List ℕ) (ps : Pairs) → Spells front ps → bytes.now ≡ front ++ rest → Gives (λ x. x) result (Ok (ps, length front)) }
+    ensures only { (front rest : List ℕ) (ps : Pairs) → Spells front ps → bytes.now ≡ front ++ rest
+        → Gives faults.Memory (λ x. x) result (Ok (ps, length front)) }
     // What the reading definition gives.
-    ensures gives { Gives (λ x. x) result (document_at bytes.now) }
+    ensures gives { Gives faults.Memory (λ x. x) result (document_at bytes.now) }
     // A fault is the first from the left, and no front of the input is a document.
-    ensures fault { IfErr result (λ e. e ≢ faults.Memory → FirstFault bytes.now e × HasNoDocument bytes.now) }
+    ensures fault { IfErr result
+        (λ e. e ≢ faults.Memory → FirstFault bytes.now e × HasNoDocument bytes.now) }
 {
     read_document(alloc, bytes)
 }

@@ -6,7 +6,9 @@ ghost use Rattle.bson.specs.Lawful.{IsLeaf};
 ghost use Rattle.bson.specs.Tree.{text, binary};
 ghost use Rattle.bson.specs.Spelling.{scalar_bytes, tree_bytes};
 ghost use Rattle.bson.specs.Writing.{Puts, IsFront};
-ghost use Rattle.bson.specs.Reading.{Gives, GivesExactly, leaf, scalar_at, string_at, binary_at, object_id_at, boolean_at, date_at, int32_at, timestamp_at, int64_at, kind_of};
+ghost use Rattle.bson.specs.Outcome.{Gives, GivesExactly};
+ghost use Rattle.bson.specs.declared.fault.BsonFault.TheVariants as faults;
+ghost use Rattle.bson.specs.Reading.{leaf, scalar_at, string_at, binary_at, object_id_at, boolean_at, date_at, int32_at, timestamp_at, int64_at, kind_of};
 
 use crate::MESSAGE_LIMIT;
 use crate::binary::{Binary, Bytes, Subtype};
@@ -44,7 +46,7 @@ pub(crate) fn read_kind(byte: u8) -> Result<Kind, BsonFault>
 
 #[tactic(auto, unfolding(crate::specs::Reading::string_at))]
 fn read_string(alloc: Global, bytes: &[u8]) -> Result<(Value, &[u8]), BsonFault>
-    ensures { Gives (λ x. (tree x.0, x.1.now)) result (leaf (string_at bytes.now)) }
+    ensures { Gives faults.Memory (λ x. (tree x.0, x.1.now)) result (leaf (string_at bytes.now)) }
 {
     let (text, rest) = read_text(bytes)?;
     Ok((Value::String(Text::from_str(alloc, text)?), rest))
@@ -67,7 +69,7 @@ pub(crate) fn read_body(bytes: &[u8]) -> Result<((Subtype, &[u8]), &[u8]), BsonF
 }
 
 fn read_binary(alloc: Global, bytes: &[u8]) -> Result<(Value, &[u8]), BsonFault>
-    ensures { Gives (λ x. (tree x.0, x.1.now)) result (leaf (binary_at bytes.now)) }
+    ensures { Gives faults.Memory (λ x. (tree x.0, x.1.now)) result (leaf (binary_at bytes.now)) }
 {
     match read_body(bytes) {
         Ok(((subtype, content), rest)) => {
@@ -139,7 +141,7 @@ pub(crate) fn read_scalar(
     kind: Kind,
     bytes: &[u8],
 ) -> Result<(Value, &[u8]), BsonFault>
-    ensures { Gives (λ x. (tree x.0, x.1.now)) result (leaf (scalar_at kind bytes.now)) }
+    ensures { Gives faults.Memory (λ x. (tree x.0, x.1.now)) result (leaf (scalar_at kind bytes.now)) }
 {
     match kind {
         Kind::Document | Kind::Array => Err(BsonFault::TypeByte),
@@ -171,7 +173,8 @@ fn put_text(out: &mut Vec<u8>, string: &str) -> Result<(), EncodeFault>
 }
 
 fn put_binary(out: &mut Vec<u8>, subtype: Subtype, content: &[u8]) -> Result<(), EncodeFault>
-    ensures puts { Puts (scalar_bytes (binary subtype content.now)) out.old.items out.new.items result }
+    ensures puts { Puts (scalar_bytes (binary subtype content.now))
+        out.old.items out.new.items result }
     ensures front { IsFront out.old.items out.new.items }
 {
     if MESSAGE_LIMIT - 5 < content.len() {

@@ -3,8 +3,8 @@
 ghost use Rattle.std.specs.Prelude.{◌≡◌, ◌+◌, length};
 ghost use Rattle.bson.specs.View.{tree};
 ghost use Rattle.bson.specs.Lawful.{IsLeaf};
-ghost use Rattle.bson.specs.Spelling.{tree_bytes, pairs_bytes, items_bytes, framed};
-ghost use Rattle.bson.specs.Sizing.{capped};
+ghost use Rattle.bson.specs.Spelling.{tree_bytes, pairs_bytes, items_bytes, frame_of};
+ghost use Rattle.bson.specs.Sizing.{capped_len};
 
 use crate::value::{Array, Document, Value};
 use itoa::Buffer;
@@ -12,7 +12,7 @@ use itoa::Buffer;
 #[tactic(auto, unfolding(crate::specs::Spelling::tree_bytes))]
 fn scalar_len(value: &Value) -> usize
     requires { IsLeaf (tree value.now) }
-    ensures { result ≡ capped (length (tree_bytes (tree value.now))) }
+    ensures { result ≡ capped_len (length (tree_bytes (tree value.now))) }
 {
     match value {
         Value::Document(_) | Value::Array(_) => unreachable!(),
@@ -32,7 +32,7 @@ impl Value {
     #[cycle(sizes)]
     #[tactic(auto, unfolding(crate::specs::Spelling::tree_bytes))]
     pub fn encoded_len(&self) -> usize
-        ensures { result ≡ capped (length (tree_bytes (tree self.now))) }
+        ensures { result ≡ capped_len (length (tree_bytes (tree self.now))) }
     {
         match self {
             Value::Document(document) => document.encoded_len(),
@@ -46,7 +46,7 @@ impl Document {
     /// How many bytes the document's spelling has; the greatest `usize` where that is more.
     #[cycle(sizes)]
     pub fn encoded_len(&self) -> usize
-        ensures { result ≡ capped (length (framed (pairs_bytes self.now))) }
+        ensures { result ≡ capped_len (length (frame_of (pairs_bytes self.now))) }
     {
         let mut len = 5usize;
         'pairs: for pair in &self.pairs {
@@ -66,7 +66,7 @@ impl Array {
     /// greatest `usize` where that is more.
     #[cycle(sizes)]
     pub fn encoded_len(&self) -> usize
-        ensures { result ≡ capped (length (framed (items_bytes 0 self.now))) }
+        ensures { result ≡ capped_len (length (frame_of (items_bytes 0 self.now))) }
     {
         let mut len = 5usize;
         'items: for (i, item) in self.items.iter().enumerate() {

@@ -55,7 +55,7 @@ pub struct Pair {
 pub struct Document {
     pub(crate) pairs: Vec<Pair>,
     // how deep the values nest
-    pub(crate) levels: u32,
+    pub(crate) inner_levels: u32,
 }
 
 /// Values in order, nesting at most 99 levels, the array itself among them.
@@ -64,7 +64,7 @@ pub struct Document {
 pub struct Array {
     pub(crate) items: Vec<Value>,
     // how deep the values nest
-    pub(crate) levels: u32,
+    pub(crate) inner_levels: u32,
 }
 
 impl Model for Document {
@@ -80,11 +80,11 @@ impl Model for Document {
 
     ghost view = { λ a. pairs_of a.pairs.items };
 
-    ghost invariant = { λ a. HoldsDocument a.levels (pairs_of a.pairs.items) };
+    ghost invariant = { λ a. HoldsDocument a.inner_levels (pairs_of a.pairs.items) };
 
     ghost size = { count_pairs };
 
-    ghost use Rattle.bson.specs.Sizes.{most_le-count_pairs};
+    ghost use Rattle.bson.specs.CountLaws.{most_le-count_pairs};
 
     ghost size_decreases = { λ a h. most_le-count_pairs a.pairs.items };
 }
@@ -102,11 +102,11 @@ impl Model for Array {
 
     ghost view = { λ a. items_of a.items.items };
 
-    ghost invariant = { λ a. HoldsArray a.levels (items_of a.items.items) };
+    ghost invariant = { λ a. HoldsArray a.inner_levels (items_of a.items.items) };
 
     ghost size = { count_items };
 
-    ghost use Rattle.bson.specs.Sizes.{most_le-count_items};
+    ghost use Rattle.bson.specs.CountLaws.{most_le-count_items};
 
     ghost size_decreases = { λ a h. most_le-count_items a.items.items };
 }
@@ -144,8 +144,8 @@ impl Value {
         ensures most { result ≤ 100 }
     {
         match self {
-            Value::Document(document) => document.levels() + 1,
-            Value::Array(array) => array.levels() + 1,
+            Value::Document(document) => document.levels(),
+            Value::Array(array) => array.levels(),
             _ => {
                 self.look();
                 0

@@ -3,8 +3,8 @@
 ghost use Rattle.std.specs.Prelude.{◌≡◌, ℕ, ◌+◌, ◌-◌, ◌<◌, ◌≤◌, ◌++◌, ◌∷◌, [], List, length, take, drop, OnOk, OnErr, IfOk, IsErrOf};
 ghost use Rattle.std.specs.Int.{w32, to_le_bytes};
 ghost use Rattle.bson.specs.View.{tree};
-ghost use Rattle.bson.specs.declared.TheConstants.{MESSAGE_LIMIT};
-ghost use Rattle.bson.specs.Spelling.{Spells, tree_bytes, pairs_bytes, items_bytes, framed};
+ghost use Rattle.bson.specs.Limits.{message_limit};
+ghost use Rattle.bson.specs.Spelling.{Spells, tree_bytes, pairs_bytes, items_bytes, frame_of};
 ghost use Rattle.bson.specs.Writing.{Puts, Fills, IsFront};
 
 use crate::MESSAGE_LIMIT;
@@ -17,7 +17,8 @@ use std::alloc::{AllocError, Global};
 
 fn write_number(bytes: &mut [u8], start: usize, number: u32)
     requires { start + 4 ≤ length bytes.old }
-    ensures { bytes.new ≡ take start bytes.old ++ (to_le_bytes w32 number ++ drop (start + 4) bytes.old) }
+    ensures { bytes.new
+        ≡ take start bytes.old ++ (to_le_bytes w32 number ++ drop (start + 4) bytes.old) }
 {
     LittleEndian::write_u32(&mut bytes[start..], number);
 }
@@ -50,7 +51,8 @@ fn put_value(out: &mut Vec<u8>, value: &Value) -> Result<(), EncodeFault>
 }
 
 fn put_name(out: &mut Vec<u8>, type_byte: u8, name: &str) -> Result<(), AllocError>
-    ensures ok { OnOk result (out.new.items ≡ out.old.items ++ (type_byte ∷ (name.now ++ 0 ∷ []))) }
+    ensures ok { OnOk result
+        (out.new.items ≡ out.old.items ++ (type_byte ∷ (name.now ++ 0 ∷ []))) }
     ensures front { IsFront out.old.items out.new.items }
 {
     out.push(type_byte)?;
@@ -61,7 +63,7 @@ fn put_name(out: &mut Vec<u8>, type_byte: u8, name: &str) -> Result<(), AllocErr
 
 #[cycle(writing)]
 fn put_document(out: &mut Vec<u8>, document: &Document) -> Result<(), EncodeFault>
-    ensures puts { Puts (framed (pairs_bytes document.now)) out.old.items out.new.items result }
+    ensures puts { Puts (frame_of (pairs_bytes document.now)) out.old.items out.new.items result }
     ensures front { IsFront out.old.items out.new.items }
 {
     let start = out.len();
@@ -76,7 +78,7 @@ fn put_document(out: &mut Vec<u8>, document: &Document) -> Result<(), EncodeFaul
 
 #[cycle(writing)]
 fn put_array(out: &mut Vec<u8>, array: &Array) -> Result<(), EncodeFault>
-    ensures puts { Puts (framed (items_bytes 0 array.now)) out.old.items out.new.items result }
+    ensures puts { Puts (frame_of (items_bytes 0 array.now)) out.old.items out.new.items result }
     ensures front { IsFront out.old.items out.new.items }
 {
     let start = out.len();
@@ -93,9 +95,11 @@ fn put_array(out: &mut Vec<u8>, array: &Array) -> Result<(), EncodeFault>
 /// Puts the bytes of a document behind what stands in `out`, where a message may hold them. So a frame and its
 /// body are written into one vector.
 pub fn encode_onto(out: &mut Vec<u8>, document: &Document) -> Result<(), EncodeFault>
-    ensures ok { OnOk result (out.new.items ≡ out.old.items ++ framed (pairs_bytes document.now)) }
-    ensures within { OnOk result (length (framed (pairs_bytes document.now)) ≤ MESSAGE_LIMIT) }
-    ensures large { IsErrOf result EncodeFault.TooLarge → MESSAGE_LIMIT < length (framed (pairs_bytes document.now)) }
+    ensures ok { OnOk result
+        (out.new.items ≡ out.old.items ++ frame_of (pairs_bytes document.now)) }
+    ensures within { OnOk result (length (frame_of (pairs_bytes document.now)) ≤ message_limit) }
+    ensures large { IsErrOf result EncodeFault.TooLarge
+        → message_limit < length (frame_of (pairs_bytes document.now)) }
     ensures err { OnErr result (out.new.items ≡ out.old.items) }
 {
     let start = out.len();
@@ -111,7 +115,8 @@ pub fn encode_onto(out: &mut Vec<u8>, document: &Document) -> Result<(), EncodeF
 /// The bytes of a document, where a message may hold them.
 pub fn encode(alloc: Global, document: &Document) -> Result<Vec<u8>, EncodeFault>
     ensures ok { IfOk result (λ v. Spells v.items document.now) }
-    ensures large { IsErrOf result EncodeFault.TooLarge → MESSAGE_LIMIT < length (framed (pairs_bytes document.now)) }
+    ensures large { IsErrOf result EncodeFault.TooLarge
+        → message_limit < length (frame_of (pairs_bytes document.now)) }
 {
     let _ = &document.pairs;
     let mut out = Vec::new(alloc);

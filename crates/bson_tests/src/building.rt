@@ -70,9 +70,9 @@ fn changed_pairs(rt: HostRuntime) -> Result<(), Fail> {
 fn levels_fall(rt: HostRuntime) -> Result<(), Fail> {
     let mut document = three(rt.alloc())?;
     document.push("d", Value::Document(nested(rt.alloc(), 7)?))?;
-    assert_eq!(rt; document.levels(), 7);
+    assert_eq!(rt; document.levels(), 8);
     let _ = document.remove("d");
-    assert_eq!(rt; document.levels(), 0);
+    assert_eq!(rt; document.levels(), 1);
     Ok(())
 }
 

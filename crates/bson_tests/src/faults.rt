@@ -99,7 +99,7 @@ fn of_levels(rt: HostRuntime) -> Result<(), Fail> {
     assert_eq!(rt; bytes.len(), 797);
     assert!(rt; RawDoc::new(&bytes).is_ok());
     let (document, len) = decode(rt.alloc(), &bytes)?;
-    assert_eq!(rt; (document.levels(), len), (99, 797));
+    assert_eq!(rt; (document.levels(), len), (100, 797));
     let mut deeper = Vec::new(rt.alloc());
     deeper.extend_from_slice(&[0x25, 3, 0, 0, 3, 0x61, 0])?;
     deeper.extend_from_slice(&bytes)?;

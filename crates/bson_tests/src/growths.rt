@@ -52,7 +52,7 @@ fn growths(rt: HostRuntime) {
         }
         Err(fault) => assert!(rt; fault == BsonFault::Memory),
     }
-    let Ok(bytes) = crate::inputs::framed(alloc, EVERY) else {
+    let Ok(bytes) = crate::inputs::frame_of(alloc, EVERY) else {
         return;
     };
     match decode(alloc, &bytes) {

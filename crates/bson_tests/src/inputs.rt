@@ -25,7 +25,7 @@ pub const EVERY: &[&[u8]] = &[
 ];
 
 /// The document of these elements.
-pub fn framed(alloc: Global, elements: &[&[u8]]) -> Result<Vec<u8>, AllocError> {
+pub fn frame_of(alloc: Global, elements: &[&[u8]]) -> Result<Vec<u8>, AllocError> {
     let mut content = Vec::new(alloc);
     for element in elements {
         content.extend_from_slice(element)?;

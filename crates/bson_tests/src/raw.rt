@@ -1,12 +1,12 @@
 //! Documents that stay bytes.
 
-use crate::inputs::{EVERY, HELLO, both_refuse, framed};
+use crate::inputs::{EVERY, HELLO, both_refuse, frame_of};
 use bson::*;
 use std::test::*;
 
 #[test]
 fn fields(rt: HostRuntime) -> Result<(), Fail> {
-    let bytes = framed(rt.alloc(), EVERY)?;
+    let bytes = frame_of(rt.alloc(), EVERY)?;
     let raw = RawDoc::new(&bytes)?;
     assert_eq!(rt; raw.bytes().len(), 121);
     let (document, _) = decode(rt.alloc(), &bytes)?;

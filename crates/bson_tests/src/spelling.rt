@@ -1,6 +1,6 @@
 //! Documents as bytes and back.
 
-use crate::inputs::{EVERY, HELLO, framed};
+use crate::inputs::{EVERY, HELLO, frame_of};
 use bson::*;
 use std::alloc::Global;
 use std::test::*;
@@ -57,7 +57,7 @@ fn every(alloc: Global) -> Result<Document, Fail> {
 
 #[test]
 fn every_type(rt: HostRuntime) -> Result<(), Fail> {
-    let bytes = framed(rt.alloc(), EVERY)?;
+    let bytes = frame_of(rt.alloc(), EVERY)?;
     assert_eq!(rt; bytes.len(), 121);
     let document = every(rt.alloc())?;
     assert_eq!(rt; document.encoded_len(), 121);

@@ -1,8 +1,8 @@
-pub mod Numbers
-pub mod Escaping
-pub mod Scalars
-pub mod Inversion
-pub mod Walking
-pub mod Puts
-pub mod Bytes
+pub mod NumberLaws
+pub mod EscapingLaws
+pub mod ScalarLaws
+pub mod InversionLaws
+pub mod WalkLaws
+pub mod PutLaws
+pub mod ByteLaws
 pub mod KeyLaws

@@ -10,24 +10,24 @@ use Rattle.value_order.specs.declared.texts.Direction.TheVariants as directions
 use Rattle.value_order.specs.Order.{class, Key, empty_array, value, key_cmp}
 
 -- a zero byte of a string is `00 ff`, and `00 00` ends it
-abbrev pub escaped : List ℕ → List ℕ
-escaped [] = 0 ∷ 0 ∷ []
-escaped (zero ∷ bs) = 0 ∷ 255 ∷ escaped bs
-escaped (suc b ∷ bs) = suc b ∷ escaped bs
+abbrev pub escaped_text : List ℕ → List ℕ
+escaped_text [] = 0 ∷ 0 ∷ []
+escaped_text (zero ∷ bs) = 0 ∷ 255 ∷ escaped_text bs
+escaped_text (suc b ∷ bs) = suc b ∷ escaped_text bs
 
 -- an int64 with its top bit turned
-abbrev pub raised : ℤ → ℕ
-raised (pos n) = 2 ^ 63 + n
-raised (negsuc n) = 2 ^ 63 - suc n
+abbrev pub sortable_bits : ℤ → ℕ
+sortable_bits (pos n) = 2 ^ 63 + n
+sortable_bits (negsuc n) = 2 ^ 63 - suc n
 
 abbrev pub scalar_text : Scalar → List ℕ
-scalar_text (int32 z) = to_be_bytes w64 (raised z)
-scalar_text (int64 z) = to_be_bytes w64 (raised z)
-scalar_text (text s) = escaped s
+scalar_text (int32 z) = to_be_bytes w64 (sortable_bits z)
+scalar_text (int64 z) = to_be_bytes w64 (sortable_bits z)
+scalar_text (text s) = escaped_text s
 scalar_text (binary subtype bytes) = to_be_bytes w32 (length bytes) ++ subtype ∷ bytes
 scalar_text (object_id bytes) = bytes
 scalar_text (boolean b) = (if b then 1 else 0) ∷ []
-scalar_text (date z) = to_be_bytes w64 (raised z)
+scalar_text (date z) = to_be_bytes w64 (sortable_bits z)
 scalar_text (timestamp n) = to_be_bytes w64 n
 scalar_text min_key = []
 scalar_text null = []
@@ -57,13 +57,13 @@ key_text empty_array = 0x18 ∷ []
 key_text (value t) = tree_text t
 
 -- with every byte complemented
-abbrev pub inverted : List ℕ → List ℕ
-inverted bs = map (λ b. 255 - b) bs
+abbrev pub complement : List ℕ → List ℕ
+complement bs = map (λ b. 255 - b) bs
 
 -- the text of a key in a direction
 abbrev pub directed_text : Direction → Key → List ℕ
 directed_text directions.Ascending key = key_text key
-directed_text directions.Descending key = inverted (key_text key)
+directed_text directions.Descending key = complement (key_text key)
 
 -- the order of two keys in a direction
 abbrev pub directed_cmp : Direction → Key → Key → Ordering

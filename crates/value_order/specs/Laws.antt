@@ -4,7 +4,7 @@ use Rattle.std.specs.declared.cmp.Ordering.TheVariants.{Equal}
 use Rattle.std.specs.Cmp.{IsTotalOrder}
 use Rattle.bson.specs.Lawful.{IsTree}
 use Rattle.bson.specs.Spelling.{tree_bytes}
-use Rattle.bson.specs.declared.TheConstants.{MESSAGE_LIMIT}
+use Rattle.bson.specs.Limits.{message_limit}
 use Rattle.value_order.specs.Order.{Key, empty_array, value, bytes_cmp, compare, key_cmp}
 use Rattle.value_order.specs.KeyText.{directed_text, directed_cmp}
 use Rattle.value_order.specs.declared.texts.Direction.{Direction}
@@ -12,11 +12,15 @@ use Rattle.value_order.specs.declared.texts.Direction.{Direction}
 -- a value that BSON can spell in a message
 abbrev pub IsKey : Key → Type 0
 IsKey empty_array = Unit {0}
-IsKey (value t) = IsTree t × (length (tree_bytes t) ≤ MESSAGE_LIMIT)
+IsKey (value t) = IsTree t × (length (tree_bytes t) ≤ message_limit)
 
 -- one of two values is below the other or the order calls them equal, and what is below stays below
 abbrev pub ComparesTotally : Type 0
 ComparesTotally = IsTotalOrder compare
+
+-- the same of keys, of which one says that an empty array stands there
+abbrev pub KeysCompareTotally : Type 0
+KeysCompareTotally = IsTotalOrder key_cmp
 
 -- texts of one direction order by bytes as the keys do in that direction
 abbrev pub TextsOrder : Type 0

@@ -1,11 +1,12 @@
 pub mod Order
+pub mod Limits
 pub mod KeyText
 pub mod View
 pub mod Writing
 pub mod Laws
 pub mod Wrapped
-pub mod Sorting
-pub mod Coding
-pub mod Total
-pub mod Keys
-pub mod FaultNames
+pub mod SortingLaws
+pub mod CodingLaws
+pub mod TotalLaws
+pub mod KeyOrderLaws
+pub mod Faults

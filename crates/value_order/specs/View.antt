@@ -2,7 +2,7 @@
 use Rattle.bson.specs.Tree.{scalar, null}
 use Rattle.bson.specs.View.{tree}
 use Rattle.value_order.specs.Order.{Leaf, Key, empty_array, value}
-use Rattle.value_order.specs.declared.class.Leaf.{Leaf as Parts}
+use Rattle.value_order.specs.declared.classes.Leaf.{Leaf as Parts}
 use Rattle.value_order.specs.declared.texts.KeyPart.{KeyPart}
 use Rattle.value_order.specs.declared.texts.KeyPart.TheVariants as keys
 

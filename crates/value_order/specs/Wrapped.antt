@@ -4,7 +4,7 @@ use Rattle.std.specs.Ordering.{on}
 use Rattle.std.specs.Cmp.{IsTotalOrder, on_total}
 use Rattle.bson.specs.View.{tree}
 use Rattle.value_order.specs.Order.{compare}
-use Rattle.value_order.specs.Total.{compare_total}
+use Rattle.value_order.specs.TotalLaws.{compare_total}
 use Rattle.value_order.specs.declared.wrapper.Order.{Order}
 
 -- the order of the values inside

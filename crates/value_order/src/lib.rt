@@ -1,12 +1,13 @@
 //! The order of values, and texts of bytes that order as the values do.
 #![tactic(auto)]
 
-mod class;
+mod classes;
 pub mod laws;
 mod order;
 mod texts;
 mod wrapper;
 
+pub use classes::class;
 pub use order::{compare, compare_keys};
 pub use texts::{Direction, KeyFault, KeyPart, group_text, key_text};
 pub use wrapper::Order;

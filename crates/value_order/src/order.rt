@@ -6,7 +6,7 @@ ghost use Rattle.bson.specs.View.{tree, pairs_of, items_of};
 ghost use Rattle.value_order.specs.Order.{class, leaf, leaf_cmp, bytes_cmp, compare, content_cmp, pairs_cmp, items_cmp, key_class, key_cmp};
 ghost use Rattle.value_order.specs.View.{key_of};
 
-use crate::class::{class, parts};
+use crate::classes::{class, parts};
 use crate::texts::KeyPart;
 use bson::{Pair, Value};
 use std::cmp::Ordering;
@@ -32,7 +32,9 @@ fn compare_content(a: &Value, b: &Value) -> Ordering
 
 /// Two pairs before their values' contents: the class of the value, then the name.
 fn compare_heads(a: &Pair, b: &Pair) -> Ordering
-    ensures { result ≡ ordering_then (nat_cmp (class (tree a.now.value)) (class (tree b.now.value))) (bytes_cmp a.now.name b.now.name) }
+    ensures { result ≡ ordering_then
+        (nat_cmp (class (tree a.now.value)) (class (tree b.now.value)))
+        (bytes_cmp a.now.name b.now.name) }
 {
     class(&a.value)
         .cmp(&class(&b.value))

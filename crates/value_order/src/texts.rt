@@ -3,13 +3,14 @@
 ghost use Rattle.std.specs.Prelude.{◌≡◌, ◌≤◌, ◌<◌, ◌++◌, length, [], ◌∷◌, IfOk, IsErrOf};
 ghost use Rattle.std.specs.Int.{w32, w64, to_be_bytes};
 ghost use Rattle.bson.specs.View.{tree, pairs_of, items_of};
-ghost use Rattle.value_order.specs.KeyText.{escaped, raised, content_text, pairs_text, items_text, tree_text, key_text, inverted, directed_text};
+ghost use Rattle.value_order.specs.KeyText.{escaped_text, sortable_bits, content_text, pairs_text, items_text, tree_text, key_text, complement, directed_text};
 ghost use Rattle.value_order.specs.Order.{class};
 ghost use Rattle.value_order.specs.View.{key_of};
+ghost use Rattle.value_order.specs.Limits.{key_limit};
 ghost use Rattle.value_order.specs.Writing.{IsPut};
 
 use crate::KEY_LIMIT;
-use crate::class::class;
+use crate::classes::class;
 use bson::{Binary, NoMemory, Pair, Value};
 use std::alloc::{AllocError, Global};
 
@@ -33,13 +34,13 @@ pub enum KeyPart<'a> {
 #[derive(Clone, Copy, Debug, PartialEq, Eq)]
 pub enum KeyFault {
     /// The text has more than 500 bytes.
-    TooLong,
+    TooLong = 1,
     /// Memory ran out.
     Memory,
 }
 
 impl KeyFault {
-    ghost use Rattle.value_order.specs.FaultNames.{key_fault_name};
+    ghost use Rattle.value_order.specs.Faults.{key_fault_name};
 
     /// The fault's word.
     pub fn name(self) -> &'static str
@@ -62,6 +63,9 @@ impl From<AllocError> for KeyFault {
     }
 }
 
+/// A limit that no bytes pass.
+const NO_LIMIT: usize = usize::MAX;
+
 /// Puts bytes behind others, unless more than the limit would stand there.
 fn put(out: &mut Vec<u8>, limit: usize, bytes: &[u8]) -> Result<(), KeyFault>
     requires { length out.old.items ≤ limit }
@@ -77,7 +81,7 @@ fn put(out: &mut Vec<u8>, limit: usize, bytes: &[u8]) -> Result<(), KeyFault>
 /// A string with its zero bytes marked and its end.
 fn put_escaped(out: &mut Vec<u8>, limit: usize, bytes: &[u8]) -> Result<(), KeyFault>
     requires { length out.old.items ≤ limit }
-    ensures { IsPut limit (escaped bytes.now) out.old.items out.new.items result }
+    ensures { IsPut limit (escaped_text bytes.now) out.old.items out.new.items result }
 {
     'bytes: for byte in bytes {
         if *byte == 0 {
@@ -90,8 +94,8 @@ fn put_escaped(out: &mut Vec<u8>, limit: usize, bytes: &[u8]) -> Result<(), KeyF
 }
 
 /// A signed number of 64 bits with its top bit turned.
-fn raised(number: i64) -> u64
-    ensures { result ≡ raised number }
+fn sortable_bits(number: i64) -> u64
+    ensures { result ≡ sortable_bits number }
 {
     if number < 0 {
         (number - i64::MIN) as u64
@@ -103,7 +107,9 @@ fn raised(number: i64) -> u64
 /// A binary: its length in four bytes, its subtype, its bytes.
 fn put_binary(out: &mut Vec<u8>, limit: usize, binary: &Binary) -> Result<(), KeyFault>
     requires { length out.old.items ≤ limit }
-    ensures { IsPut limit (to_be_bytes w32 (length binary.now.bytes) ++ binary.now.subtype ∷ binary.now.bytes) out.old.items out.new.items result }
+    ensures { IsPut limit
+        (to_be_bytes w32 (length binary.now.bytes) ++ binary.now.subtype ∷ binary.now.bytes)
+        out.old.items out.new.items result }
 {
     let bytes = binary.bytes.as_slice();
     let [_, _, _, _, a, b, c, d] = (bytes.len() as u64).to_be_bytes();
@@ -118,11 +124,11 @@ fn put_content(out: &mut Vec<u8>, limit: usize, value: &Value) -> Result<(), Key
     ensures { IsPut limit (content_text (tree value.now)) out.old.items out.new.items result }
 {
     match value {
-        Value::Int32(number) => put(out, limit, &raised(i64::from(*number)).to_be_bytes()),
+        Value::Int32(number) => put(out, limit, &sortable_bits(i64::from(*number)).to_be_bytes()),
         Value::Int64(number) | Value::Date(number) => put(
             out,
             limit,
-            &raised(*number).to_be_bytes(),
+            &sortable_bits(*number).to_be_bytes(),
         ),
         Value::Timestamp(number) => put(out, limit, &number.to_be_bytes()),
         Value::Bool(truth) => put(out, limit, &[u8::from(*truth)]),
@@ -148,7 +154,8 @@ fn put_value(out: &mut Vec<u8>, limit: usize, value: &Value) -> Result<(), KeyFa
 /// The class of a pair's value, its name and what ends it.
 fn put_head(out: &mut Vec<u8>, limit: usize, pair: &Pair) -> Result<(), KeyFault>
     requires { length out.old.items ≤ limit }
-    ensures { IsPut limit (class (tree pair.now.value) ∷ (pair.now.name ++ 0 ∷ [])) out.old.items out.new.items result }
+    ensures { IsPut limit (class (tree pair.now.value) ∷ (pair.now.name ++ 0 ∷ []))
+        out.old.items out.new.items result }
 {
     put(out, limit, &[class(&pair.value)])?;
     put(out, limit, pair.name.as_str().as_bytes())?;
@@ -192,8 +199,9 @@ fn put_key(out: &mut Vec<u8>, limit: usize, key: &KeyPart<'_>) -> Result<(), Key
 /// The text of a key in a direction, which has at most 500 bytes.
 pub fn key_text(alloc: Global, key: &KeyPart<'_>, direction: Direction) -> Result<Vec<u8>, KeyFault>
     ensures text { IfOk result (λ v. v.items ≡ directed_text direction (key_of key.now)) }
-    ensures short { IfOk result (λ v. length v.items ≤ KEY_LIMIT) }
-    ensures long { IsErrOf result KeyFault.TooLong → KEY_LIMIT < length (directed_text direction (key_of key.now)) }
+    ensures short { IfOk result (λ v. length v.items ≤ key_limit) }
+    ensures long { IsErrOf result KeyFault.TooLong
+        → key_limit < length (directed_text direction (key_of key.now)) }
 {
     let mut text = Vec::new(alloc);
     put_key(&mut text, KEY_LIMIT, key)?;
@@ -205,7 +213,7 @@ pub fn key_text(alloc: Global, key: &KeyPart<'_>, direction: Direction) -> Resul
 
 /// Complements every byte.
 fn invert(text: &mut [u8])
-    ensures { text.new ≡ inverted text.old }
+    ensures { text.new ≡ complement text.old }
 {
     'bytes: for byte in text.iter_mut() {
         *byte = 0xff - *byte;
@@ -217,8 +225,9 @@ pub fn group_text(alloc: Global, value: &Value) -> Result<Vec<u8>, NoMemory>
     ensures { IfOk result (λ v. v.items ≡ tree_text (tree value.now)) }
 {
     let mut text = Vec::new(alloc);
-    match put_value(&mut text, usize::MAX, value) {
+    match put_value(&mut text, NO_LIMIT, value) {
         Ok(()) => Ok(text),
-        Err(_) => Err(AllocError),
+        Err(KeyFault::Memory) => Err(AllocError),
+        Err(KeyFault::TooLong) => unreachable!(),
     }
 }

@@ -6,7 +6,7 @@ use Rattle.bson.specs.Lawful.{HoldsDocument}
 use Rattle.bson.specs.Reading.{stands_in}
 use Rattle.bson.specs.declared.value.Pair.{Pair}
 use Rattle.bson.specs.declared.fault.BuildFault.TheVariants as builds
-use Rattle.bson.proofs.ReadLoops.{names_pushed}
+use Rattle.bson.proofs.ReadLoopLaws.{names_pushed}
 use Rattle.bson.proofs.BuildLaws.{has_zero, is_name, is_repeated, Lacks-from_stands, HoldsDocument-push, refused, one_more}
 use Rattle.bson.proofs.document.check_all.Goals as goal
 

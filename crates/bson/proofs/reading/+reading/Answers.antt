@@ -4,10 +4,11 @@ use Rattle.bson.specs.declared.value.Value.{Value}
 use Rattle.bson.specs.declared.value.Pair.{Pair}
 use Rattle.bson.specs.Tree.{Tree}
 use Rattle.bson.specs.View.{tree, pairs_of, items_of, names_of}
-use Rattle.bson.specs.Reading.{Read, Fails, element_by, stands_in, item_by, value_at, pairs_in, items_in}
+use Rattle.bson.specs.Outcome.{Fails}
+use Rattle.bson.specs.Reading.{Read, element_by, stands_in, item_by, value_at, pairs_in, items_in}
 use Rattle.bson.specs.declared.fault.BsonFault.TheVariants as faults
 use Rattle.bson.specs.Lawful.{pairs_levels, items_levels}
-use Rattle.bson.proofs.ReadLoops.{pairs_levels-push, items_levels-push, PairsSoFar, ItemsSoFar, pairs_start, items_start, pairs_pushed, pair_shorter, pairs_fail, pairs_over, items_pushed, items_shorter, items_fail, items_over, element_named, names_pushed, document_holds, array_holds, document_fails, document_found, array_fails, array_found}
+use Rattle.bson.proofs.ReadLoopLaws.{pairs_levels-push, items_levels-push, PairsSoFar, ItemsSoFar, pairs_start, items_start, pairs_pushed, pair_shorter, pairs_fail, pairs_over, items_pushed, items_shorter, items_fail, items_over, element_named, names_pushed, document_holds, array_holds, document_fails, document_found, array_fails, array_found}
 use Rattle.bson.proofs.reading.+reading.Goals as goal
 use Rattle.bson.proofs.reading.+reading.Goals.{read_items-After-drop-items, read_items-In_ok-push, read_items-In_default, read_pairs-After-drop-pairs, read_pairs-In_ok-push}
 
@@ -38,7 +39,7 @@ pub read_items-returns-in_err-item : goal.read_items-returns-in_err-item
 read_items-returns-in_err-item t c =
     let p = err_from_is_err_and c.from_residual.result c.from_residual.ensures.1 in
     let at : c.len.result ≡ length c.items.items.items = omega (arith, c.items.items.ok.0) in
-    let e = subst (λ (i : ℕ). Fails c.in_err-item.field-0.0 (item_by (value_at c.args.more) i c.in-Some.type_byte.now c.in-Some.after.now)) at c.in_err-item.ensures in
+    let e = subst (λ (i : ℕ). Fails faults.Memory c.in_err-item.field-0.0 (item_by (value_at c.args.more) i c.in-Some.type_byte.now c.in-Some.after.now)) at c.in_err-item.ensures in
     rw (p.1, p.2) (items_fail c.args.more c.items.items.items c.items.rest.now c.in-Some.type_byte.now c.in-Some.after.now (items_in (value_at c.args.more) c.args.content.now) c.in-Some.ensures.cases.0 c.items.invariant.0 c.in_err-item.field-0.0 e)
 
 items_whole : (t : ℕ) (c : read_items-In_default t) → items_in (value_at c.args.more) c.args.content.now ≡ Ok (items_of c.items.items.items)
@@ -84,7 +85,7 @@ read_pairs-pairs-preserved t c =
 pub read_pairs-returns-in_err-name : goal.read_pairs-returns-in_err-name
 read_pairs-returns-in_err-name t c =
     let p = err_from_is_err_and c.from_residual.result c.from_residual.ensures.1 in
-    let e = subst (λ (read : Read (List ℕ × Tree)). Fails c.in_err-name.field-0.0 read) (element_named c.args.more c.in-Some.type_byte.now c.in-Some.after.now c.pairs.names (names_of c.pairs.pairs.items) c.pairs.invariant.2) c.in_err-name.ensures in
+    let e = subst (λ (read : Read (List ℕ × Tree)). Fails faults.Memory c.in_err-name.field-0.0 read) (element_named c.args.more c.in-Some.type_byte.now c.in-Some.after.now c.pairs.names (names_of c.pairs.pairs.items) c.pairs.invariant.2) c.in_err-name.ensures in
     rw (p.1, p.2) (pairs_fail c.args.more c.pairs.pairs.items c.pairs.rest.now c.in-Some.type_byte.now c.in-Some.after.now (pairs_in (value_at c.args.more) c.args.content.now) c.in-Some.ensures.cases.0 c.pairs.invariant.0 c.in_err-name.field-0.0 e)
 
 pub read_pairs-returns : goal.read_pairs-returns

@@ -2,8 +2,8 @@ use Rattle.std.proofs.Common.{◌+◌, length, take, refl, ap, arith}
 use Rattle.std.specs.Fmt.{decimal}
 use Rattle.bson.specs.View.{tree, pairs_of, items_of}
 use Rattle.bson.specs.Spelling.{tree_bytes, pairs_bytes, items_bytes}
-use Rattle.bson.specs.Sizing.{pairs_bytes-none, items_bytes-none}
-use Rattle.bson.proofs.WriteLoops.{pairs_longer, items_longer, capped_sum}
+use Rattle.bson.specs.SizingLaws.{pairs_bytes-none, items_bytes-none}
+use Rattle.bson.proofs.WriteLoopLaws.{pairs_longer, items_longer, capped_sum}
 use Rattle.bson.proofs.value.+sizes.Goals as goal
 
 pub Array::encoded_len-items-init : goal.Array::encoded_len-items-init

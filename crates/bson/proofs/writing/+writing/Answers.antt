@@ -5,8 +5,8 @@ use Rattle.bson.specs.View.{pairs_of, items_of}
 use Rattle.bson.specs.Kinds.{kind_byte}
 use Rattle.bson.specs.Spelling.{pairs_bytes, items_bytes}
 use Rattle.bson.specs.Writing.{IsFront}
-use Rattle.bson.proofs.Fronts.{after_two, onwards}
-use Rattle.bson.proofs.WriteLoops.{zeros, items_bytes-none, pairs_bytes-none, item_put, pair_put, item_too_large, pair_too_large, items_all, pairs_all, has_room, frame_done}
+use Rattle.bson.proofs.FrontLaws.{after_two, onwards}
+use Rattle.bson.proofs.WriteLoopLaws.{zeros, items_bytes-none, pairs_bytes-none, item_put, pair_put, item_too_large, pair_too_large, items_all, pairs_all, has_room, frame_done}
 use Rattle.bson.proofs.writing.+writing.Goals as goal
 
 -- ---- arrays

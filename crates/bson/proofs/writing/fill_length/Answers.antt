@@ -1,5 +1,5 @@
 use Rattle.std.proofs.Common.{arith}
-use Rattle.bson.proofs.WriteLoops.{fill_is}
+use Rattle.bson.proofs.WriteLoopLaws.{fill_is}
 use Rattle.bson.proofs.writing.fill_length.Goals as goal
 
 pub returns-then-len-gt-MESSAGE_LIMIT-clause-fills : goal.returns-then-len-gt-MESSAGE_LIMIT-clause-fills

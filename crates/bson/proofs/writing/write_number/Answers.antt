@@ -1,6 +1,6 @@
 use Rattle.std.proofs.Common.{refl}
 use Rattle.std.specs.Int.{w32, to_le_bytes}
-use Rattle.bson.proofs.WriteLoops.{written_at}
+use Rattle.bson.proofs.WriteLoopLaws.{written_at}
 use Rattle.bson.proofs.writing.write_number.Goals as goal
 
 pub returns : goal.returns

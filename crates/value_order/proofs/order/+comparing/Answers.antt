@@ -3,7 +3,7 @@ use Rattle.bson.specs.Tree.{Pairs, Items}
 use Rattle.bson.specs.View.{tree}
 use Rattle.bson.specs.declared.value.Value.TheVariants as values
 use Rattle.value_order.specs.Order.{content_cmp}
-use Rattle.value_order.proofs.Walking.{content_cmp-leaves, item_smaller, pair_smaller, items_end, pairs_end}
+use Rattle.value_order.proofs.WalkLaws.{content_cmp-leaves, item_smaller, pair_smaller, items_end, pairs_end}
 use Rattle.value_order.proofs.order.+comparing.Goals as goal
 use Rattle.value_order.proofs.order.+comparing.Goals.{compare_content-in_default-via-in-Document+in_default, compare_content-in_default-via-in-Array+in_default, compare_content-in_default-via-in_default}
 

@@ -4,8 +4,8 @@ use Rattle.std.proofs.lemmas.Result.{err_from_is_err_and}
 use Rattle.bson.specs.View.{tree, pairs_of, items_of}
 use Rattle.value_order.specs.Order.{class}
 use Rattle.value_order.specs.KeyText.{tree_text, pairs_text, items_text}
-use Rattle.value_order.proofs.Puts.{piece_refused, left_over, item_part, pair_part}
-use Rattle.value_order.proofs.Walking.{item_smaller, pair_smaller}
+use Rattle.value_order.proofs.PutLaws.{piece_refused, left_over, item_part, pair_part}
+use Rattle.value_order.proofs.WalkLaws.{item_smaller, pair_smaller}
 use Rattle.value_order.proofs.texts.+writing.Goals as goal
 
 pub put_items-put_value-requires : goal.put_items-put_value-requires

@@ -1,5 +1,5 @@
 use Rattle.std.proofs.Common.{◌-◌, ◌<◌, length, arith, add-one}
-use Rattle.value_order.proofs.Puts.{one_mapped}
+use Rattle.value_order.proofs.PutLaws.{one_mapped}
 use Rattle.value_order.proofs.texts.invert.Goals as goal
 
 pub bytes-preserved : goal.bytes-preserved

@@ -1,7 +1,8 @@
 use Rattle.std.proofs.Common.{List, ap, subst, ◌∙◌, arith}
 use Rattle.bson.specs.View.{items_of}
 use Rattle.bson.specs.Lawful.{IsArray, items_levels}
-use Rattle.bson.specs.Edits.{without_item, IsArray-without_item}
+use Rattle.bson.specs.EditsLaws.{IsArray-without_item}
+use Rattle.bson.specs.Edits.{without_item}
 use Rattle.bson.specs.declared.value.Value.{Value}
 use Rattle.bson.proofs.BuildLaws.{items_removed_levels, items_within, items_removed, item_there, HoldsArray-edit}
 use Rattle.bson.proofs.value.Array.remove_at.Goals as goal
@@ -24,5 +25,5 @@ returns-clause-rest c = items_removed c.self.inside.items.items c.remove-value.n
 
 pub deepest_after-self-inside-requires : goal.deepest_after-self-inside-requires
 deepest_after-self-inside-requires c = λ flat.
-    items_removed_levels c.self.inside.items.items c.remove-value.new.self.items c.deref.result.now c.args.self.now c.args.at c.remove-value.result c.self.inside.levels c.levels.result c.self.view_is
+    items_removed_levels c.self.inside.items.items c.remove-value.new.self.items c.deref.result.now c.args.self.now c.args.at c.remove-value.result c.self.inside.inner_levels c.levels.result c.self.view_is
     (items_within c.self.inside.items.items c.args.self.now c.args.at c.self.view_is c.requires) c.remove-value.ensures.value c.remove-value.ensures.items c.deref.ensures.value c.self.invariant.counted c.levels.ensures.levels flat

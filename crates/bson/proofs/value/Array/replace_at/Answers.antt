@@ -1,7 +1,8 @@
 use Rattle.std.proofs.Common.{◌≡◌, List, Some, set, ap, sym, subst, ◌∙◌, arith}
 use Rattle.bson.specs.View.{tree, items_of}
 use Rattle.bson.specs.Lawful.{levels, IsArray, items_levels}
-use Rattle.bson.specs.Edits.{with_item, IsArray-with_item}
+use Rattle.bson.specs.EditsLaws.{IsArray-with_item}
+use Rattle.bson.specs.Edits.{with_item}
 use Rattle.bson.specs.declared.value.Value.{Value}
 use Rattle.bson.proofs.BuildLaws.{items_set_levels, items_within, items_set, item_there, HoldsArray-edit}
 use Rattle.bson.proofs.value.Array.replace_at.Goals as goal
@@ -29,6 +30,6 @@ returns-clause-old c =
 pub deepest_after-self-inside-requires : goal.deepest_after-self-inside-requires
 deepest_after-self-inside-requires c = λ le.
     let p : Value = c.replace-old.new.dest in
-    items_set_levels c.self.inside.items.items c.deref.result.now c.args.self.now c.args.at c.index_mut.result.now p c.args.value c.self.inside.levels c.levels.result c.levels-new_levels.result c.self.view_is
+    items_set_levels c.self.inside.items.items c.deref.result.now c.args.self.now c.args.at c.index_mut.result.now p c.args.value c.self.inside.inner_levels c.levels.result c.levels-new_levels.result c.self.view_is
     (items_within c.self.inside.items.items c.args.self.now c.args.at c.self.view_is c.requires) c.index_mut.ensures.value c.replace-old.ensures.after c.deref.ensures.value c.self.invariant.counted
     (c.levels.ensures.levels ∙ ap (λ (v : Value). levels (tree v)) c.replace-old.ensures.value) c.levels-new_levels.ensures.levels le

@@ -4,7 +4,8 @@ use Rattle.std.proofs.lemmas.List.{take_all}
 use Rattle.bson.specs.View.{pairs_of}
 use Rattle.bson.specs.Lawful.{Lacks}
 use Rattle.bson.specs.Tree.{Pairs}
-use Rattle.bson.specs.Edits.{place, place-Lacks}
+use Rattle.bson.specs.EditsLaws.{place-Lacks}
+use Rattle.bson.specs.Edits.{place}
 use Rattle.bson.specs.declared.value.Pair.{Pair}
 use Rattle.bson.proofs.BuildLaws.{Lacks-more, place_found}
 use Rattle.bson.proofs.value.Document.position.Goals as goal

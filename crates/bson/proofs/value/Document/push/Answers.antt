@@ -7,7 +7,7 @@ use Rattle.bson.specs.Lawful.{HoldsDocument, IsName}
 use Rattle.bson.specs.declared.value.Pair.{Pair}
 use Rattle.bson.specs.Reading.{stands_in}
 use Rattle.bson.specs.View.{names_of}
-use Rattle.bson.specs.Edits.{pairs_of-push}
+use Rattle.bson.specs.EditsLaws.{pairs_of-push}
 use Rattle.bson.proofs.BuildLaws.{has_zero, is_name, is_new, is_repeated, HoldsDocument-push}
 use Rattle.bson.proofs.value.Document.push.Goals as goal
 
@@ -51,7 +51,7 @@ invariant_of-self-2 c =
     let p : Pair = record { name = c.in_ok-name.name; value = c.args.value } in
     let new : stands_in (names_of c.self.inside.pairs.items) c.in_ok-name.name ≡ false = (λ i. stands_in (names_of (sym c.deref.ensures.value i)) (c.in_ok-name.ensures i)) ∙ sym c.has_name.ensures ∙ c.if-has_name.false in
     let named = is_name c.args.name.now c.as_bytes.result.now c.first_zero.result c.is_some.result c.utf8.name c.as_bytes.ensures.value c.first_zero.ensures c.is_some.ensures c.if-is_some.false in
-    let next = HoldsDocument-push c.self.inside.pairs.items p c.self.inside.levels c.max-self-inside.result c.self.invariant (subst IsName (sym c.in_ok-name.ensures) named) c.levels-levels.ensures.lawful (omega (arith, c.levels-levels.ensures.levels, c.if-levels-ge-MOST_LEVELS.false)) new (omega (arith, c.max-self-inside.ensures, c.levels-levels.ensures.levels)) in
+    let next = HoldsDocument-push c.self.inside.pairs.items p c.self.inside.inner_levels c.max-self-inside.result c.self.invariant (subst IsName (sym c.in_ok-name.ensures) named) c.levels-levels.ensures.lawful (omega (arith, c.levels-levels.ensures.levels, c.if-levels-ge-MOST_LEVELS.false)) new (omega (arith, c.max-self-inside.ensures, c.levels-levels.ensures.levels)) in
     subst (λ (ps : List Pair). HoldsDocument c.max-self-inside.result (pairs_of ps)) (sym c.in_ok-push.ensures.items) next
 
 pub returns-clause-ok : goal.returns-clause-ok

@@ -1,5 +1,5 @@
 use Rattle.std.proofs.Common.{sym, ap, ◌∙◌, option_map}
-use Rattle.bson.specs.Edits.{place-there, place-absent, cut-place, cut-absent}
+use Rattle.bson.specs.EditsLaws.{place-there, place-absent, cut-place, cut-absent}
 use Rattle.bson.proofs.value.Document.remove.Goals as goal
 
 pub remove_at-value-requires : goal.remove_at-value-requires

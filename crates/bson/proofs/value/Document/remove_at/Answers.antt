@@ -1,7 +1,8 @@
 use Rattle.std.proofs.Common.{List, ap, subst, ◌∙◌, arith}
 use Rattle.bson.specs.View.{pairs_of}
 use Rattle.bson.specs.Lawful.{IsDocument, pairs_levels}
-use Rattle.bson.specs.Edits.{without_pair, IsDocument-without_pair}
+use Rattle.bson.specs.EditsLaws.{IsDocument-without_pair}
+use Rattle.bson.specs.Edits.{without_pair}
 use Rattle.bson.specs.declared.value.Pair.{Pair}
 use Rattle.bson.proofs.BuildLaws.{pairs_removed_levels, pairs_within, pairs_removed, pair_there, HoldsDocument-edit}
 use Rattle.bson.proofs.value.Document.remove_at.Goals as goal
@@ -24,5 +25,5 @@ returns-clause-rest c = pairs_removed c.self.inside.pairs.items c.remove-pair.ne
 
 pub deepest_after-self-inside-requires : goal.deepest_after-self-inside-requires
 deepest_after-self-inside-requires c = λ flat.
-    pairs_removed_levels c.self.inside.pairs.items c.remove-pair.new.self.items c.deref.result.now c.args.self.now c.args.at c.remove-pair.result c.self.inside.levels c.levels.result c.self.view_is
+    pairs_removed_levels c.self.inside.pairs.items c.remove-pair.new.self.items c.deref.result.now c.args.self.now c.args.at c.remove-pair.result c.self.inside.inner_levels c.levels.result c.self.view_is
     (pairs_within c.self.inside.pairs.items c.args.self.now c.args.at c.self.view_is c.requires) c.remove-pair.ensures.value c.remove-pair.ensures.items c.deref.ensures.value c.self.invariant.counted c.levels.ensures.levels flat

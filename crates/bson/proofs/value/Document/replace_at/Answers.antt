@@ -1,7 +1,8 @@
 use Rattle.std.proofs.Common.{◌≡◌, List, Some, option_map, set, refl, ap, sym, subst, ◌∙◌, arith}
 use Rattle.bson.specs.View.{tree, pairs_of}
 use Rattle.bson.specs.Lawful.{levels, IsDocument, pairs_levels}
-use Rattle.bson.specs.Edits.{with_value, IsDocument-with_value}
+use Rattle.bson.specs.EditsLaws.{IsDocument-with_value}
+use Rattle.bson.specs.Edits.{with_value}
 use Rattle.bson.specs.declared.value.Pair.{Pair}
 use Rattle.bson.specs.declared.value.Value.{Value}
 use Rattle.bson.proofs.BuildLaws.{pairs_set_levels, pairs_within, pairs_set, pair_there, HoldsDocument-edit}
@@ -31,6 +32,6 @@ returns-clause-old c =
 pub deepest_after-self-inside-requires : goal.deepest_after-self-inside-requires
 deepest_after-self-inside-requires c = λ le.
     let p : Pair = record { name = c.index_mut.result.now.name; value = c.replace-old.new.dest } in
-    pairs_set_levels c.self.inside.pairs.items c.deref.result.now c.args.self.now c.args.at c.index_mut.result.now p c.args.value c.self.inside.levels c.levels.result c.levels-new_levels.result c.self.view_is
+    pairs_set_levels c.self.inside.pairs.items c.deref.result.now c.args.self.now c.args.at c.index_mut.result.now p c.args.value c.self.inside.inner_levels c.levels.result c.levels-new_levels.result c.self.view_is
     (pairs_within c.self.inside.pairs.items c.args.self.now c.args.at c.self.view_is c.requires) c.index_mut.ensures.value refl c.replace-old.ensures.after c.deref.ensures.value c.self.invariant.counted
     (c.levels.ensures.levels ∙ ap (λ (v : Value). levels (tree v)) c.replace-old.ensures.value) c.levels-new_levels.ensures.levels le

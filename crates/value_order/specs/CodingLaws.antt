@@ -7,7 +7,7 @@ use Rattle.std.specs.Cmp.{nat_cmp_is}
 use Rattle.std.proofs.lemmas.Map.Lookups.{exact_unsigned}
 use Rattle.bson.specs.Tree.{Scalar, text, binary, object_id, boolean, date, null, int32, timestamp, int64, min_key, max_key, Tree, scalar, document, array, Pairs, no_pairs, pair, Items, no_items, item}
 use Rattle.value_order.specs.Order.{scalar_class, class, bytes_cmp, scalar_leaf, leaf_cmp, content_cmp, pairs_cmp, items_cmp, compare}
-use Rattle.value_order.specs.Sorting.{SortsAs, SortsAs-cell, SortsAs-is, SortsAs-append, SortsAs-less, SortsAs-greater}
+use Rattle.value_order.specs.SortingLaws.{SortsAs, SortsAs-cell, SortsAs-is, SortsAs-append, SortsAs-less, SortsAs-greater}
 
 -- no scalar is of the class of documents or of arrays
 nested_class : (s : Scalar) → (scalar_class s ≡ 0x50 → ⊥) × (scalar_class s ≡ 0x60 → ⊥)

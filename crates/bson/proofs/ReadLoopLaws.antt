@@ -12,9 +12,10 @@ use Rattle.bson.specs.declared.value.Value.{Value}
 use Rattle.bson.specs.declared.value.Pair.{Pair}
 use Rattle.bson.specs.Tree.{Tree, document, array, append, append_items, Pairs, no_pairs, pair, Items, no_items, item}
 use Rattle.bson.specs.View.{tree, pairs_of, items_of, names_of}
-use Rattle.bson.specs.Edits.{append-none, append-one, append_items-none, append_items-one, pairs_of-push, items_of-push}
+use Rattle.bson.specs.EditsLaws.{append-none, append-one, append_items-none, append_items-one, pairs_of-push, items_of-push}
 use Rattle.bson.specs.Spelling.{element, type_byte, tree_bytes}
-use Rattle.bson.specs.Reading.{◌>>=◌, Read, Fails, element_by, item_by, stands_in, pairs_by, items_by, pairs_in, items_in, value_at, content_at}
+use Rattle.bson.specs.Outcome.{◌>>=◌, Fails}
+use Rattle.bson.specs.Reading.{Read, element_by, item_by, stands_in, pairs_by, items_by, pairs_in, items_in, value_at, content_at}
 use Rattle.bson.proofs.TreeLaws.{IsBytes-rest, element_takes, item_takes, pairs_take, items_take, value_reads}
 use Rattle.bson.specs.Lawful.{IsBytes, levels, pairs_levels, items_levels, IsDocument, IsArray}
 
@@ -181,16 +182,16 @@ unfolding value_at
 value_at_array zero bytes h = absurd (omega arith)
 value_at_array (suc more) bytes h = rw sub-one refl
 
-pub document_fails : (e : BsonFault) (more : ℕ) (bytes : List ℕ) (content : List ℕ × List ℕ) → 0 < more → content_at bytes ≡ Ok content → Fails e (pairs_in (value_at (more - 1)) content.0)
-    → Fails e (value_at more kinds.Document bytes)
+pub document_fails : (e : BsonFault) (more : ℕ) (bytes : List ℕ) (content : List ℕ × List ℕ) → 0 < more → content_at bytes ≡ Ok content → Fails faults.Memory e (pairs_in (value_at (more - 1)) content.0)
+    → Fails faults.Memory e (value_at more kinds.Document bytes)
 document_fails e more bytes content h c f not_memory = value_at_document more bytes h ∙ rw (c, f not_memory) refl
 
 pub document_found : (more : ℕ) (bytes : List ℕ) (content : List ℕ × List ℕ) (ps : Pairs) → 0 < more → content_at bytes ≡ Ok content → pairs_in (value_at (more - 1)) content.0 ≡ Ok ps
     → value_at more kinds.Document bytes ≡ Ok (document ps, content.1)
 document_found more bytes content ps h c f = value_at_document more bytes h ∙ rw (c, f) refl
 
-pub array_fails : (e : BsonFault) (more : ℕ) (bytes : List ℕ) (content : List ℕ × List ℕ) → 0 < more → content_at bytes ≡ Ok content → Fails e (items_in (value_at (more - 1)) content.0)
-    → Fails e (value_at more kinds.Array bytes)
+pub array_fails : (e : BsonFault) (more : ℕ) (bytes : List ℕ) (content : List ℕ × List ℕ) → 0 < more → content_at bytes ≡ Ok content → Fails faults.Memory e (items_in (value_at (more - 1)) content.0)
+    → Fails faults.Memory e (value_at more kinds.Array bytes)
 array_fails e more bytes content h c f not_memory = value_at_array more bytes h ∙ rw (c, f not_memory) refl
 
 pub array_found : (more : ℕ) (bytes : List ℕ) (content : List ℕ × List ℕ) (ts : Items) → 0 < more → content_at bytes ≡ Ok content → items_in (value_at (more - 1)) content.0 ≡ Ok ts
@@ -213,7 +214,7 @@ module _ (more : ℕ) (ps : List Pair) (rest : List ℕ) (type : ℕ) (bytes : L
       let lt = element_shorter more (stands_in (names_of ps)) faults.Repeated type bytes p.name (tree p.value) after (IsBytes-rest type bytes at_front.fits) e in
       omega (arith, ap length front, lt)
 
-  pub pairs_fail : (fault : BsonFault) → Fails fault (element_by (value_at more) (stands_in (names_of ps)) faults.Repeated type bytes) → Fails fault total
+  pub pairs_fail : (fault : BsonFault) → Fails faults.Memory fault (element_by (value_at more) (stands_in (names_of ps)) faults.Repeated type bytes) → Fails faults.Memory fault total
   pairs_fail fault f not_memory = pairs_stop fault more (pairs_of ps) (names_of ps) type bytes total at_front (f not_memory)
 
 pub pairs_over : (more : ℕ) (ps : List Pair) (rest : List ℕ) (total : Result Pairs BsonFault) → PairsSoFar more (pairs_of ps) (names_of ps) rest total → length rest ≡ 0 → total ≡ Ok (pairs_of ps)
@@ -233,7 +234,7 @@ module _ (more : ℕ) (vs : List Value) (rest : List ℕ) (type : ℕ) (bytes : 
       let lt = item_shorter more (length vs) type bytes (tree v) after (IsBytes-rest type bytes items_front.fits) e in
       omega (arith, ap length front, lt)
 
-  pub items_fail : (fault : BsonFault) → Fails fault (item_by (value_at more) (length vs) type bytes) → Fails fault total
+  pub items_fail : (fault : BsonFault) → Fails faults.Memory fault (item_by (value_at more) (length vs) type bytes) → Fails faults.Memory fault total
   items_fail fault f not_memory = items_stop fault more (items_of vs) (length vs) type bytes total items_front (f not_memory)
 
 pub items_over : (more : ℕ) (vs : List Value) (rest : List ℕ) (total : Result Items BsonFault) → ItemsSoFar more (items_of vs) (length vs) rest total → length rest ≡ 0 → total ≡ Ok (items_of vs)

@@ -5,14 +5,14 @@ use Rattle.bson.specs.View.{tree, pairs_of, items_of}
 use Rattle.bson.specs.declared.value.Value.{Value}
 use Rattle.bson.specs.declared.value.Pair.{Pair}
 use Rattle.value_order.specs.Order.{class}
-use Rattle.value_order.specs.KeyText.{escaped, tree_text, pairs_text, items_text}
+use Rattle.value_order.specs.KeyText.{escaped_text, tree_text, pairs_text, items_text}
 use Rattle.value_order.specs.Writing.{IsPut}
 use Rattle.value_order.specs.declared.texts.KeyFault.{KeyFault}
 use Rattle.value_order.specs.declared.texts.KeyFault.TheVariants as faults
 
 -- a piece that passes the limit is part of a text that does
 pub piece_refused : (limit : ℕ) (piece whole old mid new last : List ℕ) (e : KeyFault) → length mid + length piece ≤ length old + length whole → IsPut limit piece mid new (Err e) → IsPut limit whole old last (Err e)
-piece_refused limit piece whole old mid new last faults.TooLong within h = omega (arith, h)
+piece_refused limit piece whole old mid new last faults.TooLong within h = (omega (arith, h.0), h.1)
 piece_refused limit piece whole old mid new last faults.Memory within h = tt
 
 -- the last piece
@@ -25,13 +25,13 @@ last_put limit piece whole old mid new (Err e) same h =
 pub left_over : (mid rest old whole : List ℕ) → mid ++ rest ≡ old ++ whole → length mid + length rest ≡ length old + length whole
 left_over mid rest old whole same = sym (length-append mid rest) ∙ ap length same ∙ length-append old whole
 
-pub zero_part : (bytes : List ℕ) (i : ℕ) → i < length bytes → get_or bytes i 0 ≡ 0 → 2 ≤ length (escaped (drop i bytes))
+pub zero_part : (bytes : List ℕ) (i : ℕ) → i < length bytes → get_or bytes i 0 ≡ 0 → 2 ≤ length (escaped_text (drop i bytes))
 zero_part [] i lt is = absurd (omega arith)
 zero_part (zero ∷ bytes) zero lt is = omega arith
 zero_part (suc b ∷ bytes) zero lt is = absurd (omega (arith, is))
 zero_part (b ∷ bytes) (suc i) lt is = zero_part bytes i (omega arith) is
 
-pub byte_part : (bytes : List ℕ) (i : ℕ) → i < length bytes → 1 ≤ length (escaped (drop i bytes))
+pub byte_part : (bytes : List ℕ) (i : ℕ) → i < length bytes → 1 ≤ length (escaped_text (drop i bytes))
 byte_part [] i lt = absurd (omega arith)
 byte_part (zero ∷ bytes) zero lt = omega arith
 byte_part (suc b ∷ bytes) zero lt = omega arith

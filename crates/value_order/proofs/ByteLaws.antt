@@ -9,8 +9,8 @@ use lib.Utf8.{encode, encodes, next, scalar as is_scalar, scalars, scalar_cases}
 use Rattle.bson.specs.Tree.{Scalar, text, binary, object_id, boolean, date, null, int32, timestamp, int64, min_key, max_key, Tree, scalar, document, array, Pairs, no_pairs, pair, Items, no_items, item}
 use Rattle.bson.specs.Lawful.{IsBytes, IsScalar, IsTree, IsPairs, IsItems}
 use Rattle.value_order.specs.Order.{class}
-use Rattle.value_order.specs.KeyText.{escaped, raised, scalar_text, content_text, pairs_text, items_text, tree_text}
-use Rattle.value_order.proofs.Inversion.{AreBytes}
+use Rattle.value_order.specs.KeyText.{escaped_text, sortable_bits, scalar_text, content_text, pairs_text, items_text, tree_text}
+use Rattle.value_order.proofs.InversionLaws.{AreBytes}
 
 pub AreBytes-append : (a b : List ℕ) → AreBytes a → AreBytes b → AreBytes (a ++ b)
 AreBytes-append [] b g h = h
@@ -64,7 +64,7 @@ pub listed_bytes : (bytes : List ℕ) → IsBytes bytes → AreBytes bytes
 listed_bytes [] h = tt
 listed_bytes (b ∷ bytes) h = (h 0, listed_bytes bytes (λ i. h (suc i)))
 
-escaped_bytes : (s : List ℕ) → AreBytes s → AreBytes (escaped s)
+escaped_bytes : (s : List ℕ) → AreBytes s → AreBytes (escaped_text s)
 escaped_bytes [] h = (omega arith, (omega arith, tt))
 escaped_bytes (zero ∷ s) h = (omega arith, (omega arith, escaped_bytes s h.1))
 escaped_bytes (suc b ∷ s) h = (h.0, escaped_bytes s h.1)
@@ -75,11 +75,11 @@ scalar_bytes (binary k b) h = AreBytes-append (bytes_high_first 4 (length b)) (k
 scalar_bytes (object_id b) h = listed_bytes b h.1
 scalar_bytes (boolean false) h = (omega arith, tt)
 scalar_bytes (boolean true) h = (omega arith, tt)
-scalar_bytes (date z) h = high_bytes 8 (raised z)
+scalar_bytes (date z) h = high_bytes 8 (sortable_bits z)
 scalar_bytes null h = tt
-scalar_bytes (int32 z) h = high_bytes 8 (raised z)
+scalar_bytes (int32 z) h = high_bytes 8 (sortable_bits z)
 scalar_bytes (timestamp n) h = high_bytes 8 n
-scalar_bytes (int64 z) h = high_bytes 8 (raised z)
+scalar_bytes (int64 z) h = high_bytes 8 (sortable_bits z)
 scalar_bytes min_key h = tt
 scalar_bytes max_key h = tt
 

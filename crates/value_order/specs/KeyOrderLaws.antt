@@ -6,7 +6,7 @@ use Rattle.std.specs.Ordering.{ordering_then, nat_cmp, on, then_cmp}
 use Rattle.std.specs.Cmp.{IsTotalOrder, on_total, then_total, nat_cmp_total}
 use Rattle.bson.specs.Tree.{Tree, scalar, text, binary, object_id, boolean, date, null, int32, timestamp, int64, min_key, max_key, document, array}
 use Rattle.value_order.specs.Order.{class, content_cmp, compare, Key, empty_array, value, key_class, key_cmp}
-use Rattle.value_order.specs.Total.{compare_total}
+use Rattle.value_order.specs.TotalLaws.{compare_total}
 use Rattle.value_order.specs.View.{key_of}
 use Rattle.value_order.specs.declared.texts.KeyPart.{KeyPart}
 use Rattle.value_order.specs.declared.texts.KeyPart.TheVariants as keys

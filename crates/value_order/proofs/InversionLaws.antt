@@ -7,8 +7,8 @@ use Rattle.std.specs.Cmp.{nat_cmp_is, ranks}
 use Rattle.std.specs.Cmp.Lexicographic.{slice_cmp}
 use Rattle.std.proofs.lemmas.Cmp.{nat_list_cmp_total}
 use Rattle.std.proofs.lemmas.Map.Lookups.{exact_bytes}
-use Rattle.value_order.specs.KeyText.{inverted}
-use Rattle.value_order.specs.Sorting.{SortsAs, SortsAs-none, SortsAs-cell, SortsAs-is, SortsAs-append, SortsAs-greater, order_of}
+use Rattle.value_order.specs.KeyText.{complement}
+use Rattle.value_order.specs.SortingLaws.{SortsAs, SortsAs-none, SortsAs-cell, SortsAs-is, SortsAs-append, SortsAs-greater, order_of}
 
 abbrev pub AreBytes : List ℕ → Type 0
 AreBytes [] = Unit {0}
@@ -47,7 +47,7 @@ lower m n fits e =
 tail_sorts : (m n : ℕ) (a b : List ℕ) (c : Ordering) → nat_cmp m n ≡ Equal → SortsAs nat_cmp (m ∷ a) (n ∷ b) c → SortsAs nat_cmp a b c
 tail_sorts m n a b c e s = record { decides = λ x y. ap (λ (o : Ordering). ordering_then o (slice_cmp nat_cmp (a ++ x) (b ++ y))) (sym e) ∙ s.decides x y }
 
-less_inverted : (a b : List ℕ) → AreBytes a → AreBytes b → SortsAs nat_cmp a b Less → SortsAs nat_cmp (inverted a) (inverted b) Greater
+less_inverted : (a b : List ℕ) → AreBytes a → AreBytes b → SortsAs nat_cmp a b Less → SortsAs nat_cmp (complement a) (complement b) Greater
 less_inverted [] b g h s = absurd (let e : Greater ≡ Less = sym (longer b) ∙ s.decides (b ++ 0 ∷ []) [] in cc)
 less_inverted (m ∷ a) [] g h s = absurd (let e : Greater ≡ Less = s.decides [] [] in cc)
 less_inverted (m ∷ a) (n ∷ b) g h s = by (less_inverted a b g.1 h.1) (nat_cmp m n) refl
@@ -55,16 +55,16 @@ less_inverted (m ∷ a) (n ∷ b) g h s = by (less_inverted a b g.1 h.1) (nat_cm
     first : (o : Ordering) → nat_cmp m n ≡ o → ordering_then o (slice_cmp nat_cmp (a ++ []) (b ++ [])) ≡ Less
     first o e = ap (λ (q : Ordering). ordering_then q (slice_cmp nat_cmp (a ++ []) (b ++ []))) (sym e) ∙ s.decides [] []
 
-    by : (SortsAs nat_cmp a b Less → SortsAs nat_cmp (inverted a) (inverted b) Greater) → (o : Ordering) → nat_cmp m n ≡ o → SortsAs nat_cmp (inverted (m ∷ a)) (inverted (n ∷ b)) Greater
-    by more Less e = SortsAs-greater nat_cmp (255 - m) (255 - n) (inverted a) (inverted b) (lower m n h.0 e)
+    by : (SortsAs nat_cmp a b Less → SortsAs nat_cmp (complement a) (complement b) Greater) → (o : Ordering) → nat_cmp m n ≡ o → SortsAs nat_cmp (complement (m ∷ a)) (complement (n ∷ b)) Greater
+    by more Less e = SortsAs-greater nat_cmp (255 - m) (255 - n) (complement a) (complement b) (lower m n h.0 e)
     by more Equal e =
-        SortsAs-append nat_cmp ((255 - m) ∷ []) ((255 - n) ∷ []) (inverted a) (inverted b) Equal Greater
+        SortsAs-append nat_cmp ((255 - m) ∷ []) ((255 - n) ∷ []) (complement a) (complement b) Equal Greater
         (SortsAs-is nat_cmp _ _ _ _ (sym (nat_cmp_is (255 - m) (255 - n) Equal (ap (λ (k : ℕ). 255 - k) (subst (λ (o : Ordering). MatchOrdering o (m < n) (m ≡ n) (n < m)) e (ranks m n))))) (SortsAs-cell nat_cmp (255 - m) (255 - n)))
         (λ _. more (tail_sorts m n a b Less e s))
     by more Greater e = absurd (let f : Greater ≡ Less = first Greater e in cc)
 
-pub inverted_sorts : (a b : List ℕ) (c : Ordering) → AreBytes a → AreBytes b → SortsAs nat_cmp a b c → SortsAs nat_cmp (inverted a) (inverted b) (ordering_reverse c)
+pub inverted_sorts : (a b : List ℕ) (c : Ordering) → AreBytes a → AreBytes b → SortsAs nat_cmp a b c → SortsAs nat_cmp (complement a) (complement b) (ordering_reverse c)
 inverted_sorts a b Less g h s = less_inverted a b g h s
 inverted_sorts a b Equal g h s =
-    subst (λ (l : List ℕ). SortsAs nat_cmp (inverted a) (inverted l) Equal) (exact_bytes a b (order_of nat_cmp a b Equal s)) (SortsAs-same (inverted a))
+    subst (λ (l : List ℕ). SortsAs nat_cmp (complement a) (complement l) Equal) (exact_bytes a b (order_of nat_cmp a b Equal s)) (SortsAs-same (complement a))
 inverted_sorts a b Greater g h s = SortsAs-turned _ _ _ (less_inverted b a h g (SortsAs-turned _ _ _ s))

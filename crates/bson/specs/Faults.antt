@@ -1,4 +1,4 @@
--- The word of each fault.
+-- The word and the number of each fault.
 use Rattle.std.specs.Prelude.{ℕ, List, codes}
 use Rattle.bson.specs.declared.fault.BsonFault.{BsonFault}
 use Rattle.bson.specs.declared.fault.BsonFault.TheVariants as faults
@@ -30,3 +30,27 @@ build_fault_name builds.Memory = codes "Memory"
 abbrev pub encode_fault_name : EncodeFault → List ℕ
 encode_fault_name encodes.TooLarge = codes "TooLarge"
 encode_fault_name encodes.Memory = codes "Memory"
+
+abbrev pub bson_fault_number : BsonFault → ℕ
+bson_fault_number faults.Truncated = 1
+bson_fault_number faults.Length = 2
+bson_fault_number faults.TypeByte = 3
+bson_fault_number faults.Text = 4
+bson_fault_number faults.Name = 5
+bson_fault_number faults.Repeated = 6
+bson_fault_number faults.ArrayName = 7
+bson_fault_number faults.Bool = 8
+bson_fault_number faults.Subtype = 9
+bson_fault_number faults.Deep = 10
+bson_fault_number faults.TooLarge = 11
+bson_fault_number faults.Memory = 12
+
+abbrev pub build_fault_number : BuildFault → ℕ
+build_fault_number builds.Name = 1
+build_fault_number builds.Repeated = 2
+build_fault_number builds.Deep = 3
+build_fault_number builds.Memory = 4
+
+abbrev pub encode_fault_number : EncodeFault → ℕ
+encode_fault_number encodes.TooLarge = 1
+encode_fault_number encodes.Memory = 2

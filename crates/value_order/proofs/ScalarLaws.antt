@@ -12,10 +12,10 @@ use Rattle.std.proofs.lemmas.Map.Lookups.{exact_unsigned}
 use Rattle.bson.specs.Tree.{Scalar, text, binary, object_id, boolean, date, null, int32, timestamp, int64, min_key, max_key}
 use Rattle.bson.specs.Lawful.{IsScalar}
 use Rattle.value_order.specs.Order.{scalar_class, alike, scalar_leaf, leaf_cmp}
-use Rattle.value_order.specs.KeyText.{escaped, raised, scalar_text}
-use Rattle.value_order.specs.Sorting.{SortsAs, SortsAs-none, SortsAs-cell, SortsAs-is, SortsAs-append, SortsAs-even, then-Equal}
-use Rattle.value_order.proofs.Numbers.{SortsAs-bytes}
-use Rattle.value_order.proofs.Escaping.{escaped_sorts}
+use Rattle.value_order.specs.KeyText.{escaped_text, sortable_bits, scalar_text}
+use Rattle.value_order.specs.SortingLaws.{SortsAs, SortsAs-none, SortsAs-cell, SortsAs-is, SortsAs-append, SortsAs-even, then-Equal}
+use Rattle.value_order.proofs.NumberLaws.{SortsAs-bytes}
+use Rattle.value_order.proofs.EscapingLaws.{escaped_sorts}
 
 -- a binary's length fits its four bytes
 abbrev pub IsSized : Scalar → Type 0
@@ -26,37 +26,37 @@ IsSized other = Unit {0}
 bytes_sort : (k m n : ℕ) → m < 256 ^ k → n < 256 ^ k → SortsAs nat_cmp (bytes_high_first k m) (bytes_high_first k n) (nat_cmp m n)
 bytes_sort k m n low other = SortsAs-is nat_cmp _ _ _ _ (λ i. nat_cmp (mod-eq_of_lt low i) (mod-eq_of_lt other i)) (SortsAs-bytes m n k)
 
-raised_fits : (z : ℤ) → FitsSigned w64 z → raised z < 2 ^ 64
+raised_fits : (z : ℤ) → FitsSigned w64 z → sortable_bits z < 2 ^ 64
 raised_fits (pos n) fits = omega (arith, ints, fits)
 raised_fits (negsuc n) fits = omega (arith, ints, fits)
 
-raised_less : (x y : ℤ) → FitsSigned w64 x → FitsSigned w64 y → x <ℤ y → raised x < raised y
+raised_less : (x y : ℤ) → FitsSigned w64 x → FitsSigned w64 y → x <ℤ y → sortable_bits x < sortable_bits y
 raised_less (pos m) (pos n) f g h = omega (arith, ints, f, g, h)
 raised_less (pos m) (negsuc n) f g h = omega (arith, ints, f, g, h)
 raised_less (negsuc m) (pos n) f g h = omega (arith, ints, f, g, h)
 raised_less (negsuc m) (negsuc n) f g h = omega (arith, ints, f, g, h)
 
-raised_cmp : (x y : ℤ) → FitsSigned w64 x → FitsSigned w64 y → nat_cmp (raised x) (raised y) ≡ int_cmp x y
-raised_cmp x y f g = sym (nat_cmp_is (raised x) (raised y) (int_cmp x y) (by (int_cmp x y) (int_ranks x y)))
+raised_cmp : (x y : ℤ) → FitsSigned w64 x → FitsSigned w64 y → nat_cmp (sortable_bits x) (sortable_bits y) ≡ int_cmp x y
+raised_cmp x y f g = sym (nat_cmp_is (sortable_bits x) (sortable_bits y) (int_cmp x y) (by (int_cmp x y) (int_ranks x y)))
   where
-    by : (o : Ordering) → MatchOrdering o (x <ℤ y) (x ≡ y) (y <ℤ x) → MatchOrdering o (raised x < raised y) (raised x ≡ raised y) (raised y < raised x)
+    by : (o : Ordering) → MatchOrdering o (x <ℤ y) (x ≡ y) (y <ℤ x) → MatchOrdering o (sortable_bits x < sortable_bits y) (sortable_bits x ≡ sortable_bits y) (sortable_bits y < sortable_bits x)
     by Less h = raised_less x y f g h
-    by Equal h = ap raised h
+    by Equal h = ap sortable_bits h
     by Greater h = raised_less y x g f h
 
 -- signed numbers of 64 bits
-signed_sorts : (x y : ℤ) → FitsSigned w64 x → FitsSigned w64 y → SortsAs nat_cmp (to_be_bytes w64 (raised x)) (to_be_bytes w64 (raised y)) (ordering_then (int_cmp x y) Equal)
+signed_sorts : (x y : ℤ) → FitsSigned w64 x → FitsSigned w64 y → SortsAs nat_cmp (to_be_bytes w64 (sortable_bits x)) (to_be_bytes w64 (sortable_bits y)) (ordering_then (int_cmp x y) Equal)
 signed_sorts x y f g =
-    SortsAs-is nat_cmp _ _ _ _ (raised_cmp x y f g ∙ sym (then-Equal (int_cmp x y))) (bytes_sort 8 (raised x) (raised y) (raised_fits x f) (raised_fits y g))
+    SortsAs-is nat_cmp _ _ _ _ (raised_cmp x y f g ∙ sym (then-Equal (int_cmp x y))) (bytes_sort 8 (sortable_bits x) (sortable_bits y) (raised_fits x f) (raised_fits y g))
 
 wider : (z : ℤ) → FitsSigned w32 z → FitsSigned w64 z
 wider z fits = omega (arith, ints, fits)
 
-text_sorts : (s : List ℕ) (r : Scalar) → 0x40 ≡ scalar_class r → SortsAs nat_cmp (escaped s) (scalar_text r) (leaf_cmp (scalar_leaf (text s)) (scalar_leaf r))
+text_sorts : (s : List ℕ) (r : Scalar) → 0x40 ≡ scalar_class r → SortsAs nat_cmp (escaped_text s) (scalar_text r) (leaf_cmp (scalar_leaf (text s)) (scalar_leaf r))
 text_sorts s (text r) e = escaped_sorts s r
 text_sorts s other e = absurd (omega (arith, e))
 
-number_sorts : (x : ℤ) (r : Scalar) → FitsSigned w64 x → IsScalar r → 0x30 ≡ scalar_class r → SortsAs nat_cmp (to_be_bytes w64 (raised x)) (scalar_text r) (leaf_cmp (scalar_leaf (int64 x)) (scalar_leaf r))
+number_sorts : (x : ℤ) (r : Scalar) → FitsSigned w64 x → IsScalar r → 0x30 ≡ scalar_class r → SortsAs nat_cmp (to_be_bytes w64 (sortable_bits x)) (scalar_text r) (leaf_cmp (scalar_leaf (int64 x)) (scalar_leaf r))
 number_sorts x (int32 y) f g e = signed_sorts x y f (wider y g)
 number_sorts x (int64 y) f g e = signed_sorts x y f g
 number_sorts x other f g e = absurd (omega (arith, e))
@@ -68,7 +68,7 @@ boolean_sorts true (boolean false) e = SortsAs-cell nat_cmp 1 0
 boolean_sorts true (boolean true) e = SortsAs-cell nat_cmp 1 1
 boolean_sorts b other e = absurd (omega (arith, e))
 
-date_sorts : (x : ℤ) (r : Scalar) → FitsSigned w64 x → IsScalar r → 0xa0 ≡ scalar_class r → SortsAs nat_cmp (to_be_bytes w64 (raised x)) (scalar_text r) (leaf_cmp (scalar_leaf (date x)) (scalar_leaf r))
+date_sorts : (x : ℤ) (r : Scalar) → FitsSigned w64 x → IsScalar r → 0xa0 ≡ scalar_class r → SortsAs nat_cmp (to_be_bytes w64 (sortable_bits x)) (scalar_text r) (leaf_cmp (scalar_leaf (date x)) (scalar_leaf r))
 date_sorts x (date y) f g e = signed_sorts x y f g
 date_sorts x other f g e = absurd (omega (arith, e))
 

@@ -9,8 +9,8 @@ use Rattle.std.specs.Cmp.{int_cmp_is, int_cmp_total, ranks, IsTotalOrder, on_tot
 use Rattle.std.specs.Cmp.Lexicographic.{slice_cmp, lists_total}
 use Rattle.bson.specs.Tree.{Scalar, Tree, scalar, document, array, Pairs, no_pairs, pair, Items, no_items, item}
 use Rattle.value_order.specs.Order.{class, bytes_cmp, Leaf, scalar_leaf, leaf_cmp, compare}
-use Rattle.value_order.specs.Sorting.{SortsAs, SortsAs-cell, SortsAs-is, SortsAs-append, SortsAs-less, SortsAs-greater, order_of}
-use Rattle.value_order.specs.Coding.{body, GoodTree, GoodPairs, GoodItems, tree_sorts, class_above}
+use Rattle.value_order.specs.SortingLaws.{SortsAs, SortsAs-cell, SortsAs-is, SortsAs-append, SortsAs-less, SortsAs-greater, order_of}
+use Rattle.value_order.specs.CodingLaws.{body, GoodTree, GoodPairs, GoodItems, tree_sorts, class_above}
 
 pos_cmp : (m n : ℕ) → int_cmp (pos m) (pos n) ≡ nat_cmp m n
 pos_cmp m n = sym (int_cmp_is (pos m) (pos n) (nat_cmp m n) (by (nat_cmp m n) (ranks m n)))

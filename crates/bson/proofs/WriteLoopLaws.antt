@@ -11,10 +11,12 @@ use Rattle.bson.specs.declared.value.Value.{Value}
 use Rattle.bson.specs.declared.value.Pair.{Pair}
 use Rattle.bson.specs.Tree.{Pairs, no_pairs, pair, Items, no_items}
 use Rattle.bson.specs.View.{tree, pairs_of, items_of}
-use Rattle.bson.specs.Spelling.{type_byte, element, tree_bytes, pairs_bytes, items_bytes, framed}
+use Rattle.bson.specs.Spelling.{type_byte, element, tree_bytes, pairs_bytes, items_bytes, frame_of}
 use Rattle.bson.specs.Writing.{Puts, Fills}
-use Rattle.bson.specs.Edits.{items_len, pairs_of-push, items_of-push, items_len-items_of}
-use Rattle.bson.specs.Sizing.{capped, element-length, pairs_bytes-append, pairs_bytes-one, items_bytes-append}
+use Rattle.bson.specs.EditsLaws.{pairs_of-push, items_of-push, items_len-items_of}
+use Rattle.bson.specs.Edits.{items_len}
+use Rattle.bson.specs.SizingLaws.{element-length, pairs_bytes-append, pairs_bytes-one, items_bytes-append}
+use Rattle.bson.specs.Sizing.{capped_len}
 
 abbrev pub zeros : List ℕ
 zeros = 0 ∷ 0 ∷ 0 ∷ 0 ∷ []
@@ -75,7 +77,7 @@ frame_length : (old content now : List ℕ) (start : ℕ) → start ≡ length o
 frame_length old content now start s e = omega (arith, ap length e, s, length-append ((old ++ zeros) ++ content) (0 ∷ []), length-append (old ++ zeros) content, length-append old zeros)
 
 -- the length that was filled in makes the frame
-pub fills_frame : (old content now new : List ℕ) (start : ℕ) (r : Result (Unit {0}) EncodeFault) → start ≡ length old → now ≡ ((old ++ zeros) ++ content) ++ 0 ∷ [] → Fills start now new r → Puts (framed content) old new r
+pub fills_frame : (old content now new : List ℕ) (start : ℕ) (r : Result (Unit {0}) EncodeFault) → start ≡ length old → now ≡ ((old ++ zeros) ++ content) ++ 0 ∷ [] → Fills start now new r → Puts (frame_of content) old new r
 fills_frame old content now new start (Err Memory) s e f = tt
 fills_frame old content now new start (Err TooLarge) s e f = let len = frame_length old content now start s e in omega (arith, f, len, length-append content (0 ∷ []))
 fills_frame old content now new start (Ok u) s e f =
@@ -123,19 +125,19 @@ pair_put ps i p base out1 out2 out3 name type lt is e1 et en e2 e3 =
     one_more base (pairs_bytes (pairs_of (take i ps))) (pairs_bytes (pairs_of (take (i + 1) ps))) out1 out2 out3 name (tree_bytes (tree p.value)) type (type_byte (tree p.value)) p.name e1 et en e2 e3 (pairs_grow ps i p lt is)
 
 -- what is too large makes the whole too large
-too_large : (part content a b old new : List ℕ) (fault : EncodeFault) → length part ≤ length content → Puts part a b (Err fault) → Puts (framed content) old new (Err fault)
+too_large : (part content a b old new : List ℕ) (fault : EncodeFault) → length part ≤ length content → Puts part a b (Err fault) → Puts (frame_of content) old new (Err fault)
 too_large part content a b old new TooLarge le h = omega (arith, h, length-append content (0 ∷ []))
 too_large part content a b old new Memory le h = tt
 
 pub item_too_large : (vs : List Value) (ts : Items) (i : ℕ) (v : Value) (a b old new : List ℕ) (fault : EncodeFault) → items_of vs ≡ ts → i < length vs → v ≡ get_or vs i v
-    → Puts (tree_bytes (tree v)) a b (Err fault) → Puts (framed (items_bytes 0 ts)) old new (Err fault)
+    → Puts (tree_bytes (tree v)) a b (Err fault) → Puts (frame_of (items_bytes 0 ts)) old new (Err fault)
 item_too_large vs ts i v a b old new fault same lt is h =
     let le : length (tree_bytes (tree v)) ≤ length (items_bytes 0 ts) =
     subst (λ (us : Items). length (tree_bytes (tree v)) ≤ length (items_bytes 0 us)) same (subst (λ (w : Value). length (tree_bytes (tree w)) ≤ length (items_bytes 0 (items_of vs))) (sym is) (items_part 0 vs i v lt)) in
     too_large (tree_bytes (tree v)) (items_bytes 0 ts) a b old new fault le h
 
 pub pair_too_large : (ps : List Pair) (qs : Pairs) (i : ℕ) (p : Pair) (a b old new : List ℕ) (fault : EncodeFault) → pairs_of ps ≡ qs → i < length ps → p ≡ get_or ps i p
-    → Puts (tree_bytes (tree p.value)) a b (Err fault) → Puts (framed (pairs_bytes qs)) old new (Err fault)
+    → Puts (tree_bytes (tree p.value)) a b (Err fault) → Puts (frame_of (pairs_bytes qs)) old new (Err fault)
 pair_too_large ps qs i p a b old new fault same lt is h =
     let le : length (tree_bytes (tree p.value)) ≤ length (pairs_bytes qs) =
     subst (λ (us : Pairs). length (tree_bytes (tree p.value)) ≤ length (pairs_bytes us)) same (subst (λ (w : Pair). length (tree_bytes (tree w.value)) ≤ length (pairs_bytes (pairs_of ps))) (sym is) (pairs_part ps i p lt)) in
@@ -152,7 +154,7 @@ pub has_room : (base content out pushed : List ℕ) (start : ℕ) → out ≡ (b
 has_room base content out pushed start e1 e2 s = omega (arith, ap length e1, ap length e2, s, length-append (base ++ zeros) content, length-append base zeros, length-append out (0 ∷ []))
 
 pub frame_done : (old content out pushed new : List ℕ) (start : ℕ) (so_far : List ℕ) (r : Result (Unit {0}) EncodeFault) → out ≡ (old ++ zeros) ++ so_far → so_far ≡ content → pushed ≡ out ++ 0 ∷ [] → start ≡ length old
-    → Fills start pushed new r → Puts (framed content) old new r
+    → Fills start pushed new r → Puts (frame_of content) old new r
 frame_done old content out pushed new start so_far r e1 same e2 s f =
     fills_frame old content pushed new start r s (e2 ∙ ap (λ (x : List ℕ). x ++ 0 ∷ []) (e1 ∙ ap (λ (x : List ℕ). (old ++ zeros) ++ x) same)) f
 
@@ -169,6 +171,6 @@ items_longer vs i v lt is =
     omega (arith, ap length (items_grow vs i v lt is), length-append (items_bytes 0 (items_of (take i vs))) (element (type_byte (tree v)) (decimal i) (tree_bytes (tree v))), element-length (type_byte (tree v)) (decimal i) (tree_bytes (tree v)))
 
 -- what is added up in three steps, each stopping at the greatest number
-pub capped_sum : (old name value new total grown a b c d e : ℕ) → old ≡ capped (total + 5) → a ≡ capped (old + 2) → d ≡ name → b ≡ capped (a + d) → e ≡ capped value → c ≡ capped (b + e)
-    → grown ≡ total + name + value + 2 → new ≡ c → new ≡ capped (grown + 5)
+pub capped_sum : (old name value new total grown a b c d e : ℕ) → old ≡ capped_len (total + 5) → a ≡ capped_len (old + 2) → d ≡ name → b ≡ capped_len (a + d) → e ≡ capped_len value → c ≡ capped_len (b + e)
+    → grown ≡ total + name + value + 2 → new ≡ c → new ≡ capped_len (grown + 5)
 capped_sum old name value new total grown a b c d e e1 e2 e3 e4 e5 e6 e7 e8 = omega arith

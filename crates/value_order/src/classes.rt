@@ -26,8 +26,9 @@ impl Leaf<'_> {
     };
 }
 
-/// Classes rise as these bytes do.
-pub(crate) fn class(value: &Value) -> u8
+/// The class of a value, by which values are compared first. Classes ascend as these bytes do; int32 and int64 are
+/// of one class. The byte is also the first of the value's key text.
+pub fn class(value: &Value) -> u8
     ensures { result ≡ class (tree value.now) }
 {
     match value {
