@@ -4,7 +4,7 @@ ghost use Rattle.std.specs.Prelude.{◌≡◌, ◌<◌, IfOk, OnOk, length, map,
 ghost use Rattle.bson.specs.Tree.{no_pairs};
 ghost use Rattle.path.specs.View.{reached};
 ghost use Rattle.value_order.specs.View.{key_of};
-ghost use Rattle.filter.specs.Sort.{precedes, directed, keys_of, array_keys, sort_key, sorted, order};
+ghost use Rattle.filter.specs.Sort.{precedes, in_direction, keys_of, array_keys, sort_key, sorted, order};
 ghost use Rattle.filter.specs.SortKeys.{field_of, earlier, first_of, document_keys, first_or_null, keys_cmp, keys_held, ranked_cmp, numbered, with_keys, ranked_of, arranged};
 
 use crate::sort::{Field, Sort};
@@ -32,8 +32,8 @@ fn precedes(descending: bool, order: Ordering) -> bool
     }
 }
 
-fn directed(descending: bool, order: Ordering) -> Ordering
-    ensures { result ≡ directed descending order }
+fn in_direction(descending: bool, order: Ordering) -> Ordering
+    ensures { result ≡ in_direction descending order }
 {
     if descending { order.reverse() } else { order }
 }
@@ -122,7 +122,7 @@ fn compare_lists(fields: &[Field], a: &[KeyPart<'_>], b: &[KeyPart<'_>]) -> Orde
 {
     'fields: for (i, field) in fields.iter().enumerate() {
         let order = compare_keys(&key_at(a, i), &key_at(b, i));
-        match directed(field.descending, order) {
+        match in_direction(field.descending, order) {
             Ordering::Equal => {}
             order => return order,
         }

@@ -3,6 +3,7 @@ pub mod FaultNames
 pub mod Parts
 pub mod View
 pub mod Reach
+pub mod Place
 pub mod Edits
 pub mod Laws
 pub mod Rows

@@ -97,14 +97,14 @@ fn gather_items<'a>(
             gather_field(document, part, rest, is_digits, out)?;
         }
     }
-    match numbered(items, part) {
+    match item_of_part(items, part) {
         Some(item) => gather(item, rest, out),
         None => Ok(()),
     }
 }
 
 /// The item that a part numbers, if it numbers one.
-pub fn numbered<'a>(items: &'a [Value], part: &Part) -> Option<&'a Value>
+pub fn item_of_part<'a>(items: &'a [Value], part: &Part) -> Option<&'a Value>
     ensures { option_map (λ v. tree v.now) result ≡ option_and_then (item_at (items_of items.now)) (index_of part.now) }
 {
     match part.index() {
