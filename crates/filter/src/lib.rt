@@ -20,5 +20,6 @@ mod sort;
 mod sorting;
 
 pub use condition::{Comparison, Condition, Filter, Predicate};
+pub use operands::{has_operators, path_in};
 pub use projection::Projection;
 pub use sort::Sort;

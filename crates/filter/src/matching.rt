@@ -127,7 +127,8 @@ fn finds(probe: Probe<'_>, subject: Subject<'_>) -> bool
 /// Whether the parts reach it from a value.
 #[cycle(matching)]
 fn finds_from(probe: Probe<'_>, value: &Value, parts: &[Part]) -> bool
-    ensures { result ≡ list_any (probe_passes probe.entry false) (reach parts.now (tree value.now)) }
+    ensures { result
+        ≡ list_any (probe_passes probe.entry false) (reach parts.now (tree value.now)) }
 {
     let [part, rest @ ..] = parts else {
         return passes(probe, false, value);
@@ -148,7 +149,8 @@ fn finds_in_field(
     rest: &[Part],
     passes_over: bool,
 ) -> bool
-    ensures { result ≡ field_passes (probe_passes probe.entry false) (reach rest.now) (lookup document.now part.now) passes_over }
+    ensures { result ≡ field_passes (probe_passes probe.entry false) (reach rest.now)
+        (lookup document.now part.now) passes_over }
 {
     match document.get(part.as_str()) {
         Some(value) => finds_from(probe, value, rest),
@@ -159,8 +161,9 @@ fn finds_in_field(
 /// Whether a part and the rest reach it from an array.
 #[cycle(matching)]
 fn finds_in_array(probe: Probe<'_>, array: &Array, part: &Part, rest: &[Part]) -> bool
-    ensures { result ≡ (list_any (probe_passes probe.entry false) (in_elements (reach rest.now) part.now array.now)
-        || list_any (probe_passes probe.entry false) (in_place (reach rest.now) part.now array.now)) }
+    ensures { let passes = probe_passes probe.entry false in let onward = reach rest.now in
+        result ≡ (list_any passes (in_elements onward part.now array.now)
+        || list_any passes (in_place onward part.now array.now)) }
 {
     let items = array.items();
     let is_digits = part.is_digits();

@@ -14,8 +14,8 @@ use bson::{Array, Document, NoMemory, Value};
 use path::{Path, Refusal};
 use std::alloc::Global;
 
-/// The path that a name writes.
-pub(crate) fn path_in(alloc: Global, name: &str) -> Result<Path, Refusal>
+/// The path that a name writes, or the refusal of its fault.
+pub fn path_in(alloc: Global, name: &str) -> Result<Path, Refusal>
     ensures { Gives (λ p. p) (path_in name.now) result }
 {
     match Path::parse(alloc, name) {
@@ -24,8 +24,8 @@ pub(crate) fn path_in(alloc: Global, name: &str) -> Result<Path, Refusal>
     }
 }
 
-/// Whether the first name begins with `$`.
-pub(crate) fn has_operators(document: &Document) -> bool
+/// Whether the first name of a document begins with `$`.
+pub fn has_operators(document: &Document) -> bool
     ensures { result ≡ has_operators document.now }
 {
     match document.pairs() {

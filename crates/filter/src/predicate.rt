@@ -53,7 +53,8 @@ fn class(value: &Value) -> u8
 }
 
 fn is_one_of(kinds: &[Kind], value: &Value) -> bool
-    ensures { result ≡ list_any (λ b. b == kind_byte (kind (tree value.now))) (map kind_byte kinds.now) }
+    ensures { result ≡ list_any (λ b. b == kind_byte (kind (tree value.now)))
+        (map kind_byte kinds.now) }
 {
     let byte = value.kind().type_byte();
     'kinds: for kind in kinds {
@@ -80,7 +81,8 @@ fn candidate_passes(predicate: &Predicate, value: &Value) -> bool
 
 /// Whether an element passes as a candidate.
 fn item_passes(predicate: &Predicate, items: &[Value]) -> bool
-    ensures { result ≡ list_any (candidate_passes (predicate_of predicate.now)) (items_list (items_of items.now)) }
+    ensures { result
+        ≡ list_any (candidate_passes (predicate_of predicate.now)) (items_list (items_of items.now)) }
 {
     'items: for item in items {
         if candidate_passes(predicate, item) {

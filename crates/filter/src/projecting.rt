@@ -27,7 +27,8 @@ impl Projection {
 
 /// What the paths that begin with a name say of its value.
 fn below<'a>(alloc: Global, name: &str, paths: &[&'a [Part]]) -> Result<Vec<&'a [Part]>, NoMemory>
-    ensures { IfOk result (λ v. map (λ p. p.now) v.items ≡ below name.now (map (λ p. p.now) paths.now)) }
+    ensures { IfOk result (λ v. map (λ p. p.now) v.items
+        ≡ below name.now (map (λ p. p.now) paths.now)) }
 {
     let mut found = Vec::new(alloc);
     'paths: for path in paths {
@@ -70,7 +71,8 @@ fn of_value(
     paths: &[&[Part]],
     value: &Value,
 ) -> Result<Option<Value>, NoMemory>
-    ensures { IfOk result (λ o. option_map tree o ≡ of_tree includes (map (λ p. p.now) paths.now) (tree value.now)) }
+    ensures { IfOk result (λ o. option_map tree o
+        ≡ of_tree includes (map (λ p. p.now) paths.now) (tree value.now)) }
 {
     if paths.is_empty() {
         return copy_if(!includes, value);
@@ -124,7 +126,8 @@ fn of_array(
 
 /// Puts a pair at the end, where there is a value.
 fn add_pair(pairs: &mut Vec<Pair>, name: &Text, value: Option<Value>) -> Result<(), NoMemory>
-    ensures { OnOk result (pairs_of pairs.new.items ≡ append (pairs_of pairs.old.items) (add_pair name.now (option_map tree value) no_pairs)) }
+    ensures { OnOk result (pairs_of pairs.new.items
+        ≡ append (pairs_of pairs.old.items) (add_pair name.now (option_map tree value) no_pairs)) }
 {
     match value {
         Some(value) => {
@@ -138,7 +141,8 @@ fn add_pair(pairs: &mut Vec<Pair>, name: &Text, value: Option<Value>) -> Result<
 
 /// Puts an item at the end, where there is one.
 fn add_item(items: &mut Vec<Value>, value: Option<Value>) -> Result<(), NoMemory>
-    ensures { OnOk result (items_of items.new.items ≡ append_items (items_of items.old.items) (add_item (option_map tree value) no_items)) }
+    ensures { OnOk result (items_of items.new.items
+        ≡ append_items (items_of items.old.items) (add_item (option_map tree value) no_items)) }
 {
     match value {
         Some(value) => {

@@ -38,7 +38,8 @@ fn read_filter(alloc: Global, document: &Document) -> Result<Filter, Refusal>
 /// One pair: a list of filters, or a path and what is asked there.
 #[cycle(reading)]
 fn read_condition(alloc: Global, name: &str, value: &Value) -> Result<Condition, Refusal>
-    ensures { Gives condition_of (named_condition name.now (read_members (tree value.now)) (read_operand (tree value.now))) result }
+    ensures { Gives condition_of (named_condition name.now (read_members (tree value.now))
+        (read_operand (tree value.now))) result }
 {
     if name == "$and" {
         return Ok(Condition::All(read_members(alloc, value)?));
@@ -112,7 +113,8 @@ fn read_operators(alloc: Global, document: &Document) -> Result<Filter, Refusal>
 
 #[cycle(reading)]
 fn read_operator(alloc: Global, name: &str, value: &Value) -> Result<Condition, Refusal>
-    ensures { Gives condition_of (operation name.now (read_element (tree value.now)) (read_not (tree value.now)) (tree value.now)) result }
+    ensures { let operand = tree value.now in
+        Gives condition_of (operation name.now (read_element operand) (read_not operand) operand) result }
 {
     if name == "$elemMatch" {
         return read_element(alloc, value);

@@ -68,7 +68,8 @@ fn cut(value: Value, parts: &[Part]) -> (Option<Value>, Option<Value>)
 #[cycle(removing)]
 fn cut_field(document: Document, part: &Part, rest: &[Part]) -> (Document, Option<Value>)
     ensures left { result.0 ≡ cut_field (cut_off rest.now) part.now document }
-    ensures taken { option_map tree result.1 ≡ option_and_then (value_at rest.now) (lookup document part.now) }
+    ensures taken { option_map tree result.1
+        ≡ option_and_then (value_at rest.now) (lookup document part.now) }
 {
     let mut document = document;
     let Some(at) = document.position(part.as_str()) else {
@@ -88,7 +89,8 @@ fn cut_field(document: Document, part: &Part, rest: &[Part]) -> (Document, Optio
 fn cut_item(array: Array, part: &Part, rest: &[Part]) -> (Array, Option<Value>)
     ensures left { result.0 ≡ cut_item (cut_off rest.now) (index_of part.now) array }
     ensures taken { option_map tree result.1
-        ≡ option_and_then (value_at rest.now) (option_and_then (item_at array) (index_of part.now)) }
+        ≡ option_and_then (value_at rest.now)
+        (option_and_then (item_at array) (index_of part.now)) }
 {
     let mut array = array;
     let Some(at) = part.index() else {

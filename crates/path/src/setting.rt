@@ -127,7 +127,8 @@ fn write_within<N: NewValue + Drop>(
     parts: &[Part],
     new: N,
 ) -> Result<Value, Refusal>
-    ensures value { Gives tree (within most (write (N.made new) parts.now (option_map tree old))) result }
+    ensures value { Gives tree (within most (write (N.made new) parts.now
+        (option_map tree old))) result }
     ensures levels { IfOk result (λ v. levels (tree v) ≤ most) }
 {
     let value = write(alloc, old, parts, new)?;
@@ -172,7 +173,8 @@ fn write_item<N: NewValue + Drop>(
     rest: &[Part],
     new: N,
 ) -> Result<Array, Refusal>
-    ensures { Gives (λ a. a) (write_item (write (N.made new) rest.now) (index_of part.now) array) result }
+    ensures { Gives (λ a. a) (write_item (write (N.made new) rest.now)
+        (index_of part.now) array) result }
 {
     let mut array = array;
     let Some(at) = part.index() else {
