@@ -1,7 +1,7 @@
-pub mod Measures
-pub mod WalkSteps
-pub mod ReadSteps
-pub mod ProjectSteps
-pub mod StableSort
-pub mod SortSteps
-pub mod TakenOut
+pub mod MeasureLemmas
+pub mod WalkLemmas
+pub mod ReadingLemmas
+pub mod ProjectionLemmas
+pub mod StableSortLemmas
+pub mod SortLemmas
+pub mod TakenOutLemmas

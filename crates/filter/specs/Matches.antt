@@ -1,4 +1,4 @@
--- Whether a filter holds of a document: by cases over its rules, from what its paths reach, from the candidates of what
+-- Whether a filter holds of a document: by cases over its conditions, from what its paths reach, from the candidates of what
 -- is reached, and from the order of values. The negations are plain "not".
 use Rattle.std.specs.Prelude.{ℕ, ◌==◌, ◌&&◌, ◌||◌, not, Bool, true, false, Option, Some, None, List, [], ◌∷◌}
 use Rattle.std.specs.List.{list_any}
@@ -9,9 +9,9 @@ use Rattle.bson.specs.Kinds.{kind, kind_byte}
 use Rattle.bson.specs.Edits.{items_len}
 use Rattle.value_order.specs.Order.{class, compare}
 use Rattle.path.specs.Reach.{Reached, reach, items_list, candidates}
-use Rattle.filter.specs.Rule.{Test, equal, ordered, there, of_kinds, size, Rule, all, any, not_all, not_any, at, is, element, element_document, Rules, no_rules, rule}
-use Rattle.filter.specs.declared.rule.Comparison.{Comparison}
-use Rattle.filter.specs.declared.rule.Comparison.TheVariants as comparisons
+use Rattle.filter.specs.Condition.{Predicate, equal, ordered, there, of_kinds, size, Condition, all, any, not_all, not_any, at, is, element, element_document, Conditions, no_conditions, condition}
+use Rattle.filter.specs.declared.condition.Comparison.{Comparison}
+use Rattle.filter.specs.declared.condition.Comparison.TheVariants as comparisons
 
 -- ---- of one candidate, and of what was reached itself
 
@@ -42,7 +42,7 @@ has_size n (Some (array ts)) = items_len ts == n
 has_size n r = false
 
 -- equal in the order of values, ordered so within one class, or of one of the kinds
-abbrev pub candidate_passes : Test → Tree → Bool
+abbrev pub candidate_passes : Predicate → Tree → Bool
 candidate_passes (equal v) t = is_equal (compare t v)
 candidate_passes (ordered c v) t = (class t == class v) && allows c (compare t v)
 candidate_passes (of_kinds bytes) t = list_any (λ b. b == kind_byte (kind t)) bytes
@@ -50,7 +50,7 @@ candidate_passes there t = false
 candidate_passes (size n) t = false
 
 -- null is equal to Missing too; a value is there; an array has its size
-abbrev pub reached_passes : Test → Reached → Bool
+abbrev pub reached_passes : Predicate → Reached → Bool
 reached_passes (equal v) r = is_null v && is_missing r
 reached_passes there r = not (is_missing r)
 reached_passes (size n) r = has_size n r
@@ -63,8 +63,8 @@ candidates_of false r = candidates r
 candidates_of true None = []
 candidates_of true (Some t) = t ∷ []
 
-abbrev pub passes : Test → Bool → Reached → Bool
-passes test alone r = list_any (candidate_passes test) (candidates_of alone r) || reached_passes test r
+abbrev pub passes : Predicate → Bool → Reached → Bool
+passes predicate alone r = list_any (candidate_passes predicate) (candidates_of alone r) || reached_passes predicate r
 
 -- ---- of a document, of what a path reached, of an element alone
 
@@ -97,23 +97,23 @@ of_document pass (document ps) = pass (whole ps)
 of_document pass t = false
 
 abbrev mutual
-  pub holds : Rule → Subject → Bool
+  pub holds : Condition → Subject → Bool
   holds (all rs) s = all_hold rs s
   holds (any rs) s = any_holds rs s
   holds (not_all rs) s = not (all_hold rs s)
   holds (not_any rs) s = not (any_holds rs s)
   holds (at parts rs) s = if_reached (all_hold rs) (reached_in parts s)
-  holds (is test) s = some_reached (passes test) s
+  holds (is predicate) s = some_reached (passes predicate) s
   holds (element rs) s = some_reached (λ one r. some_element (λ t. all_hold rs (alone t)) r) s
   holds (element_document rs) s = some_reached (λ one r. some_element (of_document (all_hold rs)) r) s
 
-  pub all_hold : Rules → Subject → Bool
-  all_hold no_rules s = true
-  all_hold (rule r rs) s = holds r s && all_hold rs s
+  pub all_hold : Conditions → Subject → Bool
+  all_hold no_conditions s = true
+  all_hold (condition r rs) s = holds r s && all_hold rs s
 
-  pub any_holds : Rules → Subject → Bool
-  any_holds no_rules s = false
-  any_holds (rule r rs) s = holds r s || any_holds rs s
+  pub any_holds : Conditions → Subject → Bool
+  any_holds no_conditions s = false
+  any_holds (condition r rs) s = holds r s || any_holds rs s
 
-abbrev pub matches : Rules → Pairs → Bool
+abbrev pub matches : Conditions → Pairs → Bool
 matches rs ps = all_hold rs (whole ps)

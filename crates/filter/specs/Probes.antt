@@ -1,11 +1,11 @@
--- What the walk of a path looks for, and what rules are asked of.
+-- What the walk of a path looks for, and what conditions are asked of.
 use Rattle.std.specs.Prelude.{Bool, if◌then◌else◌, Option, None, List, [], ◌∷◌}
 use Rattle.std.specs.List.{list_any}
 use Rattle.bson.specs.Tree.{Tree, document}
 use Rattle.bson.specs.View.{tree}
 use Rattle.path.specs.Reach.{Reached, reach, onwards}
 use Rattle.filter.specs.Matches.{passes, Subject, whole, along, alone, some_element, of_document, all_hold}
-use Rattle.filter.specs.View.{test_of}
+use Rattle.filter.specs.View.{predicate_of}
 use Rattle.filter.specs.declared.matching.Subject.{Subject as Asked}
 use Rattle.filter.specs.declared.matching.Subject.TheVariants as subjects
 use Rattle.filter.specs.declared.matching.Probe.{Probe}
@@ -17,7 +17,7 @@ subject_of (subjects.Along d path) = along (reach path.now (document d.now))
 subject_of (subjects.Alone v) = alone (tree v.now)
 
 abbrev pub probe_passes : Probe → Bool → Reached → Bool
-probe_passes (probes.Test test) one r = passes (test_of test.now) one r
+probe_passes (probes.Predicate predicate) one r = passes (predicate_of predicate.now) one r
 probe_passes (probes.Element filter) one r = some_element (λ t. all_hold filter.now (alone t)) r
 probe_passes (probes.ElementDocument filter) one r = some_element (of_document (all_hold filter.now)) r
 

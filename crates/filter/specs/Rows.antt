@@ -6,8 +6,10 @@ use Rattle.path.specs.declared.refusal.Refusal.TheVariants as refusals
 use Rattle.path.specs.Edits.{if_ok}
 use Rattle.filter.specs.Matches.{matches}
 use Rattle.filter.specs.Reading.{read_filter}
-use Rattle.filter.specs.Sort.{read_sort, order}
-use Rattle.filter.specs.Projection.{read_projection, project}
+use Rattle.filter.specs.Sort.{order}
+use Rattle.filter.specs.SortReading.{read_sort}
+use Rattle.filter.specs.Projection.{project}
+use Rattle.filter.specs.ProjectionReading.{read_projection}
 
 abbrev pub number : ℕ → Tree
 number n = scalar (int32 (pos n))
@@ -35,10 +37,10 @@ abbrev pub six : List Pairs
 six = no_pairs ∷ one (codes "a") nothing ∷ one (codes "a") (array no_items) ∷ one (codes "a") (single nothing) ∷ one (codes "a") (single (number 1)) ∷ one (codes "a") (number 5) ∷ []
 
 abbrev pub answers : Pairs → Result (List Bool) Refusal
-answers filter = if_ok (read_filter filter) (λ rules. Ok (map (matches rules) six))
+answers filter = if_ok (read_filter filter) (λ conditions. Ok (map (matches conditions) six))
 
 abbrev pub answer : Pairs → Pairs → Result Bool Refusal
-answer filter ps = if_ok (read_filter filter) (λ rules. Ok (matches rules ps))
+answer filter ps = if_ok (read_filter filter) (λ conditions. Ok (matches conditions ps))
 
 abbrev pub asks : List ℕ → Tree → Tree
 asks operator t = document (one operator t)

@@ -1,5 +1,5 @@
 -- What the reading of a projection holds.
-use Rattle.filter.specs.Projection.{Seen}
+use Rattle.filter.specs.ProjectionReading.{Seen}
 use Rattle.filter.specs.declared.projection.Seen.{Seen as Held}
 
 abbrev pub seen_of : Held → Seen

@@ -12,34 +12,9 @@ use Rattle.path.specs.Edits.{if_ok}
 use Rattle.path.specs.Reach.{Reached, reach, items_list}
 use Rattle.filter.specs.Reading.{path_in}
 
--- ---- reading
-
 -- a path, and whether it is descending
 abbrev pub SortField : Type 0
 SortField = List (List ℕ) × Bool
-
-abbrev pub direction_of : ℤ → Result Bool Refusal
-direction_of (pos n) = if n == 1 then Ok false else Err refusals.BadValue
-direction_of (negsuc zero) = Ok true
-direction_of (negsuc (suc n)) = Err refusals.BadValue
-
-abbrev pub direction_in : Tree → Result Bool Refusal
-direction_in (scalar (int32 z)) = direction_of z
-direction_in (scalar (int64 z)) = direction_of z
-direction_in t = Err refusals.TypeMismatch
-
-abbrev pub read_field : List ℕ → Tree → Result SortField Refusal
-read_field name t = if_ok (path_in name) (λ path. if_ok (direction_in t) (λ descending. Ok (path, descending)))
-
--- at most so many more fields; of one too many nothing is looked at
-abbrev pub read_fields : ℕ → Pairs → Result (List SortField) Refusal
-read_fields more no_pairs = Ok []
-read_fields zero (pair name t ps) = Err refusals.BadValue
-read_fields (suc more) (pair name t ps) =
-    if_ok (read_field name t) (λ field. if_ok (read_fields more ps) (λ fields. Ok (field ∷ fields)))
-
-abbrev pub read_sort : Pairs → Result (List SortField) Refusal
-read_sort ps = read_fields 32 ps
 
 -- ---- keys
 
@@ -73,15 +48,15 @@ sort_key field ps = key_among field.1 (flat_map keys_of (reach field.0 (document
 
 -- ---- order
 
-abbrev pub directed : Bool → Ordering → Ordering
-directed false o = o
-directed true Less = Greater
-directed true Equal = Equal
-directed true Greater = Less
+abbrev pub in_direction : Bool → Ordering → Ordering
+in_direction false o = o
+in_direction true Less = Greater
+in_direction true Equal = Equal
+in_direction true Greater = Less
 
 abbrev pub compare_by : List SortField → Pairs → Pairs → Ordering
 compare_by [] a b = Equal
-compare_by (field ∷ fields) a b = ordering_then (directed field.1 (key_cmp (sort_key field a) (sort_key field b))) (compare_by fields a b)
+compare_by (field ∷ fields) a b = ordering_then (in_direction field.1 (key_cmp (sort_key field a) (sort_key field b))) (compare_by fields a b)
 
 abbrev pub put_before : {A : Type 0} → Ordering → A → A → List A → List A → List A
 put_before Greater x y inserted ys = y ∷ inserted

@@ -6,7 +6,7 @@ use Rattle.std.specs.Ordering.{ordering_then, on}
 use Rattle.bson.specs.Tree.{scalar, null, Pairs}
 use Rattle.value_order.specs.Order.{Key, value, key_cmp}
 use Rattle.value_order.specs.View.{key_of}
-use Rattle.filter.specs.Sort.{SortField, precedes, sort_key, directed, compare_by, sorted}
+use Rattle.filter.specs.Sort.{SortField, precedes, sort_key, in_direction, compare_by, sorted}
 use Rattle.filter.specs.declared.sort.Field.{Field}
 use Rattle.filter.specs.declared.sorting.Ranked.{Ranked}
 
@@ -36,7 +36,7 @@ first_or_null (k ∷ ks) = k
 
 abbrev pub keys_cmp : List SortField → List Key → List Key → Ordering
 keys_cmp [] a b = Equal
-keys_cmp (field ∷ fields) a b = ordering_then (directed field.1 (key_cmp (first_or_null a) (first_or_null b))) (keys_cmp fields (drop 1 a) (drop 1 b))
+keys_cmp (field ∷ fields) a b = ordering_then (in_direction field.1 (key_cmp (first_or_null a) (first_or_null b))) (keys_cmp fields (drop 1 a) (drop 1 b))
 
 abbrev pub keys_held : Ranked → List Key
 keys_held r = map key_of r.keys.items

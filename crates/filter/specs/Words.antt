@@ -66,18 +66,18 @@ kind_numbered (pos n) = kind_counted n
 kind_numbered (negsuc zero) = Some kinds.MinKey
 kind_numbered (negsuc (suc n)) = None
 
-abbrev pub known : Option Kind → Result (List Kind) Refusal
-known None = Err refusals.BadValue
-known (Some k) = Ok (k ∷ [])
+abbrev pub only_kind : Option Kind → Result (List Kind) Refusal
+only_kind None = Err refusals.BadValue
+only_kind (Some k) = Ok (k ∷ [])
 
 abbrev pub kinds_named : List ℕ → Result (List Kind) Refusal
-kinds_named name = if bytes_eq name (codes "number") then Ok (kinds.Int32 ∷ kinds.Int64 ∷ []) else known (kind_named name)
+kinds_named name = if bytes_eq name (codes "number") then Ok (kinds.Int32 ∷ kinds.Int64 ∷ []) else only_kind (kind_named name)
 
 -- the kinds that a name or a number stands for
 abbrev pub kinds_in : Tree → Result (List Kind) Refusal
 kinds_in (scalar (text name)) = kinds_named name
-kinds_in (scalar (int32 z)) = known (kind_numbered z)
-kinds_in (scalar (int64 z)) = known (kind_numbered z)
+kinds_in (scalar (int32 z)) = only_kind (kind_numbered z)
+kinds_in (scalar (int64 z)) = only_kind (kind_numbered z)
 kinds_in t = Err refusals.TypeMismatch
 
 abbrev pub each_kind : Items → Result (List Kind) Refusal
@@ -89,11 +89,11 @@ all_kinds (array ts) = each_kind ts
 all_kinds t = kinds_in t
 
 -- a size is a whole number that isn't negative
-abbrev pub counted : ℤ → Result ℕ Refusal
-counted (pos n) = Ok n
-counted (negsuc n) = Err refusals.BadValue
+abbrev pub size_of : ℤ → Result ℕ Refusal
+size_of (pos n) = Ok n
+size_of (negsuc n) = Err refusals.BadValue
 
 abbrev pub size_in : Tree → Result ℕ Refusal
-size_in (scalar (int32 z)) = counted z
-size_in (scalar (int64 z)) = counted z
+size_in (scalar (int32 z)) = size_of z
+size_in (scalar (int64 z)) = size_of z
 size_in t = Err refusals.BadValue

@@ -1,22 +1,25 @@
 //! Filters of their own that are equal to others.
 
 ghost use Rattle.std.specs.Prelude.{◌≡◌, IfOk};
-ghost use Rattle.filter.specs.View.{test_of, rule_of};
+ghost use Rattle.filter.specs.View.{predicate_of, condition_of};
 
-use crate::rule::{Filter, Rule, Test};
+use crate::condition::{Condition, Filter, Predicate};
 use bson::{Kind, NoMemory};
 
-impl Test {
-    /// An equal test of its own.
-    pub fn copy(&self) -> Result<Test, NoMemory>
-        ensures { IfOk result (λ t. test_of t ≡ test_of self.now) }
+impl Predicate {
+    /// An equal predicate of its own.
+    pub fn copy(&self) -> Result<Predicate, NoMemory>
+        ensures { IfOk result (λ t. predicate_of t ≡ predicate_of self.now) }
     {
         match self {
-            Test::Equal(value) => Ok(Test::Equal(value.copy()?)),
-            Test::Ordered(comparison, value) => Ok(Test::Ordered(*comparison, value.copy()?)),
-            Test::There => Ok(Test::There),
-            Test::OfKinds(kinds) => Ok(Test::OfKinds(copy_kinds(kinds)?)),
-            Test::Size(size) => Ok(Test::Size(*size)),
+            Predicate::Equal(value) => Ok(Predicate::Equal(value.copy()?)),
+            Predicate::Ordered(comparison, value) => Ok(Predicate::Ordered(
+                *comparison,
+                value.copy()?,
+            )),
+            Predicate::There => Ok(Predicate::There),
+            Predicate::OfKinds(kinds) => Ok(Predicate::OfKinds(copy_kinds(kinds)?)),
+            Predicate::Size(size) => Ok(Predicate::Size(*size)),
         }
     }
 }
@@ -27,21 +30,21 @@ fn copy_kinds(kinds: &Vec<Kind>) -> Result<Vec<Kind>, NoMemory>
     Vec::from_slice(*kinds.allocator(), kinds)
 }
 
-impl Rule {
-    /// An equal rule of its own.
+impl Condition {
+    /// An equal condition of its own.
     #[cycle(copies)]
-    pub fn copy(&self) -> Result<Rule, NoMemory>
-        ensures { IfOk result (λ r. rule_of r ≡ rule_of self.now) }
+    pub fn copy(&self) -> Result<Condition, NoMemory>
+        ensures { IfOk result (λ r. condition_of r ≡ condition_of self.now) }
     {
         match self {
-            Rule::All(filter) => Ok(Rule::All(filter.copy()?)),
-            Rule::Any(filter) => Ok(Rule::Any(filter.copy()?)),
-            Rule::NotAll(filter) => Ok(Rule::NotAll(filter.copy()?)),
-            Rule::NotAny(filter) => Ok(Rule::NotAny(filter.copy()?)),
-            Rule::At(path, filter) => Ok(Rule::At(path.copy()?, filter.copy()?)),
-            Rule::Is(test) => Ok(Rule::Is(test.copy()?)),
-            Rule::Element(filter) => Ok(Rule::Element(filter.copy()?)),
-            Rule::ElementDocument(filter) => Ok(Rule::ElementDocument(filter.copy()?)),
+            Condition::All(filter) => Ok(Condition::All(filter.copy()?)),
+            Condition::Any(filter) => Ok(Condition::Any(filter.copy()?)),
+            Condition::NotAll(filter) => Ok(Condition::NotAll(filter.copy()?)),
+            Condition::NotAny(filter) => Ok(Condition::NotAny(filter.copy()?)),
+            Condition::At(path, filter) => Ok(Condition::At(path.copy()?, filter.copy()?)),
+            Condition::Is(predicate) => Ok(Condition::Is(predicate.copy()?)),
+            Condition::Element(filter) => Ok(Condition::Element(filter.copy()?)),
+            Condition::ElementDocument(filter) => Ok(Condition::ElementDocument(filter.copy()?)),
         }
     }
 }
@@ -52,10 +55,13 @@ impl Filter {
     pub fn copy(&self) -> Result<Filter, NoMemory>
         ensures { IfOk result (λ f. f ≡ self.now) }
     {
-        let mut rules = Vec::with_capacity(*self.rules.allocator(), self.rules.len())?;
-        'rules: for rule in &self.rules {
-            rules.push(rule.copy()?)?;
+        let mut conditions = Vec::with_capacity(
+            *self.conditions.allocator(),
+            self.conditions.len(),
+        )?;
+        'conditions: for condition in &self.conditions {
+            conditions.push(condition.copy()?)?;
         }
-        Ok(Filter { rules })
+        Ok(Filter { conditions })
     }
 }

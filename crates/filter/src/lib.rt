@@ -1,20 +1,25 @@
-//! Filters: reading one, and whether it holds of a document.
+//! Filters, sorts and projections: reading one, and what it says of a document.
 //!
-//! `rule` has a filter as it was read, `testing` what is asked of one value, `matching` of a document.
+//! `condition` has a filter as it was read, `reading` reads one; `predicate` is what is asked of one value, `matching`
+//! of a document, `element` of one element of an array. `sort` and `projection` read a sort and a projection, `sorting`
+//! and `projecting` apply them.
 #![tactic(auto)]
 
+mod condition;
 mod copying;
+mod element;
 pub mod laws;
 mod matching;
 mod operands;
 mod operator;
+mod predicate;
+mod projecting;
 mod projection;
 mod reading;
-mod rule;
 mod sort;
 mod sorting;
-mod testing;
 
+pub use condition::{Comparison, Condition, Filter, Predicate};
+pub use operands::{has_operators, path_in};
 pub use projection::Projection;
-pub use rule::{Comparison, Filter, Rule, Test};
 pub use sort::Sort;

@@ -10,15 +10,15 @@ ghost use Rattle.bson.specs.Lookup.{lookup};
 ghost use Rattle.bson.specs.View.{tree};
 ghost use Rattle.path.specs.Reach.{reach, onwards, in_elements, in_place, items_list};
 ghost use Rattle.filter.specs.Matches.{holds, all_hold, any_holds, matches, some_reached, some_element, of_document, alone};
-ghost use Rattle.filter.specs.View.{rule_of};
+ghost use Rattle.filter.specs.View.{condition_of};
 ghost use Rattle.filter.specs.Probes.{subject_of, probe_passes, field_passes};
 
-use crate::rule::{Filter, Rule, Test};
-use crate::testing;
+use crate::condition::{Condition, Filter, Predicate};
+use crate::predicate;
 use bson::{Array, Document, NoMemory, Value};
-use path::{Part, Path, numbered};
+use path::{Part, Path, item_of_part};
 
-/// What rules are asked of.
+/// What conditions are asked of.
 #[derive(Clone, Copy)]
 enum Subject<'a> {
     /// A document.
@@ -32,11 +32,11 @@ enum Subject<'a> {
 /// What a walk looks for.
 #[derive(Clone, Copy)]
 enum Probe<'a> {
-    /// A value that passes a test.
-    Test(&'a Test),
-    /// An array with an element of which rules hold.
+    /// A value that passes a predicate.
+    Predicate(&'a Predicate),
+    /// An array with an element of which conditions hold.
     Element(&'a Filter),
-    /// An array with a document of which rules hold.
+    /// An array with a document of which conditions hold.
     ElementDocument(&'a Filter),
 }
 
@@ -49,12 +49,29 @@ impl Filter {
     }
 }
 
+/// Whether all of it holds of one element of an array, as it stands.
+pub(crate) fn all_hold_alone(filter: &Filter, value: &Value) -> bool
+    ensures { result ≡ all_hold filter.now (alone (tree value.now)) }
+{
+    all_hold(filter, Subject::Alone(value))
+}
+
+/// Whether the value is a document of which all of it holds.
+pub(crate) fn all_hold_of_document(filter: &Filter, value: &Value) -> bool
+    ensures { result ≡ of_document (all_hold filter.now) (tree value.now) }
+{
+    match value {
+        Value::Document(document) => all_hold(filter, Subject::Whole(document)),
+        _ => false,
+    }
+}
+
 #[cycle(matching)]
 fn all_hold(filter: &Filter, subject: Subject<'_>) -> bool
     ensures { result ≡ all_hold filter.now (subject_of subject.entry) }
 {
-    'rules: for rule in filter.rules() {
-        if !holds(rule, subject) {
+    'conditions: for condition in filter.conditions() {
+        if !holds(condition, subject) {
             return false;
         }
     }
@@ -65,8 +82,8 @@ fn all_hold(filter: &Filter, subject: Subject<'_>) -> bool
 fn any_holds(filter: &Filter, subject: Subject<'_>) -> bool
     ensures { result ≡ any_holds filter.now (subject_of subject.entry) }
 {
-    'rules: for rule in filter.rules() {
-        if holds(rule, subject) {
+    'conditions: for condition in filter.conditions() {
+        if holds(condition, subject) {
             return true;
         }
     }
@@ -74,21 +91,21 @@ fn any_holds(filter: &Filter, subject: Subject<'_>) -> bool
 }
 
 #[cycle(matching)]
-fn holds(rule: &Rule, subject: Subject<'_>) -> bool
-    ensures { result ≡ holds (rule_of rule.now) (subject_of subject.entry) }
+fn holds(condition: &Condition, subject: Subject<'_>) -> bool
+    ensures { result ≡ holds (condition_of condition.now) (subject_of subject.entry) }
 {
-    match rule {
-        Rule::All(filter) => all_hold(filter, subject),
-        Rule::Any(filter) => any_holds(filter, subject),
-        Rule::NotAll(filter) => !all_hold(filter, subject),
-        Rule::NotAny(filter) => !any_holds(filter, subject),
-        Rule::At(path, filter) => match subject {
+    match condition {
+        Condition::All(filter) => all_hold(filter, subject),
+        Condition::Any(filter) => any_holds(filter, subject),
+        Condition::NotAll(filter) => !all_hold(filter, subject),
+        Condition::NotAny(filter) => !any_holds(filter, subject),
+        Condition::At(path, filter) => match subject {
             Subject::Whole(document) => all_hold(filter, Subject::Along(document, path)),
             _ => false,
         },
-        Rule::Is(test) => finds(Probe::Test(test), subject),
-        Rule::Element(filter) => finds(Probe::Element(filter), subject),
-        Rule::ElementDocument(filter) => finds(Probe::ElementDocument(filter), subject),
+        Condition::Is(predicate) => finds(Probe::Predicate(predicate), subject),
+        Condition::Element(filter) => finds(Probe::Element(filter), subject),
+        Condition::ElementDocument(filter) => finds(Probe::ElementDocument(filter), subject),
     }
 }
 
@@ -110,7 +127,8 @@ fn finds(probe: Probe<'_>, subject: Subject<'_>) -> bool
 /// Whether the parts reach it from a value.
 #[cycle(matching)]
 fn finds_from(probe: Probe<'_>, value: &Value, parts: &[Part]) -> bool
-    ensures { result ≡ list_any (probe_passes probe.entry false) (reach parts.now (tree value.now)) }
+    ensures { result
+        ≡ list_any (probe_passes probe.entry false) (reach parts.now (tree value.now)) }
 {
     let [part, rest @ ..] = parts else {
         return passes(probe, false, value);
@@ -131,7 +149,8 @@ fn finds_in_field(
     rest: &[Part],
     passes_over: bool,
 ) -> bool
-    ensures { result ≡ field_passes (probe_passes probe.entry false) (reach rest.now) (lookup document.now part.now) passes_over }
+    ensures { result ≡ field_passes (probe_passes probe.entry false) (reach rest.now)
+        (lookup document.now part.now) passes_over }
 {
     match document.get(part.as_str()) {
         Some(value) => finds_from(probe, value, rest),
@@ -142,8 +161,9 @@ fn finds_in_field(
 /// Whether a part and the rest reach it from an array.
 #[cycle(matching)]
 fn finds_in_array(probe: Probe<'_>, array: &Array, part: &Part, rest: &[Part]) -> bool
-    ensures { result ≡ (list_any (probe_passes probe.entry false) (in_elements (reach rest.now) part.now array.now)
-        || list_any (probe_passes probe.entry false) (in_place (reach rest.now) part.now array.now)) }
+    ensures { let passes = probe_passes probe.entry false in let onward = reach rest.now in
+        result ≡ (list_any passes (in_elements onward part.now array.now)
+        || list_any passes (in_place onward part.now array.now)) }
 {
     let items = array.items();
     let is_digits = part.is_digits();
@@ -154,7 +174,7 @@ fn finds_in_array(probe: Probe<'_>, array: &Array, part: &Part, rest: &[Part]) -
             }
         }
     }
-    match numbered(items, part) {
+    match item_of_part(items, part) {
         Some(item) => finds_from(probe, item, rest),
         None => false,
     }
@@ -165,7 +185,7 @@ fn missing_passes(probe: Probe<'_>) -> bool
     ensures { result ≡ probe_passes probe.entry false None }
 {
     match probe {
-        Probe::Test(test) => testing::missing_passes(test),
+        Probe::Predicate(predicate) => predicate::missing_passes(predicate),
         _ => false,
     }
 }
@@ -176,7 +196,7 @@ fn passes(probe: Probe<'_>, alone: bool, value: &Value) -> bool
     ensures { result ≡ probe_passes probe.entry alone (Some (tree value.now)) }
 {
     match probe {
-        Probe::Test(test) => testing::passes(test, alone, value),
+        Probe::Predicate(predicate) => predicate::passes(predicate, alone, value),
         Probe::Element(filter) => match value {
             Value::Array(array) => has_element(filter, array),
             _ => false,

@@ -4,18 +4,18 @@ ghost use Rattle.std.specs.Prelude.{◌≡◌, IfOk};
 ghost use Rattle.bson.specs.View.{tree};
 ghost use Rattle.path.specs.View.{Gives};
 ghost use Rattle.path.specs.Parts.{begins_with_dollar};
-ghost use Rattle.filter.specs.Rule.{equals, is, equal};
+ghost use Rattle.filter.specs.Condition.{equals, is, equal};
 ghost use Rattle.filter.specs.Reading.{path_in, just, has_operators, order_operand, array_in, every, exists, read_operation};
-ghost use Rattle.filter.specs.View.{rule_of};
+ghost use Rattle.filter.specs.View.{condition_of};
 
+use crate::condition::{Comparison, Condition, Filter, Predicate};
 use crate::operator::{Operator, all_kinds, size_in};
-use crate::rule::{Comparison, Filter, Rule, Test};
 use bson::{Array, Document, NoMemory, Value};
 use path::{Path, Refusal};
 use std::alloc::Global;
 
-/// The path that a name writes.
-pub(crate) fn path_in(alloc: Global, name: &str) -> Result<Path, Refusal>
+/// The path that a name writes, or the refusal of its fault.
+pub fn path_in(alloc: Global, name: &str) -> Result<Path, Refusal>
     ensures { Gives (λ p. p) (path_in name.now) result }
 {
     match Path::parse(alloc, name) {
@@ -24,8 +24,8 @@ pub(crate) fn path_in(alloc: Global, name: &str) -> Result<Path, Refusal>
     }
 }
 
-/// Whether the first name begins with `$`.
-pub(crate) fn has_operators(document: &Document) -> bool
+/// Whether the first name of a document begins with `$`.
+pub fn has_operators(document: &Document) -> bool
     ensures { result ≡ has_operators document.now }
 {
     match document.pairs() {
@@ -43,42 +43,42 @@ fn begins_with_dollar(name: &str) -> bool
     }
 }
 
-/// The filter of this one rule.
-pub(crate) fn just(alloc: Global, rule: Rule) -> Result<Filter, NoMemory>
-    ensures { IfOk result (λ f. f ≡ just (rule_of rule)) }
+/// The filter of this one condition.
+pub(crate) fn just(alloc: Global, condition: Condition) -> Result<Filter, NoMemory>
+    ensures { IfOk result (λ f. f ≡ just (condition_of condition)) }
 {
-    let mut rules = Vec::with_capacity(alloc, 1)?;
-    rules.push(rule)?;
-    Ok(Filter { rules })
+    let mut conditions = Vec::with_capacity(alloc, 1)?;
+    conditions.push(condition)?;
+    Ok(Filter { conditions })
 }
 
 /// To be equal to a copy of this.
-pub(crate) fn equal(value: &Value) -> Result<Rule, NoMemory>
-    ensures { IfOk result (λ r. rule_of r ≡ is (equal (tree value.now))) }
+pub(crate) fn equal(value: &Value) -> Result<Condition, NoMemory>
+    ensures { IfOk result (λ r. condition_of r ≡ is (equal (tree value.now))) }
 {
-    Ok(Rule::Is(Test::Equal(value.copy()?)))
+    Ok(Condition::Is(Predicate::Equal(value.copy()?)))
 }
 
-fn order_operand(comparison: Comparison, value: &Value) -> Result<Rule, Refusal>
-    ensures { Gives rule_of (order_operand comparison (tree value.now)) result }
+fn order_operand(comparison: Comparison, value: &Value) -> Result<Condition, Refusal>
+    ensures { Gives condition_of (order_operand comparison (tree value.now)) result }
 {
     match value {
         Value::Null => Err(Refusal::BadValue),
         Value::MinKey => Err(Refusal::BadValue),
         Value::MaxKey => Err(Refusal::BadValue),
-        _ => Ok(Rule::Is(Test::Ordered(comparison, value.copy()?))),
+        _ => Ok(Condition::Is(Predicate::Ordered(comparison, value.copy()?))),
     }
 }
 
-/// One rule for each item: to be equal to it.
+/// One condition for each item: to be equal to it.
 fn equals(alloc: Global, array: &Array) -> Result<Filter, NoMemory>
     ensures { IfOk result (λ f. f ≡ equals array.now) }
 {
-    let mut rules = Vec::with_capacity(alloc, array.len())?;
+    let mut conditions = Vec::with_capacity(alloc, array.len())?;
     'items: for item in array.items() {
-        rules.push(equal(item)?)?;
+        conditions.push(equal(item)?)?;
     }
-    Ok(Filter { rules })
+    Ok(Filter { conditions })
 }
 
 fn array_in(value: &Value) -> Result<&Array, Refusal>
@@ -90,33 +90,33 @@ fn array_in(value: &Value) -> Result<&Array, Refusal>
     }
 }
 
-fn every(filter: Filter) -> Rule
-    ensures { rule_of result ≡ every filter }
+fn every(filter: Filter) -> Condition
+    ensures { condition_of result ≡ every filter }
 {
-    if filter.rules.is_empty() {
-        Rule::Any(filter)
+    if filter.conditions.is_empty() {
+        Condition::Any(filter)
     } else {
-        Rule::All(filter)
+        Condition::All(filter)
     }
 }
 
-fn exists(alloc: Global, value: &Value) -> Result<Rule, Refusal>
-    ensures { Gives rule_of (exists (tree value.now)) result }
+fn exists(alloc: Global, value: &Value) -> Result<Condition, Refusal>
+    ensures { Gives condition_of (exists (tree value.now)) result }
 {
     match value {
-        Value::Bool(true) => Ok(Rule::Is(Test::There)),
-        Value::Bool(false) => Ok(Rule::NotAll(just(alloc, Rule::Is(Test::There))?)),
+        Value::Bool(true) => Ok(Condition::Is(Predicate::There)),
+        Value::Bool(false) => Ok(Condition::NotAll(just(alloc, Condition::Is(Predicate::There))?)),
         _ => Err(Refusal::TypeMismatch),
     }
 }
 
-/// The rule of an operator that looks at values.
+/// The condition of an operator that looks at values.
 pub(crate) fn read_operation(
     alloc: Global,
     operator: Operator,
     value: &Value,
-) -> Result<Rule, Refusal>
-    ensures { Gives rule_of (read_operation operator (tree value.now)) result }
+) -> Result<Condition, Refusal>
+    ensures { Gives condition_of (read_operation operator (tree value.now)) result }
 {
     match operator {
         Operator::Equal => Ok(equal(value)?),
@@ -124,12 +124,12 @@ pub(crate) fn read_operation(
         Operator::AtLeast => order_operand(Comparison::AtLeast, value),
         Operator::Below => order_operand(Comparison::Below, value),
         Operator::AtMost => order_operand(Comparison::AtMost, value),
-        Operator::In => Ok(Rule::Any(equals(alloc, array_in(value)?)?)),
+        Operator::In => Ok(Condition::Any(equals(alloc, array_in(value)?)?)),
         Operator::Exists => exists(alloc, value),
-        Operator::Type => Ok(Rule::Is(Test::OfKinds(all_kinds(alloc, value)?))),
+        Operator::Type => Ok(Condition::Is(Predicate::OfKinds(all_kinds(alloc, value)?))),
         Operator::All => Ok(every(equals(alloc, array_in(value)?)?)),
-        Operator::Size => Ok(Rule::Is(Test::Size(size_in(value)?))),
-        Operator::NotEqual => Ok(Rule::NotAll(just(alloc, equal(value)?)?)),
-        Operator::NotIn => Ok(Rule::NotAny(equals(alloc, array_in(value)?)?)),
+        Operator::Size => Ok(Condition::Is(Predicate::Size(size_in(value)?))),
+        Operator::NotEqual => Ok(Condition::NotAll(just(alloc, equal(value)?)?)),
+        Operator::NotIn => Ok(Condition::NotAny(equals(alloc, array_in(value)?)?)),
     }
 }

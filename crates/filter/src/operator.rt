@@ -3,7 +3,7 @@
 ghost use Rattle.std.specs.Prelude.{◌≡◌};
 ghost use Rattle.bson.specs.View.{tree, items_of};
 ghost use Rattle.path.specs.View.{Gives};
-ghost use Rattle.filter.specs.Words.{operator_of, kind_named, kind_counted, kind_numbered, kinds_named, known, kinds_in, each_kind, all_kinds, counted, size_in};
+ghost use Rattle.filter.specs.Words.{operator_of, kind_named, kind_counted, kind_numbered, kinds_named, only_kind, kinds_in, each_kind, all_kinds, size_of, size_in};
 
 use bson::{Array, Kind, Value};
 use path::Refusal;
@@ -101,8 +101,8 @@ fn kind_numbered(number: i64) -> Option<Kind>
 }
 
 /// The one kind that was found.
-fn known(alloc: Global, kind: Option<Kind>) -> Result<Vec<Kind>, Refusal>
-    ensures { Gives (λ v. v.items) (known kind) result }
+fn only_kind(alloc: Global, kind: Option<Kind>) -> Result<Vec<Kind>, Refusal>
+    ensures { Gives (λ v. v.items) (only_kind kind) result }
 {
     let Some(kind) = kind else {
         return Err(Refusal::BadValue);
@@ -121,7 +121,7 @@ fn kinds_named(alloc: Global, name: &str) -> Result<Vec<Kind>, Refusal>
         kinds.push(Kind::Int64)?;
         return Ok(kinds);
     }
-    known(alloc, kind_named(name))
+    only_kind(alloc, kind_named(name))
 }
 
 /// The kinds that a name or a number stands for.
@@ -130,8 +130,8 @@ fn kinds_in(alloc: Global, value: &Value) -> Result<Vec<Kind>, Refusal>
 {
     match value {
         Value::String(name) => kinds_named(alloc, name.as_str()),
-        Value::Int32(number) => known(alloc, kind_numbered(i64::from(*number))),
-        Value::Int64(number) => known(alloc, kind_numbered(*number)),
+        Value::Int32(number) => only_kind(alloc, kind_numbered(i64::from(*number))),
+        Value::Int64(number) => only_kind(alloc, kind_numbered(*number)),
         _ => Err(Refusal::TypeMismatch),
     }
 }
@@ -157,8 +157,8 @@ pub(crate) fn all_kinds(alloc: Global, value: &Value) -> Result<Vec<Kind>, Refus
     }
 }
 
-fn counted(number: i64) -> Result<usize, Refusal>
-    ensures { Gives (λ n. n) (counted number) result }
+fn size_of(number: i64) -> Result<usize, Refusal>
+    ensures { Gives (λ n. n) (size_of number) result }
 {
     if number < 0 {
         return Err(Refusal::BadValue);
@@ -171,8 +171,8 @@ pub(crate) fn size_in(value: &Value) -> Result<usize, Refusal>
     ensures { Gives (λ n. n) (size_in (tree value.now)) result }
 {
     match value {
-        Value::Int32(number) => counted(i64::from(*number)),
-        Value::Int64(number) => counted(*number),
+        Value::Int32(number) => size_of(i64::from(*number)),
+        Value::Int64(number) => size_of(*number),
         _ => Err(Refusal::BadValue),
     }
 }

@@ -3,12 +3,12 @@
 ghost use Rattle.std.specs.Prelude.{◌≡◌};
 ghost use Rattle.bson.specs.View.{tree};
 ghost use Rattle.path.specs.View.{Gives};
-ghost use Rattle.filter.specs.Reading.{condition, operation, read_filter, read_members, read_filters, read_member, read_operand, read_operators, read_element, read_not};
-ghost use Rattle.filter.specs.View.{rule_of};
+ghost use Rattle.filter.specs.Reading.{named_condition, operation, read_filter, read_members, read_filters, read_member, read_operand, read_operators, read_element, read_not};
+ghost use Rattle.filter.specs.View.{condition_of};
 
+use crate::condition::{Condition, Filter};
 use crate::operands::{equal, has_operators, just, path_in, read_operation};
 use crate::operator::operator_of;
-use crate::rule::{Filter, Rule};
 use bson::{Array, Document, Value};
 use path::Refusal;
 use std::alloc::Global;
@@ -27,30 +27,31 @@ impl Filter {
 fn read_filter(alloc: Global, document: &Document) -> Result<Filter, Refusal>
     ensures { Gives (λ f. f) (read_filter document.now) result }
 {
-    let mut rules = Vec::with_capacity(alloc, document.len())?;
+    let mut conditions = Vec::with_capacity(alloc, document.len())?;
     'pairs: for pair in document.pairs() {
-        let rule = read_condition(alloc, pair.name.as_str(), &pair.value)?;
-        rules.push(rule)?;
+        let condition = read_condition(alloc, pair.name.as_str(), &pair.value)?;
+        conditions.push(condition)?;
     }
-    Ok(Filter { rules })
+    Ok(Filter { conditions })
 }
 
 /// One pair: a list of filters, or a path and what is asked there.
 #[cycle(reading)]
-fn read_condition(alloc: Global, name: &str, value: &Value) -> Result<Rule, Refusal>
-    ensures { Gives rule_of (condition name.now (read_members (tree value.now)) (read_operand (tree value.now))) result }
+fn read_condition(alloc: Global, name: &str, value: &Value) -> Result<Condition, Refusal>
+    ensures { Gives condition_of (named_condition name.now (read_members (tree value.now))
+        (read_operand (tree value.now))) result }
 {
     if name == "$and" {
-        return Ok(Rule::All(read_members(alloc, value)?));
+        return Ok(Condition::All(read_members(alloc, value)?));
     }
     if name == "$or" {
-        return Ok(Rule::Any(read_members(alloc, value)?));
+        return Ok(Condition::Any(read_members(alloc, value)?));
     }
     if name == "$nor" {
-        return Ok(Rule::NotAny(read_members(alloc, value)?));
+        return Ok(Condition::NotAny(read_members(alloc, value)?));
     }
     let path = path_in(alloc, name)?;
-    Ok(Rule::At(path, read_operand(alloc, value)?))
+    Ok(Condition::At(path, read_operand(alloc, value)?))
 }
 
 /// A list of filters that isn't empty.
@@ -69,20 +70,20 @@ fn read_members(alloc: Global, value: &Value) -> Result<Filter, Refusal>
 fn read_filters(alloc: Global, array: &Array) -> Result<Filter, Refusal>
     ensures { Gives (λ f. f) (read_filters array.now) result }
 {
-    let mut rules = Vec::with_capacity(alloc, array.len())?;
+    let mut conditions = Vec::with_capacity(alloc, array.len())?;
     'items: for item in array.items() {
-        let rule = read_member(alloc, item)?;
-        rules.push(rule)?;
+        let condition = read_member(alloc, item)?;
+        conditions.push(condition)?;
     }
-    Ok(Filter { rules })
+    Ok(Filter { conditions })
 }
 
 #[cycle(reading)]
-fn read_member(alloc: Global, value: &Value) -> Result<Rule, Refusal>
-    ensures { Gives rule_of (read_member (tree value.now)) result }
+fn read_member(alloc: Global, value: &Value) -> Result<Condition, Refusal>
+    ensures { Gives condition_of (read_member (tree value.now)) result }
 {
     match value {
-        Value::Document(document) => Ok(Rule::All(read_filter(alloc, document)?)),
+        Value::Document(document) => Ok(Condition::All(read_filter(alloc, document)?)),
         _ => Err(Refusal::TypeMismatch),
     }
 }
@@ -102,17 +103,18 @@ fn read_operand(alloc: Global, value: &Value) -> Result<Filter, Refusal>
 fn read_operators(alloc: Global, document: &Document) -> Result<Filter, Refusal>
     ensures { Gives (λ f. f) (read_operators document.now) result }
 {
-    let mut rules = Vec::with_capacity(alloc, document.len())?;
+    let mut conditions = Vec::with_capacity(alloc, document.len())?;
     'pairs: for pair in document.pairs() {
-        let rule = read_operator(alloc, pair.name.as_str(), &pair.value)?;
-        rules.push(rule)?;
+        let condition = read_operator(alloc, pair.name.as_str(), &pair.value)?;
+        conditions.push(condition)?;
     }
-    Ok(Filter { rules })
+    Ok(Filter { conditions })
 }
 
 #[cycle(reading)]
-fn read_operator(alloc: Global, name: &str, value: &Value) -> Result<Rule, Refusal>
-    ensures { Gives rule_of (operation name.now (read_element (tree value.now)) (read_not (tree value.now)) (tree value.now)) result }
+fn read_operator(alloc: Global, name: &str, value: &Value) -> Result<Condition, Refusal>
+    ensures { let operand = tree value.now in
+        Gives condition_of (operation name.now (read_element operand) (read_not operand) operand) result }
 {
     if name == "$elemMatch" {
         return read_element(alloc, value);
@@ -128,25 +130,25 @@ fn read_operator(alloc: Global, name: &str, value: &Value) -> Result<Rule, Refus
 
 /// What `$elemMatch` asks of one element.
 #[cycle(reading)]
-fn read_element(alloc: Global, value: &Value) -> Result<Rule, Refusal>
-    ensures { Gives rule_of (read_element (tree value.now)) result }
+pub(crate) fn read_element(alloc: Global, value: &Value) -> Result<Condition, Refusal>
+    ensures { Gives condition_of (read_element (tree value.now)) result }
 {
     match value {
         Value::Document(document) if has_operators(document) => {
-            Ok(Rule::Element(read_operators(alloc, document)?))
+            Ok(Condition::Element(read_operators(alloc, document)?))
         }
-        Value::Document(document) => Ok(Rule::ElementDocument(read_filter(alloc, document)?)),
+        Value::Document(document) => Ok(Condition::ElementDocument(read_filter(alloc, document)?)),
         _ => Err(Refusal::TypeMismatch),
     }
 }
 
 #[cycle(reading)]
-fn read_not(alloc: Global, value: &Value) -> Result<Rule, Refusal>
-    ensures { Gives rule_of (read_not (tree value.now)) result }
+fn read_not(alloc: Global, value: &Value) -> Result<Condition, Refusal>
+    ensures { Gives condition_of (read_not (tree value.now)) result }
 {
     match value {
         Value::Document(document) if has_operators(document) => {
-            Ok(Rule::NotAll(read_operators(alloc, document)?))
+            Ok(Condition::NotAll(read_operators(alloc, document)?))
         }
         Value::Document(_) => Err(Refusal::BadValue),
         _ => Err(Refusal::TypeMismatch),

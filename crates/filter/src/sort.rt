@@ -3,7 +3,7 @@
 ghost use Rattle.std.specs.Prelude.{◌≡◌, ◌==◌, [], IfOk, length};
 ghost use Rattle.bson.specs.View.{tree};
 ghost use Rattle.path.specs.View.{Gives};
-ghost use Rattle.filter.specs.Sort.{direction_of, direction_in, read_field, read_sort};
+ghost use Rattle.filter.specs.SortReading.{direction_of, direction_in, read_field, read_sort};
 
 use crate::operands::path_in;
 use bson::{Document, NoMemory, Value};

@@ -4,7 +4,7 @@ ghost use Rattle.std.specs.Prelude.{◌≡◌, ◌<◌, IfOk, OnOk, length, map,
 ghost use Rattle.bson.specs.Tree.{no_pairs};
 ghost use Rattle.path.specs.View.{reached};
 ghost use Rattle.value_order.specs.View.{key_of};
-ghost use Rattle.filter.specs.Sort.{precedes, directed, keys_of, array_keys, sort_key, sorted, order};
+ghost use Rattle.filter.specs.Sort.{precedes, in_direction, keys_of, array_keys, sort_key, sorted, order};
 ghost use Rattle.filter.specs.SortKeys.{field_of, earlier, first_of, document_keys, first_or_null, keys_cmp, keys_held, ranked_cmp, numbered, with_keys, ranked_of, arranged};
 
 use crate::sort::{Field, Sort};
@@ -32,15 +32,16 @@ fn precedes(descending: bool, order: Ordering) -> bool
     }
 }
 
-fn directed(descending: bool, order: Ordering) -> Ordering
-    ensures { result ≡ directed descending order }
+fn in_direction(descending: bool, order: Ordering) -> Ordering
+    ensures { result ≡ in_direction descending order }
 {
     if descending { order.reverse() } else { order }
 }
 
 /// The first of what was found before and one key more.
 fn earlier<'a>(descending: bool, found: Option<KeyPart<'a>>, key: KeyPart<'a>) -> KeyPart<'a>
-    ensures { key_of result ≡ earlier descending (option_map key_of found.entry) (key_of key.entry) }
+    ensures { key_of result
+        ≡ earlier descending (option_map key_of found.entry) (key_of key.entry) }
 {
     match found {
         None => key,
@@ -60,7 +61,8 @@ fn first_in_array<'a>(
     found: Option<KeyPart<'a>>,
     array: &'a Array,
 ) -> Option<KeyPart<'a>>
-    ensures { option_map key_of result ≡ first_of descending (option_map key_of found.entry) (array_keys array.now) }
+    ensures { option_map key_of result
+        ≡ first_of descending (option_map key_of found.entry) (array_keys array.now) }
 {
     if array.is_empty() {
         return Some(earlier(descending, found, KeyPart::EmptyArray));
@@ -78,7 +80,8 @@ fn first_reached<'a>(
     found: Option<KeyPart<'a>>,
     end: Reached<'a>,
 ) -> Option<KeyPart<'a>>
-    ensures { option_map key_of result ≡ first_of descending (option_map key_of found.entry) (keys_of (reached end.entry)) }
+    ensures { option_map key_of result
+        ≡ first_of descending (option_map key_of found.entry) (keys_of (reached end.entry)) }
 {
     match end {
         Reached::Missing => Some(earlier(descending, found, KeyPart::Nothing)),
@@ -122,7 +125,7 @@ fn compare_lists(fields: &[Field], a: &[KeyPart<'_>], b: &[KeyPart<'_>]) -> Orde
 {
     'fields: for (i, field) in fields.iter().enumerate() {
         let order = compare_keys(&key_at(a, i), &key_at(b, i));
-        match directed(field.descending, order) {
+        match in_direction(field.descending, order) {
             Ordering::Equal => {}
             order => return order,
         }
@@ -171,7 +174,8 @@ impl Sort {
     }
 
     fn rank_shared<'a>(&self, documents: &[&'a Document]) -> Result<Vec<Ranked<'a>>, NoMemory>
-        ensures { IfOk result (λ v. map ranked_of v.items ≡ map (with_keys self.now) (numbered 0 (map (λ d. d.now) documents.now))) }
+        ensures { IfOk result (λ v. map ranked_of v.items
+            ≡ map (with_keys self.now) (numbered 0 (map (λ d. d.now) documents.now))) }
     {
         let mut all = Vec::with_capacity(*self.fields.allocator(), documents.len())?;
         'documents: for document in documents {
@@ -182,7 +186,8 @@ impl Sort {
     }
 
     fn rank_all<'a>(&self, documents: &'a [Document]) -> Result<Vec<Ranked<'a>>, NoMemory>
-        ensures { IfOk result (λ v. map ranked_of v.items ≡ map (with_keys self.now) (numbered 0 documents.now)) }
+        ensures { IfOk result (λ v. map ranked_of v.items
+            ≡ map (with_keys self.now) (numbered 0 documents.now)) }
     {
         let mut all = Vec::with_capacity(*self.fields.allocator(), documents.len())?;
         'documents: for document in documents {
@@ -206,7 +211,8 @@ impl Sort {
         &self,
         documents: Vec<&'a Document>,
     ) -> Result<Vec<&'a Document>, NoMemory>
-        ensures { IfOk result (λ v. map (λ d. d.now) v.items ≡ order self.now (map (λ d. d.now) documents.entry.items)) }
+        ensures { IfOk result (λ v. map (λ d. d.now) v.items
+            ≡ order self.now (map (λ d. d.now) documents.entry.items)) }
     {
         let mut all = self.rank_shared(&documents)?;
         self.sort_ranked(&mut all)?;

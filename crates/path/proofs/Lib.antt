@@ -1,4 +1,4 @@
-pub mod Names
-pub mod Indexes
-pub mod Walks
-pub mod EditLaws
+pub mod NameLemmas
+pub mod IndexLemmas
+pub mod WalkLemmas
+pub mod EditLemmas

@@ -7,7 +7,6 @@ use Rattle.bson.specs.Lawful.{levels}
 use Rattle.bson.specs.Lookup.{lookup}
 use Rattle.bson.specs.Edits.{items_len, item_at, with_item, put, cut}
 use Rattle.path.specs.Parts.{index_of}
-use Rattle.path.specs.declared.TheConstants.{MOST_NULLS}
 use Rattle.path.specs.declared.refusal.Refusal.{Refusal}
 use Rattle.path.specs.declared.refusal.Refusal.TheVariants as refusals
 
@@ -31,31 +30,36 @@ within most (Err e) = Err e
 
 -- `made` gives what is to stand at the field from what stands there, if anything does. A document is at level 1 at
 -- least, and no document nests more than 100 levels.
-abbrev pub set_field : (Option Tree → Result Tree Refusal) → List ℕ → Pairs → Result Pairs Refusal
-set_field made name ps = if_ok (within 99 (made (lookup ps name))) (λ u. Ok (put ps name u))
+abbrev pub write_field : (Option Tree → Result Tree Refusal) → List ℕ → Pairs → Result Pairs Refusal
+write_field made name ps = if_ok (within 99 (made (lookup ps name))) (λ u. Ok (put ps name u))
 
--- an array is at level 2 at least
-abbrev pub set_item_at : (Option Tree → Result Tree Refusal) → ℕ → Items → Result Items Refusal
-set_item_at made i ts =
-    if nat_lt (items_len ts + MOST_NULLS) i then Err refusals.BadValue else
+-- An array is at level 2 at least. At most 1,000 nulls come before an element past the end.
+abbrev pub write_item_at : (Option Tree → Result Tree Refusal) → ℕ → Items → Result Items Refusal
+write_item_at made i ts =
+    if nat_lt (items_len ts + 1000) i then Err refusals.BadValue else
     if_ok (within 98 (made (item_at ts i))) (λ u. Ok (put_item ts i u))
 
-abbrev pub set_item : (Option Tree → Result Tree Refusal) → Option ℕ → Items → Result Items Refusal
-set_item made None ts = Err refusals.PathNotViable
-set_item made (Some i) ts = set_item_at made i ts
+abbrev pub write_item : (Option Tree → Result Tree Refusal) → Option ℕ → Items → Result Items Refusal
+write_item made None ts = Err refusals.PathNotViable
+write_item made (Some i) ts = write_item_at made i ts
 
--- What stands at the front of these parts once `new` stands at their end. Where nothing stands there, documents are
--- made on the way. An array needs a part that is an index. Any other value on the way is refused.
-abbrev pub set : List (List ℕ) → Tree → Option Tree → Result Tree Refusal
-set [] new old = Ok new
-set (name ∷ rest) new None = if_ok (set_field (set rest new) name no_pairs) (λ ps. Ok (document ps))
-set (name ∷ rest) new (Some (scalar s)) = Err refusals.PathNotViable
-set (name ∷ rest) new (Some (document ps)) = if_ok (set_field (set rest new) name ps) (λ qs. Ok (document qs))
-set (name ∷ rest) new (Some (array ts)) = if_ok (set_item (set rest new) (index_of name) ts) (λ us. Ok (array us))
+module _ (made : Option Tree → Result Tree Refusal) where
+  -- What stands at the front of these parts once what `made` gives stands at their end. Where nothing stands there,
+  -- documents are made on the way. An array needs a part that is an index. Any other value on the way is refused.
+  abbrev pub write : List (List ℕ) → Option Tree → Result Tree Refusal
+  write [] old = made old
+  write (name ∷ rest) None = if_ok (write_field (write rest) name no_pairs) (λ ps. Ok (document ps))
+  write (name ∷ rest) (Some (scalar s)) = Err refusals.PathNotViable
+  write (name ∷ rest) (Some (document ps)) = if_ok (write_field (write rest) name ps) (λ qs. Ok (document qs))
+  write (name ∷ rest) (Some (array ts)) = if_ok (write_item (write rest) (index_of name) ts) (λ us. Ok (array us))
 
+  abbrev pub write_at : List (List ℕ) → Pairs → Result Pairs Refusal
+  write_at [] ps = Ok ps
+  write_at (name ∷ rest) ps = write_field (write rest) name ps
+
+-- a document with this value at the path, whatever stood there
 abbrev pub set_at : List (List ℕ) → Tree → Pairs → Result Pairs Refusal
-set_at [] new ps = Ok ps
-set_at (name ∷ rest) new ps = set_field (set rest new) name ps
+set_at parts new ps = write_at (λ old. Ok new) parts ps
 
 -- ---- removing
 

@@ -1,9 +1,17 @@
--- The words of the faults of paths, and what each is refused with.
+-- The numbers and words of the faults of paths, and what each is refused with.
 use Rattle.std.specs.Prelude.{ℕ, List, codes}
 use Rattle.path.specs.declared.fault.PathFault.{PathFault}
 use Rattle.path.specs.declared.fault.PathFault.TheVariants as faults
 use Rattle.path.specs.declared.refusal.Refusal.{Refusal}
 use Rattle.path.specs.declared.refusal.Refusal.TheVariants as refusals
+
+abbrev pub path_fault_number : PathFault → ℕ
+path_fault_number faults.Empty = 1
+path_fault_number faults.EmptyPart = 2
+path_fault_number faults.Dollar = 3
+path_fault_number faults.TooLong = 4
+path_fault_number faults.Zero = 5
+path_fault_number faults.Memory = 6
 
 abbrev pub path_fault_name : PathFault → List ℕ
 path_fault_name faults.Empty = codes "Empty"

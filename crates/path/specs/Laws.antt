@@ -1,12 +1,13 @@
 -- What an edit at a path leaves as it was, said apart from how the edit is made.
-use Rattle.std.specs.Prelude.{◌≡◌, ◌≢◌, ℕ, suc, max, ◌<◌, ◌≤◌, if◌then◌else◌, Option, Some, None, Ok, List, [], ◌∷◌, ◌⊎◌}
+use Rattle.std.specs.Prelude.{◌≡◌, ◌≢◌, ℕ, suc, max, ◌<◌, ◌≤◌, if◌then◌else◌, Option, Some, None, Result, Ok, List, [], ◌∷◌, ◌⊎◌}
+use Rattle.path.specs.declared.refusal.Refusal.{Refusal}
 use Rattle.std.specs.Str.{bytes_eq}
 use Rattle.bson.specs.Tree.{Tree, scalar, null, document, array, Pairs, no_pairs, pair, Items}
 use Rattle.bson.specs.Lawful.{IsPairs}
 use Rattle.bson.specs.Lookup.{lookup}
 use Rattle.bson.specs.Edits.{items_len, item_at}
 use Rattle.path.specs.Parts.{index_of}
-use Rattle.path.specs.Edits.{set_at, cut_at}
+use Rattle.path.specs.Edits.{write_at, cut_at}
 
 abbrev pub names : Pairs → List (List ℕ)
 names no_pairs = []
@@ -38,25 +39,41 @@ abbrev pub WritesItemAt : (Option Tree → Tree → Type 0) → Option ℕ → I
 WritesItemAt Below None ts us = ⊥
 WritesItemAt Below (Some i) ts us = WritesItem Below i ts us
 
--- What stands at the front of the parts became `now`: at their end stands the new value, and besides it nothing changed
--- but the documents and nulls that were made on the way.
-abbrev pub Writes : List (List ℕ) → Tree → Option Tree → Tree → Type 0
-Writes [] new old now = now ≡ new
-Writes (name ∷ rest) new None (document qs) = WritesField (Writes rest new) name no_pairs qs
-Writes (name ∷ rest) new (Some (document ps)) (document qs) = WritesField (Writes rest new) name ps qs
-Writes (name ∷ rest) new (Some (array ts)) (array us) = WritesItemAt (Writes rest new) (index_of name) ts us
-Writes (name ∷ rest) new old now = ⊥
+-- What stands at the front of the parts became `now`: at their end `End` says what came of what stood there, and besides
+-- it nothing changed but the documents and nulls that were made on the way.
+module _ (End : Option Tree → Tree → Type 0) where
+  abbrev pub Writes : List (List ℕ) → Option Tree → Tree → Type 0
+  Writes [] old now = End old now
+  Writes (name ∷ rest) None (document qs) = WritesField (Writes rest) name no_pairs qs
+  Writes (name ∷ rest) (Some (document ps)) (document qs) = WritesField (Writes rest) name ps qs
+  Writes (name ∷ rest) (Some (array ts)) (array us) = WritesItemAt (Writes rest) (index_of name) ts us
+  Writes (name ∷ rest) old now = ⊥
+
+abbrev pub Made : (Option Tree → Result Tree Refusal) → Option Tree → Tree → Type 0
+Made made old now = made old ≡ Ok now
 
 abbrev pub WritesOnlyThere : Type 0
-WritesOnlyThere = (name : List ℕ) (rest : List (List ℕ)) (new : Tree) (ps qs : Pairs) → set_at (name ∷ rest) new ps ≡ Ok qs → Writes (name ∷ rest) new (Some (document ps)) (document qs)
+WritesOnlyThere =
+    (made : Option Tree → Result Tree Refusal) (name : List ℕ) (rest : List (List ℕ)) (ps qs : Pairs)
+    → write_at made (name ∷ rest) ps ≡ Ok qs → Writes (Made made) (name ∷ rest) (Some (document ps)) (document qs)
 
 -- ---- removing
 
--- The field went, or `Below` says what is left of it. The others are as they were.
+abbrev pub without_name : List (List ℕ) → List ℕ → List (List ℕ)
+without_name [] name = []
+without_name (other ∷ others) name = if bytes_eq name other then others else other ∷ without_name others name
+
+-- the names once this is what is left of the field
+abbrev pub names_left : Option Tree → List (List ℕ) → List ℕ → List (List ℕ)
+names_left None others name = without_name others name
+names_left (Some t) others name = others
+
+-- The field went, or `Below` says what is left of it. The others are as they were, in order.
 pub record CutsField (Below : Tree → Option Tree → Type 0) (name : List ℕ) (ps qs : Pairs) : Type 0 where
   pub absent : lookup ps name ≡ None → qs ≡ ps
   pub there : (t : Tree) → lookup ps name ≡ Some t → Below t (lookup qs name)
   pub others : (other : List ℕ) → other ≢ name → lookup qs other ≡ lookup ps other
+  pub order : names qs ≡ names_left (lookup qs name) (names ps) name
 
 -- An element became null, or `Below` says what is left of it. The others are as they were.
 pub record CutsItem (Below : Tree → Option Tree → Type 0) (i : ℕ) (ts us : Items) : Type 0 where

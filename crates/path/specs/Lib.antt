@@ -4,6 +4,7 @@ pub mod Parts
 pub mod View
 pub mod Outcomes
 pub mod Reach
+pub mod Place
 pub mod Edits
 pub mod Laws
 pub mod Rows

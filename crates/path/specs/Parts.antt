@@ -1,10 +1,9 @@
 -- A path is parts joined by dots. A part isn't empty, doesn't begin with `$` and has no zero byte, and a path has at
 -- most 255 bytes.
-use Rattle.std.specs.Prelude.{ℕ, ◌≡◌, ◌+◌, ◌-◌, ◌*◌, ◌==◌, nat_lt, nat_le, ◌&&◌, Bool, true, false, if◌then◌else◌, Option, Some, None, Result, Ok, Err, List, [], ◌∷◌, length}
+use Rattle.std.specs.Prelude.{ℕ, ◌≡◌, ◌+◌, ◌-◌, ◌*◌, ◌==◌, nat_lt, nat_le, ◌&&◌, ◌||◌, Bool, true, false, if◌then◌else◌, Option, Some, None, Result, Ok, Err, List, [], ◌∷◌, length}
 use Rattle.std.specs.Str.{bytes_eq}
 use Rattle.std.specs.List.{slice_split, list_any, list_all}
 use Rattle.bson.specs.Lawful.{IsName}
-use Rattle.path.specs.declared.TheConstants.{PATH_LIMIT}
 use Rattle.path.specs.declared.fault.PathFault.{PathFault}
 use Rattle.path.specs.declared.fault.PathFault.TheVariants as faults
 
@@ -29,7 +28,7 @@ path_fault text parts =
     if is_empty text then Some faults.Empty else
     if list_any is_empty parts then Some faults.EmptyPart else
     if list_any begins_with_dollar parts then Some faults.Dollar else
-    if nat_lt PATH_LIMIT (length text) then Some faults.TooLong else
+    if nat_lt 255 (length text) then Some faults.TooLong else
     if list_any has_zero parts then Some faults.Zero else
     None
 
@@ -78,3 +77,7 @@ abbrev pub is_front : List (List ℕ) → List (List ℕ) → Bool
 is_front [] others = true
 is_front (name ∷ names) [] = false
 is_front (name ∷ names) (other ∷ others) = bytes_eq name other && is_front names others
+
+-- one of the two is the other or leads to it
+abbrev pub meets : List (List ℕ) → List (List ℕ) → Bool
+meets a b = is_front a b || is_front b a

@@ -1,7 +1,7 @@
 //! Why a text is no path.
 
 ghost use Rattle.std.specs.Prelude.{◌≡◌};
-ghost use Rattle.path.specs.FaultNames.{path_fault_name, fault_refusal};
+ghost use Rattle.path.specs.FaultNames.{path_fault_number, path_fault_name, fault_refusal};
 ghost use Rattle.path.specs.declared.fault.PathFault.TheVariants.{Memory};
 
 use crate::refusal::Refusal;
@@ -25,6 +25,13 @@ pub enum PathFault {
 }
 
 impl PathFault {
+    /// The fault's number.
+    pub fn number(self) -> u8
+        ensures { result ≡ path_fault_number self }
+    {
+        self as u8
+    }
+
     /// The fault's word.
     pub fn name(self) -> &'static str
         ensures { result.now ≡ path_fault_name self }

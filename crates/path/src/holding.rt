@@ -66,7 +66,8 @@ pub(crate) fn put_item(array: &mut Array, at: usize, value: Value)
 pub(crate) fn add_field(document: &mut Document, part: &Part, value: Value) -> Result<(), NoMemory>
     requires new { Lacks document.old part.now }
     requires levels { levels (tree value) ≤ 99 }
-    ensures { OnOk result (document.new ≡ append document.old (pair part.now (tree value) no_pairs)) }
+    ensures { OnOk result (document.new
+        ≡ append document.old (pair part.now (tree value) no_pairs)) }
 {
     match document.push(part.as_str(), value) {
         Ok(()) => Ok(()),

@@ -1,7 +1,8 @@
 //! Paths: what a path reaches in a document, and writing and removing at one.
 //!
-//! `part` has a path's names, `parsing` reads a path, `reaching` finds what it reaches, `setting` and `removing`
-//! change a document at it; `refusal` is the table of all refusals of commands.
+//! `part` has a path's names, `parsing` reads a path, `reaching` finds what it reaches, `place` the one place that an
+//! edit's path names, `setting` and `removing` change a document there; `refusal` is the table of all refusals of
+//! commands.
 #![tactic(auto)]
 
 mod fault;
@@ -9,6 +10,7 @@ mod holding;
 pub mod laws;
 mod parsing;
 mod part;
+mod place;
 mod reaching;
 mod refusal;
 mod removing;
@@ -17,10 +19,11 @@ mod setting;
 pub use fault::PathFault;
 pub use parsing::Path;
 pub use part::Part;
-pub use reaching::{Reached, numbered, reach};
+pub use place::{passes_array, value_at};
+pub use reaching::{Reached, item_of_part, reach};
 pub use refusal::Refusal;
-pub use removing::{remove_at, without};
-pub use setting::{with, write_at};
+pub use removing::{remove_at, remove_from, take_from};
+pub use setting::{NewValue, write_at, write_into, write_new};
 
 /// The most bytes of a path.
 pub const PATH_LIMIT: usize = 255;

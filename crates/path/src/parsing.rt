@@ -2,7 +2,7 @@
 
 ghost use Rattle.std.specs.Prelude.{◌≡◌, ◌∷◌, IfOk, map};
 ghost use Rattle.std.specs.List.{list_any};
-ghost use Rattle.path.specs.Parts.{parts_of, path_fault, path_of, is_empty, begins_with_dollar, has_zero, is_front};
+ghost use Rattle.path.specs.Parts.{parts_of, path_fault, path_of, is_empty, begins_with_dollar, has_zero, is_front, meets};
 ghost use Rattle.path.specs.View.{ReadsAs};
 
 use crate::PATH_LIMIT;
@@ -35,59 +35,44 @@ fn split(alloc: Global, text: &str) -> Result<Vec<&str>, NoMemory>
     text.split('.').collect(alloc)
 }
 
-/// The first of the faults that a text with these parts has.
-fn fault_of(text: &str, parts: &[&str]) -> Option<PathFault>
-    ensures { result ≡ path_fault text.now (map (λ n. n.now) parts.now) }
+/// The first of the faults that the text has, found without a list of its parts.
+fn fault_of(text: &str) -> Option<PathFault>
+    ensures { result ≡ path_fault text.now (parts_of text.now) }
 {
     if is_empty(text) {
         return Some(PathFault::Empty);
     }
-    if any_is_empty(parts) {
+    if any_is_empty(text) {
         return Some(PathFault::EmptyPart);
     }
-    if any_begins_with_dollar(parts) {
+    if any_begins_with_dollar(text) {
         return Some(PathFault::Dollar);
     }
     if PATH_LIMIT < text.len() {
         return Some(PathFault::TooLong);
     }
-    if any_has_zero(parts) {
+    if any_has_zero(text) {
         return Some(PathFault::Zero);
     }
     None
 }
 
-fn any_is_empty(parts: &[&str]) -> bool
-    ensures { result ≡ list_any is_empty (map (λ n. n.now) parts.now) }
+fn any_is_empty(text: &str) -> bool
+    ensures { result ≡ list_any is_empty (parts_of text.now) }
 {
-    'parts: for part in parts {
-        if is_empty(part) {
-            return true;
-        }
-    }
-    false
+    text.split('.').any(|part| is_empty(part))
 }
 
-fn any_begins_with_dollar(parts: &[&str]) -> bool
-    ensures { result ≡ list_any begins_with_dollar (map (λ n. n.now) parts.now) }
+fn any_begins_with_dollar(text: &str) -> bool
+    ensures { result ≡ list_any begins_with_dollar (parts_of text.now) }
 {
-    'parts: for part in parts {
-        if begins_with_dollar(part) {
-            return true;
-        }
-    }
-    false
+    text.split('.').any(|part| begins_with_dollar(part))
 }
 
-fn any_has_zero(parts: &[&str]) -> bool
-    ensures { result ≡ list_any has_zero (map (λ n. n.now) parts.now) }
+fn any_has_zero(text: &str) -> bool
+    ensures { result ≡ list_any has_zero (parts_of text.now) }
 {
-    'parts: for part in parts {
-        if has_zero(part) {
-            return true;
-        }
-    }
-    false
+    text.split('.').any(|part| has_zero(part))
 }
 
 fn is_empty(part: &str) -> bool
@@ -119,10 +104,10 @@ impl Path {
     pub fn parse(alloc: Global, text: &str) -> Result<Path, PathFault>
         ensures { ReadsAs (path_of text.now) result }
     {
-        let names = split(alloc, text)?;
-        if let Some(fault) = fault_of(text, &names) {
+        if let Some(fault) = fault_of(text) {
             return Err(fault);
         }
+        let names = split(alloc, text)?;
         let mut parts = Vec::with_capacity(alloc, names.len())?;
         'names: for name in &names {
             parts.push(Part::new(alloc, name)?)?;
@@ -171,5 +156,12 @@ impl Path {
             }
         }
         true
+    }
+
+    /// Whether one of the two paths is the other or leads to it.
+    pub fn meets(&self, other: &Path) -> bool
+        ensures { result ≡ meets self.now other.now }
+    {
+        self.is_front_of(other) || other.is_front_of(self)
     }
 }

@@ -41,7 +41,8 @@ pub fn reach<'a>(
 /// Puts what the parts reach from a value behind what was reached before.
 #[cycle(gathering)]
 fn gather<'a>(value: &'a Value, parts: &[Part], out: &mut Vec<Reached<'a>>) -> Result<(), NoMemory>
-    ensures { OnOk result (map reached out.new.items ≡ map reached out.old.items ++ reach parts.now (tree value.now)) }
+    ensures { OnOk result (map reached out.new.items
+        ≡ map reached out.old.items ++ reach parts.now (tree value.now)) }
 {
     let [part, rest @ ..] = parts else {
         out.push(Reached::Value(value))?;
@@ -67,7 +68,8 @@ fn gather_field<'a>(
     out: &mut Vec<Reached<'a>>,
 ) -> Result<(), NoMemory>
     ensures { OnOk result (map reached out.new.items ≡ map reached out.old.items
-        ++ onwards (reach rest.now) (lookup document.now part.now) (if passes_over then [] else None ∷ [])) }
+        ++ onwards (reach rest.now) (lookup document.now part.now)
+        (if passes_over then [] else None ∷ [])) }
 {
     match document.get(part.as_str()) {
         Some(value) => gather(value, rest, out),
@@ -88,7 +90,8 @@ fn gather_items<'a>(
     out: &mut Vec<Reached<'a>>,
 ) -> Result<(), NoMemory>
     ensures { OnOk result (map reached out.new.items ≡ map reached out.old.items
-        ++ (in_elements (reach rest.now) part.now array.now ++ in_place (reach rest.now) part.now array.now)) }
+        ++ (in_elements (reach rest.now) part.now array.now
+        ++ in_place (reach rest.now) part.now array.now)) }
 {
     let items = array.items();
     let is_digits = part.is_digits();
@@ -97,15 +100,16 @@ fn gather_items<'a>(
             gather_field(document, part, rest, is_digits, out)?;
         }
     }
-    match numbered(items, part) {
+    match item_of_part(items, part) {
         Some(item) => gather(item, rest, out),
         None => Ok(()),
     }
 }
 
 /// The item that a part numbers, if it numbers one.
-pub fn numbered<'a>(items: &'a [Value], part: &Part) -> Option<&'a Value>
-    ensures { option_map (λ v. tree v.now) result ≡ option_and_then (item_at (items_of items.now)) (index_of part.now) }
+pub fn item_of_part<'a>(items: &'a [Value], part: &Part) -> Option<&'a Value>
+    ensures { option_map (λ v. tree v.now) result
+        ≡ option_and_then (item_at (items_of items.now)) (index_of part.now) }
 {
     match part.index() {
         Some(at) if at < items.len() => Some(&items[at]),

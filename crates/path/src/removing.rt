@@ -1,9 +1,14 @@
 //! Removing what stands at a path.
 
 ghost use Rattle.std.specs.Prelude.{◌≡◌, Ok, option_map};
+ghost use Rattle.std.specs.Option.{option_and_then};
+ghost use Rattle.bson.specs.Tree.{document};
+ghost use Rattle.bson.specs.Edits.{item_at};
+ghost use Rattle.bson.specs.Lookup.{lookup};
 ghost use Rattle.bson.specs.View.{tree};
 ghost use Rattle.path.specs.Edits.{cut_off, cut_at, cut_field, cut_item};
 ghost use Rattle.path.specs.Parts.{index_of};
+ghost use Rattle.path.specs.Place.{value_at};
 ghost use Rattle.path.specs.View.{Gives};
 
 use crate::holding::{put_field, put_item, take_field, take_item};
@@ -18,64 +23,87 @@ pub fn remove_at(document: &Document, path: &Path) -> Result<Document, Refusal>
     ensures { Gives (λ d. d) (Ok (cut_at path.now document.now)) result }
 {
     let document = document.copy()?;
-    Ok(without(document, path))
+    Ok(remove_from(document, path))
 }
 
 /// The document itself without what stands at the path, as `remove_at` says. It takes no memory.
-pub fn without(document: Document, path: &Path) -> Document
+pub fn remove_from(document: Document, path: &Path) -> Document
     ensures { result ≡ cut_at path.now document }
 {
-    let (part, rest) = path.split_first();
-    cut_field(document, part, rest)
+    let (left, _taken) = take_from(document, path);
+    left
 }
 
-/// What is left of a value without what stands at the end of these parts.
+/// The document without what stands at the path, and what stood there. It takes no memory.
+pub fn take_from(source: Document, path: &Path) -> (Document, Option<Value>)
+    ensures left { result.0 ≡ cut_at path.now source }
+    ensures taken { option_map tree result.1 ≡ value_at path.now (document source) }
+{
+    let (part, rest) = path.split_first();
+    cut_field(source, part, rest)
+}
+
+/// What is left of a value without what stands at the end of these parts, and what stood there.
 #[cycle(removing)]
-fn cut(value: Value, parts: &[Part]) -> Option<Value>
-    ensures { option_map tree result ≡ cut_off parts.now (tree value) }
+fn cut(value: Value, parts: &[Part]) -> (Option<Value>, Option<Value>)
+    ensures left { option_map tree result.0 ≡ cut_off parts.now (tree value) }
+    ensures taken { option_map tree result.1 ≡ value_at parts.now (tree value) }
 {
     let [part, rest @ ..] = parts else {
-        return None;
+        return (None, Some(value));
     };
     match value {
-        Value::Document(document) => Some(Value::Document(cut_field(document, part, rest))),
-        Value::Array(array) => Some(Value::Array(cut_item(array, part, rest))),
-        other => Some(other),
+        Value::Document(document) => {
+            let (left, taken) = cut_field(document, part, rest);
+            (Some(Value::Document(left)), taken)
+        }
+        Value::Array(array) => {
+            let (left, taken) = cut_item(array, part, rest);
+            (Some(Value::Array(left)), taken)
+        }
+        other => (Some(other), None),
     }
 }
 
 #[cycle(removing)]
-fn cut_field(document: Document, part: &Part, rest: &[Part]) -> Document
-    ensures { result ≡ cut_field (cut_off rest.now) part.now document }
+fn cut_field(document: Document, part: &Part, rest: &[Part]) -> (Document, Option<Value>)
+    ensures left { result.0 ≡ cut_field (cut_off rest.now) part.now document }
+    ensures taken { option_map tree result.1
+        ≡ option_and_then (value_at rest.now) (lookup document part.now) }
 {
     let mut document = document;
     let Some(at) = document.position(part.as_str()) else {
-        return document;
+        return (document, None);
     };
     let old = take_field(&mut document, at);
-    match cut(old, rest) {
-        Some(left) => put_field(&mut document, at, left),
-        None => {
-            let _pair = document.remove_at(at);
-        }
-    }
-    document
+    let (left, taken) = cut(old, rest);
+    let Some(left) = left else {
+        let _pair = document.remove_at(at);
+        return (document, taken);
+    };
+    put_field(&mut document, at, left);
+    (document, taken)
 }
 
 #[cycle(removing)]
-fn cut_item(array: Array, part: &Part, rest: &[Part]) -> Array
-    ensures { result ≡ cut_item (cut_off rest.now) (index_of part.now) array }
+fn cut_item(array: Array, part: &Part, rest: &[Part]) -> (Array, Option<Value>)
+    ensures left { result.0 ≡ cut_item (cut_off rest.now) (index_of part.now) array }
+    ensures taken { option_map tree result.1
+        ≡ option_and_then (value_at rest.now)
+        (option_and_then (item_at array) (index_of part.now)) }
 {
     let mut array = array;
     let Some(at) = part.index() else {
-        return array;
+        return (array, None);
     };
     if array.len() <= at {
-        return array;
+        return (array, None);
     }
     let old = take_item(&mut array, at);
-    if let Some(left) = cut(old, rest) {
-        put_item(&mut array, at, left);
-    }
-    array
+    let (left, taken) = cut(old, rest);
+    let Some(left) = left else {
+        return (array, taken);
+    };
+    put_item(&mut array, at, left);
+    (array, taken)
 }

@@ -1,11 +1,11 @@
 //! Writing a value at a path.
 
-ghost use Rattle.std.specs.Prelude.{◌≡◌, ◌≤◌, OnOk, IfOk, option_map};
+ghost use Rattle.std.specs.Prelude.{◌≡◌, ◌≤◌, OnOk, IfOk, Ok, option_map};
 ghost use Rattle.bson.specs.Tree.{Tree};
 ghost use Rattle.bson.specs.Lawful.{levels};
 ghost use Rattle.bson.specs.View.{tree};
 ghost use Rattle.bson.specs.Edits.{items_len};
-ghost use Rattle.path.specs.Edits.{set, set_at, set_field, set_item, put_item, within};
+ghost use Rattle.path.specs.Edits.{write, write_at, set_at, write_field, write_item, put_item, within};
 ghost use Rattle.path.specs.Parts.{index_of};
 ghost use Rattle.path.specs.View.{Gives};
 
@@ -16,6 +16,38 @@ use crate::part::Part;
 use crate::refusal::Refusal;
 use bson::{Array, Document, MOST_LEVELS, NoMemory, Value};
 use std::alloc::Global;
+
+/// What an edit puts at its path.
+pub trait NewValue {
+    ghost use Rattle.std.specs.Prelude.{Option, Result, option_map};
+    ghost use Rattle.bson.specs.Tree.{Tree};
+    ghost use Rattle.bson.specs.View.{tree};
+    ghost use Rattle.path.specs.View.{Gives};
+    ghost use Rattle.path.specs.declared.refusal.Refusal.{Refusal as Why};
+
+    ghost made: { Self → Option Tree → Result Tree Why };
+
+    /// The value that is to stand there, from the one that does, if one does.
+    fn make(self, old: Option<Value>) -> Result<Value, Refusal>
+        ensures { Gives tree (made self (option_map tree old)) result };
+}
+
+/// A value that is put there whatever stands there.
+#[derive(Drop)]
+struct Always {
+    value: Value,
+}
+
+impl NewValue for Always {
+    ghost use Rattle.std.specs.Prelude.{Ok};
+    ghost use Rattle.bson.specs.View.{tree};
+
+    ghost made = { λ a old. Ok (tree a.value) };
+
+    fn make(self, _old: Option<Value>) -> Result<Value, Refusal> {
+        Ok(self.value)
+    }
+}
 
 /// A copy of the document with this value at the path. Documents that are missing on the way are made, and an index
 /// past the end of an array puts nulls before it, at most 1,000.
@@ -31,11 +63,11 @@ pub fn write_at(
     ensures { Gives (λ d. d) (set_at path.now (tree value) document.now) result }
 {
     let document = document.copy()?;
-    with(alloc, document, path, value)
+    write_into(alloc, document, path, value)
 }
 
 /// The document itself with this value at the path, as `write_at` says. A refusal lets it go.
-pub fn with(
+pub fn write_into(
     alloc: Global,
     document: Document,
     path: &Path,
@@ -43,71 +75,90 @@ pub fn with(
 ) -> Result<Document, Refusal>
     ensures { Gives (λ d. d) (set_at path.now (tree value) document) result }
 {
+    write_new(alloc, document, path, Always { value })
+}
+
+/// The document itself with a value at the path that is made from what stands there, as `write_at` says. What makes
+/// it may refuse it.
+pub fn write_new<N: NewValue + Drop>(
+    alloc: Global,
+    document: Document,
+    path: &Path,
+    new: N,
+) -> Result<Document, Refusal>
+    ensures { Gives (λ d. d) (write_at (N.made new) path.now document) result }
+{
     let (part, rest) = path.split_first();
-    set_field(alloc, document, part, rest, value)
+    write_field(alloc, document, part, rest, new)
 }
 
 /// What is to stand at the front of these parts, in the place of what stands there.
 #[cycle(setting)]
-fn set(alloc: Global, old: Option<Value>, parts: &[Part], value: Value) -> Result<Value, Refusal>
-    ensures { Gives tree (set parts.now (tree value) (option_map tree old)) result }
+fn write<N: NewValue + Drop>(
+    alloc: Global,
+    old: Option<Value>,
+    parts: &[Part],
+    new: N,
+) -> Result<Value, Refusal>
+    ensures { Gives tree (write (N.made new) parts.now (option_map tree old)) result }
 {
     let [part, rest @ ..] = parts else {
-        return Ok(value);
+        return new.make(old);
     };
     match old {
         None => {
             let document = Document::new(alloc);
-            Ok(Value::Document(set_field(alloc, document, part, rest, value)?))
+            Ok(Value::Document(write_field(alloc, document, part, rest, new)?))
         }
         Some(Value::Document(document)) => {
-            Ok(Value::Document(set_field(alloc, document, part, rest, value)?))
+            Ok(Value::Document(write_field(alloc, document, part, rest, new)?))
         }
-        Some(Value::Array(array)) => Ok(Value::Array(set_item(alloc, array, part, rest, value)?)),
+        Some(Value::Array(array)) => Ok(Value::Array(write_item(alloc, array, part, rest, new)?)),
         Some(_) => Err(Refusal::PathNotViable),
     }
 }
 
 /// What is to stand there, where it nests at most so many levels.
 #[cycle(setting)]
-fn set_within(
+fn write_within<N: NewValue + Drop>(
     alloc: Global,
     most: u32,
     old: Option<Value>,
     parts: &[Part],
-    value: Value,
+    new: N,
 ) -> Result<Value, Refusal>
-    ensures value { Gives tree (within most (set parts.now (tree value) (option_map tree old))) result }
+    ensures value { Gives tree (within most (write (N.made new) parts.now
+        (option_map tree old))) result }
     ensures levels { IfOk result (λ v. levels (tree v) ≤ most) }
 {
-    let new = set(alloc, old, parts, value)?;
-    if most < new.levels() {
+    let value = write(alloc, old, parts, new)?;
+    if most < value.levels() {
         return Err(Refusal::BadValue);
     }
-    Ok(new)
+    Ok(value)
 }
 
 /// The document with the value at the part and the rest.
 #[cycle(setting)]
-fn set_field(
+fn write_field<N: NewValue + Drop>(
     alloc: Global,
     document: Document,
     part: &Part,
     rest: &[Part],
-    value: Value,
+    new: N,
 ) -> Result<Document, Refusal>
-    ensures { Gives (λ d. d) (set_field (set rest.now (tree value)) part.now document) result }
+    ensures { Gives (λ d. d) (write_field (write (N.made new) rest.now) part.now document) result }
 {
     let mut document = document;
     match document.position(part.as_str()) {
         Some(at) => {
             let old = take_field(&mut document, at);
-            let new = set_within(alloc, MOST_LEVELS - 1, Some(old), rest, value)?;
-            put_field(&mut document, at, new);
+            let value = write_within(alloc, MOST_LEVELS - 1, Some(old), rest, new)?;
+            put_field(&mut document, at, value);
         }
         None => {
-            let new = set_within(alloc, MOST_LEVELS - 1, None, rest, value)?;
-            add_field(&mut document, part, new)?;
+            let value = write_within(alloc, MOST_LEVELS - 1, None, rest, new)?;
+            add_field(&mut document, part, value)?;
         }
     }
     Ok(document)
@@ -115,14 +166,15 @@ fn set_field(
 
 /// The array with the value at the part and the rest.
 #[cycle(setting)]
-fn set_item(
+fn write_item<N: NewValue + Drop>(
     alloc: Global,
     array: Array,
     part: &Part,
     rest: &[Part],
-    value: Value,
+    new: N,
 ) -> Result<Array, Refusal>
-    ensures { Gives (λ a. a) (set_item (set rest.now (tree value)) (index_of part.now) array) result }
+    ensures { Gives (λ a. a) (write_item (write (N.made new) rest.now)
+        (index_of part.now) array) result }
 {
     let mut array = array;
     let Some(at) = part.index() else {
@@ -131,16 +183,16 @@ fn set_item(
     let len = array.items().len();
     if at < len {
         let old = take_item(&mut array, at);
-        let new = set_within(alloc, MOST_LEVELS - 2, Some(old), rest, value)?;
-        put_item(&mut array, at, new);
+        let value = write_within(alloc, MOST_LEVELS - 2, Some(old), rest, new)?;
+        put_item(&mut array, at, value);
         return Ok(array);
     }
     if len + MOST_NULLS < at {
         return Err(Refusal::BadValue);
     }
-    let new = set_within(alloc, MOST_LEVELS - 2, None, rest, value)?;
+    let value = write_within(alloc, MOST_LEVELS - 2, None, rest, new)?;
     pad(&mut array, at)?;
-    add_item(&mut array, new)?;
+    add_item(&mut array, value)?;
     Ok(array)
 }
 

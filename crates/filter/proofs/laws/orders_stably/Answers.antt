@@ -1,4 +1,4 @@
-use Rattle.filter.proofs.SortSteps.{orders_stably}
+use Rattle.filter.proofs.SortLemmas.{orders_stably}
 use Rattle.filter.proofs.laws.orders_stably.Goals as goal
 
 pub returns : goal.returns

@@ -1,18 +1,18 @@
 use Rattle.std.proofs.Common.{◌-◌, length, take, drop, ap, ◌∙◌, arith}
 use Rattle.std.specs.Prelude.{false}
 use Rattle.bson.specs.View.{tree}
-use Rattle.filter.specs.Rule.{weights}
+use Rattle.filter.specs.Condition.{weights}
 use Rattle.filter.specs.Probes.{probe_passes}
-use Rattle.filter.proofs.WalkSteps.{rule_weight, first_and_rest, reach-array}
+use Rattle.filter.proofs.WalkLemmas.{condition_weight, first_and_rest, reach-array}
 use Rattle.filter.proofs.matching.+matching.Goals as goal
 
 pub all_hold-holds-requires : goal.all_hold-holds-requires
 all_hold-holds-requires t c =
-    (omega (arith, c.decreases, rule_weight c.rules-rule-items.result.now c.rules.rule-index c.rule-item.result c.rules-test.true c.rule-item.is, ap weights c.rules-rule-items.ensures), tt)
+    (omega (arith, c.decreases, condition_weight c.conditions-condition-items.result.now c.conditions.condition-index c.condition-item.result c.conditions-test.true c.condition-item.is, ap weights c.conditions-condition-items.ensures), tt)
 
 pub any_holds-holds-requires : goal.any_holds-holds-requires
 any_holds-holds-requires t c =
-    (omega (arith, c.decreases, rule_weight c.rules-rule-items.result.now c.rules.rule-index c.rule-item.result c.rules-test.true c.rule-item.is, ap weights c.rules-rule-items.ensures), tt)
+    (omega (arith, c.decreases, condition_weight c.conditions-condition-items.result.now c.conditions.condition-index c.condition-item.result c.conditions-test.true c.condition-item.is, ap weights c.conditions-condition-items.ensures), tt)
 
 pub finds_from-returns-in-Array : goal.finds_from-returns-in-Array
 finds_from-returns-in-Array t c =

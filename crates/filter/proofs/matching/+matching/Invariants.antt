@@ -3,11 +3,11 @@ use Rattle.std.specs.Prelude.{false}
 use Rattle.std.specs.List.{list_any}
 use Rattle.bson.specs.View.{items_of}
 use Rattle.path.specs.Reach.{reach, in_elements, items_list}
-use Rattle.filter.specs.Rule.{weight, weights}
-use Rattle.filter.specs.View.{rule_of, rules_of}
+use Rattle.filter.specs.Condition.{weight, weights}
+use Rattle.filter.specs.View.{condition_of, conditions_of}
 use Rattle.filter.specs.Matches.{all_hold, any_holds, of_document, alone}
 use Rattle.filter.specs.Probes.{subject_of, probe_passes}
-use Rattle.filter.proofs.Measures.{way, asked}
+use Rattle.filter.proofs.MeasureLemmas.{way, asked}
 use Rattle.filter.proofs.matching.+matching.Given as goal
 
 abbrev pub decreases-all_hold : goal.decreases-all_hold
@@ -17,7 +17,7 @@ abbrev pub decreases-any_holds : goal.decreases-any_holds
 decreases-any_holds l = 8 * weights l.filter.now + 3 * way l.subject + 2
 
 abbrev pub decreases-holds : goal.decreases-holds
-decreases-holds l = 8 * weight (rule_of l.rule.now) + 3 * way l.subject + 1
+decreases-holds l = 8 * weight (condition_of l.condition.now) + 3 * way l.subject + 1
 
 abbrev pub decreases-finds : goal.decreases-finds
 decreases-finds l = 8 * asked l.probe + 3 * way l.subject + 5
@@ -40,11 +40,11 @@ decreases-has_element l = 8 * weights l.filter.now + 3
 abbrev pub decreases-has_document : goal.decreases-has_document
 decreases-has_document l = 8 * weights l.filter.now + 3
 
-abbrev pub invariant-all_hold-rules : goal.invariant-all_hold-rules
-invariant-all_hold-rules l = all_hold (rules_of (drop l.rule-index l.rule-items)) (subject_of l.subject) ≡ all_hold (rules_of l.rule-items) (subject_of l.subject)
+abbrev pub invariant-all_hold-conditions : goal.invariant-all_hold-conditions
+invariant-all_hold-conditions l = all_hold (conditions_of (drop l.condition-index l.condition-items)) (subject_of l.subject) ≡ all_hold (conditions_of l.condition-items) (subject_of l.subject)
 
-abbrev pub invariant-any_holds-rules : goal.invariant-any_holds-rules
-invariant-any_holds-rules l = any_holds (rules_of (drop l.rule-index l.rule-items)) (subject_of l.subject) ≡ any_holds (rules_of l.rule-items) (subject_of l.subject)
+abbrev pub invariant-any_holds-conditions : goal.invariant-any_holds-conditions
+invariant-any_holds-conditions l = any_holds (conditions_of (drop l.condition-index l.condition-items)) (subject_of l.subject) ≡ any_holds (conditions_of l.condition-items) (subject_of l.subject)
 
 abbrev pub invariant-has_element-items : goal.invariant-has_element-items
 invariant-has_element-items l =

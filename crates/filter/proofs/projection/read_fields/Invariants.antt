@@ -1,6 +1,6 @@
 use Rattle.std.proofs.Common.{◌≡◌, drop}
 use Rattle.bson.specs.View.{pairs_of}
-use Rattle.filter.specs.Projection.{nothing_seen, read_flags}
+use Rattle.filter.specs.ProjectionReading.{nothing_seen, read_flags}
 use Rattle.filter.specs.Seen.{seen_of}
 use Rattle.filter.proofs.projection.read_fields.Given as goal
 

@@ -2,8 +2,8 @@ use Rattle.std.proofs.Common.{◌≡◌, ◌+◌, ◌*◌, drop, Ok}
 use Rattle.bson.specs.Tree.{count, count_pairs, count_items}
 use Rattle.bson.specs.View.{tree, pairs_of, items_of}
 use Rattle.path.specs.Edits.{if_ok}
-use Rattle.filter.specs.Rule.{append_rules}
-use Rattle.filter.specs.View.{rules_of}
+use Rattle.filter.specs.Condition.{append_conditions}
+use Rattle.filter.specs.View.{conditions_of}
 use Rattle.filter.specs.Reading.{read_filter, read_filters, read_operators}
 use Rattle.filter.proofs.reading.+reading.Given as goal
 
@@ -38,10 +38,10 @@ abbrev pub decreases-read_not : goal.decreases-read_not
 decreases-read_not l = 8 * count (tree l.value.now) + 4
 
 abbrev pub invariant-read_filter-pairs : goal.invariant-read_filter-pairs
-invariant-read_filter-pairs l = if_ok (read_filter (pairs_of (drop l.pair-index l.pair-items))) (λ rs. Ok (append_rules (rules_of l.rules.items) rs)) ≡ read_filter l.document
+invariant-read_filter-pairs l = if_ok (read_filter (pairs_of (drop l.pair-index l.pair-items))) (λ rs. Ok (append_conditions (conditions_of l.conditions.items) rs)) ≡ read_filter l.document
 
 abbrev pub invariant-read_operators-pairs : goal.invariant-read_operators-pairs
-invariant-read_operators-pairs l = if_ok (read_operators (pairs_of (drop l.pair-index l.pair-items))) (λ rs. Ok (append_rules (rules_of l.rules.items) rs)) ≡ read_operators l.document
+invariant-read_operators-pairs l = if_ok (read_operators (pairs_of (drop l.pair-index l.pair-items))) (λ rs. Ok (append_conditions (conditions_of l.conditions.items) rs)) ≡ read_operators l.document
 
 abbrev pub invariant-read_filters-items : goal.invariant-read_filters-items
-invariant-read_filters-items l = if_ok (read_filters (items_of (drop l.item-index l.item-items))) (λ rs. Ok (append_rules (rules_of l.rules.items) rs)) ≡ read_filters l.array
+invariant-read_filters-items l = if_ok (read_filters (items_of (drop l.item-index l.item-items))) (λ rs. Ok (append_conditions (conditions_of l.conditions.items) rs)) ≡ read_filters l.array

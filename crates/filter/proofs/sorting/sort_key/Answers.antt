@@ -9,7 +9,7 @@ use Rattle.value_order.specs.View.{key_of}
 use Rattle.filter.specs.Sort.{keys_of}
 use Rattle.filter.specs.SortKeys.{first_of}
 use Rattle.std.proofs.Common.{None}
-use Rattle.filter.proofs.SortSteps.{reached_more, reached_all}
+use Rattle.filter.proofs.SortLemmas.{reached_more, reached_all}
 use Rattle.filter.proofs.sorting.sort_key.Goals as goal
 
 pub all-preserved : goal.all-preserved

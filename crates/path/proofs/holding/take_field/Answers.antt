@@ -1,6 +1,6 @@
 use Rattle.std.proofs.Common.{arith}
 use Rattle.bson.specs.View.{tree}
-use Rattle.path.proofs.Walks.{pair_at-levels}
+use Rattle.path.proofs.WalkLemmas.{pair_at-levels}
 use Rattle.path.proofs.holding.take_field.Goals as goal
 
 pub returns-clause-levels : goal.returns-clause-levels

@@ -1,6 +1,6 @@
 use Rattle.std.proofs.Common.{arith}
 use Rattle.bson.specs.View.{tree}
-use Rattle.path.proofs.Indexes.{item_at-levels}
+use Rattle.path.proofs.IndexLemmas.{item_at-levels}
 use Rattle.path.proofs.holding.take_item.Goals as goal
 
 pub returns-clause-levels : goal.returns-clause-levels

@@ -1,7 +1,7 @@
 use Rattle.std.proofs.Common.{◌≡◌, ◌∷◌, ◌+◌, ◌*◌, ◌-◌, suc, [], List, ℕ, drop, get_or, min, ap, sym, ◌∙◌, arith, drop-cons}
 use Rattle.std.proofs.lemmas.List.{drop_all}
 use Rattle.path.specs.Parts.{number}
-use Rattle.path.proofs.Names.{number_step}
+use Rattle.path.proofs.NameLemmas.{number_step}
 use Rattle.path.proofs.part.number.Goals as goal
 
 pub digits-preserved : goal.digits-preserved

@@ -4,7 +4,7 @@ use Rattle.bson.specs.View.{tree, items_of}
 use Rattle.bson.specs.declared.value.Value.{Value}
 use Rattle.path.specs.Reach.{reach, in_elements}
 use Rattle.path.specs.View.{reached}
-use Rattle.path.proofs.Walks.{gathered, on_ok}
+use Rattle.path.proofs.WalkLemmas.{gathered, on_ok}
 use Rattle.path.proofs.reaching.+gathering.Goals as goal
 
 pub gather_items-returns-in-Some : goal.gather_items-returns-in-Some

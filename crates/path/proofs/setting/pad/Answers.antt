@@ -2,7 +2,7 @@ use Rattle.std.proofs.Common.{◌<◌, ap, ◌∙◌, arith}
 use Rattle.bson.specs.Tree.{scalar, null, item, no_items}
 use Rattle.bson.specs.Edits.{items_len, items_len-append}
 use Rattle.path.specs.Edits.{put_item}
-use Rattle.path.proofs.Indexes.{put_item-padded}
+use Rattle.path.proofs.IndexLemmas.{put_item-padded}
 use Rattle.path.proofs.setting.pad.Goals as goal
 
 pub nulls-smaller : goal.nulls-smaller

@@ -1,8 +1,8 @@
 use Rattle.std.proofs.Common.{◌≡◌, ℕ, ◌+◌, ◌<◌, ◌≤◌, List, length, drop, get_or, map, sym, ap, subst, ◌∙◌, rules}
 use Rattle.bson.specs.Tree.{Pairs, no_pairs}
 use Rattle.filter.specs.SortKeys.{arranged}
-use Rattle.filter.proofs.SortSteps.{arranged-documents}
-use Rattle.filter.proofs.TakenOut.{StandIn, Apart, arranged-stand, arranged-apart, next_at, taken_more, taken_all, still_there}
+use Rattle.filter.proofs.SortLemmas.{arranged-documents}
+use Rattle.filter.proofs.TakenOutLemmas.{StandIn, Apart, arranged-stand, arranged-apart, next_at, taken_more, taken_all, still_there}
 use Rattle.filter.proofs.sort.Sort.order.Goals as goal
 
 pub places-init : goal.places-init

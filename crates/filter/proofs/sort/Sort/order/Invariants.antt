@@ -1,6 +1,6 @@
 use Rattle.std.proofs.Common.{◌≡◌, ◌++◌, drop, map}
 use Rattle.filter.specs.SortKeys.{arranged}
-use Rattle.filter.proofs.TakenOut.{StandIn, Apart}
+use Rattle.filter.proofs.TakenOutLemmas.{StandIn, Apart}
 use Rattle.filter.proofs.sort.Sort.order.Given as goal
 
 abbrev pub invariant-places : goal.invariant-places

@@ -2,7 +2,7 @@ use Rattle.std.proofs.Common.{map, ap, ◌∙◌}
 use Rattle.std.proofs.lemmas.List.{take_all}
 use Rattle.filter.specs.SortKeys.{numbered, with_keys}
 use Rattle.filter.specs.declared.sorting.Ranked.{Ranked}
-use Rattle.filter.proofs.SortSteps.{shared_in_order}
+use Rattle.filter.proofs.SortLemmas.{shared_in_order}
 use Rattle.filter.proofs.sort.Sort.order_shared.Goals as goal
 
 pub returns : goal.returns

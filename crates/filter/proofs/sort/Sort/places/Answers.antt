@@ -1,7 +1,7 @@
 use Rattle.std.proofs.Common.{map, ap, ◌∙◌}
 use Rattle.std.proofs.lemmas.List.{take_all}
 use Rattle.filter.specs.declared.sorting.Ranked.{Ranked}
-use Rattle.filter.proofs.SortSteps.{places_in_order}
+use Rattle.filter.proofs.SortLemmas.{places_in_order}
 use Rattle.filter.proofs.sort.Sort.places.Goals as goal
 
 pub returns : goal.returns

@@ -1,8 +1,9 @@
 use Rattle.std.proofs.Common.{◌<◌, length, arith}
-use Rattle.filter.specs.Sort.{SortField, read_sort}
+use Rattle.filter.specs.Sort.{SortField}
+use Rattle.filter.specs.SortReading.{read_sort}
 use Rattle.std.proofs.Common.{List}
-use Rattle.filter.proofs.ReadSteps.{refused}
-use Rattle.filter.proofs.SortSteps.{fields_more, fields_refused}
+use Rattle.filter.proofs.ReadingLemmas.{refused}
+use Rattle.filter.proofs.SortLemmas.{fields_more, fields_refused}
 use Rattle.filter.proofs.sort.Sort.read.Goals as goal
 
 pub returns-in_err-field : goal.returns-in_err-field

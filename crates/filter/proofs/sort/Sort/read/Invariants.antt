@@ -1,7 +1,7 @@
 use Rattle.std.proofs.Common.{◌≡◌, ◌-◌, ◌≤◌, drop, length, map, Ok, ◌++◌}
 use Rattle.bson.specs.View.{pairs_of}
 use Rattle.path.specs.Edits.{if_ok}
-use Rattle.filter.specs.Sort.{read_fields, read_sort}
+use Rattle.filter.specs.SortReading.{read_fields, read_sort}
 use Rattle.filter.specs.SortKeys.{field_of}
 use Rattle.filter.proofs.sort.Sort.read.Given as goal
 

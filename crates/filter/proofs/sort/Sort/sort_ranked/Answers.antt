@@ -5,8 +5,8 @@ use Rattle.std.proofs.lemmas.List.MinMax.{ranks_by}
 use Rattle.filter.specs.Sort.{SortField, sorted}
 use Rattle.filter.specs.SortKeys.{field_of, ranked_cmp}
 use Rattle.filter.specs.declared.sorting.Ranked.{Ranked}
-use Rattle.filter.proofs.SortSteps.{ranked_total}
-use Rattle.filter.proofs.StableSort.{sorted_once}
+use Rattle.filter.proofs.SortLemmas.{ranked_total}
+use Rattle.filter.proofs.StableSortLemmas.{sorted_once}
 use Rattle.filter.proofs.sort.Sort.sort_ranked.Goals as goal
 
 pub returns : goal.returns

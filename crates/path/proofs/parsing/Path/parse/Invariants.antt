@@ -1,5 +1,5 @@
 use Rattle.std.proofs.Common.{◌≡◌, ◌++◌, drop, map}
-use Rattle.path.proofs.Names.{AllPass}
+use Rattle.path.proofs.NameLemmas.{AllPass}
 use Rattle.path.proofs.parsing.Path.parse.Given as goal
 
 abbrev pub invariant-names : goal.invariant-names

@@ -1,6 +1,6 @@
 use Rattle.std.proofs.Common.{sym, subst}
 use Rattle.path.specs.Parts.{IsPart}
-use Rattle.path.proofs.Names.{no_zero}
+use Rattle.path.proofs.NameLemmas.{no_zero}
 use Rattle.path.proofs.part.Part.new.Goals as goal
 
 pub invariant_of-result : goal.invariant_of-result

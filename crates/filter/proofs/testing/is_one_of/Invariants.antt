@@ -1,9 +1,0 @@
-use Rattle.std.proofs.Common.{◌≡◌, drop, map}
-use Rattle.std.specs.Prelude.{◌==◌}
-use Rattle.std.specs.List.{list_any}
-use Rattle.bson.specs.Kinds.{kind, kind_byte}
-use Rattle.bson.specs.View.{tree}
-use Rattle.filter.proofs.testing.is_one_of.Given as goal
-
-abbrev pub invariant-kinds : goal.invariant-kinds
-invariant-kinds l = list_any (λ b. b == kind_byte (kind (tree l.value))) (map kind_byte (drop l.kind-index l.kinds)) ≡ list_any (λ b. b == kind_byte (kind (tree l.value))) (map kind_byte l.kinds)

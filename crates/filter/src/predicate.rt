@@ -1,0 +1,122 @@
+//! What is asked of one value that was reached.
+
+ghost use Rattle.std.specs.Prelude.{◌≡◌, ◌==◌, None, Some, map};
+ghost use Rattle.bson.specs.Kinds.{kind, kind_byte};
+ghost use Rattle.std.specs.List.{list_any};
+ghost use Rattle.bson.specs.View.{tree, items_of};
+ghost use Rattle.path.specs.Reach.{items_list};
+ghost use Rattle.value_order.specs.Order.{class, compare};
+ghost use Rattle.filter.specs.Matches.{candidate_passes, reached_passes, passes, is_equal, is_null};
+ghost use Rattle.filter.specs.View.{predicate_of};
+
+use crate::condition::Predicate;
+use bson::{Kind, Value};
+use std::cmp::Ordering;
+use value_order::compare;
+
+fn is_equal(value: &Value, other: &Value) -> bool
+    ensures { result ≡ is_equal (compare (tree value.now) (tree other.now)) }
+{
+    match compare(value, other) {
+        Ordering::Equal => true,
+        Ordering::Less | Ordering::Greater => false,
+    }
+}
+
+fn is_null(value: &Value) -> bool
+    ensures { result ≡ is_null (tree value.now) }
+{
+    match value {
+        Value::Null => true,
+        _ => false,
+    }
+}
+
+/// The class of a value in the order of values: int32 and int64 are of one.
+fn class(value: &Value) -> u8
+    ensures { result ≡ class (tree value.now) }
+{
+    match value.kind() {
+        Kind::MinKey => 0x10,
+        Kind::Null => 0x20,
+        Kind::Int32 | Kind::Int64 => 0x30,
+        Kind::String => 0x40,
+        Kind::Document => 0x50,
+        Kind::Array => 0x60,
+        Kind::Binary => 0x70,
+        Kind::ObjectId => 0x80,
+        Kind::Bool => 0x90,
+        Kind::Date => 0xa0,
+        Kind::Timestamp => 0xb0,
+        Kind::MaxKey => 0xf0,
+    }
+}
+
+fn is_one_of(kinds: &[Kind], value: &Value) -> bool
+    ensures { result ≡ list_any (λ b. b == kind_byte (kind (tree value.now)))
+        (map kind_byte kinds.now) }
+{
+    let byte = value.kind().type_byte();
+    'kinds: for kind in kinds {
+        if kind.type_byte() == byte {
+            return true;
+        }
+    }
+    false
+}
+
+/// Whether a candidate passes.
+fn candidate_passes(predicate: &Predicate, value: &Value) -> bool
+    ensures { result ≡ candidate_passes (predicate_of predicate.now) (tree value.now) }
+{
+    match predicate {
+        Predicate::Equal(other) => is_equal(value, other),
+        Predicate::Ordered(comparison, other) => {
+            class(value) == class(other) && comparison.allows(compare(value, other))
+        }
+        Predicate::OfKinds(kinds) => is_one_of(kinds, value),
+        Predicate::There | Predicate::Size(_) => false,
+    }
+}
+
+/// Whether an element passes as a candidate.
+fn item_passes(predicate: &Predicate, items: &[Value]) -> bool
+    ensures { result
+        ≡ list_any (candidate_passes (predicate_of predicate.now)) (items_list (items_of items.now)) }
+{
+    'items: for item in items {
+        if candidate_passes(predicate, item) {
+            return true;
+        }
+    }
+    false
+}
+
+/// Whether Missing passes.
+pub(crate) fn missing_passes(predicate: &Predicate) -> bool
+    ensures { result ≡ reached_passes (predicate_of predicate.now) None }
+{
+    match predicate {
+        Predicate::Equal(other) => is_null(other),
+        Predicate::Ordered(_, _) | Predicate::There | Predicate::OfKinds(_) | Predicate::Size(_) =>
+            false,
+    }
+}
+
+/// Whether a value passes, by its elements too unless it is looked at alone.
+pub(crate) fn passes(predicate: &Predicate, alone: bool, value: &Value) -> bool
+    ensures { result ≡ passes (predicate_of predicate.now) alone (Some (tree value.now)) }
+{
+    if candidate_passes(predicate, value) {
+        return true;
+    }
+    match (predicate, value) {
+        (Predicate::There, _) => true,
+        (Predicate::Size(size), Value::Array(array)) => array.len() == *size,
+        (
+            Predicate::Equal(_) | Predicate::Ordered(_, _) | Predicate::OfKinds(_),
+            Value::Array(array),
+        ) => { !alone && item_passes(predicate, array.items()) }
+        _ => false,
+    }
+}

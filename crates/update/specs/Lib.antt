@@ -1,0 +1,14 @@
+pub mod Update
+pub mod Stored
+pub mod Fronts
+pub mod Fields
+pub mod Numbers
+pub mod Bounds
+pub mod Arrays
+pub mod Renames
+pub mod Replacements
+pub mod Operators
+pub mod Reading
+pub mod Applying
+pub mod Upserts
+pub mod View

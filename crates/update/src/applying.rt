@@ -1,0 +1,59 @@
+//! What an update makes of a document.
+
+ghost use Rattle.std.specs.Prelude.{◌≡◌, map};
+ghost use Rattle.path.specs.View.{Gives};
+ghost use Rattle.update.specs.Applying.{apply_edits, changed, apply};
+ghost use Rattle.update.specs.Stored.{judged};
+ghost use Rattle.update.specs.View.{edit_of, form_of, update_of};
+
+use crate::edit::{Edit, Form, Update};
+use crate::operators::apply_action;
+use crate::replacements::replace;
+use crate::stored::{id_first, stored_fault};
+use bson::Document;
+use path::Refusal;
+use std::alloc::Global;
+
+/// The edits, in the order written.
+fn apply_edits(alloc: Global, edits: &[Edit], document: Document) -> Result<Document, Refusal>
+    ensures { Gives (λ d. d) (apply_edits (map edit_of edits.now) document) result }
+{
+    let mut document = document;
+    'edits: for edit in edits {
+        document = apply_action(alloc, document, &edit.path, &edit.action)?;
+    }
+    Ok(document)
+}
+
+fn changed(alloc: Global, form: &Form, document: &Document) -> Result<Document, Refusal>
+    ensures { Gives (λ d. d) (changed (form_of form.now) document.now) result }
+{
+    match form {
+        Form::Edits(edits) => apply_edits(alloc, edits, document.copy()?),
+        Form::Replacement(new) => replace(alloc, new, document),
+    }
+}
+
+/// The document with its `_id` first, where it may be stored so.
+fn judged(document: Document, limit: u32) -> Result<Document, Refusal>
+    ensures { Gives (λ d. d) (judged limit document) result }
+{
+    let document = id_first(document)?;
+    match stored_fault(&document, limit) {
+        Some(refusal) => Err(refusal),
+        None => Ok(document),
+    }
+}
+
+impl Update {
+    /// What the update makes of a document, which is copied once.
+    ///
+    /// Refused by the first edit that can't be made; then with `ImmutableField` where a replacement would change `_id`;
+    /// then where the whole may not be stored, as `stored_fault` says, `limit` being the most bytes.
+    pub fn apply(&self, document: &Document, limit: u32) -> Result<Document, Refusal>
+        ensures { Gives (λ d. d) (apply (update_of self.now) limit document.now) result }
+    {
+        let new = changed(self.alloc, &self.form, document)?;
+        judged(new, limit)
+    }
+}

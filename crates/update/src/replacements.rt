@@ -1,0 +1,67 @@
+//! Replacements: updates without operators.
+
+ghost use Rattle.std.specs.Prelude.{◌≡◌, IfOk, option_map};
+ghost use Rattle.bson.specs.Tree.{pair};
+ghost use Rattle.bson.specs.View.{tree};
+ghost use Rattle.path.specs.View.{Gives};
+ghost use Rattle.filter.specs.Matches.{is_equal};
+ghost use Rattle.value_order.specs.Order.{compare};
+ghost use Rattle.update.specs.Replacements.{replace};
+ghost use Rattle.update.specs.Stored.{id_name, without, first_pair};
+
+use crate::stored::ID;
+use bson::{Document, NoMemory, Pair, Text, Value};
+use path::Refusal;
+use std::alloc::Global;
+use std::cmp::Ordering;
+use value_order::compare;
+
+fn is_equal(a: &Value, b: &Value) -> bool
+    ensures { result ≡ is_equal (compare (tree a.now) (tree b.now)) }
+{
+    match compare(a, b) {
+        Ordering::Equal => true,
+        Ordering::Less | Ordering::Greater => false,
+    }
+}
+
+/// A copy of the document with this `_id` first in place of its own.
+fn copy_with_id(alloc: Global, id: Option<&Value>, new: &Document) -> Result<Document, NoMemory>
+    ensures { IfOk result (λ d. d
+        ≡ first_pair id_name (option_map (λ v. tree v.now) id.entry) (without new.now id_name)) }
+{
+    let mut pairs = Vec::with_capacity(alloc, new.len())?;
+    if let Some(id) = id {
+        let name = Text::from_str(alloc, ID)?;
+        let value = id.copy()?;
+        pairs.push(Pair { name, value })?;
+    }
+    'pairs: for pair in new.pairs() {
+        if ID != pair.name.as_str() {
+            let name = pair.name.copy()?;
+            let value = pair.value.copy()?;
+            pairs.push(Pair { name, value })?;
+        }
+    }
+    Ok(Document::from_pairs(pairs))
+}
+
+/// A copy of the new document with the old one's `_id`. `ImmutableField` where it has another one.
+pub(crate) fn replace(
+    alloc: Global,
+    new: &Document,
+    old: &Document,
+) -> Result<Document, Refusal>
+    ensures { Gives (λ d. d) (replace new.now old.now) result }
+{
+    let given = new.get(ID);
+    let Some(kept) = old.get(ID) else {
+        return Ok(copy_with_id(alloc, given, new)?);
+    };
+    if let Some(id) = given {
+        if !is_equal(kept, id) {
+            return Err(Refusal::ImmutableField);
+        }
+    }
+    Ok(copy_with_id(alloc, Some(kept), new)?)
+}
