@@ -2,7 +2,7 @@
 use Rattle.std.specs.Prelude.{ℕ, if◌then◌else◌, List, codes, Option, Some, None, Result, Ok, unwrap_or}
 use Rattle.std.specs.Str.{bytes_eq}
 use Rattle.bson.specs.Tree.{Tree, Pairs}
-use Rattle.filter.specs.Rule.{Rules, no_rules}
+use Rattle.filter.specs.Condition.{Conditions, no_conditions}
 use Rattle.filter.specs.Reading.{read_filter}
 use Rattle.path.specs.Outcomes.{◌>>=◌, or_refused}
 use Rattle.path.specs.declared.refusal.Refusal.{Refusal}
@@ -14,13 +14,13 @@ use Rattle.commands.specs.Names.{namespace_of}
 -- a filter, how many of what matches are left out, and how many may be counted then (0: all)
 pub record Count : Type 0 where
   pub namespace : List ℕ
-  pub filter : Rules
+  pub filter : Conditions
   pub skip : ℕ
   pub limit : ℕ
 
 pub record CountFields : Type 0 where
   pub common : CommonFields
-  pub filter : Option Rules
+  pub filter : Option Conditions
   pub skip : Option ℕ
   pub limit : Option ℕ
 
@@ -49,7 +49,7 @@ read_count t ps = do
   namespace ← namespace_of database name
   Ok (record {
     namespace = namespace;
-    filter = unwrap_or found.filter no_rules;
+    filter = unwrap_or found.filter no_conditions;
     skip = unwrap_or found.skip 0;
     limit = unwrap_or found.limit 0;
   })

@@ -2,7 +2,7 @@
 use Rattle.std.specs.Prelude.{ℕ, zero, suc, Bool, true, false, if◌then◌else◌, List, codes, Option, Some, None, Result, Ok, Err}
 use Rattle.std.specs.Str.{bytes_eq}
 use Rattle.bson.specs.Tree.{Tree, Pairs}
-use Rattle.filter.specs.Rule.{Rules}
+use Rattle.filter.specs.Condition.{Conditions}
 use Rattle.filter.specs.Reading.{read_filter}
 use Rattle.path.specs.Outcomes.{◌>>=◌, or_refused}
 use Rattle.path.specs.declared.refusal.Refusal.{Refusal}
@@ -14,7 +14,7 @@ use Rattle.commands.specs.Names.{namespace_of}
 
 -- a statement: a filter, and whether it takes away the first document that matches, or all
 pub record Deletion : Type 0 where
-  pub filter : Rules
+  pub filter : Conditions
   pub only_first : Bool
 
 pub record Delete : Type 0 where
@@ -24,7 +24,7 @@ pub record Delete : Type 0 where
 -- ---- a statement
 
 pub record DeletionFields : Type 0 where
-  pub filter : Option Rules
+  pub filter : Option Conditions
   pub only_first : Option Bool
 
 abbrev pub no_deletion_fields : DeletionFields

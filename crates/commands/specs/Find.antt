@@ -2,10 +2,12 @@
 use Rattle.std.specs.Prelude.{ℕ, if◌then◌else◌, List, [], codes, Option, Some, None, Result, Ok, false, unwrap_or}
 use Rattle.std.specs.Str.{bytes_eq}
 use Rattle.bson.specs.Tree.{Tree, Pairs}
-use Rattle.filter.specs.Rule.{Rules, no_rules}
+use Rattle.filter.specs.Condition.{Conditions, no_conditions}
 use Rattle.filter.specs.Reading.{read_filter}
-use Rattle.filter.specs.Sort.{SortField, read_sort}
-use Rattle.filter.specs.Projection.{Projection, read_projection}
+use Rattle.filter.specs.Sort.{SortField}
+use Rattle.filter.specs.SortReading.{read_sort}
+use Rattle.filter.specs.Projection.{Projection}
+use Rattle.filter.specs.ProjectionReading.{read_projection}
 use Rattle.path.specs.Outcomes.{◌>>=◌, or_refused}
 use Rattle.path.specs.declared.refusal.Refusal.{Refusal}
 use Rattle.path.specs.declared.refusal.Refusal.TheVariants as refusals
@@ -16,7 +18,7 @@ use Rattle.commands.specs.Names.{namespace_of}
 -- a filter, the order of what matches, how many of it are left out at the front, how many may come then (0: all), and what is
 -- given of each
 pub record Query : Type 0 where
-  pub filter : Rules
+  pub filter : Conditions
   pub sort : List SortField
   pub skip : ℕ
   pub limit : ℕ
@@ -29,7 +31,7 @@ pub record Find : Type 0 where
 
 pub record FindFields : Type 0 where
   pub common : CommonFields
-  pub filter : Option Rules
+  pub filter : Option Conditions
   pub sort : Option (List SortField)
   pub projection : Option Projection
   pub skip : Option ℕ
@@ -73,7 +75,7 @@ find_field found name t =
 -- A missing filter is met by all, a missing sort changes no order, and a missing projection leaves all.
 abbrev pub query_of : FindFields → Query
 query_of found = record {
-  filter = unwrap_or found.filter no_rules;
+  filter = unwrap_or found.filter no_conditions;
   sort = unwrap_or found.sort [];
   skip = unwrap_or found.skip 0;
   limit = unwrap_or found.limit 0;

@@ -38,11 +38,11 @@ struct CountFields<'a> {
 impl<'a> Model for CountFields<'a> {
     ghost use Rattle.commands.specs.Count as counts;
     ghost use Rattle.std.specs.Coded.{codes};
-    ghost use Rattle.filter.specs.RuleCode.{coded_rules};
+    ghost use Rattle.filter.specs.ConditionCode.{coded_conditions};
 
     ghost Value = { counts.CountFields };
 
-    ghost coded = { Prim.hlevel (codes, coded_rules) };
+    ghost coded = { Prim.hlevel (codes, coded_conditions) };
 
     ghost view = { λ a. record { common = a.common; filter = a.filter; skip = a.skip; limit = a.limit } };
 }

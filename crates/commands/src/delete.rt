@@ -29,11 +29,11 @@ pub struct Deletion {
 impl Model for Deletion {
     ghost use Rattle.commands.specs.Delete as deletes;
     ghost use Rattle.std.specs.Coded.{codes};
-    ghost use Rattle.filter.specs.RuleCode.{coded_rules};
+    ghost use Rattle.filter.specs.ConditionCode.{coded_conditions};
 
     ghost Value = { deletes.Deletion };
 
-    ghost coded = { Prim.hlevel (codes, coded_rules) };
+    ghost coded = { Prim.hlevel (codes, coded_conditions) };
 
     ghost view = { λ a. record { filter = a.filter; only_first = a.only_first } };
 }
@@ -55,11 +55,11 @@ struct DeletionFields {
 impl Model for DeletionFields {
     ghost use Rattle.commands.specs.Delete as deletes;
     ghost use Rattle.std.specs.Coded.{codes};
-    ghost use Rattle.filter.specs.RuleCode.{coded_rules};
+    ghost use Rattle.filter.specs.ConditionCode.{coded_conditions};
 
     ghost Value = { deletes.DeletionFields };
 
-    ghost coded = { Prim.hlevel (codes, coded_rules) };
+    ghost coded = { Prim.hlevel (codes, coded_conditions) };
 
     ghost view = { λ a. record { filter = a.filter; only_first = a.only_first } };
 }
@@ -134,11 +134,11 @@ impl<'a> Model for DeleteFields<'a> {
     ghost use Rattle.std.specs.Prelude.{option_map};
     ghost use Rattle.commands.specs.Delete as deletes;
     ghost use Rattle.std.specs.Coded.{codes};
-    ghost use Rattle.filter.specs.RuleCode.{coded_rules};
+    ghost use Rattle.filter.specs.ConditionCode.{coded_conditions};
 
     ghost Value = { deletes.DeleteFields };
 
-    ghost coded = { Prim.hlevel (codes, coded_rules) };
+    ghost coded = { Prim.hlevel (codes, coded_conditions) };
 
     ghost view = { λ a. record { common = a.common; deletions = option_map (λ v. v.items) a.deletions } };
 }

@@ -31,11 +31,11 @@ pub struct Query {
 impl Model for Query {
     ghost use Rattle.commands.specs.Find as finds;
     ghost use Rattle.std.specs.Coded.{codes};
-    ghost use Rattle.filter.specs.RuleCode.{coded_rules};
+    ghost use Rattle.filter.specs.ConditionCode.{coded_conditions};
 
     ghost Value = { finds.Query };
 
-    ghost coded = { Prim.hlevel (codes, coded_rules) };
+    ghost coded = { Prim.hlevel (codes, coded_conditions) };
 
     ghost view = { λ a. record { filter = a.filter; sort = a.sort; skip = a.skip; limit = a.limit; projection = a.projection } };
 }
@@ -63,11 +63,11 @@ struct FindFields<'a> {
 impl<'a> Model for FindFields<'a> {
     ghost use Rattle.commands.specs.Find as finds;
     ghost use Rattle.std.specs.Coded.{codes};
-    ghost use Rattle.filter.specs.RuleCode.{coded_rules};
+    ghost use Rattle.filter.specs.ConditionCode.{coded_conditions};
 
     ghost Value = { finds.FindFields };
 
-    ghost coded = { Prim.hlevel (codes, coded_rules) };
+    ghost coded = { Prim.hlevel (codes, coded_conditions) };
 
     ghost view = { λ a. record {
       common = a.common;

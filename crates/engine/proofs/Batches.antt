@@ -1,7 +1,7 @@
 -- Documents as the items of an array.
 use Rattle.std.proofs.Common.{◌≡◌, ℕ, ◌+◌, ◌<◌, ◌≤◌, List, [], ◌∷◌, length, drop, get_or, refl, sym, ap, ◌∙◌, arith}
 use Rattle.std.proofs.lemmas.List.{drop_all}
-use Rattle.bson.specs.Edits.{append_items-none, append_items-one}
+use Rattle.bson.specs.EditsLaws.{append_items-none, append_items-one}
 use Rattle.bson.specs.Tree.{document, Pairs, Items, no_items, item, append_items}
 use Rattle.engine.specs.Cursors.{items_of_documents}
 use Rattle.engine.proofs.Steps.{drop_step}

@@ -7,8 +7,8 @@ use Rattle.std.proofs.lemmas.Slice.Eq.{bytes_eq-Decides}
 use Rattle.bson.specs.Tree.{Tree, scalar, null, array, Pairs, no_pairs, pair}
 use Rattle.bson.specs.Lookup.{lookup}
 use Rattle.bson.specs.Lawful.{levels, pairs_levels}
-use Rattle.bson.specs.Sizing.{framed-length, pairs_size-pair}
-use Rattle.bson.specs.Spelling.{tree_bytes, pairs_bytes, framed}
+use Rattle.bson.specs.SizingLaws.{frame_of-length, pairs_size-pair}
+use Rattle.bson.specs.Spelling.{tree_bytes, pairs_bytes, frame_of}
 use Rattle.value_order.specs.KeyText.{tree_text}
 use Rattle.path.specs.Outcomes.{◌>>=◌, unless, or_refused}
 use Rattle.engine.specs.Documents.{refused_if, pairs_fault, without, first_pair, id_name, id_first, no_array, id_of, key_of, checked}
@@ -88,10 +88,10 @@ no_longer (pair n u ps) name t e = at (bytes_eq name n) refl e (λ found. no_lon
     at false other found in_rest =
         omega (arith, in_rest found, pairs_size-pair n u ps, pairs_size-pair name t (without ps name), pairs_size-pair n u (without ps name), pairs_size-pair name t (pair n u (without ps name)))
 
-framed-id_first : (ps : Pairs) → length (framed (pairs_bytes (id_first ps))) ≤ length (framed (pairs_bytes ps))
-framed-id_first ps =
+frame_of-id_first : (ps : Pairs) → length (frame_of (pairs_bytes (id_first ps))) ≤ length (frame_of (pairs_bytes ps))
+frame_of-id_first ps =
     let less = at (lookup ps id_name) refl in
-    omega (arith, less, framed-length (pairs_bytes (id_first ps)), framed-length (pairs_bytes ps))
+    omega (arith, less, frame_of-length (pairs_bytes (id_first ps)), frame_of-length (pairs_bytes ps))
   where
     at : (o : Option Tree) → lookup ps id_name ≡ o → length (pairs_bytes (first_pair id_name o (without ps id_name))) ≤ length (pairs_bytes ps)
     at None e = shorter ps id_name
@@ -148,12 +148,12 @@ pub record Keeps (ps : Pairs) (t : Tree) : Type 0 where
 pub keeps : (ps : Pairs) (t : Tree) → checked ps ≡ Ok t → Keeps ps t
 unfolding checked
 keeps ps t e =
-    let p = passed (nat_lt 65535 (length (framed (pairs_bytes ps)))) (nat_lt 90 (suc (pairs_levels ps))) (pairs_fault (id_first ps)) (id_of ps) t e in
+    let p = passed (nat_lt 65535 (length (frame_of (pairs_bytes ps)))) (nat_lt 90 (suc (pairs_levels ps))) (pairs_fault (id_first ps)) (id_of ps) t e in
     let id : id_of (id_first ps) ≡ Some t = id_of-id_first ps ∙ p.found in
     let key : key_of (id_first ps) ≡ t = id_is_key (id_first ps) t id in
     record {
       lawful = record {
-        size = omega (arith, framed-id_first ps, ltb-false 65535 (length (framed (pairs_bytes ps))) p.small);
+        size = omega (arith, frame_of-id_first ps, ltb-false 65535 (length (frame_of (pairs_bytes ps))) p.small);
         depth = omega (arith, levels-id_first ps, ltb-false 90 (suc (pairs_levels ps)) p.flat);
         names = p.named;
         key = id ∙ ap (λ (x : Tree). Some x) (sym key);

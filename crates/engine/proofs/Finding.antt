@@ -11,7 +11,7 @@ use Rattle.std.proofs.lemmas.Bool.{eqb-true}
 use Rattle.std.proofs.lemmas.Bool.Decides.{nat_tests}
 use Rattle.bson.specs.Tree.{Pairs}
 use Rattle.bson.specs.Spelling.{pairs_bytes}
-use Rattle.bson.specs.Sizing.{framed-length}
+use Rattle.bson.specs.SizingLaws.{frame_of-length}
 use Rattle.filter.specs.Matches.{matches}
 use Rattle.filter.specs.Projection.{Projection, project}
 use Rattle.filter.specs.ProjectionLaws.{project_no_larger}
@@ -60,7 +60,7 @@ projected_within : (p : Projection) (ps : Pairs) → IsWithin ps → IsWithin (p
 projected_within p ps h =
     let less = project_no_larger p ps in
     record {
-      size = omega (arith, framed-length (pairs_bytes (project p ps)), framed-length (pairs_bytes ps), less.0, h.size);
+      size = omega (arith, frame_of-length (pairs_bytes (project p ps)), frame_of-length (pairs_bytes ps), less.0, h.size);
       depth = omega (arith, less.1, h.depth);
     }
 

@@ -25,3 +25,4 @@ pub mod Located
 pub mod Growing
 pub mod Deleting
 pub mod Finding
+pub mod ReadingLaws

@@ -15,16 +15,16 @@ use Rattle.std.proofs.lemmas.List.Folds.{list_any-append}
 use Rattle.std.proofs.lemmas.Map.Text.{is_eq-slice_cmp}
 use Rattle.bson.specs.Tree.{Pairs}
 use Rattle.bson.specs.Lawful.{pairs_levels, IsDocument}
-use Rattle.bson.specs.Spelling.{framed, pairs_bytes}
+use Rattle.bson.specs.Spelling.{frame_of, pairs_bytes}
 use Rattle.value_order.specs.KeyText.{tree_text}
 use Rattle.value_order.specs.Order.{compare}
-use Rattle.roots.specs.Pairs.{Pair}
+use Rattle.roots.specs.Entries.{Entry}
 use Rattle.engine.specs.World.{Collection, uses, find_collection, put_collection, by_order}
 use Rattle.engine.specs.Documents.{pairs_fault, id_first, key_of, checked, place}
 use Rattle.engine.specs.Lawful.{IsStored, IsRising, IsReadable, IsKept, IsLawfulState, AreNamedApart, AreNumberedApart}
 use Rattle.engine.specs.Places.{IsGap, by_key, no_collection}
 use Rattle.engine.specs.Progress.{with_document}
-use Rattle.engine.specs.Stored.{catalogue_pair, document_pair, documents_numbered, documents_to, pairs_of}
+use Rattle.engine.specs.Stored.{catalogue_entry, document_entry, documents_numbered, documents_to, database_entries}
 use Rattle.engine.specs.Loading.{Loads, AddsEntry, AddsDocument, place_numbered}
 use Rattle.engine.proofs.Numbers.{turned, neither}
 use Rattle.engine.proofs.Ordered.{flipped, place_gap}
@@ -32,7 +32,7 @@ use Rattle.engine.proofs.Rewinding.{with_placed}
 
 -- ---- rows one after the other
 
-loads_append : (a b c : List Collection) (xs ys : List Pair) → Loads a xs b → Loads b ys c → Loads a (xs ++ ys) c
+loads_append : (a b c : List Collection) (xs ys : List Entry) → Loads a xs b → Loads b ys c → Loads a (xs ++ ys) c
 loads_append a b c [] ys h g = subst (λ (cs : List Collection). Loads cs ys c) (sym h) g
 loads_append a b c (x ∷ xs) ys (next, adds, later) g = (next, adds, loads_append next b c xs ys later g)
 
@@ -87,14 +87,14 @@ empty_kept c h = record {
   most = h.most;
 }
 
-entries : (xs ys : List Collection) (rest : List Pair) (last : List Collection) → IsLawfulState (xs ++ ys) → All IsReadable ys → Loads (map emptied (xs ++ ys)) rest last → Loads (map emptied xs) (map catalogue_pair ys ++ rest) last
+entries : (xs ys : List Collection) (rest : List Entry) (last : List Collection) → IsLawfulState (xs ++ ys) → All IsReadable ys → Loads (map emptied (xs ++ ys)) rest last → Loads (map emptied xs) (map catalogue_entry ys ++ rest) last
 entries xs [] rest last lawful readable later = subst (λ (cs : List Collection). Loads (map emptied cs) rest last) (append-nil xs) later
 entries xs (y ∷ ys) rest last lawful readable later =
     let next = map emptied (xs ++ y ∷ []) in
     let assoc : (xs ++ y ∷ []) ++ ys ≡ xs ++ y ∷ ys = append_assoc xs (y ∷ []) ys in
     let under = under_all xs y ys lawful.apart in
     let kept : IsKept y = subst IsKept (get_or-append_seam xs y ys y) (lawful.kept (length xs) y (omega (arith, length-append xs (y ∷ ys)))) in
-    let one : AddsEntry (map emptied xs) (catalogue_pair y) next = record {
+    let one : AddsEntry (map emptied xs) (catalogue_entry y) next = record {
       new = emptied y;
       empty = refl;
       pair_is = refl;
@@ -117,7 +117,7 @@ entries xs (y ∷ ys) rest last lawful readable later =
 stored_checked : (d : Pairs) → IsStored d → checked d ≡ Ok (key_of d)
 unfolding checked
 stored_checked d h =
-    let small : nat_lt 65535 (length (framed (pairs_bytes d))) ≡ false = let size = h.size in grind (arith, nat_tests, size) in
+    let small : nat_lt 65535 (length (frame_of (pairs_bytes d))) ≡ false = let size = h.size in grind (arith, nat_tests, size) in
     let flat : nat_lt 90 (suc (pairs_levels d)) ≡ false = let depth = h.depth in grind (arith, nat_tests, depth) in
     let names : pairs_fault (id_first d) ≡ None = ap pairs_fault h.first ∙ h.names in
     let short : nat_lt 500 (length (tree_text (key_of d))) ≡ false = let size = h.short in grind (arith, nat_tests, size) in
@@ -147,7 +147,7 @@ module _ (xs ys : List Collection) (c : Collection) (n : ℕ) (free : uses xs n 
   abbrev at_front : List Pairs → List Collection
   at_front ds = xs ++ record c { documents = ds } ∷ ys
 
-  stores : (front back : List Pairs) → IsRising (front ++ back) → All IsStored back → All IsDocument back → Loads (at_front front) (map (document_pair n) back) (at_front (front ++ back))
+  stores : (front back : List Pairs) → IsRising (front ++ back) → All IsStored back → All IsDocument back → Loads (at_front front) (map (document_entry n) back) (at_front (front ++ back))
   stores front [] rising stored readable = ap at_front (sym (append-nil front))
   stores front (d ∷ back) rising stored readable =
       let now : Collection = record c { documents = front } in
@@ -166,7 +166,7 @@ module _ (xs ys : List Collection) (c : Collection) (n : ℕ) (free : uses xs n 
       let placed : place (key_of d) (id_first d) front ≡ Some (front ++ d ∷ []) =
       place_gap front (length front) (key_of d) (id_first d) gap ∙ ap (λ (x : Pairs). Some (insert front (length front) x)) one.first ∙ ap (λ (ds : List Pairs). Some ds) (insert_last front d) in
       let grows : with_document now d ≡ Ok next = with_placed now d (key_of d) (front ++ d ∷ []) (stored_checked d one) placed in
-      let adds : AddsDocument (at_front front) (document_pair n d) (at_front (front ++ d ∷ [])) = record {
+      let adds : AddsDocument (at_front front) (document_entry n d) (at_front (front ++ d ∷ [])) = record {
         number = n;
         document = d;
         at = length xs;
@@ -182,7 +182,7 @@ module _ (xs ys : List Collection) (c : Collection) (n : ℕ) (free : uses xs n 
       } in (
         at_front (front ++ d ∷ []),
         inr adds,
-        subst (λ (ds : List Pairs). Loads (at_front (front ++ d ∷ [])) (map (document_pair n) back) (at_front ds)) assoc
+        subst (λ (ds : List Pairs). Loads (at_front (front ++ d ∷ [])) (map (document_entry n) back) (at_front ds)) assoc
             (stores (front ++ d ∷ []) back (subst IsRising (sym assoc) rising) (λ k e below. stored (suc k) e (omega (arith, below))) (λ k e below. readable (suc k) e (omega (arith, below)))),
       )
 
@@ -215,14 +215,14 @@ number_stays n c = at (nat_le c.number n)
     at false = refl
 
 numbered : (n : ℕ) (front cs : List Collection) → suc n ≤ 1000 → uses front (suc n) ≡ false → AreNumberedApart cs → All IsKept cs → All IsReadable cs
-    → Loads (front ++ filled n cs) (map (document_pair (suc n)) (documents_numbered (suc n) cs)) (front ++ filled (suc n) cs)
+    → Loads (front ++ filled n cs) (map (document_entry (suc n)) (documents_numbered (suc n) cs)) (front ++ filled (suc n) cs)
 numbered n front [] most free apart kept readable = refl
 numbered n front (c ∷ cs) most free apart kept readable =
     at (c.number == suc n) refl (numbered n (front ++ up_to n c ∷ []) cs most)
   where
     at : (b : Bool) → (c.number == suc n) ≡ b
-        → (uses (front ++ up_to n c ∷ []) (suc n) ≡ false → AreNumberedApart cs → All IsKept cs → All IsReadable cs → Loads ((front ++ up_to n c ∷ []) ++ filled n cs) (map (document_pair (suc n)) (documents_numbered (suc n) cs)) ((front ++ up_to n c ∷ []) ++ filled (suc n) cs))
-        → Loads (front ++ filled n (c ∷ cs)) (map (document_pair (suc n)) (if b then c.documents else documents_numbered (suc n) cs)) (front ++ filled (suc n) (c ∷ cs))
+        → (uses (front ++ up_to n c ∷ []) (suc n) ≡ false → AreNumberedApart cs → All IsKept cs → All IsReadable cs → Loads ((front ++ up_to n c ∷ []) ++ filled n cs) (map (document_entry (suc n)) (documents_numbered (suc n) cs)) ((front ++ up_to n c ∷ []) ++ filled (suc n) cs))
+        → Loads (front ++ filled n (c ∷ cs)) (map (document_entry (suc n)) (if b then c.documents else documents_numbered (suc n) cs)) (front ++ filled (suc n) (c ∷ cs))
     at true e later =
         let same : c.number ≡ suc n = grind (arith, nat_tests) in
         let before : nat_le c.number n ≡ false = grind (arith, nat_tests) in
@@ -230,23 +230,23 @@ numbered n front (c ∷ cs) most free apart kept readable =
         let others : filled n cs ≡ filled (suc n) cs = filled_next n cs (ap (uses cs) (sym same) ∙ apart.0) in
         let one = kept 0 c (omega arith) in
         let stored = stores front (filled (suc n) cs) c (suc n) free same (omega arith) most [] c.documents one.lawful.rising one.lawful.stored (readable 0 c (omega arith)).documents in
-        subst (λ (x : Collection). Loads (front ++ x ∷ filled n cs) (map (document_pair (suc n)) c.documents) (front ++ filled (suc n) (c ∷ cs))) (sym (ap (λ b. if b then c else emptied c) before))
-        (subst (λ (x : Collection). Loads (front ++ emptied c ∷ filled n cs) (map (document_pair (suc n)) c.documents) (front ++ x ∷ filled (suc n) cs)) (sym (ap (λ b. if b then c else emptied c) after))
-        (subst (λ (us : List Collection). Loads (front ++ emptied c ∷ us) (map (document_pair (suc n)) c.documents) (front ++ c ∷ filled (suc n) cs)) (sym others) stored))
+        subst (λ (x : Collection). Loads (front ++ x ∷ filled n cs) (map (document_entry (suc n)) c.documents) (front ++ filled (suc n) (c ∷ cs))) (sym (ap (λ b. if b then c else emptied c) before))
+        (subst (λ (x : Collection). Loads (front ++ emptied c ∷ filled n cs) (map (document_entry (suc n)) c.documents) (front ++ x ∷ filled (suc n) cs)) (sym (ap (λ b. if b then c else emptied c) after))
+        (subst (λ (us : List Collection). Loads (front ++ emptied c ∷ us) (map (document_entry (suc n)) c.documents) (front ++ c ∷ filled (suc n) cs)) (sym others) stored))
     at false e later =
         let now = up_to n c in
         let next : up_to n c ≡ up_to (suc n) c = up_to_next n c e in
         let still : (now.number == suc n) ≡ false = ap (λ (k : ℕ). k == suc n) (number_stays n c) ∙ e in
         let free_now : uses (front ++ now ∷ []) (suc n) ≡ false = list_any-append (λ (x : Collection). x.number == suc n) front (now ∷ []) ∙ rw (free, still) refl in
         let h = later free_now apart.1 (λ k d below. kept (suc k) d (omega (arith, below))) (λ k d below. readable (suc k) d (omega (arith, below))) in
-        subst (λ (x : Collection). Loads (front ++ up_to n c ∷ filled n cs) (map (document_pair (suc n)) (documents_numbered (suc n) cs)) (front ++ x ∷ filled (suc n) cs)) next
-        (subst (λ (us : List Collection). Loads (front ++ up_to n c ∷ filled n cs) (map (document_pair (suc n)) (documents_numbered (suc n) cs)) us) (append_assoc front (now ∷ []) (filled (suc n) cs))
-        (subst (λ (us : List Collection). Loads us (map (document_pair (suc n)) (documents_numbered (suc n) cs)) ((front ++ now ∷ []) ++ filled (suc n) cs)) (append_assoc front (now ∷ []) (filled n cs)) h))
+        subst (λ (x : Collection). Loads (front ++ up_to n c ∷ filled n cs) (map (document_entry (suc n)) (documents_numbered (suc n) cs)) (front ++ x ∷ filled (suc n) cs)) next
+        (subst (λ (us : List Collection). Loads (front ++ up_to n c ∷ filled n cs) (map (document_entry (suc n)) (documents_numbered (suc n) cs)) us) (append_assoc front (now ∷ []) (filled (suc n) cs))
+        (subst (λ (us : List Collection). Loads us (map (document_entry (suc n)) (documents_numbered (suc n) cs)) ((front ++ now ∷ []) ++ filled (suc n) cs)) (append_assoc front (now ∷ []) (filled n cs)) h))
 
 all_numbers : (n : ℕ) (cs : List Collection) → n ≤ 1000 → AreNumberedApart cs → All IsKept cs → All IsReadable cs → Loads (filled 0 cs) (documents_to n cs) (filled n cs)
 all_numbers zero cs most apart kept readable = refl
 all_numbers (suc n) cs most apart kept readable =
-    loads_append (filled 0 cs) (filled n cs) (filled (suc n) cs) (documents_to n cs) (map (document_pair (suc n)) (documents_numbered (suc n) cs))
+    loads_append (filled 0 cs) (filled n cs) (filled (suc n) cs) (documents_to n cs) (map (document_entry (suc n)) (documents_numbered (suc n) cs))
     (all_numbers n cs (omega (arith, most)) apart kept readable) (numbered n [] cs most refl apart kept readable)
 
 none_filled : (cs : List Collection) → All IsKept cs → map emptied cs ≡ filled 0 cs
@@ -263,8 +263,8 @@ all_filled (c ∷ cs) kept =
     let within : nat_le c.number 1000 ≡ true = let high = first.most in grind (arith, nat_tests, high) in
     λ i. ap (λ b. if b then c else emptied c) within i ∷ all_filled cs (λ k d below. kept (suc k) d (omega (arith, below))) i
 
-pub loads_all : (cs : List Collection) → IsLawfulState cs → All IsReadable cs → Loads [] (pairs_of cs) cs
-unfolding pairs_of
+pub loads_all : (cs : List Collection) → IsLawfulState cs → All IsReadable cs → Loads [] (database_entries cs) cs
+unfolding database_entries
 loads_all cs lawful readable =
     let documents : Loads (map emptied cs) (documents_to 1000 cs) cs =
     subst (λ (us : List Collection). Loads us (documents_to 1000 cs) cs) (sym (none_filled cs lawful.kept))

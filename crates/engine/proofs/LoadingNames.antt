@@ -5,11 +5,11 @@ use Rattle.std.proofs.lemmas.Bool.Decides.{nat_tests}
 use Rattle.bson.specs.Tree.{Pairs}
 use Rattle.bson.specs.declared.fault.BsonFault.{BsonFault}
 use Rattle.bson.specs.declared.fault.BsonFault.TheVariants as faults
-use Rattle.value_order.specs.KeyText.{escaped, tree_text}
+use Rattle.value_order.specs.KeyText.{escaped_text, tree_text}
 use Rattle.engine.specs.Refusals.{words}
 use Rattle.engine.specs.Loading.{unescaped}
 
-pub unescaped-escaped : (name : List ℕ) → unescaped false (escaped name) ≡ name
+pub unescaped-escaped : (name : List ℕ) → unescaped false (escaped_text name) ≡ name
 unescaped-escaped [] = refl
 unescaped-escaped (zero ∷ bs) = ap (λ (xs : List ℕ). 0 ∷ xs) (unescaped-escaped bs)
 unescaped-escaped (suc b ∷ bs) =

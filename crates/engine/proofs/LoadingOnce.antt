@@ -4,17 +4,17 @@ use Rattle.std.specs.Prelude.{pos, All}
 use Rattle.std.specs.Int.{w32, from_be_bytes}
 use Rattle.std.proofs.lemmas.Nat.{from_be_bytes-to_be_bytes_4}
 use Rattle.bson.specs.Tree.{scalar, int32, Pairs, pair}
-use Rattle.bson.specs.Spelling.{framed, pairs_bytes}
+use Rattle.bson.specs.Spelling.{frame_of, pairs_bytes}
 use Rattle.bson.proofs.TreeLaws.{one_spelling}
 use Rattle.value_order.specs.KeyText.{tree_text}
-use Rattle.roots.specs.Pairs.{Pair}
+use Rattle.roots.specs.Entries.{Entry}
 use Rattle.engine.specs.World.{Collection, put_collection}
 use Rattle.engine.specs.Documents.{key_of}
 use Rattle.engine.specs.Refusals.{words}
 use Rattle.engine.specs.Places.{collection_at}
 use Rattle.engine.specs.Progress.{with_document}
 use Rattle.engine.specs.Lawful.{IsReadable, IsLawfulState}
-use Rattle.engine.specs.Stored.{key_under, entry, pairs_of}
+use Rattle.engine.specs.Stored.{key_under, catalogue_value, database_entries}
 use Rattle.engine.specs.Loading.{unescaped, place_numbered, AddsEntry, AddsDocument, Adds, Loads}
 use Rattle.engine.proofs.LoadingNames.{unescaped-escaped}
 use Rattle.engine.proofs.LoadingSteps.{entry_spells, document_spells}
@@ -35,51 +35,51 @@ number_of : Pairs → ℕ
 number_of (pair name (scalar (int32 (pos n))) ps) = n
 number_of other = 0
 
-same_entry : (m n : ℕ) → entry m ≡ entry n → m ≡ n
+same_entry : (m n : ℕ) → catalogue_value m ≡ catalogue_value n → m ≡ n
 unfolding number_of
 same_entry m n e = ap number_of e
 
 -- ---- one pair makes one list
 
-entries_same : (cs a b : List Collection) (p : Pair) → AddsEntry cs p a → AddsEntry cs p b → a ≡ b
+entries_same : (cs a b : List Collection) (p : Entry) → AddsEntry cs p a → AddsEntry cs p b → a ≡ b
 entries_same cs a b p h g =
     let same = sym h.pair_is ∙ g.pair_is in
-    let named = same_name h.new.name g.new.name (ap (λ (q : Pair). q.key) same) in
-    let numbered = same_entry h.new.number g.new.number ((one_spelling (framed (pairs_bytes (entry h.new.number))) (framed (pairs_bytes (entry g.new.number))) [] [] (entry h.new.number) (entry g.new.number)
-    (entry_spells h.new.number h.kept.most) (entry_spells g.new.number g.kept.most) (ap (λ (q : Pair). q.value ++ []) same)).0) in
+    let named = same_name h.new.name g.new.name (ap (λ (q : Entry). q.key) same) in
+    let numbered = same_entry h.new.number g.new.number ((one_spelling (frame_of (pairs_bytes (catalogue_value h.new.number))) (frame_of (pairs_bytes (catalogue_value g.new.number))) [] [] (catalogue_value h.new.number) (catalogue_value g.new.number)
+    (entry_spells h.new.number h.kept.most) (entry_spells g.new.number g.kept.most) (ap (λ (q : Entry). q.value ++ []) same)).0) in
     let one : h.new ≡ g.new = λ i. record { name = named i; number = numbered i; documents = (h.empty ∙ sym g.empty) i } in
     h.next_is ∙ ap (λ (c : Collection). put_collection c cs) one ∙ sym g.next_is
 
 same_some : {a b : ℕ} → Some a ≡ Some b → a ≡ b
 same_some e = cc
 
-documents_same : (cs a b : List Collection) (p : Pair) → AddsDocument cs p a → AddsDocument cs p b → a ≡ b
+documents_same : (cs a b : List Collection) (p : Entry) → AddsDocument cs p a → AddsDocument cs p b → a ≡ b
 documents_same cs a b p h g =
     let same = sym h.pair_is ∙ g.pair_is in
-    let numbered = same_number h.number g.number (tree_text (key_of h.document)) (tree_text (key_of g.document)) (small h.number h.most) (small g.number g.most) (ap (λ (q : Pair). q.key) same) in
-    let document = (one_spelling (framed (pairs_bytes h.document)) (framed (pairs_bytes g.document)) [] [] h.document g.document
-    (document_spells h.document h.stored h.readable) (document_spells g.document g.stored g.readable) (ap (λ (q : Pair). q.value ++ []) same)).0 in
+    let numbered = same_number h.number g.number (tree_text (key_of h.document)) (tree_text (key_of g.document)) (small h.number h.most) (small g.number g.most) (ap (λ (q : Entry). q.key) same) in
+    let document = (one_spelling (frame_of (pairs_bytes h.document)) (frame_of (pairs_bytes g.document)) [] [] h.document g.document
+    (document_spells h.document h.stored h.readable) (document_spells g.document g.stored g.readable) (ap (λ (q : Entry). q.value ++ []) same)).0 in
     let at : h.at ≡ g.at = same_some (sym h.found ∙ ap (λ (n : ℕ). place_numbered n cs) numbered ∙ g.found) in
     let both = sym h.grows ∙ (λ i. with_document (collection_at cs (at i)) (document i)) ∙ g.grows in
     let grown : h.grown ≡ g.grown = cc in
     h.next_is ∙ (λ i. set cs (at i) (grown i)) ∙ sym g.next_is
 
-never_both : (cs a b : List Collection) (p : Pair) → AddsEntry cs p a → AddsDocument cs p b → ⊥
+never_both : (cs a b : List Collection) (p : Entry) → AddsEntry cs p a → AddsDocument cs p b → ⊥
 never_both cs a b p h g =
     let same = sym h.pair_is ∙ g.pair_is in
-    let zero_is = same_number 0 g.number (tree_text (words h.new.name)) (tree_text (key_of g.document)) (omega arith) (small g.number g.most) (ap (λ (q : Pair). q.key) same) in
+    let zero_is = same_number 0 g.number (tree_text (words h.new.name)) (tree_text (key_of g.document)) (omega arith) (small g.number g.most) (ap (λ (q : Entry). q.key) same) in
     omega (arith, zero_is, g.least)
 
-one_next : (cs a b : List Collection) (p : Pair) → Adds cs p a → Adds cs p b → a ≡ b
+one_next : (cs a b : List Collection) (p : Entry) → Adds cs p a → Adds cs p b → a ≡ b
 one_next cs a b p (inl h) (inl g) = entries_same cs a b p h g
 one_next cs a b p (inr h) (inr g) = documents_same cs a b p h g
 one_next cs a b p (inl h) (inr g) = absurd (never_both cs a b p h g)
 one_next cs a b p (inr h) (inl g) = absurd (never_both cs b a p g h)
 
-one_last : (cs a b : List Collection) (ps : List Pair) → Loads cs ps a → Loads cs ps b → a ≡ b
+one_last : (cs a b : List Collection) (ps : List Entry) → Loads cs ps a → Loads cs ps b → a ≡ b
 one_last cs a b [] h g = sym h ∙ g
 one_last cs a b (p ∷ ps) (m, adds, later) (n, others, rest) =
     one_last n a b ps (subst (λ (us : List Collection). Loads us ps a) (one_next cs m n p adds others) later) rest
 
-pub one_list : (a b : List Collection) → IsLawfulState a → IsLawfulState b → All IsReadable a → All IsReadable b → pairs_of a ≡ pairs_of b → a ≡ b
-one_list a b la lb ra rb e = one_last [] a b (pairs_of b) (subst (λ (ps : List Pair). Loads [] ps a) e (loads_all a la ra)) (loads_all b lb rb)
+pub one_list : (a b : List Collection) → IsLawfulState a → IsLawfulState b → All IsReadable a → All IsReadable b → database_entries a ≡ database_entries b → a ≡ b
+one_list a b la lb ra rb e = one_last [] a b (database_entries b) (subst (λ (ps : List Entry). Loads [] ps a) e (loads_all a la ra)) (loads_all b lb rb)

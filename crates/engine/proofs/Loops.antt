@@ -1,31 +1,33 @@
--- Loops that add what a list's elements are spelled as.
+-- Loops that add the entry of each element of a list.
 use Rattle.std.proofs.Common.{◌≡◌, ◌≢◌, ℕ, suc, true, false, ◌+◌, ◌<◌, ◌≤◌, List, [], ◌∷◌, ◌++◌, length, drop, get_or, map, sym, ap, ◌∙◌, append_assoc, refl, arith}
 use Rattle.std.proofs.lemmas.List.{append-nil, drop_all}
-use Rattle.roots.specs.Pairs.{Pair, pair_bytes, pairs_bytes}
-use Rattle.std.specs.Prelude.{◌==◌}
+use Rattle.roots.specs.Entries.{Entry}
+use Rattle.std.specs.Prelude.{◌==◌, Result, Ok, Err, OnOk}
 use Rattle.std.proofs.lemmas.Bool.Decides.{nat_tests}
 use Rattle.engine.specs.World.{Collection}
-use Rattle.engine.specs.Stored.{catalogue_pair, document_pair, documents_numbered, documents_to, pairs_of}
+use Rattle.engine.specs.Stored.{catalogue_entry, document_entry, documents_numbered, documents_to, database_entries}
 use Rattle.engine.proofs.Steps.{drop_step}
 
 -- what has been added, and what is left, are all
-abbrev pub AreAdded : {X : Type 0} → (X → Pair) → List X → List ℕ → ℕ → List ℕ → Type 0
-AreAdded pair_of all start i now = now ++ pairs_bytes (map pair_of (drop i all)) ≡ start ++ pairs_bytes (map pair_of all)
+abbrev pub AreAdded : {X : Type 0} → (X → Entry) → List X → List Entry → ℕ → List Entry → Type 0
+AreAdded entry_of all start i now = now ++ map entry_of (drop i all) ≡ start ++ map entry_of all
 
-pub added_one : {X : Type 0} (pair_of : X → Pair) (all : List X) (start now next : List ℕ) (i : ℕ) (x : X) → i < length all → x ≡ get_or all i x
-    → AreAdded pair_of all start i now → next ≡ now ++ pair_bytes (pair_of x) → AreAdded pair_of all start (i + 1) next
-added_one {X} pair_of all start now next i x within is h e =
-    ap (λ (bs : List ℕ). bs ++ pairs_bytes (map pair_of (drop (i + 1) all))) e
-    ∙ append_assoc now (pair_bytes (pair_of x)) (pairs_bytes (map pair_of (drop (i + 1) all)))
-    ∙ ap (λ (ys : List X). now ++ pairs_bytes (map pair_of ys)) (sym (drop_step all i x within is)) ∙ h
+pub added_one : {X : Type 0} (entry_of : X → Entry) (all : List X) (start now next : List Entry) (i : ℕ) (x : X) → i < length all → x ≡ get_or all i x
+    → AreAdded entry_of all start i now → next ≡ now ++ entry_of x ∷ [] → AreAdded entry_of all start (i + 1) next
+added_one {X} entry_of all start now next i x within is h e =
+    ap (λ (es : List Entry). es ++ map entry_of (drop (i + 1) all)) e
+    ∙ append_assoc now (entry_of x ∷ []) (map entry_of (drop (i + 1) all))
+    ∙ ap (λ (ys : List X). now ++ map entry_of ys) (sym (drop_step all i x within is)) ∙ h
 
-pub added_all : {X : Type 0} (pair_of : X → Pair) (all : List X) (start now : List ℕ) (i : ℕ) → length all ≤ i → AreAdded pair_of all start i now → now ≡ start ++ pairs_bytes (map pair_of all)
-added_all {X} pair_of all start now i whole h =
-    sym (append-nil now) ∙ ap (λ (ys : List X). now ++ pairs_bytes (map pair_of ys)) (sym (drop_all i all whole)) ∙ h
+pub added_all : {X : Type 0} (entry_of : X → Entry) (all : List X) (start now : List Entry) (i : ℕ) → length all ≤ i → AreAdded entry_of all start i now → now ≡ start ++ map entry_of all
+added_all {X} entry_of all start now i whole h =
+    sym (append-nil now) ∙ ap (λ (ys : List X). now ++ map entry_of ys) (sym (drop_all i all whole)) ∙ h
 
-pub pairs_bytes-append : (xs ys : List Pair) → pairs_bytes (xs ++ ys) ≡ pairs_bytes xs ++ pairs_bytes ys
-pairs_bytes-append [] ys = refl
-pairs_bytes-append (x ∷ xs) ys = ap (λ (bs : List ℕ). pair_bytes x ++ bs) (pairs_bytes-append xs ys) ∙ sym (append_assoc (pair_bytes x) (pairs_bytes xs) (pairs_bytes ys))
+-- an entry that was pushed, by what its key and its value are
+pub pushed_entry : {E : Type 0} (r : Result (Unit {0}) E) (old new : List Entry) (one other : Entry) → one.key ≡ other.key → one.value ≡ other.value
+    → OnOk r (new ≡ old ++ one ∷ []) → OnOk r (new ≡ old ++ other ∷ [])
+pushed_entry (Ok x) old new one other key value h = h ∙ (λ i. old ++ record { key = key i; value = value i } ∷ [])
+pushed_entry (Err e) old new one other key value h = tt
 
 -- ---- the documents of a number
 
@@ -44,15 +46,13 @@ numbered_none n cs i whole = ap (documents_numbered n) (drop_all i cs whole)
 
 -- ---- number after number
 
-pub numbers_one : (cs : List Collection) (start now next : List ℕ) (n : ℕ) → now ≡ start ++ pairs_bytes (documents_to n cs) → next ≡ now ++ pairs_bytes (map (document_pair (suc n)) (documents_numbered (suc n) cs))
-    → next ≡ start ++ pairs_bytes (documents_to (n + 1) cs)
+pub numbers_one : (cs : List Collection) (start now next : List Entry) (n : ℕ) → now ≡ start ++ documents_to n cs → next ≡ now ++ map (document_entry (suc n)) (documents_numbered (suc n) cs)
+    → next ≡ start ++ documents_to (n + 1) cs
 numbers_one cs start now next n h e =
     let one : suc n ≡ n + 1 = omega arith in
-    e ∙ ap (λ (bs : List ℕ). bs ++ pairs_bytes (map (document_pair (suc n)) (documents_numbered (suc n) cs))) h
-    ∙ append_assoc start (pairs_bytes (documents_to n cs)) (pairs_bytes (map (document_pair (suc n)) (documents_numbered (suc n) cs)))
-    ∙ ap (λ (bs : List ℕ). start ++ bs) (sym (pairs_bytes-append (documents_to n cs) (map (document_pair (suc n)) (documents_numbered (suc n) cs))))
-    ∙ ap (λ (k : ℕ). start ++ pairs_bytes (documents_to k cs)) one
+    let more : List Entry = map (document_entry (suc n)) (documents_numbered (suc n) cs) in
+    e ∙ ap (λ (es : List Entry). es ++ more) h ∙ append_assoc start (documents_to n cs) more ∙ ap (λ (k : ℕ). start ++ documents_to k cs) one
 
-pub whole_image : (cs : List Collection) → pairs_bytes (map catalogue_pair cs) ++ pairs_bytes (documents_to 1000 cs) ≡ pairs_bytes (pairs_of cs)
-unfolding pairs_of
-whole_image cs = sym (pairs_bytes-append (map catalogue_pair cs) (documents_to 1000 cs))
+pub whole_database : (cs : List Collection) → map catalogue_entry cs ++ documents_to 1000 cs ≡ database_entries cs
+unfolding database_entries
+whole_database cs = refl

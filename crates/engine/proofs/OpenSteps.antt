@@ -1,4 +1,4 @@
--- A store is opened, and then its pairs are read.
+-- A store is opened, and then its entries are read.
 use Rattle.std.proofs.Common.{◌≡◌, ◌≢◌, ℕ, List, [], sym, ap, subst, ◌∙◌}
 use Rattle.std.specs.Prelude.{All}
 use Rattle.page.specs.History.{History, KeepsWord, now, reads, IsImage}
@@ -6,7 +6,7 @@ use Rattle.page.specs.Crash.{GoesOn, LeavesOnly}
 use Rattle.page.proofs.Moments.{reads_moments}
 use Rattle.roots.specs.Image.{StandsFor}
 use Rattle.roots.specs.Opening as roots
-use Rattle.roots.specs.Pairs.{pairs_bytes}
+use Rattle.roots.specs.Entries.{Entry}
 use Rattle.roots.specs.Store as stores
 use Rattle.roots.specs.declared.store.Store.{Store}
 use Rattle.roots.specs.declared.opening.OpenFault.{OpenFault}
@@ -15,39 +15,39 @@ use Rattle.roots.proofs.OpenSteps.{one_state}
 use Rattle.engine.specs.World.{World, Collection}
 use Rattle.engine.specs.Lawful.{IsReadable, IsLawfulState}
 use Rattle.engine.specs.Progress.{has_any, Progress, turn_start_of}
-use Rattle.engine.specs.Stored.{pairs_of}
+use Rattle.engine.specs.Stored.{database_entries}
 use Rattle.engine.specs.Durable.{Holds, disk_history}
 use Rattle.engine.specs.Loading.{IsLoading, IsOfBytes}
 use Rattle.engine.specs.Opening.{IsOpened, IsRefused}
 use Rattle.engine.specs.declared.engine.Engine.{Engine}
-use Rattle.engine.proofs.Ending.{held}
+use Rattle.engine.proofs.Ending.{holds_by_entries, stands_for}
 
 -- the collections that no change was made to are those from the beginning of the turn
 unchanged : (p : Progress) → p.changes ≡ [] → turn_start_of p ≡ p.now
 unchanged p none = ap (λ xs. turn_start_of (record { now = p.now; changes = xs })) none
 
 module _ {D : Type 0} (history : D → History) (disk : D) where
-  pub opened : (engine : Engine D) (bytes : List ℕ) → roots.IsOpened history disk engine.store → IsLoading engine.collections → All IsReadable engine.collections.now
-      → (KeepsWord (disk_history history engine) → bytes ≡ stores.committed history engine.store) → bytes ≡ pairs_bytes (pairs_of engine.collections.now) → IsOpened history disk engine
-  opened engine bytes r loading readable read spelled =
+  pub opened : (engine : Engine D) (entries : List Entry) → roots.IsOpened history disk engine.store → IsLoading engine.collections → All IsReadable engine.collections.now
+      → (KeepsWord (disk_history history engine) → entries ≡ stores.committed_entries history engine.store) → entries ≡ database_entries engine.collections.now → IsOpened history disk engine
+  opened engine entries r loading readable read spelled =
       let collections = engine.collections.now in
       let same : turn_start_of engine.collections ≡ collections = unchanged engine.collections loading.idle in
-      let committed : KeepsWord (disk_history history engine) → stores.committed history engine.store ≡ pairs_bytes (pairs_of collections) = λ k. sym (read k) ∙ spelled in
+      let committed : KeepsWord (disk_history history engine) → stores.committed_entries history engine.store ≡ database_entries collections = λ k. sym (read k) ∙ spelled in
       record {
         sound = record {
           store = r.sound;
           lawful = loading.lawful;
           before = subst IsLawfulState (sym same) loading.lawful;
           readable = subst (λ (cs : List Collection). All IsReadable cs) (sym same) readable;
-          holds = λ run k image left. subst (Holds image) (sym same) (held collections image loading.lawful readable (subst (StandsFor image) (committed k) (r.alone k image left)));
-          committed = λ k run. committed k ∙ ap (λ (cs : List Collection). pairs_bytes (pairs_of cs)) (sym same);
+          holds = λ run k image left. subst (Holds image) (sym same) (holds_by_entries collections image loading.lawful readable (subst (StandsFor image) (committed k) (r.alone k image left)));
+          committed = λ k run. committed k ∙ ap (λ (cs : List Collection). database_entries cs) (sym same);
         };
         running = r.running;
         idle = ap (λ (cs : List Collection). let w : World = record { collections = cs; cursors = []; next = 1; touched = [] } in w) same;
         rests = ap has_any loading.idle;
         on = r.on;
-        holds = λ k. held collections (reads (now (history disk))) loading.lawful readable (subst (StandsFor (reads (now (history disk)))) (committed k) (r.stands k));
-        alone = λ k image left. held collections image loading.lawful readable (subst (StandsFor image) (committed k) (r.alone k image left));
+        holds = λ k. holds_by_entries collections (reads (now (history disk))) loading.lawful readable (subst (StandsFor (reads (now (history disk)))) (committed k) (r.stands k));
+        alone = λ k image left. holds_by_entries collections image loading.lawful readable (subst (StandsFor image) (committed k) (r.alone k image left));
         any_moment = r.any_moment;
         only = r.only;
       }
@@ -56,21 +56,21 @@ module _ {D : Type 0} (history : D → History) (disk : D) where
   refused_store back fault r = record {
     on = r.untouched.on;
     any_moment = λ one. reads_moments (history disk) (history back) r.untouched;
-    damaged = λ other memory k collections h. r.damaged other memory k (pairs_of collections) h.pairs;
+    damaged = λ other memory k collections h. r.damaged other memory k (database_entries collections) h.entries;
     foreign = r.foreign;
     later = r.later;
     device = r.device;
   }
 
-  pub refused_pairs : (store : Store D) (back : D) (bytes : List ℕ) (fault : OpenFault) → roots.IsOpened history disk store → history back ≡ stores.past history store → IsOfBytes fault
-      → (KeepsWord (stores.past history store) → bytes ≡ stores.committed history store)
-      → (fault ≢ faults.Memory → (collections : List Collection) → IsLawfulState collections → All IsReadable collections → bytes ≡ pairs_bytes (pairs_of collections) → ⊥) → IsRefused history disk back fault
-  refused_pairs store back bytes fault r same of_bytes read none = record {
+  pub refused_entries : (store : Store D) (back : D) (entries : List Entry) (fault : OpenFault) → roots.IsOpened history disk store → history back ≡ stores.disk_history history store → IsOfBytes fault
+      → (KeepsWord (stores.disk_history history store) → entries ≡ stores.committed_entries history store)
+      → (fault ≢ faults.Memory → (collections : List Collection) → IsLawfulState collections → All IsReadable collections → entries ≡ database_entries collections → ⊥) → IsRefused history disk back fault
+  refused_entries store back entries fault r same of_bytes read none = record {
     on = subst (GoesOn (history disk)) (sym same) r.on;
     any_moment = λ one. subst (λ (h : History). LeavesOnly (history disk) h (IsImage (now (history disk)))) (sym same) (r.any_moment one);
     damaged = λ other memory k collections h.
         let kept = subst KeepsWord same k in
-        none memory collections h.lawful h.readable (read kept ∙ one_state (reads (now (history disk))) (stores.committed history store) (pairs_bytes (pairs_of collections)) (r.stands kept) h.pairs.stands);
+        none memory collections h.lawful h.readable (read kept ∙ one_state (reads (now (history disk))) (stores.committed_entries history store) (database_entries collections) (r.stands kept) (stands_for collections (reads (now (history disk))) h));
     foreign = λ e. absurd (of_bytes.not_foreign e);
     later = λ e. absurd (of_bytes.not_newer e);
     device = λ e. absurd (of_bytes.not_device e);

@@ -14,20 +14,20 @@ use Rattle.std.proofs.Math.Nat.{mod-eq_of_lt}
 use Rattle.bson.specs.Tree.{scalar, null, Pairs, no_pairs, pair}
 use Rattle.bson.specs.Lookup.{lookup}
 use Rattle.bson.specs.Lawful.{IsTree, IsPairs, IsDocument}
-use Rattle.bson.specs.Sizing.{framed-length, pairs_size-pair}
+use Rattle.bson.specs.SizingLaws.{frame_of-length, pairs_size-pair}
 use Rattle.bson.specs.Spelling.{tree_bytes, pairs_bytes}
 use Rattle.value_order.specs.Laws.{IsKey}
 use Rattle.value_order.specs.Order.{value, compare}
 use Rattle.value_order.specs.KeyText.{tree_text}
 use Rattle.value_order.specs.declared.texts.Direction.TheVariants as directions
 use Rattle.value_order.proofs.KeyLaws.{texts_order}
-use Rattle.value_order.proofs.Numbers.{SortsAs-bytes}
-use Rattle.roots.specs.Pairs.{Pair, IsFit, IsBelow, Rise, IsRow}
+use Rattle.value_order.proofs.NumberLaws.{SortsAs-bytes}
+use Rattle.roots.specs.Entries.{Entry, IsFit, IsBelow, Ascend, AreAscending}
 use Rattle.engine.specs.World.{Collection}
 use Rattle.engine.specs.Documents.{id_name, key_of}
 use Rattle.engine.specs.Refusals.{words}
 use Rattle.engine.specs.Lawful.{IsStored, IsRising, IsReadable, IsKept, IsLawfulState}
-use Rattle.engine.specs.Stored.{key_under, catalogue_pair, document_pair, documents_numbered, documents_to, pairs_of}
+use Rattle.engine.specs.Stored.{key_under, catalogue_entry, document_entry, documents_numbered, documents_to, database_entries}
 use Rattle.engine.proofs.PairSizes.{entry_size, name_size, key_size}
 use Rattle.engine.proofs.SpelledSizes.{length-words}
 
@@ -73,9 +73,9 @@ is_small (pair other t ps) name = at (bytes_eq name other) (is_small ps name)
     at false later = omega (arith, pairs_size-pair other t ps, later)
 
 document_key : (d : Pairs) → IsStored d → IsDocument d → IsKey (value (key_of d))
-document_key d stored h = (is_tree d id_name h.lawful, omega (arith, is_small d id_name, stored.size, framed-length (pairs_bytes d)))
+document_key d stored h = (is_tree d id_name h.lawful, omega (arith, is_small d id_name, stored.size, frame_of-length (pairs_bytes d)))
 
-documents_rise : (n : ℕ) (d e : Pairs) → IsStored d → IsStored e → IsDocument d → IsDocument e → compare (key_of d) (key_of e) ≡ orders.Less → IsBelow (document_pair n d).key (document_pair n e).key
+documents_rise : (n : ℕ) (d e : Pairs) → IsStored d → IsStored e → IsDocument d → IsDocument e → compare (key_of d) (key_of e) ≡ orders.Less → IsBelow (document_entry n d).key (document_entry n e).key
 documents_rise n d e sd se hd he less =
     under_one n (tree_text (key_of d)) (tree_text (key_of e))
     (texts_order directions.Ascending (value (key_of d)) (value (key_of e)) (document_key d sd hd) (document_key e se he) ∙ less)
@@ -83,7 +83,7 @@ documents_rise n d e sd se hd he less =
 name_key : (c : Collection) → IsKept c → IsReadable c → IsKey (value (words c.name))
 name_key c kept h = (h.name, omega (arith, length-words c.name, kept.short))
 
-names_rise : (c d : Collection) → IsKept c → IsKept d → IsReadable c → IsReadable d → slice_cmp nat_cmp c.name d.name ≡ orders.Less → IsBelow (catalogue_pair c).key (catalogue_pair d).key
+names_rise : (c d : Collection) → IsKept c → IsKept d → IsReadable c → IsReadable d → slice_cmp nat_cmp c.name d.name ≡ orders.Less → IsBelow (catalogue_entry c).key (catalogue_entry d).key
 names_rise c d kc kd hc hd less =
     under_one 0 (tree_text (words c.name)) (tree_text (words d.name))
     (texts_order directions.Ascending (value (words c.name)) (value (words d.name)) (name_key c kc hc) (name_key d kd hd) ∙ less)
@@ -99,13 +99,13 @@ all_append : {X : Type 0} (P : X → Type 0) (xs ys : List X) → AllByRecursion
 all_append P [] ys h g = g
 all_append P (x ∷ xs) ys h g = (h.0, all_append P xs ys h.1 g)
 
-rise_append : (xs ys : List Pair) → Rise xs → Rise ys → AllByRecursion (λ (x : Pair). AllByRecursion (λ (y : Pair). IsBelow x.key y.key) ys) xs → Rise (xs ++ ys)
+rise_append : (xs ys : List Entry) → Ascend xs → Ascend ys → AllByRecursion (λ (x : Entry). AllByRecursion (λ (y : Entry). IsBelow x.key y.key) ys) xs → Ascend (xs ++ ys)
 rise_append [] ys h g below = g
-rise_append (x ∷ xs) ys h g below = (all_append (λ (y : Pair). IsBelow x.key y.key) xs ys h.0 below.0, rise_append xs ys h.1 g below.1)
+rise_append (x ∷ xs) ys h g below = (all_append (λ (y : Entry). IsBelow x.key y.key) xs ys h.0 below.0, rise_append xs ys h.1 g below.1)
 
-rise_map : {X : Type 0} (f : X → Pair) (xs : List X) → ((i j : ℕ) (d : X) → i < j → j < length xs → IsBelow (f (get_or xs i d)).key (f (get_or xs j d)).key) → Rise (map f xs)
+rise_map : {X : Type 0} (f : X → Entry) (xs : List X) → ((i j : ℕ) (d : X) → i < j → j < length xs → IsBelow (f (get_or xs i d)).key (f (get_or xs j d)).key) → Ascend (map f xs)
 rise_map f [] h = tt
-rise_map {X} f (x ∷ xs) h = (all_map (λ (y : Pair). IsBelow (f x).key y.key) f xs (λ k d below. h 0 (suc k) d (omega arith) (omega (arith, below))), rise_map f xs (λ i j d lt below. h (suc i) (suc j) d (omega (arith, lt)) (omega (arith, below))))
+rise_map {X} f (x ∷ xs) h = (all_map (λ (y : Entry). IsBelow (f x).key y.key) f xs (λ k d below. h 0 (suc k) d (omega arith) (omega (arith, below))), rise_map f xs (λ i j d lt below. h (suc i) (suc j) d (omega (arith, lt)) (omega (arith, below))))
 
 -- ---- the documents of one number
 
@@ -123,35 +123,35 @@ numbered_fine n (c ∷ cs) kept h =
     at true later = let one = (kept 0 c (omega arith)).lawful in record { rising = one.rising; stored = one.stored; readable = (h 0 c (omega arith)).documents }
     at false later = later
 
-numbered_rise : (n : ℕ) (ds : List Pairs) → Fine ds → Rise (map (document_pair n) ds)
+numbered_rise : (n : ℕ) (ds : List Pairs) → Fine ds → Ascend (map (document_entry n) ds)
 numbered_rise n ds fine =
-    rise_map (document_pair n) ds (λ i j d lt below.
+    rise_map (document_entry n) ds (λ i j d lt below.
     documents_rise n (get_or ds i d) (get_or ds j d) (fine.stored i d (omega (arith, lt, below))) (fine.stored j d below) (fine.readable i d (omega (arith, lt, below))) (fine.readable j d below) (fine.rising i j d lt below))
 
-numbered_fit : (n : ℕ) (ds : List Pairs) → All IsStored ds → AllByRecursion IsFit (map (document_pair n) ds)
-numbered_fit n ds stored = all_map IsFit (document_pair n) ds (λ k d below. fits (get_or ds k d) (stored k d below))
+numbered_fit : (n : ℕ) (ds : List Pairs) → All IsStored ds → AllByRecursion IsFit (map (document_entry n) ds)
+numbered_fit n ds stored = all_map IsFit (document_entry n) ds (λ k d below. fits (get_or ds k d) (stored k d below))
   where
-    fits : (d : Pairs) → IsStored d → IsFit (document_pair n d)
+    fits : (d : Pairs) → IsStored d → IsFit (document_entry n d)
     fits d s = record { key = omega (arith, key_size n (tree_text (key_of d)), s.short); value = omega (arith, s.size) }
 
 -- ---- number after number
 
 -- what stands below each key of a greater number
-abbrev Above : ℕ → Pair → Type 0
-Above n p = (k : ℕ) (ps : Pairs) → n < k → k < 2 ^ 32 → IsBelow p.key (document_pair k ps).key
+abbrev Above : ℕ → Entry → Type 0
+Above n p = (k : ℕ) (ps : Pairs) → n < k → k < 2 ^ 32 → IsBelow p.key (document_entry k ps).key
 
 record Whole (n : ℕ) (cs : List Collection) : Type 0 where
   fit : AllByRecursion IsFit (documents_to n cs)
-  rise : Rise (documents_to n cs)
+  rise : Ascend (documents_to n cs)
   above : AllByRecursion (Above n) (documents_to n cs)
 
-later_number : (n : ℕ) (ps : List Pair) → AllByRecursion (Above n) ps → AllByRecursion (Above (suc n)) ps
+later_number : (n : ℕ) (ps : List Entry) → AllByRecursion (Above n) ps → AllByRecursion (Above (suc n)) ps
 later_number n [] h = tt
 later_number n (p ∷ ps) h = ((λ k qs below fits. h.0 k qs (omega (arith, below)) fits), later_number n ps h.1)
 
-below_all : (n : ℕ) (ps : List Pair) (ds : List Pairs) → suc n < 2 ^ 32 → AllByRecursion (Above n) ps → AllByRecursion (λ (x : Pair). AllByRecursion (λ (y : Pair). IsBelow x.key y.key) (map (document_pair (suc n)) ds)) ps
+below_all : (n : ℕ) (ps : List Entry) (ds : List Pairs) → suc n < 2 ^ 32 → AllByRecursion (Above n) ps → AllByRecursion (λ (x : Entry). AllByRecursion (λ (y : Entry). IsBelow x.key y.key) (map (document_entry (suc n)) ds)) ps
 below_all n [] ds fits h = tt
-below_all n (p ∷ ps) ds fits h = (all_map (λ (y : Pair). IsBelow p.key y.key) (document_pair (suc n)) ds (λ k d below. h.0 (suc n) (get_or ds k d) (omega arith) fits), below_all n ps ds fits h.1)
+below_all n (p ∷ ps) ds fits h = (all_map (λ (y : Entry). IsBelow p.key y.key) (document_entry (suc n)) ds (λ k d below. h.0 (suc n) (get_or ds k d) (omega arith) fits), below_all n ps ds fits h.1)
 
 whole : (n : ℕ) (cs : List Collection) → n < 2 ^ 31 → All IsKept cs → All IsReadable cs → Whole n cs
 whole zero cs fits kept h = record { fit = tt; rise = tt; above = tt }
@@ -160,34 +160,34 @@ whole (suc n) cs fits kept h = at (whole n cs (omega (arith, fits)) kept h) (num
     at : Whole n cs → Fine (documents_numbered (suc n) cs) → Whole (suc n) cs
     at before fine =
         let ds = documents_numbered (suc n) cs in
-        let now = map (document_pair (suc n)) ds in
+        let now = map (document_entry (suc n)) ds in
         record {
           fit = all_append IsFit (documents_to n cs) now before.fit (numbered_fit (suc n) ds fine.stored);
           rise = rise_append (documents_to n cs) now before.rise (numbered_rise (suc n) ds fine) (below_all n (documents_to n cs) ds (omega (arith, fits)) before.above);
           above = all_append (Above (suc n)) (documents_to n cs) now (later_number n (documents_to n cs) before.above)
-              (all_map (Above (suc n)) (document_pair (suc n)) ds (λ k d below j ps lt small. under_two (suc n) j (tree_text (key_of (get_or ds k d))) (tree_text (key_of ps)) lt small));
+              (all_map (Above (suc n)) (document_entry (suc n)) ds (λ k d below j ps lt small. under_two (suc n) j (tree_text (key_of (get_or ds k d))) (tree_text (key_of ps)) lt small));
         }
 
 -- the catalogue stands below all documents
-first_all : (n : ℕ) (c : Collection) (cs : List Collection) → n < 2 ^ 31 → AllByRecursion (λ (y : Pair). IsBelow (catalogue_pair c).key y.key) (documents_to n cs)
+first_all : (n : ℕ) (c : Collection) (cs : List Collection) → n < 2 ^ 31 → AllByRecursion (λ (y : Entry). IsBelow (catalogue_entry c).key y.key) (documents_to n cs)
 first_all zero c cs fits = tt
 first_all (suc n) c cs fits =
-    all_append (λ (y : Pair). IsBelow (catalogue_pair c).key y.key) (documents_to n cs) (map (document_pair (suc n)) (documents_numbered (suc n) cs)) (first_all n c cs (omega (arith, fits)))
-    (all_map (λ (y : Pair). IsBelow (catalogue_pair c).key y.key) (document_pair (suc n)) (documents_numbered (suc n) cs)
+    all_append (λ (y : Entry). IsBelow (catalogue_entry c).key y.key) (documents_to n cs) (map (document_entry (suc n)) (documents_numbered (suc n) cs)) (first_all n c cs (omega (arith, fits)))
+    (all_map (λ (y : Entry). IsBelow (catalogue_entry c).key y.key) (document_entry (suc n)) (documents_numbered (suc n) cs)
     (λ k d below. under_two 0 (suc n) (tree_text (words c.name)) (tree_text (key_of (get_or (documents_numbered (suc n) cs) k d))) (omega arith) (omega (arith, fits))))
 
-pub are_row : (cs : List Collection) → IsLawfulState cs → All IsReadable cs → IsRow (pairs_of cs)
-unfolding pairs_of
-are_row cs lawful h =
+pub are_ascending : (cs : List Collection) → IsLawfulState cs → All IsReadable cs → AreAscending (database_entries cs)
+unfolding database_entries
+are_ascending cs lawful h =
     let documents = whole 1000 cs (omega arith) lawful.kept h in
     record {
-      fit = all_append IsFit (map catalogue_pair cs) (documents_to 1000 cs)
-          (all_map IsFit catalogue_pair cs (λ k d below. fits (get_or cs k d) (lawful.kept k d below))) documents.fit;
-      rise = rise_append (map catalogue_pair cs) (documents_to 1000 cs)
-          (rise_map catalogue_pair cs (λ i j d lt below. names_rise (get_or cs i d) (get_or cs j d) (lawful.kept i d (omega (arith, lt, below))) (lawful.kept j d below) (h i d (omega (arith, lt, below))) (h j d below) (lawful.apart i j d lt below)))
+      fit = all_append IsFit (map catalogue_entry cs) (documents_to 1000 cs)
+          (all_map IsFit catalogue_entry cs (λ k d below. fits (get_or cs k d) (lawful.kept k d below))) documents.fit;
+      ascend = rise_append (map catalogue_entry cs) (documents_to 1000 cs)
+          (rise_map catalogue_entry cs (λ i j d lt below. names_rise (get_or cs i d) (get_or cs j d) (lawful.kept i d (omega (arith, lt, below))) (lawful.kept j d below) (h i d (omega (arith, lt, below))) (h j d below) (lawful.apart i j d lt below)))
           documents.rise
-          (all_map (λ (x : Pair). AllByRecursion (λ (y : Pair). IsBelow x.key y.key) (documents_to 1000 cs)) catalogue_pair cs (λ k d below. first_all 1000 (get_or cs k d) cs (omega arith)));
+          (all_map (λ (x : Entry). AllByRecursion (λ (y : Entry). IsBelow x.key y.key) (documents_to 1000 cs)) catalogue_entry cs (λ k d below. first_all 1000 (get_or cs k d) cs (omega arith)));
     }
   where
-    fits : (c : Collection) → IsKept c → IsFit (catalogue_pair c)
+    fits : (c : Collection) → IsKept c → IsFit (catalogue_entry c)
     fits c kept = record { key = omega (arith, key_size 0 (tree_text (words c.name)), name_size c.name, kept.short); value = omega (arith, entry_size c.number) }

@@ -3,7 +3,7 @@ use Rattle.std.proofs.Common.{◌≡◌, ℕ, zero, suc, ◌+◌, ◌-◌, ◌<�
 use Rattle.std.specs.Prelude.{◌==◌, ◌||◌, if◌then◌else◌, nat_le, codes, unwrap_or}
 use Rattle.std.proofs.lemmas.Bool.Decides.{nat_tests}
 use Rattle.bson.specs.Tree.{Pairs, pair, no_pairs}
-use Rattle.filter.specs.Rule.{Rules}
+use Rattle.filter.specs.Condition.{Conditions}
 use Rattle.commands.specs.Insert.{Insert}
 use Rattle.commands.specs.Find.{Query, Find}
 use Rattle.commands.specs.Count.{Count}

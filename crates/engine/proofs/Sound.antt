@@ -4,12 +4,11 @@ use Rattle.std.specs.Prelude.{All}
 use Rattle.bson.specs.Tree.{Pairs}
 use Rattle.page.specs.History.{History, KeepsWord}
 use Rattle.page.specs.Crash.{LeavesNow}
-use Rattle.roots.specs.Pairs.{pairs_bytes}
 use Rattle.roots.specs.Store as stores
 use Rattle.roots.specs.declared.store.Store.{Store}
 use Rattle.engine.specs.World.{World, Collection}
 use Rattle.engine.specs.Lawful.{IsReadable, IsLawfulState, IsLawful}
-use Rattle.engine.specs.Stored.{pairs_of}
+use Rattle.engine.specs.Stored.{database_entries}
 use Rattle.engine.specs.Step.{read_and_run, answered, ForMemory, RefusedBeside}
 use Rattle.engine.specs.View.{world, turn_start, with_ok, Runs}
 use Rattle.engine.specs.Durable.{Holds, IsSound}
@@ -29,8 +28,8 @@ keeps_sound {D} history old new h store same lawful = record {
   readable = subst (λ (w : World). All IsReadable w.collections) (sym same) h.readable;
   holds = subst (λ (s : Store D). stores.is_stopped s ≡ false → LeavesNow (history s.disk) (λ image. Holds image (turn_start new).collections)) (sym store)
       (subst (λ (w : World). stores.is_stopped old.store ≡ false → LeavesNow (history old.store.disk) (λ image. Holds image w.collections)) (sym same) h.holds);
-  committed = subst (λ (s : Store D). KeepsWord (history s.disk) → stores.is_stopped s ≡ false → stores.committed history s ≡ pairs_bytes (pairs_of (turn_start new).collections)) (sym store)
-      (subst (λ (w : World). KeepsWord (history old.store.disk) → stores.is_stopped old.store ≡ false → stores.committed history old.store ≡ pairs_bytes (pairs_of w.collections)) (sym same) h.committed);
+  committed = subst (λ (s : Store D). KeepsWord (history s.disk) → stores.is_stopped s ≡ false → stores.committed_entries history s ≡ database_entries (turn_start new).collections) (sym store)
+      (subst (λ (w : World). KeepsWord (history old.store.disk) → stores.is_stopped old.store ≡ false → stores.committed_entries history old.store ≡ database_entries w.collections) (sym same) h.committed);
 }
 
 -- a world without cursors

@@ -5,8 +5,8 @@ use Rattle.std.specs.Fmt.{decimal}
 use Rattle.std.proofs.lemmas.Bool.Decides.{nat_tests}
 use Rattle.std.proofs.lemmas.Fmt.{length-decimal-le_succ}
 use Rattle.bson.specs.Tree.{document, array, Pairs, no_pairs, pair, Items, item}
-use Rattle.bson.specs.Sizing.{framed-length, pairs_bytes-none, pairs_size-pair, items_bytes-none}
-use Rattle.bson.specs.Spelling.{tree_bytes, pairs_bytes, items_bytes, framed}
+use Rattle.bson.specs.SizingLaws.{frame_of-length, pairs_bytes-none, pairs_size-pair, items_bytes-none}
+use Rattle.bson.specs.Spelling.{tree_bytes, pairs_bytes, items_bytes, frame_of}
 use Rattle.engine.specs.Refusals.{int, long, words, refusal_reply, ok_reply}
 use Rattle.engine.specs.Cursors.{item_size, batch_len, items_of_documents, cursor_reply}
 use Rattle.engine.specs.Lawful.{IsWithin}
@@ -16,11 +16,11 @@ use Rattle.path.specs.declared.refusal.Refusal.TheVariants as refusals
 
 length-document : (ps : Pairs) → length (tree_bytes (document ps)) ≡ length (pairs_bytes ps) + 5
 unfolding tree_bytes
-length-document ps = framed-length (pairs_bytes ps)
+length-document ps = frame_of-length (pairs_bytes ps)
 
 length-array : (ts : Items) → length (tree_bytes (array ts)) ≡ length (items_bytes 0 ts) + 5
 unfolding tree_bytes
-length-array ts = framed-length (items_bytes 0 ts)
+length-array ts = frame_of-length (items_bytes 0 ts)
 
 pub length-words : (s : List ℕ) → length (tree_bytes (words s)) ≡ length s + 5
 unfolding tree_bytes
@@ -53,7 +53,7 @@ refusal-sendable other = lit≤ tt
 
 length-item : (i : ℕ) (ps : Pairs) (ts : Items) → length (items_bytes i (item (document ps) ts)) ≡ item_size i ps + length (items_bytes (i + 1) ts)
 unfolding tree_bytes items_bytes
-length-item i ps ts = length-append (3 ∷ (decimal i ++ 0 ∷ framed (pairs_bytes ps))) (items_bytes (i + 1) ts)
+length-item i ps ts = length-append (3 ∷ (decimal i ++ 0 ∷ frame_of (pairs_bytes ps))) (items_bytes (i + 1) ts)
 
 abbrev taken : ℕ → List Pairs → ℕ → ℕ
 taken i ds n = length (items_bytes i (items_of_documents (take n ds)))
@@ -77,7 +77,7 @@ pub batch_items : (most room : ℕ) (ds : List Pairs) → All IsWithin ds → ta
 batch_items most room [] h = omega (arith, ap length (items_bytes-none 0))
 batch_items zero room (d ∷ ds) h = omega (arith, ap length (items_bytes-none 0))
 batch_items (suc most) room (d ∷ ds) h =
-    let first : item_size 0 d ≤ 65535 + 3 = omega (arith, (h 0 d (omega arith)).size, length-append (decimal 0) (0 ∷ framed (pairs_bytes d)), length-decimal-le_succ 0 (omega arith)) in
+    let first : item_size 0 d ≤ 65535 + 3 = omega (arith, (h 0 d (omega arith)).size, length-append (decimal 0) (0 ∷ frame_of (pairs_bytes d)), length-decimal-le_succ 0 (omega arith)) in
     omega (arith, length-item 0 d (items_of_documents (take (batch_len 1 most (room - item_size 0 d) ds) ds)), later_items 1 most (room - item_size 0 d) ds (omega arith))
 
 -- ---- replies with documents
@@ -92,7 +92,7 @@ cursor-sendable batch number namespace small short =
     let reply = pair (codes "cursor") (document content) ok in
     omega (
       arith,
-      framed-length (pairs_bytes reply),
+      frame_of-length (pairs_bytes reply),
       pairs_size-pair (codes "cursor") (document content) ok,
       length-document content,
       pairs_size-pair (codes "ok") (int 1) no_pairs,

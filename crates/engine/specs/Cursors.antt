@@ -2,7 +2,7 @@
 use Rattle.std.specs.Prelude.{ℕ, zero, suc, ◌+◌, ◌-◌, ◌^◌, Bool, ◌||◌, ◌==◌, nat_le, if◌then◌else◌, List, [], ◌∷◌, length, take, drop, codes, Result, Ok, Err}
 use Rattle.std.specs.Fmt.{decimal}
 use Rattle.bson.specs.Tree.{document, array, Pairs, no_pairs, pair, Items, no_items, item}
-use Rattle.bson.specs.Spelling.{framed, pairs_bytes, element}
+use Rattle.bson.specs.Spelling.{frame_of, pairs_bytes, element}
 use Rattle.path.specs.Outcomes.{◌>>=◌, unless}
 use Rattle.path.specs.declared.refusal.Refusal.{Refusal}
 use Rattle.path.specs.declared.refusal.Refusal.TheVariants as refusals
@@ -10,7 +10,7 @@ use Rattle.engine.specs.World.{World, Cursor, count_of}
 use Rattle.engine.specs.Refusals.{long, words}
 
 abbrev pub item_size : ℕ → Pairs → ℕ
-item_size i ps = length (element 3 (decimal i) (framed (pairs_bytes ps)))
+item_size i ps = length (element 3 (decimal i) (frame_of (pairs_bytes ps)))
 
 -- How many documents go into a batch, from the one of this index on: the longest front within so many documents and
 -- so many bytes, but at least one document where any may go.

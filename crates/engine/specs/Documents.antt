@@ -7,7 +7,7 @@ use Rattle.std.specs.List.{list_any}
 use Rattle.bson.specs.Tree.{Tree, scalar, document, array, null, Pairs, no_pairs, pair, Items, no_items, item}
 use Rattle.bson.specs.Lookup.{lookup}
 use Rattle.bson.specs.Lawful.{pairs_levels}
-use Rattle.bson.specs.Spelling.{framed, pairs_bytes}
+use Rattle.bson.specs.Spelling.{frame_of, pairs_bytes}
 use Rattle.engine.specs.World.{by_order}
 use Rattle.path.specs.Outcomes.{◌>>=◌, unless, or_refused}
 use Rattle.path.specs.declared.refusal.Refusal.{Refusal}
@@ -72,7 +72,7 @@ refused_if None go = go
 -- the `_id` of a document that may be stored, or the first refusal
 unfoldable pub checked : Pairs → Result Tree Refusal
 checked ps =
-    unless (nat_lt 65535 (length (framed (pairs_bytes ps)))) refusals.BSONObjectTooLarge
+    unless (nat_lt 65535 (length (frame_of (pairs_bytes ps)))) refusals.BSONObjectTooLarge
     (unless (nat_lt 90 (suc (pairs_levels ps))) refusals.BadValue
     (refused_if (pairs_fault (id_first ps)) (do
       id ← or_refused (id_of ps) refusals.BadValue

@@ -1,23 +1,22 @@
 -- What an engine keeps on its disk.
-use Rattle.std.specs.Prelude.{◌≡◌, ◌⊎◌, ℕ, ◌-◌, ◌^◌, Bool, List, All, length, false}
+use Rattle.std.specs.Prelude.{◌≡◌, ◌⊎◌, ℕ, ◌-◌, ◌^◌, Bool, List, All, false}
 use Rattle.page.specs.History.{History, KeepsWord}
 use Rattle.page.specs.Crash.{LeavesNow}
 use Rattle.roots.specs.Image as images
-use Rattle.roots.specs.Pairs.{pairs_bytes}
 use Rattle.roots.specs.Store as stores
 use Rattle.roots.specs.declared.store.Store.{Store}
 use Rattle.engine.specs.World.{Collection}
 use Rattle.engine.specs.Lawful.{IsReadable, IsLawfulState}
-use Rattle.engine.specs.Stored.{pairs_of}
+use Rattle.engine.specs.Stored.{database_entries}
 use Rattle.engine.specs.Progress.{is_changed}
 use Rattle.engine.specs.View.{world, turn_start}
 use Rattle.engine.specs.declared.engine.Engine.{Engine}
 
--- The image holds these collections: they are lawful, bytes can spell them, and its root names their pairs and no others.
+-- The image holds these collections: they are lawful, bytes can spell them, and its root names their entries and no others.
 pub record Holds (image : ℕ → List ℕ) (collections : List Collection) : Type 0 where
   pub lawful : IsLawfulState collections
   pub readable : All IsReadable collections
-  pub pairs : images.Holds image (pairs_of collections)
+  pub entries : images.Holds image (database_entries collections)
 
 -- each moment of the engine's disk so far
 abbrev pub disk_history : {D : Type 0} → (D → History) → Engine D → History
@@ -44,9 +43,16 @@ pub record IsSound {D : Type 0} (history : D → History) (engine : Engine D) : 
   pub lawful : IsLawfulState (world engine).collections
   pub before : IsLawfulState (turn_start engine).collections
   pub readable : All IsReadable (turn_start engine).collections
-  pub holds : IsRunning engine → LeavesNow (disk_history history engine) (λ image. Holds image (turn_start engine).collections)
-  pub committed : KeepsWord (disk_history history engine) → IsRunning engine → stores.committed history engine.store ≡ pairs_bytes (pairs_of (turn_start engine).collections)
+  pub holds : IsRunning engine
+      → LeavesNow (disk_history history engine) (λ image. Holds image (turn_start engine).collections)
+  pub committed : KeepsWord (disk_history history engine) → IsRunning engine
+      → stores.committed_entries history engine.store ≡ database_entries (turn_start engine).collections
 
 -- No commit of these collections finds room: they are too long for the free pages, or no greater generation is left.
 abbrev pub HasNoRoom : {D : Type 0} → Store D → List Collection → Type 0
-HasNoRoom store collections = (stores.version_of store ≡ 2 ^ 64 - 1) ⊎ stores.IsTooLong store (length (pairs_bytes (pairs_of collections)))
+HasNoRoom store collections =
+    (stores.version_of store ≡ 2 ^ 64 - 1) ⊎ stores.IsTooLong store (database_entries collections)
+
+-- how often a commit found no free page
+abbrev pub full_takes_of : {D : Type 0} → Engine D → ℕ
+full_takes_of engine = stores.full_takes_of engine.store

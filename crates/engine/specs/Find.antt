@@ -3,7 +3,7 @@
 use Rattle.std.specs.Prelude.{◌≡◌, ℕ, zero, suc, ◌≤◌, List, length, map, take, drop, Option, Result, unwrap_or}
 use Rattle.std.specs.List.{filter}
 use Rattle.bson.specs.Tree.{Pairs}
-use Rattle.filter.specs.Rule.{Rules}
+use Rattle.filter.specs.Condition.{Conditions}
 use Rattle.filter.specs.Matches.{matches}
 use Rattle.filter.specs.Sort.{order}
 use Rattle.filter.specs.Projection.{project}
@@ -12,7 +12,7 @@ use Rattle.commands.specs.Find.{Query, Find}
 use Rattle.engine.specs.World.{World, documents_of}
 use Rattle.engine.specs.Cursors.{batch_of, first_batch}
 
-abbrev pub matching : Rules → List Pairs → List Pairs
+abbrev pub matching : Conditions → List Pairs → List Pairs
 matching rules ds = filter (matches rules) ds
 
 -- 0 is no limit

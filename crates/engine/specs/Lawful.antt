@@ -10,13 +10,13 @@ use Rattle.std.specs.declared.cmp.Ordering.TheVariants as orders
 use Rattle.bson.specs.Tree.{Pairs}
 use Rattle.bson.specs.TreeCode.{coded_pairs}
 use Rattle.bson.specs.Lawful.{pairs_levels, IsDocument}
-use Rattle.bson.specs.Spelling.{framed, pairs_bytes}
+use Rattle.bson.specs.Spelling.{frame_of, pairs_bytes}
 use Rattle.engine.specs.World.{World, Collection, uses}
 use Rattle.engine.specs.Documents.{pairs_fault, id_first, id_of, key_of}
 
 -- A document that may be stored: within the limits, each name good, its `_id` first, with a key text within the limit.
 pub record IsStored (ps : Pairs) : Type 0 where
-  pub size : length (framed (pairs_bytes ps)) ≤ 65535
+  pub size : length (frame_of (pairs_bytes ps)) ≤ 65535
   pub depth : suc (pairs_levels ps) ≤ 90
   pub names : pairs_fault ps ≡ None
   pub key : id_of ps ≡ Some (key_of ps)
@@ -25,7 +25,7 @@ pub record IsStored (ps : Pairs) : Type 0 where
 
 -- a document within the limits of those that are stored or given
 pub record IsWithin (ps : Pairs) : Type 0 where
-  pub size : length (framed (pairs_bytes ps)) ≤ 65535
+  pub size : length (frame_of (pairs_bytes ps)) ≤ 65535
   pub depth : suc (pairs_levels ps) ≤ 90
 
 -- documents in rising order of `_id`, each once

@@ -1,11 +1,13 @@
 -- Laws of the definitions.
-use Rattle.std.specs.Prelude.{◌≡◌, ℕ, List, Result}
+use Rattle.std.specs.Prelude.{◌≡◌, ℕ, List, Result, Ok, Err}
 use Rattle.bson.specs.Tree.{Pairs}
 use Rattle.bson.specs.declared.fault.BsonFault.{BsonFault}
 use Rattle.engine.specs.World.{World, Collection, new_world}
 use Rattle.engine.specs.Lawful.{IsLawful}
 use Rattle.engine.specs.Durable.{Holds}
-use Rattle.engine.specs.Step.{step}
+use Rattle.path.specs.declared.refusal.Refusal.{Refusal}
+use Rattle.commands.specs.Command.{Command, ping, insert, find, count, delete, command_of}
+use Rattle.engine.specs.Step.{step, Answers, ForMemory}
 use Rattle.engine.specs.View.{IsSendable}
 
 -- the world that an engine begins with is lawful
@@ -19,6 +21,25 @@ StaysLawful = (world : World) (connection : ℕ) (body : Result Pairs BsonFault)
 -- an image holds one list of collections at most
 abbrev pub HoldsOne : Type 0
 HoldsOne = (image : ℕ → List ℕ) (a b : List Collection) → Holds image a → Holds image b → a ≡ b
+
+-- a command that only reads, or one that is refused before it runs
+abbrev pub OnlyReads : Result Command Refusal → Type 0
+OnlyReads (Ok ping) = Unit {0}
+OnlyReads (Ok (find c)) = Unit {0}
+OnlyReads (Ok (count c)) = Unit {0}
+OnlyReads (Ok (insert c)) = ⊥
+OnlyReads (Ok (delete c)) = ⊥
+OnlyReads (Err e) = Unit {0}
+
+abbrev pub BodyOnlyReads : Result Pairs BsonFault → Type 0
+BodyOnlyReads (Ok body) = OnlyReads (command_of body)
+BodyOnlyReads (Err fault) = Unit {0}
+
+-- however such a command is answered, the collections stay as they are
+abbrev pub ReadsChangeNothing : Type 0
+ReadsChangeNothing =
+    (world new : World) (connection : ℕ) (body : Result Pairs BsonFault) (reply : Pairs) → BodyOnlyReads body
+    → Answers ForMemory world connection body new reply → new.collections ≡ world.collections
 
 -- what a lawful world replies is within the limit of replies
 abbrev pub RepliesSendable : Type 0

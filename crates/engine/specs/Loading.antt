@@ -3,14 +3,14 @@ use Rattle.std.specs.Prelude.{◌≡◌, ◌≢◌, ◌⊎◌, ℕ, ◌<◌, ◌
 use Rattle.std.specs.List.{position}
 use Rattle.bson.specs.Tree.{Pairs}
 use Rattle.bson.specs.Lawful.{IsDocument}
-use Rattle.roots.specs.Pairs.{Pair}
+use Rattle.roots.specs.Entries.{Entry}
 use Rattle.roots.specs.declared.opening.OpenFault.{OpenFault}
 use Rattle.roots.specs.declared.opening.OpenFault.TheVariants as faults
 use Rattle.engine.specs.World.{Collection, uses, find_collection, put_collection}
 use Rattle.engine.specs.Lawful.{IsStored, IsKept, IsLawfulState}
 use Rattle.engine.specs.Places.{collection_at}
 use Rattle.engine.specs.Progress.{Progress, with_document}
-use Rattle.engine.specs.Stored.{catalogue_pair, document_pair}
+use Rattle.engine.specs.Stored.{catalogue_entry, document_entry}
 
 -- this was read, unless memory ran out
 abbrev pub IsReadAs : {X Y : Type 0} → (X → Y) → Result X OpenFault → Y → Type 0
@@ -49,10 +49,10 @@ pub record IsAdded (name : List ℕ) (number : ℕ) (cs next : List Collection) 
   pub room : length cs < 1000
   pub next_is : next ≡ put_collection (record { name = name; number = number; documents = [] }) cs
 
-pub record AddsEntry (cs : List Collection) (pair : Pair) (next : List Collection) : Type 0 where
+pub record AddsEntry (cs : List Collection) (pair : Entry) (next : List Collection) : Type 0 where
   pub new : Collection
   pub empty : new.documents ≡ []
-  pub pair_is : pair ≡ catalogue_pair new
+  pub pair_is : pair ≡ catalogue_entry new
   pub kept : IsKept new
   pub readable : IsUtf8 new.name
   pub missing : find_collection cs new.name ≡ None
@@ -60,12 +60,12 @@ pub record AddsEntry (cs : List Collection) (pair : Pair) (next : List Collectio
   pub room : length cs < 1000
   pub next_is : next ≡ put_collection new cs
 
-pub record AddsDocument (cs : List Collection) (pair : Pair) (next : List Collection) : Type 0 where
+pub record AddsDocument (cs : List Collection) (pair : Entry) (next : List Collection) : Type 0 where
   pub number : ℕ
   pub document : Pairs
   pub at : ℕ
   pub grown : Collection
-  pub pair_is : pair ≡ document_pair number document
+  pub pair_is : pair ≡ document_entry number document
   pub least : 1 ≤ number
   pub most : number ≤ 1000
   pub readable : IsDocument document
@@ -74,9 +74,9 @@ pub record AddsDocument (cs : List Collection) (pair : Pair) (next : List Collec
   pub grows : with_document (collection_at cs at) document ≡ Ok grown
   pub next_is : next ≡ slice_set cs at grown
 
-abbrev pub Adds : List Collection → Pair → List Collection → Type 0
+abbrev pub Adds : List Collection → Entry → List Collection → Type 0
 Adds cs pair next = AddsEntry cs pair next ⊎ AddsDocument cs pair next
 
-abbrev pub Loads : List Collection → List Pair → List Collection → Type 0
+abbrev pub Loads : List Collection → List Entry → List Collection → Type 0
 Loads cs [] last = cs ≡ last
 Loads cs (pair ∷ pairs) last = (next : List Collection) × Adds cs pair next × Loads next pairs last

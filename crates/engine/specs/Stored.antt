@@ -1,13 +1,13 @@
--- The pairs that collections are kept as. A key is a collection's number and an index's, each in four bytes with the highest
+-- The entries that collections are kept as. A key is a collection's number and an index's, each in four bytes with the highest
 -- first, and a key text. Under collection 0 and index 0 stands the catalogue, which has for each collection the text of
 -- its namespace, and as value a document of its number `n` and its indexes `x`, of which there are none yet. Under a
 -- collection's number and index 0 stand its documents, each under the text of its `_id`.
 use Rattle.std.specs.Prelude.{ℕ, zero, suc, ◌==◌, if◌then◌else◌, List, [], ◌∷◌, ◌++◌, map, codes}
 use Rattle.std.specs.Int.{w32, to_be_bytes}
 use Rattle.bson.specs.Tree.{Pairs, no_pairs, pair, array, no_items}
-use Rattle.bson.specs.Spelling.{framed, pairs_bytes}
+use Rattle.bson.specs.Spelling.{frame_of, pairs_bytes}
 use Rattle.value_order.specs.KeyText.{tree_text}
-use Rattle.roots.specs.Pairs.{Pair}
+use Rattle.roots.specs.Entries.{Entry}
 use Rattle.engine.specs.World.{Collection}
 use Rattle.engine.specs.Documents.{key_of}
 use Rattle.engine.specs.Refusals.{int, words}
@@ -16,14 +16,14 @@ abbrev pub key_under : ℕ → ℕ → List ℕ → List ℕ
 key_under collection index text = to_be_bytes w32 collection ++ to_be_bytes w32 index ++ text
 
 -- what the catalogue says of a collection
-abbrev pub entry : ℕ → Pairs
-entry number = pair (codes "n") (int number) (pair (codes "x") (array no_items) no_pairs)
+abbrev pub catalogue_value : ℕ → Pairs
+catalogue_value number = pair (codes "n") (int number) (pair (codes "x") (array no_items) no_pairs)
 
-abbrev pub catalogue_pair : Collection → Pair
-catalogue_pair c = record { key = key_under 0 0 (tree_text (words c.name)); value = framed (pairs_bytes (entry c.number)) }
+abbrev pub catalogue_entry : Collection → Entry
+catalogue_entry c = record { key = key_under 0 0 (tree_text (words c.name)); value = frame_of (pairs_bytes (catalogue_value c.number)) }
 
-abbrev pub document_pair : ℕ → Pairs → Pair
-document_pair number ps = record { key = key_under number 0 (tree_text (key_of ps)); value = framed (pairs_bytes ps) }
+abbrev pub document_entry : ℕ → Pairs → Entry
+document_entry number ps = record { key = key_under number 0 (tree_text (key_of ps)); value = frame_of (pairs_bytes ps) }
 
 -- the documents of the collection that has this number
 abbrev pub documents_numbered : ℕ → List Collection → List Pairs
@@ -31,10 +31,10 @@ documents_numbered n [] = []
 documents_numbered n (c ∷ cs) = if c.number == n then c.documents else documents_numbered n cs
 
 -- the documents of the collections that have the numbers from 1 to n, in the order of these numbers
-abbrev pub documents_to : ℕ → List Collection → List Pair
+abbrev pub documents_to : ℕ → List Collection → List Entry
 documents_to zero cs = []
-documents_to (suc n) cs = documents_to n cs ++ map (document_pair (suc n)) (documents_numbered (suc n) cs)
+documents_to (suc n) cs = documents_to n cs ++ map (document_entry (suc n)) (documents_numbered (suc n) cs)
 
--- the catalogue, and then all documents
-unfoldable pub pairs_of : List Collection → List Pair
-pairs_of cs = map catalogue_pair cs ++ documents_to 1000 cs
+-- all entries of a database: the catalogue, and then all documents
+unfoldable pub database_entries : List Collection → List Entry
+database_entries cs = map catalogue_entry cs ++ documents_to 1000 cs

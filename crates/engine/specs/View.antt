@@ -1,7 +1,7 @@
 -- What an engine and its replies stand for.
 use Rattle.std.specs.Prelude.{◌≡◌, ◌≤◌, [], length, Result, Ok, Err}
 use Rattle.bson.specs.Tree.{Pairs}
-use Rattle.bson.specs.Spelling.{framed, pairs_bytes}
+use Rattle.bson.specs.Spelling.{frame_of, pairs_bytes}
 use Rattle.engine.specs.World.{World}
 use Rattle.engine.specs.Refusals.{refusal_reply, ok_reply}
 use Rattle.path.specs.Outcomes.{Refuses}
@@ -25,7 +25,7 @@ turn_start engine = record { collections = turn_start_of engine.collections; cur
 
 -- the reply is within the limit of replies
 abbrev pub IsSendable : Pairs → Type 0
-IsSendable ps = length (framed (pairs_bytes ps)) ≤ 901000
+IsSendable ps = length (frame_of (pairs_bytes ps)) ≤ 901000
 
 -- what is planned, with the end of its reply
 abbrev pub with_ok : Result (World × Pairs) Refusal → Result (World × Pairs) Refusal

@@ -97,10 +97,10 @@ untouched numbers [] = []
 untouched numbers (c ∷ cs) = if list_any (λ n. n == c.number) numbers then untouched numbers cs else c ∷ untouched numbers cs
 
 -- A turn that is done keeps what its commands made.
-abbrev pub settled : World → World
-settled now = record now { touched = [] }
+abbrev pub after_commit : World → World
+after_commit now = record now { touched = [] }
 
 -- A turn that is undone leaves the state from before it. Cursors that were opened, advanced or killed in it are closed,
 -- and the numbers that were drawn stay drawn.
-abbrev pub undone : World → World → World
-undone before now = record { collections = before.collections; cursors = untouched now.touched before.cursors; next = now.next; touched = [] }
+abbrev pub after_undo : World → World → World
+after_undo before now = record { collections = before.collections; cursors = untouched now.touched before.cursors; next = now.next; touched = [] }

@@ -1,7 +1,7 @@
 //! How many documents go into a batch.
 
 ghost use Rattle.std.specs.Prelude.{◌≡◌};
-ghost use Rattle.bson.specs.Sizing.{capped};
+ghost use Rattle.bson.specs.Sizing.{capped_len};
 ghost use Rattle.engine.specs.Cursors.{item_size, batch_of};
 
 use crate::BATCH_LIMIT;
@@ -11,7 +11,7 @@ use itoa::Buffer;
 /// How many bytes a document takes as the item of an array at this index; the greatest `usize` where that
 /// is more.
 fn item_len(index: usize, document: &Document) -> usize
-    ensures { result ≡ capped (item_size index document.now) }
+    ensures { result ≡ capped_len (item_size index document.now) }
 {
     let mut buffer = Buffer::new();
     let name_len = buffer.format(index).len();

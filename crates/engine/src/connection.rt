@@ -4,8 +4,8 @@ ghost use Rattle.std.specs.Prelude.{◌≡◌, ◌<◌, ◌≤◌, IfSome, IfNon
 
 use std::marker::Model;
 
-/// The connections that there may be, until there are more.
-pub const CONNECTIONS: u8 = 1;
+/// The connections that there may be.
+pub const CONNECTIONS: u8 = 64;
 
 /// A connection.
 #[derive(Clone, Copy, Debug, Drop)]
@@ -15,13 +15,12 @@ pub struct ConnId {
 
 impl Model for ConnId {
     ghost use Rattle.std.specs.Prelude.{ℕ, ◌≡◌, ◌<◌, refl};
-    ghost use Rattle.engine.specs.declared.connection.TheConstants.{CONNECTIONS};
 
     ghost Value = { ℕ };
 
     ghost view = { λ a. a.number };
 
-    ghost invariant = { λ a. a.number < CONNECTIONS };
+    ghost invariant = { λ a. a.number < 64 };
 
     ghost inverse = { λ n. record { number = n } };
 }
@@ -30,7 +29,7 @@ impl ConnId {
     /// The connection of a number; `None` from `CONNECTIONS` on.
     pub fn new(number: u8) -> Option<ConnId>
         ensures some { IfSome result (λ c. c ≡ number) }
-        ensures none { IfNone result (CONNECTIONS ≤ number) }
+        ensures none { IfNone result (64 ≤ number) }
     {
         if number < CONNECTIONS {
             Some(ConnId { number })

@@ -159,7 +159,7 @@ pub(crate) fn stored(alloc: Global, document: &Document) -> Result<Document, Ref
     if STORED_LIMIT < document.encoded_len() {
         return Err(Refusal::BSONObjectTooLarge);
     }
-    if STORED_LEVELS <= document.levels() {
+    if STORED_LEVELS < document.levels() {
         return Err(Refusal::BadValue);
     }
     let copy = copy_id_first(alloc, document)?;

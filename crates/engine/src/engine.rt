@@ -4,14 +4,14 @@ ghost use Rattle.std.specs.Prelude.{◌≡◌, ◌≢◌, ◌⊎◌, ◌≤◌, 
 ghost use Rattle.page.specs.History.{KeepsWord, now, reads, IsImage};
 ghost use Rattle.page.specs.Crash.{GoesOn, LeavesOnly, LeavesNow, OnlySyncs};
 ghost use Rattle.roots.specs.Root.{root_of};
-ghost use Rattle.roots.specs.Pairs.{spelled};
+ghost use Rattle.roots.specs.EntryView.{entries_of};
 ghost use Rattle.roots.specs.Store as stores;
 ghost use Rattle.engine.specs.Committing.{Saves, Commits};
 ghost use Rattle.engine.specs.Opening.{IsOpened, IsRefused};
-ghost use Rattle.engine.specs.World.{Collection, settled, undone, forget};
+ghost use Rattle.engine.specs.World.{Collection, after_commit, after_undo, forget};
 ghost use Rattle.engine.specs.Step.{Answers, ForMemory, read_and_run};
 ghost use Rattle.engine.specs.View.{world, turn_start, reply_of, IsSendable, Runs};
-ghost use Rattle.engine.specs.Durable.{Holds, disk_history, has_changes, is_stopped, IsRunning, store_of, IsSound, HasNoRoom};
+ghost use Rattle.engine.specs.Durable.{Holds, disk_history, has_changes, is_stopped, IsRunning, store_of, IsSound, HasNoRoom, full_takes_of};
 
 use crate::FIRST_BATCH;
 use crate::collections::Collections;
@@ -23,7 +23,7 @@ use bson::Document;
 use commands::Command;
 use page::Disk;
 use path::Refusal;
-use roots::{CommitFault, Config, OpenFault, PairList, Store};
+use roots::{CommitFault, Config, EntryList, OpenFault, Store};
 use std::alloc::Global;
 
 /// What a command is answered.
@@ -35,12 +35,12 @@ pub enum Reply {
     Refused(Refusal),
 }
 
-/// Commits these pairs.
-fn save<D: Disk>(store: &mut Store<D>, pairs: &PairList) -> Result<(), CommitFault>
+/// Commits these entries.
+fn save<D: Disk>(store: &mut Store<D>, entries: &EntryList) -> Result<(), CommitFault>
     requires { stores.IsSound D.history store.old }
-    ensures { Saves D.history (spelled pairs.now) result store.old store.new }
+    ensures { Saves D.history (entries_of entries.now) result store.old store.new }
 {
-    match store.write_image(pairs) {
+    match store.write_entries(entries) {
         Ok(pages) => store.commit(pages),
         Err(fault) => Err(fault),
     }
@@ -98,11 +98,11 @@ impl<D: Disk> Engine<D> {
         ensures limit { IfOk result (λ engine. stores.limit_of (store_of engine) ≡ stores.limit_in config) }
         ensures refused { IfErr result (λ e. IsRefused D.history disk e.0 e.1) }
     {
-        let (store, pairs) = match Store::open_pairs(alloc, disk, config) {
+        let (store, entries) = match Store::open_entries(alloc, disk, config) {
             Ok(found) => found,
             Err(refused) => return Err(refused),
         };
-        match load(alloc, &pairs) {
+        match load(alloc, &entries) {
             Ok(collections) => Ok(Engine {
                 alloc,
                 collections,
@@ -167,21 +167,21 @@ impl<D: Disk> Engine<D> {
     }
 
     /// Ends the turn as `commit_turn` does.
-    fn settle(&mut self) -> Result<(), CommitFault>
+    fn end_turn(&mut self) -> Result<(), CommitFault>
         requires { IsSound D.history self.old }
         ensures { Commits D.history result self.old self.new }
     {
         if !self.collections.is_changed() {
             return Ok(());
         }
-        let pairs = match image_of(self.alloc, &self.collections) {
-            Ok(pairs) => pairs,
+        let entries = match image_of(self.alloc, &self.collections) {
+            Ok(entries) => entries,
             Err(_) => {
                 self.collections.undo();
                 return Err(CommitFault::Memory);
             }
         };
-        match save(&mut self.store, &pairs) {
+        match save(&mut self.store, &entries) {
             Ok(()) => {
                 self.collections.commit();
                 Ok(())
@@ -208,10 +208,14 @@ impl<D: Disk> Engine<D> {
         requires sound { IsSound D.history self.old }
         ensures sound { IsSound D.history self.new }
         ensures on { GoesOn (disk_history D.history self.old) (disk_history D.history self.new) }
-        ensures done { OnOk result (world self.new ≡ settled (world self.old)) }
-        ensures stops { result ≡ Err CommitFault.Device → (world self.new ≡ settled (world self.old)) × (is_stopped self.new ≡ true) }
-        ensures memory { result ≡ Err CommitFault.Memory → world self.new ≡ undone (turn_start self.old) (world self.old) }
-        ensures full { result ≡ Err CommitFault.Full → (world self.new ≡ undone (turn_start self.old) (world self.old)) × HasNoRoom (store_of self.old) (world self.old).collections }
+        ensures done { OnOk result (world self.new ≡ after_commit (world self.old)) }
+        ensures stops { result ≡ Err CommitFault.Device → (world self.new ≡ after_commit (world self.old)) × (is_stopped self.new ≡ true) }
+        ensures memory { result ≡ Err CommitFault.Memory → world self.new ≡ after_undo (turn_start self.old) (world self.old) }
+        ensures full { result ≡ Err CommitFault.Full
+            → (world self.new ≡ after_undo (turn_start self.old) (world self.old))
+            × HasNoRoom (store_of self.old) (world self.old).collections
+            × stores.HasFullCause (store_of self.old) (store_of self.new) }
+        ensures takes { full_takes_of self.old ≤ full_takes_of self.new }
         ensures turn_start { turn_start self.new ≡ world self.new }
         ensures limit { stores.limit_of (store_of self.new) ≡ stores.limit_of (store_of self.old) }
         ensures running { result ≢ Err CommitFault.Device → is_stopped self.new ≡ is_stopped self.old }
@@ -235,7 +239,7 @@ impl<D: Disk> Engine<D> {
         ensures quiet { has_changes self.old ≡ false → (result ≡ Ok tt) × (store_of self.new ≡ store_of self.old) }
         ensures rests { has_changes self.new ≡ false }
     {
-        self.settle()
+        self.end_turn()
     }
 
     /// Ends the turn, and takes back what its commands changed. It takes no memory.
@@ -245,7 +249,7 @@ impl<D: Disk> Engine<D> {
         ensures disk { disk_history D.history self.new ≡ disk_history D.history self.old }
         ensures running { is_stopped self.new ≡ is_stopped self.old }
         ensures store { store_of self.new ≡ store_of self.old }
-        ensures world { world self.new ≡ undone (turn_start self.old) (world self.old) }
+        ensures world { world self.new ≡ after_undo (turn_start self.old) (world self.old) }
         ensures turn_start { turn_start self.new ≡ world self.new }
         ensures rests { has_changes self.new ≡ false }
     {

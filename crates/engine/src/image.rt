@@ -1,14 +1,14 @@
-//! The pairs that collections are kept as.
+//! The entries that collections are kept as.
 
-ghost use Rattle.std.specs.Prelude.{◌≡◌, ◌≤◌, ◌++◌, ◌+◌, IfOk, OnOk, All, List, length, map};
+ghost use Rattle.std.specs.Prelude.{◌≡◌, ◌≤◌, ◌++◌, ◌∷◌, [], ◌+◌, IfOk, OnOk, All, List, length, map};
 ghost use Rattle.bson.specs.View.{tree};
-ghost use Rattle.bson.specs.Spelling.{Spells, framed, pairs_bytes as document_bytes};
+ghost use Rattle.bson.specs.Spelling.{Spells, frame_of, pairs_bytes};
 ghost use Rattle.value_order.specs.KeyText.{tree_text};
-ghost use Rattle.roots.specs.Pairs.{spelled, pair_bytes, pairs_bytes};
+ghost use Rattle.roots.specs.EntryView.{entries_of};
 ghost use Rattle.engine.specs.Documents.{key_of};
 ghost use Rattle.engine.specs.Lawful.{IsStored, IsReadable, IsKept, IsLawfulState};
 ghost use Rattle.engine.specs.Refusals.{words};
-ghost use Rattle.engine.specs.Stored.{key_under, entry, catalogue_pair, document_pair, documents_numbered, documents_to, pairs_of};
+ghost use Rattle.engine.specs.Stored.{key_under, catalogue_value, catalogue_entry, document_entry, documents_numbered, documents_to, database_entries};
 
 use crate::collection::Collection;
 use crate::collections::Collections;
@@ -17,7 +17,7 @@ use crate::reply::put;
 use crate::shared_document::SharedDocument;
 use crate::{MOST_COLLECTIONS, NAMESPACE_LIMIT, STORED_LIMIT};
 use bson::{Array, Document, EncodeFault, NoMemory, Text, Value, encode};
-use roots::PairList;
+use roots::EntryList;
 use std::alloc::{AllocError, Global};
 use value_order::group_text;
 
@@ -34,7 +34,7 @@ fn key_under(alloc: Global, number: u32, text: &[u8]) -> Result<Vec<u8>, NoMemor
 
 /// The bytes of a document that is no larger than a stored one.
 fn spelling(alloc: Global, document: &Document) -> Result<Vec<u8>, NoMemory>
-    requires { length (framed (document_bytes document.now)) ≤ STORED_LIMIT }
+    requires { length (frame_of (pairs_bytes document.now)) ≤ STORED_LIMIT }
     ensures { IfOk result (λ bytes. Spells bytes.items document.now) }
 {
     match encode(alloc, document) {
@@ -45,14 +45,14 @@ fn spelling(alloc: Global, document: &Document) -> Result<Vec<u8>, NoMemory>
 }
 
 /// What the catalogue says of a collection.
-fn entry(alloc: Global, number: u32) -> Result<Document, NoMemory>
+fn catalogue_value(alloc: Global, number: u32) -> Result<Document, NoMemory>
     requires { number ≤ MOST_COLLECTIONS }
-    ensures { IfOk result (λ document. document ≡ entry number) }
+    ensures { IfOk result (λ document. document ≡ catalogue_value number) }
 {
-    let mut entry = Document::new(alloc);
-    put(&mut entry, "n", Value::Int32(number as i32))?;
-    put(&mut entry, "x", Value::Array(Array::new(alloc)))?;
-    Ok(entry)
+    let mut value = Document::new(alloc);
+    put(&mut value, "n", Value::Int32(number as i32))?;
+    put(&mut value, "x", Value::Array(Array::new(alloc)))?;
+    Ok(value)
 }
 
 /// The text of a namespace.
@@ -63,24 +63,26 @@ fn name_text(alloc: Global, namespace: &str) -> Result<Vec<u8>, NoMemory>
     group_text(alloc, &name)
 }
 
-/// Adds the catalogue's pair of a collection.
-fn push_entry(list: &mut PairList, collection: &Collection) -> Result<(), NoMemory>
+/// Adds the catalogue's entry of a collection.
+fn push_entry(list: &mut EntryList, collection: &Collection) -> Result<(), NoMemory>
     requires { IsKept collection.now }
-    ensures pushed { OnOk result (spelled list.new ≡ spelled list.old ++ pair_bytes (catalogue_pair collection.now)) }
+    ensures pushed { OnOk result (entries_of list.new
+        ≡ entries_of list.old ++ catalogue_entry collection.now ∷ []) }
     ensures readable { IsReadable collection.now }
 {
     let alloc = list.allocator();
     let _ = collection.documents();
     let text = name_text(alloc, collection.namespace())?;
     let key = key_under(alloc, 0, &text)?;
-    let value = spelling(alloc, &entry(alloc, collection.number())?)?;
+    let value = spelling(alloc, &catalogue_value(alloc, collection.number())?)?;
     list.push(&key, &value)
 }
 
 /// Adds the catalogue.
-fn push_catalogue(list: &mut PairList, collections: &[Collection]) -> Result<(), NoMemory>
+fn push_catalogue(list: &mut EntryList, collections: &[Collection]) -> Result<(), NoMemory>
     requires { All IsKept collections.now }
-    ensures pushed { OnOk result (spelled list.new ≡ spelled list.old ++ pairs_bytes (map catalogue_pair collections.now)) }
+    ensures pushed { OnOk result (entries_of list.new
+        ≡ entries_of list.old ++ map catalogue_entry collections.now) }
     ensures readable { OnOk result (All IsReadable collections.now) }
 {
     'collections: for collection in collections {
@@ -89,10 +91,11 @@ fn push_catalogue(list: &mut PairList, collections: &[Collection]) -> Result<(),
     Ok(())
 }
 
-/// Adds the pair of a document.
-fn push_document(list: &mut PairList, number: u32, document: &Document) -> Result<(), NoMemory>
+/// Adds the entry of a document.
+fn push_document(list: &mut EntryList, number: u32, document: &Document) -> Result<(), NoMemory>
     requires { IsStored document.now }
-    ensures { OnOk result (spelled list.new ≡ spelled list.old ++ pair_bytes (document_pair number document.now)) }
+    ensures { OnOk result (entries_of list.new
+        ≡ entries_of list.old ++ document_entry number document.now ∷ []) }
 {
     let alloc = list.allocator();
     let Some(id) = id_of(document) else {
@@ -105,12 +108,13 @@ fn push_document(list: &mut PairList, number: u32, document: &Document) -> Resul
 
 /// Adds the documents of a collection.
 fn push_documents(
-    list: &mut PairList,
+    list: &mut EntryList,
     number: u32,
     documents: &[SharedDocument],
 ) -> Result<(), NoMemory>
     requires { All IsStored documents.now }
-    ensures { OnOk result (spelled list.new ≡ spelled list.old ++ pairs_bytes (map (document_pair number) documents.now)) }
+    ensures { OnOk result (entries_of list.new
+        ≡ entries_of list.old ++ map (document_entry number) documents.now) }
 {
     'documents: for document in documents {
         push_document(list, number, document.document())?;
@@ -118,13 +122,14 @@ fn push_documents(
     Ok(())
 }
 
-/// The pairs that collections are kept as.
-pub(crate) fn image_of(alloc: Global, collections: &Collections) -> Result<PairList, NoMemory>
+/// The entries that collections are kept as.
+pub(crate) fn image_of(alloc: Global, collections: &Collections) -> Result<EntryList, NoMemory>
     requires { IsLawfulState collections.now.now }
-    ensures spelled { IfOk result (λ list. spelled list ≡ pairs_bytes (pairs_of collections.now.now)) }
+    ensures entries { IfOk result (λ list. entries_of list
+        ≡ database_entries collections.now.now) }
     ensures readable { IfOk result (λ _. All IsReadable collections.now.now) }
 {
-    let mut list = PairList::new(alloc);
+    let mut list = EntryList::new(alloc);
     push_catalogue(&mut list, collections.list())?;
     'numbers: for before in 0..MOST_COLLECTIONS {
         let number = before as u32 + 1;

@@ -1,6 +1,6 @@
 //! Laws of the definitions, each the contract of a function that does nothing.
 
-ghost use Rattle.engine.specs.Laws.{BeginsLawful, StaysLawful, HoldsOne, RepliesSendable};
+ghost use Rattle.engine.specs.Laws.{BeginsLawful, StaysLawful, ReadsChangeNothing, HoldsOne, RepliesSendable};
 
 /// The world that an engine begins with is lawful.
 pub fn begins_lawful()
@@ -10,6 +10,11 @@ pub fn begins_lawful()
 /// A lawful world steps to a lawful world, whatever it is told.
 pub fn stays_lawful()
     ensures { StaysLawful }
+{}
+
+/// A `ping`, a `find` and a `count`, and what is refused before it runs, change no collection, however they are answered.
+pub fn reads_change_nothing()
+    ensures { ReadsChangeNothing }
 {}
 
 /// What a lawful world replies is within `REPLY_LIMIT`.

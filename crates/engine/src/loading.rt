@@ -6,11 +6,12 @@ ghost use Rattle.bson.specs.Tree.{Pairs};
 ghost use Rattle.bson.specs.Spelling.{Spells};
 ghost use Rattle.value_order.specs.KeyText.{tree_text};
 ghost use Rattle.std.specs.List.{AllByRecursion};
-ghost use Rattle.roots.specs.Pairs.{Pair, IsFit, spelled, pairs_bytes};
+ghost use Rattle.roots.specs.Entries.{Entry, IsFit, entries_bytes};
+ghost use Rattle.roots.specs.EntryView.{entries_of};
 ghost use Rattle.engine.specs.World.{Collection};
 ghost use Rattle.engine.specs.Lawful.{IsReadable, IsLawfulState};
 ghost use Rattle.engine.specs.Refusals.{words};
-ghost use Rattle.engine.specs.Stored.{key_under, entry, pairs_of};
+ghost use Rattle.engine.specs.Stored.{key_under, catalogue_value, database_entries};
 ghost use Rattle.engine.specs.Loading.{IsReadAs, IsNext, IsOfBytes, IsLoading, unescaped, Adds, AddsEntry, AddsDocument, Loads};
 
 use crate::collections::Collections;
@@ -18,7 +19,7 @@ use crate::image::image_of;
 use crate::{MOST_COLLECTIONS, NAMESPACE_LIMIT};
 use bson::{BsonFault, Document, NoMemory, Value, decode};
 use path::Refusal;
-use roots::{OpenFault, PairList, split_pair};
+use roots::{EntryList, OpenFault, split_entry};
 use std::alloc::Global;
 
 /// The string that was escaped so.
@@ -88,7 +89,7 @@ fn document_in(alloc: Global, bytes: &[u8]) -> Result<Document, OpenFault>
 /// The number that the catalogue says of a collection, where it is one that a collection may have.
 fn number_in(document: &Document) -> Option<u32>
     ensures some { IfSome result (λ number. (1 ≤ number) × (number ≤ MOST_COLLECTIONS)) }
-    ensures number { (number : ℕ) → 1 ≤ number → number ≤ MOST_COLLECTIONS → document.now ≡ entry number → result ≡ Some number }
+    ensures number { (number : ℕ) → 1 ≤ number → number ≤ MOST_COLLECTIONS → document.now ≡ catalogue_value number → result ≡ Some number }
 {
     match document.get("n") {
         Some(Value::Int32(number)) => {
@@ -141,14 +142,14 @@ fn load_entry(
 ) -> Result<(), OpenFault>
     requires { IsLoading collections.old }
     ensures loading { OnOk result (IsLoading collections.new) }
-    ensures adds { (pair : Pair) (next : List Collection) (adds : AddsEntry collections.old.now pair next) → text.now ≡ tree_text (words adds.new.name) → pair.value ≡ value.now → IsNext result collections.new.now next }
+    ensures adds { (pair : Entry) (next : List Collection) (adds : AddsEntry collections.old.now pair next) → text.now ≡ tree_text (words adds.new.name) → pair.value ≡ value.now → IsNext result collections.new.now next }
     ensures fault { IfErr result IsOfBytes }
 {
-    let entry = match document_in(alloc, value) {
-        Ok(entry) => entry,
+    let catalogue_value = match document_in(alloc, value) {
+        Ok(catalogue_value) => catalogue_value,
         Err(fault) => return Err(fault),
     };
-    let Some(number) = number_in(&entry) else {
+    let Some(number) = number_in(&catalogue_value) else {
         return Err(OpenFault::Damaged);
     };
     let name = match name_in(alloc, text) {
@@ -174,7 +175,7 @@ fn load_document(
 ) -> Result<(), OpenFault>
     requires { IsLoading collections.old }
     ensures loading { OnOk result (IsLoading collections.new) }
-    ensures adds { (pair : Pair) (next : List Collection) (adds : AddsDocument collections.old.now pair next) → number ≡ adds.number → pair.value ≡ value.now → IsNext result collections.new.now next }
+    ensures adds { (pair : Entry) (next : List Collection) (adds : AddsDocument collections.old.now pair next) → number ≡ adds.number → pair.value ≡ value.now → IsNext result collections.new.now next }
     ensures fault { IfErr result IsOfBytes }
 {
     let document = match document_in(alloc, value) {
@@ -218,12 +219,12 @@ fn load_pair(
 /// The collections that these pairs make.
 fn load_pairs(alloc: Global, bytes: &[u8]) -> Result<Collections, OpenFault>
     ensures loading { IfOk result IsLoading }
-    ensures loads { (pairs : List Pair) (last : List Collection) → AllByRecursion IsFit pairs → bytes.now ≡ pairs_bytes pairs → Loads [] pairs last → IsReadAs (λ collections. collections.now) result last }
+    ensures loads { (pairs : List Entry) (last : List Collection) → AllByRecursion IsFit pairs → bytes.now ≡ entries_bytes pairs → Loads [] pairs last → IsReadAs (λ collections. collections.now) result last }
     ensures fault { IfErr result IsOfBytes }
 {
     let mut collections = Collections::new(alloc);
     let mut rest = bytes;
-    'pairs: while let Some(pair) = split_pair(rest) {
+    'pairs: while let Some(pair) = split_entry(rest) {
         match load_pair(alloc, &mut collections, pair.key, pair.value) {
             Ok(()) => rest = pair.rest,
             Err(fault) => return Err(fault),
@@ -232,13 +233,14 @@ fn load_pairs(alloc: Global, bytes: &[u8]) -> Result<Collections, OpenFault>
     Ok(collections)
 }
 
-/// The collections that are kept as these pairs. They are spelled again and compared, so nothing else passes.
-pub(crate) fn load(alloc: Global, list: &PairList) -> Result<Collections, OpenFault>
+/// The collections that are kept as these entries. They are spelled again and compared, so nothing else passes.
+pub(crate) fn load(alloc: Global, list: &EntryList) -> Result<Collections, OpenFault>
     ensures loading { IfOk result IsLoading }
     ensures readable { IfOk result (λ collections. All IsReadable collections.now) }
-    ensures spelled { IfOk result (λ collections. spelled list.now ≡ pairs_bytes (pairs_of collections.now)) }
+    ensures entries { IfOk result (λ collections. entries_of list.now
+        ≡ database_entries collections.now) }
     ensures damaged { IfErr result (λ fault. fault ≢ OpenFault.Memory → (collections : List Collection) → IsLawfulState collections → All IsReadable collections
-        → spelled list.now ≡ pairs_bytes (pairs_of collections) → ⊥) }
+        → entries_of list.now ≡ database_entries collections → ⊥) }
     ensures fault { IfErr result IsOfBytes }
 {
     let collections = match load_pairs(alloc, list.bytes()) {
@@ -247,7 +249,7 @@ pub(crate) fn load(alloc: Global, list: &PairList) -> Result<Collections, OpenFa
     };
     match image_of(alloc, &collections) {
         Ok(again) => {
-            if again.bytes() == list.bytes() {
+            if again.is_same(list) {
                 Ok(collections)
             } else {
                 Err(OpenFault::Damaged)

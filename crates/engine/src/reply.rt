@@ -5,7 +5,7 @@ ghost use Rattle.std.specs.List.{list_any};
 ghost use Rattle.bson.specs.Tree.{pair, no_pairs, append, append_items, item, no_items};
 ghost use Rattle.bson.specs.View.{tree};
 ghost use Rattle.bson.specs.Lookup.{lookup};
-ghost use Rattle.bson.specs.Spelling.{framed, pairs_bytes};
+ghost use Rattle.bson.specs.Spelling.{frame_of, pairs_bytes};
 ghost use Rattle.bson.specs.Lawful.{levels};
 ghost use Rattle.engine.specs.Lawful.{IsWithin};
 ghost use Rattle.engine.specs.Refusals.{int, total, words, ok_reply, refusal_reply};
@@ -136,7 +136,7 @@ pub fn refusal_document(alloc: Global, refusal: Refusal) -> Result<Document, NoM
 /// The bytes of the document that says that memory ran out, for where there may be no memory to make it.
 #[tactic(auto, unfolding(bson::specs::Spelling::tree_bytes, bson::specs::Spelling::pairs_bytes))]
 pub fn out_of_memory_bytes() -> &'static [u8]
-    ensures { result.now ≡ framed (pairs_bytes (refusal_reply Refusal.OutOfMemory)) }
+    ensures { result.now ≡ frame_of (pairs_bytes (refusal_reply Refusal.OutOfMemory)) }
 {
     b"\x4b\0\0\0\
         \x10ok\0\0\0\0\0\
@@ -149,7 +149,7 @@ pub fn out_of_memory_bytes() -> &'static [u8]
 /// The bytes of the document that says that the file is full.
 #[tactic(auto, unfolding(bson::specs::Spelling::tree_bytes, bson::specs::Spelling::pairs_bytes))]
 pub fn full_bytes() -> &'static [u8]
-    ensures { result.now ≡ framed (pairs_bytes (refusal_reply Refusal.Full)) }
+    ensures { result.now ≡ frame_of (pairs_bytes (refusal_reply Refusal.Full)) }
 {
     b"\x43\0\0\0\
         \x10ok\0\0\0\0\0\

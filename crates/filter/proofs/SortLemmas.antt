@@ -16,7 +16,7 @@ use Rattle.path.specs.View.{reached}
 use Rattle.path.specs.declared.reaching.Reached.{Reached as Held}
 use Rattle.std.proofs.lemmas.List.{drop_all}
 use Rattle.value_order.specs.Order.{Key, value, key_cmp}
-use Rattle.value_order.specs.Keys.{key_cmp_total}
+use Rattle.value_order.specs.KeyOrderLaws.{key_cmp_total}
 use Rattle.value_order.specs.View.{key_of}
 use Rattle.value_order.specs.declared.texts.KeyPart.{KeyPart}
 use Rattle.filter.specs.Sort.{SortField, keys_of, first_key, key_among, sort_key, in_direction, compare_by, sorted, order}

@@ -7,7 +7,7 @@ use Rattle.std.proofs.lemmas.Bool.{eqb-true, eqb-false}
 use Rattle.bson.specs.Tree.{Tree, scalar, document, array, Pairs, no_pairs, pair, Items, no_items, item}
 use Rattle.bson.specs.Lawful.{levels, pairs_levels, items_levels}
 use Rattle.bson.specs.Spelling.{tree_bytes, pairs_bytes, items_bytes}
-use Rattle.bson.specs.Sizing.{framed-length, pairs_size-pair, items_size-item, items_bytes-none}
+use Rattle.bson.specs.SizingLaws.{frame_of-length, pairs_size-pair, items_size-item, items_bytes-none}
 use Rattle.filter.specs.Projection.{Path, Projection, below, is_end, is_none, only, pick, add_pair, add_item, of_tree, of_pairs, of_items, project}
 
 abbrev pub NoLarger : Type 0
@@ -49,11 +49,11 @@ decimal-rises m n le = written-rises 64 m n [] [] le (omega arith)
 
 size-document : (ps : Pairs) → length (tree_bytes (document ps)) ≡ length (pairs_bytes ps) + 5
 unfolding tree_bytes
-size-document ps = framed-length (pairs_bytes ps)
+size-document ps = frame_of-length (pairs_bytes ps)
 
 size-array : (ts : Items) → length (tree_bytes (array ts)) ≡ length (items_bytes 0 ts) + 5
 unfolding tree_bytes
-size-array ts = framed-length (items_bytes 0 ts)
+size-array ts = frame_of-length (items_bytes 0 ts)
 
 -- the tree is no longer and nests no deeper than the other
 record IsWithin (u t : Tree) : Type 0 where

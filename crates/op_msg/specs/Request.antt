@@ -4,8 +4,9 @@
 use Rattle.std.specs.Prelude.{◌≡◌, ℕ, ◌+◌, List, [], ◌∷◌, ◌++◌, length, take, drop, Bool, true, false, Result, Ok, Err, Option, Some, None}
 use Rattle.std.specs.Int.{w32, to_le_bytes}
 use Rattle.bson.specs.Tree.{Pairs}
-use Rattle.bson.specs.Spelling.{framed, pairs_bytes}
-use Rattle.bson.specs.Reading.{Gives, document_at}
+use Rattle.bson.specs.Spelling.{frame_of, pairs_bytes}
+use Rattle.bson.specs.Reading.{document_at}
+use Rattle.bson.specs.Outcome.{Gives}
 use Rattle.bson.specs.declared.fault.BsonFault.{BsonFault}
 use Rattle.op_msg.specs.Frame.{Frame}
 use Rattle.op_msg.specs.declared.fault.FrameFault.{FrameFault}
@@ -34,7 +35,7 @@ head_of (Err fault) = Err fault
 pub record IsRequest (frame : Frame) (request : Request) : Type 0 where
   pub number : request.request_id ≡ frame.number
   pub more : request.more_to_come ≡ frame.more_to_come
-  pub body : Gives (λ d. d) request.body (body_of frame)
+  pub body : Gives BSON_MEMORY (λ d. d) request.body (body_of frame)
 
 -- What a call of `next` may answer, by what stands at the front, with what is left after it.
 abbrev pub IsNext : Result (Option (Frame × List ℕ)) FrameFault → List ℕ → Result (Option Request) FrameFault → List ℕ → Type 0
@@ -72,4 +73,4 @@ respelled frame body = le_32 (length body + 21) ++ take 17 (drop 4 frame) ++ bod
 
 -- A reply: a frame whose body is the document.
 unfoldable pub reply_bytes : ℕ → ℕ → Pairs → List ℕ
-reply_bytes number request ps = frame_bytes number request (framed (pairs_bytes ps))
+reply_bytes number request ps = frame_bytes number request (frame_of (pairs_bytes ps))

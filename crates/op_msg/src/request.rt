@@ -1,6 +1,6 @@
 //! What a message is read as.
 
-ghost use Rattle.bson.specs.Reading.{Gives};
+ghost use Rattle.bson.specs.Outcome.{Gives};
 ghost use Rattle.op_msg.specs.Request.{IsRequest, document_in};
 ghost use Rattle.op_msg.specs.View.{frame_in};
 
@@ -26,7 +26,7 @@ pub struct Request {
 
 /// The document that the bytes of a body are.
 fn read_document(alloc: Global, bytes: &[u8]) -> Result<Document, BsonFault>
-    ensures { Gives (λ d. d) result (document_in bytes.now) }
+    ensures { Gives BSON_MEMORY (λ d. d) result (document_in bytes.now) }
 {
     match decode(alloc, bytes) {
         Ok((document, _)) => Ok(document),

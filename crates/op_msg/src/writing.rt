@@ -1,7 +1,7 @@
 //! Replies.
 
 ghost use Rattle.std.specs.Prelude.{◌≡◌, ◌≤◌, ◌+◌, length, IfOk};
-ghost use Rattle.bson.specs.Spelling.{framed, pairs_bytes};
+ghost use Rattle.bson.specs.Spelling.{frame_of, pairs_bytes};
 ghost use Rattle.bson.specs.declared.TheConstants.{MESSAGE_LIMIT};
 ghost use Rattle.op_msg.specs.Request.{head_bytes, frame_bytes, reply_bytes, respelled};
 
@@ -19,7 +19,7 @@ pub fn reply(
     request_id: u32,
     document: &Document,
 ) -> Result<Vec<u8>, NoMemory>
-    requires { length (framed (pairs_bytes document.now)) + FRAME_BYTES ≤ MESSAGE_LIMIT }
+    requires { length (frame_of (pairs_bytes document.now)) + FRAME_BYTES ≤ MESSAGE_LIMIT }
     ensures { IfOk result (λ v. v.items ≡ reply_bytes reply_no request_id document.now) }
 {
     let mut frame = begun_frame(alloc, reply_no, request_id, document.encoded_len())?;

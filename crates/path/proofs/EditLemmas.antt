@@ -5,7 +5,8 @@ use Rattle.std.specs.Str.{bytes_eq}
 use Rattle.bson.specs.Tree.{Tree, scalar, null, document, array, Pairs, no_pairs, pair, Items, no_items, item}
 use Rattle.bson.specs.Lawful.{levels, IsTree, IsPairs, IsItems}
 use Rattle.bson.specs.Lookup.{lookup}
-use Rattle.bson.specs.Edits.{put, cut, lookup-put, lookup-put_other, lookup-cut, lookup-cut_other, items_len, item_at, item_at-with_item, item_at-with_item_other}
+use Rattle.bson.specs.Edits.{put, cut, items_len, item_at}
+use Rattle.bson.specs.EditsLaws.{lookup-put, lookup-put_other, lookup-cut, lookup-cut_other, item_at-with_item, item_at-with_item_other}
 use Rattle.path.specs.declared.refusal.Refusal.{Refusal}
 use Rattle.path.specs.declared.refusal.Refusal.TheVariants as refusals
 use Rattle.path.specs.Parts.{index_of}

@@ -6,7 +6,8 @@ use Rattle.std.proofs.lemmas.Bool.{lt-ltb, le-ltb}
 use Rattle.bson.specs.Tree.{Tree, scalar, null, Items, no_items, item, append_items}
 use Rattle.bson.specs.Lawful.{levels, items_levels}
 use Rattle.bson.specs.View.{tree, items_of}
-use Rattle.bson.specs.Edits.{items_len, item_at, with_item, item_at-items_of, items_len-items_of}
+use Rattle.bson.specs.Edits.{items_len, item_at, with_item}
+use Rattle.bson.specs.EditsLaws.{item_at-items_of, items_len-items_of}
 use Rattle.bson.specs.declared.value.Value.{Value}
 use Rattle.path.specs.declared.refusal.Refusal.{Refusal}
 use Rattle.path.specs.declared.refusal.Refusal.TheVariants as refusals

@@ -8,7 +8,8 @@ use Rattle.std.specs.Option.{option_and_then}
 use Rattle.bson.specs.Tree.{Tree, scalar, null, document, array, Pairs, no_pairs, pair, Items}
 use Rattle.bson.specs.Lookup.{lookup}
 use Rattle.bson.specs.Lawful.{levels, pairs_levels, items_levels}
-use Rattle.bson.specs.Edits.{place, pair_at, pairs_len, place-there, place-absent, put, with_value, without_pair, pairs_levels-put, pairs_levels-cut, item_at, items_levels-with_item}
+use Rattle.bson.specs.Edits.{place, pair_at, pairs_len, put, with_value, without_pair, item_at}
+use Rattle.bson.specs.EditsLaws.{place-there, place-absent, pairs_levels-put, pairs_levels-cut, items_levels-with_item}
 use Rattle.path.specs.declared.refusal.Refusal.{Refusal}
 use Rattle.path.specs.declared.refusal.Refusal.TheVariants as refusals
 use Rattle.path.specs.View.{Gives}

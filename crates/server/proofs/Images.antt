@@ -1,20 +1,18 @@
 -- What images hold, and which states stand among which.
 use Rattle.std.proofs.Common.{⊎_elim, inr, ap, ◌∙◌, ◌≡◌, inl, ℕ, List, [], ◌∷◌, ◌++◌, refl, sym, subst, arith}
-use Rattle.std.proofs.lemmas.List.Elements.{Contains-append_left, Contains-append_right}
-use Rattle.std.specs.Prelude.{◌⊎◌, Contains}
+use Rattle.std.specs.Prelude.{◌⊎◌}
 use Rattle.page.specs.History.{History}
 use Rattle.page.specs.Crash.{GoesOn, LeavesOnly, LeavesNow}
 use Rattle.page.proofs.Moments.{goes_nowhere, started, leaves_weaker}
-use Rattle.roots.specs.Store.{limit_of}
-use Rattle.engine.specs.World.{Collection, World, settled, forget}
+use Rattle.roots.specs.Store.{limit_of, version_of, full_takes_of}
+use Rattle.engine.specs.World.{Collection, World, after_commit, forget}
 use Rattle.op_msg.specs.declared.fault.FrameFault.{FrameFault}
 use Rattle.server.specs.Turn.{forget_all}
 use Rattle.engine.specs.Durable.{Holds}
 use Rattle.engine.specs.Durable as engines
 use Rattle.engine.specs.View.{world, turn_start}
 use Rattle.engine.specs.declared.engine.Engine.{Engine}
-use Rattle.server.specs.History.{last_state}
-use Rattle.server.specs.Durable.{disk_history, IsRunning, store_of, IsSound, collections_of, HoldsOneOf, GoesSafely}
+use Rattle.server.specs.Durable.{disk_history, IsRunning, store_of, IsSound, collections_of, moment_of, GoesSafely}
 use Rattle.server.specs.declared.turn.Core.{Core}
 
 -- between calls every image holds the collections as they are
@@ -30,7 +28,7 @@ stays history old new Q sound idle same running =
     (λ k image is. inl (subst (λ (w : World). Holds image w.collections) idle (sound.holds running k image is))))
 
 -- a turn that is committed, or that the device cut
-pub moved : {D : Type 0} (history : D → History) (old mid new : Engine D) → engines.disk_history history mid ≡ engines.disk_history history old → turn_start mid ≡ world old → world new ≡ settled (world mid)
+pub moved : {D : Type 0} (history : D → History) (old mid new : Engine D) → engines.disk_history history mid ≡ engines.disk_history history old → turn_start mid ≡ world old → world new ≡ after_commit (world mid)
     → LeavesOnly (engines.disk_history history mid) (engines.disk_history history new) (λ image. Holds image (turn_start mid).collections ⊎ Holds image (world mid).collections)
     → LeavesOnly (engines.disk_history history old) (engines.disk_history history new) (λ image. Holds image (world old).collections ⊎ Holds image (world new).collections)
 moved history old mid new same before after leaves =
@@ -80,14 +78,6 @@ unmoved history old new sound same store = record {
 pub engine_holds : {D : Type 0} (history : D → History) (engine : Engine D) → engines.IsSound history engine → turn_start engine ≡ world engine → engines.IsRunning engine → LeavesNow (engines.disk_history history engine) (λ image. Holds image (world engine).collections)
 engine_holds history engine sound idle running = subst (λ (w : World). LeavesNow (engines.disk_history history engine) (λ image. Holds image w.collections)) idle (sound.holds running)
 
--- one state more
-pub among : (states : List (List Collection)) (more : List Collection) (image : ℕ → List ℕ) → HoldsOneOf states image → HoldsOneOf (states ++ more ∷ []) image
-among states more image one = record { collections = one.collections; one = Contains-append_left states (more ∷ []) one.collections one.one; holds = one.holds }
-
-pub last_among : (first : List Collection) (states : List (List Collection)) → Contains (first ∷ states) (last_state first states)
-last_among first [] = (0, omega arith, refl)
-last_among first (collections ∷ states) = Contains-append_right (first ∷ []) (collections ∷ states) (last_state collections states) (last_among collections states)
-
-pub last_of_pushed : (first : List Collection) (states : List (List Collection)) (last : List Collection) → last_state first (states ++ last ∷ []) ≡ last
-last_of_pushed first [] last = refl
-last_of_pushed first (collections ∷ states) last = last_of_pushed collections states last
+-- a call that leaves the disk and the store as they are takes no time
+pub same_moment : {D : Type 0} (history : D → History) (old new : Core D) → disk_history history new ≡ disk_history history old → store_of new ≡ store_of old → moment_of history new ≡ moment_of history old
+same_moment history old new disk store = λ i. record { clock = (disk i).clock; failures = (disk i).failures; generation = version_of (store i); full_takes = full_takes_of (store i) }

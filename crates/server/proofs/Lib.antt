@@ -8,3 +8,4 @@ pub mod Places
 pub mod ConnectionServed
 pub mod ConnectionsServed
 pub mod StreamsTaken
+pub mod Ascending

@@ -6,7 +6,7 @@ use Rattle.std.specs.Prelude.{Bool, true, false, All, Vec}
 use Rattle.std.specs.Str.{is_utf8, chars}
 use Rattle.std.specs.Fmt.{digits}
 use lib.Utf8.{encode}
-use Rattle.bson.specs.Spelling.{tree_bytes, pairs_bytes, items_bytes, framed}
+use Rattle.bson.specs.Spelling.{tree_bytes, pairs_bytes, items_bytes, frame_of}
 use Rattle.op_msg.specs.Request.{reply_bytes, respelled}
 use Rattle.op_msg.proofs.Respelling.{respelled_frame}
 use Rattle.engine.specs.Refusals.{refusal_reply}
@@ -21,7 +21,7 @@ use Rattle.server.specs.declared.connection.Connection.{Connection}
 abbrev HasRoom : ℕ × List ℕ → Type 0
 HasRoom f = length full_body + 21 ≤ length f.1
 
-fits : length full_body + 21 ≤ length (framed (pairs_bytes (refusal_reply OutOfMemory))) + 21
+fits : length full_body + 21 ≤ length (frame_of (pairs_bytes (refusal_reply OutOfMemory))) + 21
 unfolding is_utf8 chars digits encode tree_bytes pairs_bytes items_bytes
 fits = omega arith
 
@@ -49,7 +49,7 @@ one_respelled : (more : Bool) (id number request : ℕ) → respelled_frames (fr
 unfolding reply_bytes
 one_respelled true id number request = refl
 one_respelled false id number request =
-    ap (λ (bytes : List ℕ). (id, bytes) ∷ []) (respelled_frame number request (framed (pairs_bytes (refusal_reply OutOfMemory))) full_body)
+    ap (λ (bytes : List ℕ). (id, bytes) ∷ []) (respelled_frame number request (frame_of (pairs_bytes (refusal_reply OutOfMemory))) full_body)
 
 all_respelled : (cs : List Call) → respelled_frames (frames_of cs (refused_calls OutOfMemory cs)) ≡ frames_of cs (refused_calls Full cs)
 all_respelled [] = refl

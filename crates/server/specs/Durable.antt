@@ -4,7 +4,7 @@ use Rattle.page.specs.History.{History}
 use Rattle.page.specs.Crash.{GoesOn, LeavesOnly}
 use Rattle.roots.specs.Store as stores
 use Rattle.roots.specs.declared.store.Store.{Store}
-use Rattle.engine.specs.World.{Collection}
+use Rattle.engine.specs.World.{World, Collection}
 use Rattle.engine.specs.Durable as engines
 use Rattle.engine.specs.Step.{ForMemory}
 use Rattle.path.specs.declared.refusal.Refusal.TheVariants as refusals
@@ -33,6 +33,11 @@ IsSound history core = engines.IsSound history core.engine
 abbrev pub store_of : {D : Type 0} → Core D → Store D
 store_of core = engines.store_of core.engine
 
+-- A store found no room for the collections of this world, and has counted it.
+pub record NoRoomFor {D : Type 0} (old new : Store D) (world : World) : Type 0 where
+  pub no_room : engines.HasNoRoom old world.collections
+  pub counted : stores.HasFullCause old new
+
 -- A turn that is undone for want of room: the store as the turn found it has none for the collections that the messages had made.
 pub record FindsNoRoom {D : Type 0} (core : Core D) (out : Out) (new : ServerState) : Type 0 where
   pub undone : Undone ForMemory (state core) refusals.Full out new
@@ -48,6 +53,7 @@ moment_of history core = record {
   clock = (disk_history history core).clock;
   failures = (disk_history history core).failures;
   generation = stores.version_of (store_of core);
+  full_takes = stores.full_takes_of (store_of core);
 }
 
 -- What one step does to the disk: a crash at any moment of it leaves the collections as they were or as they are after it.

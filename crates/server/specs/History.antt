@@ -10,9 +10,11 @@ use Rattle.server.specs.Moment.{Moment, TurnEnd}
 use Rattle.server.specs.declared.step.Step.{Step}
 use Rattle.server.specs.declared.step.Step.TheVariants as steps
 
--- Between these moments a commit found no room: no greater generation was left.
+-- Between these moments a commit found no room: no greater generation was left, or a take found no free page, which is counted
+-- (the count stays at its greatest value).
 abbrev pub RoomRanOut : Moment → Moment → Type 0
-RoomRanOut old new = Unit {0}
+RoomRanOut old new =
+    (old.generation ≡ 2 ^ 64 - 1) ⊎ ((old.full_takes < new.full_takes) ⊎ (new.full_takes ≡ 2 ^ 64 - 1))
 
 -- From this moment and state on, after these steps the server may be this one, the frames that were handed out these, each with
 -- its connection, in order, and the turns' ends these.

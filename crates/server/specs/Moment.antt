@@ -10,6 +10,7 @@ pub record Moment : Type 0 where
   pub clock : ℕ
   pub failures : ℕ
   pub generation : ℕ
+  pub full_takes : ℕ
 
 -- where a server stands: the moment, and its state
 pub record Instant : Type 0 where

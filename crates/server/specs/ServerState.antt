@@ -1,16 +1,25 @@
 -- The connections, and what they and the engine hold: for each open connection its bytes that no message has taken yet, the
 -- number of its last reply, and the fault that closed it. Bytes open a connection, and are passed over where a fault closed it;
 -- an end makes all of it forgotten.
-use Rattle.std.specs.Prelude.{Bool, false, is_some, ℕ, List, [], ◌∷◌, ◌++◌, Option, Some, None, Result, Ok, Err, suc}
+use Rattle.std.specs.Prelude.{Bool, true, false, ◌&&◌, nat_lt, is_some, ℕ, List, [], ◌∷◌, ◌++◌, Option, Some, None, Result, Ok, Err, suc}
 use Rattle.std.specs.Ordering.{nat_cmp}
 use Rattle.engine.specs.World.{World, forget, by_order}
 use Rattle.op_msg.specs.declared.fault.FrameFault.{FrameFault}
 use Rattle.server.specs.declared.connection.Connection.{Connection}
 
--- The connections stand in rising order.
+-- The connections stand in ascending order of their numbers (`are_ascending`, an invariant of the server).
 pub record ServerState : Type 0 where
   pub world : World
   pub connections : List Connection
+
+-- the numbers ascend, and each is above this one
+abbrev pub are_above : ℕ → List Connection → Bool
+are_above low [] = true
+are_above low (c ∷ cs) = nat_lt low c.id && are_above c.id cs
+
+abbrev pub are_ascending : List Connection → Bool
+are_ascending [] = true
+are_ascending (c ∷ cs) = are_above c.id cs
 
 abbrev pub new_connection : ℕ → List ℕ → Connection
 new_connection id bytes = record { id = id; frames = bytes; last_reply = 0; fault = None }

@@ -5,10 +5,10 @@ use Rattle.op_msg.specs.Request.{IsRequest, respelled}
 use Rattle.op_msg.specs.declared.fault.FrameFault.{FrameFault}
 use Rattle.op_msg.specs.declared.request.Request.{Request}
 use Rattle.bson.specs.Tree.{Pairs}
-use Rattle.bson.specs.Spelling.{framed, pairs_bytes}
-use Rattle.bson.specs.Reading.{Gives}
+use Rattle.bson.specs.Spelling.{frame_of, pairs_bytes}
+use Rattle.bson.specs.Outcome.{Gives}
 use Rattle.bson.specs.declared.fault.BsonFault.{BsonFault}
-use Rattle.engine.specs.World.{World, settled, undone}
+use Rattle.engine.specs.World.{World, after_commit, after_undo}
 use Rattle.engine.specs.Refusals.{refusal_reply}
 use Rattle.engine.specs.Step.{Answers}
 use Rattle.path.specs.declared.refusal.Refusal.{Refusal}
@@ -51,7 +51,7 @@ closed_connections (l ∷ ls) (f ∷ fs) = closed_by l f ∷ closed_connections 
 
 -- the document that says that there was no room
 abbrev pub full_body : List ℕ
-full_body = framed (pairs_bytes (refusal_reply refusals.Full))
+full_body = frame_of (pairs_bytes (refusal_reply refusals.Full))
 
 -- the frames with that document in place of theirs
 abbrev pub respelled_frames : List (ℕ × List ℕ) → List (ℕ × List ℕ)
@@ -78,7 +78,7 @@ pub record Serves (beside : Refusal → Type 0) (calls : List Call) (old new : W
 -- a request with this body, whatever frame it came in
 abbrev pub IsAnswer : (Refusal → Type 0) → World → ℕ → Request → World → Pairs → Type 0
 IsAnswer beside old id request new reply =
-    (read : Result Pairs BsonFault) → Gives (λ d. d) request.body read → Answers beside old id read new reply
+    (read : Result Pairs BsonFault) → Gives BSON_MEMORY (λ d. d) request.body read → Answers beside old id read new reply
 
 -- The messages of the links ran. The turn kept what they changed and hands out these replies, or it took back what they changed
 -- and hands out refusals: for want of room only where there is none in the last world.
@@ -86,12 +86,12 @@ pub record EndsTurn (beside : Refusal → Type 0) (NoRoom : World → Type 0) (o
   pub replies : List Pairs
   pub last : World
   pub runs : Runs beside old (calls connections) replies last
-  pub ends : ((given ≡ frames_of (calls connections) replies) × (new ≡ settled last))
-      ⊎ (((given ≡ refused_frames refusals.OutOfMemory connections) ⊎ ((given ≡ refused_frames refusals.Full connections) × NoRoom last)) × (new ≡ undone old last))
+  pub ends : ((given ≡ frames_of (calls connections) replies) × (new ≡ after_commit last))
+      ⊎ (((given ≡ refused_frames refusals.OutOfMemory connections) ⊎ ((given ≡ refused_frames refusals.Full connections) × NoRoom last)) × (new ≡ after_undo old last))
 
 -- The messages of the links ran, and the device failed when what they changed was to be made durable.
 pub record BreaksTurn (beside : Refusal → Type 0) (old : World) (connections : List Connection) (new : World) : Type 0 where
   pub replies : List Pairs
   pub last : World
   pub runs : Runs beside old (calls connections) replies last
-  pub ends : new ≡ settled last
+  pub ends : new ≡ after_commit last

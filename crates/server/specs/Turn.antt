@@ -9,7 +9,7 @@ use Rattle.bson.specs.Tree.{Pairs}
 use Rattle.op_msg.specs.Frame.{Frame, front}
 use Rattle.op_msg.specs.Request.{body_of, reply_bytes, is_waiting}
 use Rattle.op_msg.specs.declared.fault.FrameFault.{FrameFault}
-use Rattle.engine.specs.World.{World, forget, settled, undone}
+use Rattle.engine.specs.World.{World, forget, after_commit, after_undo}
 use Rattle.engine.specs.Refusals.{refusal_reply}
 use Rattle.engine.specs.Step.{Answers}
 use Rattle.path.specs.declared.refusal.Refusal.{Refusal}
@@ -140,7 +140,7 @@ pub record Done (beside : Refusal → Type 0) (state : ServerState) (out : Out) 
   pub last : World
   pub runs : Runs beside state.world (calls state.connections) replies last
   pub hands_out : out ≡ record { replies = frames_of (calls state.connections) replies; closed = faults state.connections }
-  pub leaves : new ≡ record { world = forget_all (settled last) (faults state.connections); connections = connections_after state.connections }
+  pub leaves : new ≡ record { world = forget_all (after_commit last) (faults state.connections); connections = connections_after state.connections }
 
 -- Undone: the state is the one before, and each reply is this refusal.
 pub record Undone (beside : Refusal → Type 0) (state : ServerState) (refusal : Refusal) (out : Out) (new : ServerState) : Type 0 where
@@ -148,7 +148,7 @@ pub record Undone (beside : Refusal → Type 0) (state : ServerState) (refusal :
   pub last : World
   pub runs : Runs beside state.world (calls state.connections) replies last
   pub hands_out : out ≡ record { replies = refused_frames refusal state.connections; closed = faults state.connections }
-  pub leaves : new ≡ record { world = forget_all (undone state.world last) (faults state.connections); connections = connections_after state.connections }
+  pub leaves : new ≡ record { world = forget_all (after_undo state.world last) (faults state.connections); connections = connections_after state.connections }
 
 -- A turn that answers: done, or undone for want of memory, or for want of room, by its cause.
 abbrev pub Turns : (Refusal → Type 0) → Type 0 → ServerState → Out → ServerState → Type 0
@@ -161,7 +161,7 @@ pub record Cut (beside : Refusal → Type 0) (state new : ServerState) : Type 0 
   pub replies : List Pairs
   pub last : World
   pub runs : Runs beside state.world (calls state.connections) replies last
-  pub leaves : new ≡ record { world = settled last; connections = connections_taken state.connections }
+  pub leaves : new ≡ record { world = after_commit last; connections = connections_taken state.connections }
 
 -- A turn that answers no messages, by its fault and whether the server had stopped before. A server that had stopped changes
 -- nothing. One that had not stops where the turn is cut, and changes nothing where memory runs out before a message is taken.

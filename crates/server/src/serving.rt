@@ -6,12 +6,13 @@ ghost use Rattle.page.specs.Crash.{GoesOn, LeavesOnly, LeavesNow};
 ghost use Rattle.roots.specs.Store.{limit_of};
 ghost use Rattle.op_msg.specs.Request.{reply_bytes};
 ghost use Rattle.engine.specs.View.{world, turn_start, reply_of, IsSendable};
-ghost use Rattle.engine.specs.Durable.{Holds, disk_history, has_changes, is_stopped, IsRunning, store_of, IsSound, HasNoRoom};
+ghost use Rattle.engine.specs.Durable.{Holds, disk_history, has_changes, is_stopped, IsRunning, store_of, IsSound};
 ghost use Rattle.path.specs.declared.refusal.Refusal.TheVariants.{OutOfMemory};
 ghost use Rattle.engine.specs.Step.{ForMemory};
 ghost use Rattle.server.specs.Turn.{front_of, connections_taken, taken_at, call_at, calls, refused_frames, forget_all, ChangeNothing};
 ghost use Rattle.server.specs.Taking.{Serves, IsAnswer, EndsTurn, BreaksTurn};
 ghost use Rattle.server.specs.View.{frames_in};
+ghost use Rattle.server.specs.Durable.{NoRoomFor};
 
 use crate::connection::{Connection, Taken, take_call};
 use crate::preparing::say_full;
@@ -129,7 +130,8 @@ pub(crate) fn run_messages<D: Disk>(
     requires rests { has_changes engine.old ≡ false }
     requires refusals { frames_in refusals.items ≡ refused_frames OutOfMemory connections.old.items }
     ensures sound { IsSound D.history engine.new }
-    ensures settles { IfSome result (λ given. EndsTurn ForMemory (λ last. HasNoRoom (store_of engine.old) last.collections) (world engine.old) connections.old.items (frames_in given.items) (world engine.new)) }
+    ensures settles { IfSome result (λ given. EndsTurn ForMemory
+        (NoRoomFor (store_of engine.old) (store_of engine.new)) (world engine.old) connections.old.items (frames_in given.items) (world engine.new)) }
     ensures breaks { result ≡ None → BreaksTurn ForMemory (world engine.old) connections.old.items (world engine.new) }
     ensures connections { connections.new.items ≡ connections_taken connections.old.items }
     ensures idle { turn_start engine.new ≡ world engine.new }

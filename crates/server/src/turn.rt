@@ -1,10 +1,11 @@
 //! Connections, turns, and what they hand out.
 
-ghost use Rattle.std.specs.Prelude.{◌≡◌, false};
+ghost use Rattle.std.specs.Prelude.{◌≡◌, true, false};
 ghost use Rattle.engine.specs.View.{world, turn_start};
 ghost use Rattle.engine.specs.Durable.{has_changes};
 ghost use Rattle.engine.specs.Step.{ForMemory};
 ghost use Rattle.server.specs.WorldCode.{world_set, bool_set};
+ghost use Rattle.server.specs.ServerState.{are_ascending};
 
 use crate::connection::{FeedFault, Connection, close_connections, end_connection, feed_connection, waits};
 use crate::preparing::{Prepared, prepare};
@@ -60,15 +61,16 @@ pub struct TurnOut {
 #[derive(Drop)]
 pub struct Core<D> {
     pub(crate) engine: Engine<D>,
-    // in rising connection number
     pub(crate) connections: Vec<Connection>,
+    // in ascending order of their numbers
+    ghost ascending: { are_ascending connections.items ≡ true } by { bool_set (are_ascending connections.items) true },
     // no turn is open between calls
     ghost idle: { turn_start engine ≡ world engine } by { world_set (turn_start engine) (world engine) },
     ghost rests: { has_changes engine ≡ false } by { bool_set (has_changes engine) false },
 }
 
 impl<D: Disk> Core<D> {
-    ghost use Rattle.std.specs.Prelude.{◌≢◌, ◌⊎◌, ◌<◌, ℕ, List, [], Ok, Err, true, IfOk, IfErr, OnOk, OnErr, is_err};
+    ghost use Rattle.std.specs.Prelude.{◌≢◌, ◌⊎◌, ◌<◌, ℕ, List, [], Ok, Err, IfOk, IfErr, OnOk, OnErr, is_err};
     ghost use Rattle.page.specs.History.{KeepsWord, now, reads, IsImage};
     ghost use Rattle.page.specs.Crash.{GoesOn, LeavesOnly, LeavesNow, OnlySyncs};
     ghost use Rattle.roots.specs.Root.{root_of};

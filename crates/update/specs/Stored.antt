@@ -5,7 +5,7 @@ use Rattle.std.specs.List.{list_any}
 use Rattle.bson.specs.Tree.{Tree, scalar, document, array, Pairs, no_pairs, pair, Items, no_items, item}
 use Rattle.bson.specs.Lookup.{lookup}
 use Rattle.bson.specs.Lawful.{pairs_levels}
-use Rattle.bson.specs.Spelling.{framed, pairs_bytes}
+use Rattle.bson.specs.Spelling.{frame_of, pairs_bytes}
 use Rattle.path.specs.declared.refusal.Refusal.{Refusal}
 use Rattle.path.specs.declared.refusal.Refusal.TheVariants as refusals
 
@@ -77,7 +77,7 @@ fault_if test refusal = if test then Some refusal else None
 -- over so many bytes, or over 90 levels, the document itself among them
 abbrev pub limits_fault : ℕ → Pairs → Option Refusal
 limits_fault limit ps =
-    or_else (fault_if (nat_lt limit (length (framed (pairs_bytes ps)))) refusals.BSONObjectTooLarge)
+    or_else (fault_if (nat_lt limit (length (frame_of (pairs_bytes ps)))) refusals.BSONObjectTooLarge)
     (fault_if (nat_lt 90 (suc (pairs_levels ps))) refusals.BadValue)
 
 -- why a document may not be stored, if it may not: the first of these

@@ -1,16 +1,16 @@
 use Rattle.std.proofs.Common.{◌≡◌, ℕ, ◌+◌, ◌<◌, length, get_or, inl, inr, subst, ◌∙◌, arith}
 use Rattle.std.proofs.lemmas.List.{get_or_default}
 use Rattle.std.proofs.lemmas.Bool.{cases_lt}
-use Rattle.roots.specs.Pairs.{spelled}
+use Rattle.roots.specs.EntryView.{entries_of}
 use Rattle.engine.specs.World.{Collection}
 use Rattle.engine.specs.Lawful.{IsReadable}
-use Rattle.engine.specs.Stored.{catalogue_pair}
+use Rattle.engine.specs.Stored.{catalogue_entry}
 use Rattle.engine.proofs.Loops.{added_one}
 use Rattle.engine.proofs.image.push_catalogue.Goals as goal
 
 pub collections-preserved : goal.collections-preserved
 collections-preserved c = record {
-  added = added_one catalogue_pair c.args.collections.now (spelled c.args.list.now) (spelled c.collections.list) (spelled c.push_entry.new.list) c.collections.collection-index c.collection-item.result
+  added = added_one catalogue_entry c.args.collections.now (entries_of c.args.list.now) (entries_of c.collections.list) (entries_of c.push_entry.new.list) c.collections.collection-index c.collection-item.result
       c.collections-test.true c.collection-item.is c.collections.invariant.added c.in_ok-push_entry.ensures.pushed;
   readable = readable;
 }

@@ -1,13 +1,13 @@
 use Rattle.std.proofs.Common.{ℕ, ◌<◌, length, get_or}
-use Rattle.roots.specs.Pairs.{spelled}
+use Rattle.roots.specs.EntryView.{entries_of}
 use Rattle.engine.specs.World.{Collection}
 use Rattle.engine.specs.Lawful.{IsReadable}
-use Rattle.engine.specs.Stored.{catalogue_pair}
+use Rattle.engine.specs.Stored.{catalogue_entry}
 use Rattle.engine.proofs.Loops.{AreAdded}
 use Rattle.engine.proofs.image.push_catalogue.Given as goal
 
 abbrev pub invariant-collections : goal.invariant-collections
 invariant-collections l = record {
-  added : AreAdded catalogue_pair l.collections (spelled l.initial.list) l.collection-index (spelled l.list);
+  added : AreAdded catalogue_entry l.collections (entries_of l.initial.list) l.collection-index (entries_of l.list);
   readable : (k : ℕ) (d : Collection) → k < l.collection-index → k < length l.collections → IsReadable (get_or l.collections k d);
 }

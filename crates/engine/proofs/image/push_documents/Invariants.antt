@@ -1,7 +1,7 @@
-use Rattle.roots.specs.Pairs.{spelled}
-use Rattle.engine.specs.Stored.{document_pair}
+use Rattle.roots.specs.EntryView.{entries_of}
+use Rattle.engine.specs.Stored.{document_entry}
 use Rattle.engine.proofs.Loops.{AreAdded}
 use Rattle.engine.proofs.image.push_documents.Given as goal
 
 abbrev pub invariant-documents : goal.invariant-documents
-invariant-documents l = AreAdded (document_pair l.number) l.documents (spelled l.initial.list) l.document-index (spelled l.list)
+invariant-documents l = AreAdded (document_entry l.number) l.documents (entries_of l.initial.list) l.document-index (entries_of l.list)

@@ -1,6 +1,6 @@
 use Rattle.std.proofs.Common.{◌≡◌, ℕ, List, set, Some, Ok, sym, ap, subst, ◌∙◌}
 use Rattle.bson.specs.Spelling.{Spells}
-use Rattle.roots.specs.Pairs.{Pair}
+use Rattle.roots.specs.Entries.{Entry}
 use Rattle.engine.specs.World.{Collection}
 use Rattle.engine.specs.Lawful.{IsLawfulState}
 use Rattle.engine.specs.Places.{collection_at}
@@ -10,8 +10,8 @@ use Rattle.engine.proofs.LawfulSteps.{grown_lawful}
 use Rattle.engine.proofs.LoadingSteps.{document_spells, inside_numbered, only_out_of_memory}
 use Rattle.engine.proofs.loading.load_document.Goals as goal
 
-spelled_document : (value : List ℕ) (pair : Pair) (cs next : List Collection) (h : AddsDocument cs pair next) → pair.value ≡ value → Spells value h.document
-spelled_document value pair cs next h v = subst (λ bytes. Spells bytes h.document) (ap (λ (p : Pair). p.value) (sym h.pair_is) ∙ v) (document_spells h.document h.stored h.readable)
+spelled_document : (value : List ℕ) (pair : Entry) (cs next : List Collection) (h : AddsDocument cs pair next) → pair.value ≡ value → Spells value h.document
+spelled_document value pair cs next h v = subst (λ bytes. Spells bytes h.document) (ap (λ (p : Entry). p.value) (sym h.pair_is) ∙ v) (document_spells h.document h.stored h.readable)
 
 same_some : {a b : ℕ} → Some a ≡ Some b → a ≡ b
 same_some e = cc

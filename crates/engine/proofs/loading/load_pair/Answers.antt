@@ -1,6 +1,6 @@
 use Rattle.std.proofs.Common.{◌≡◌, inl, inr, ℕ, ◌<◌, ◌≤◌, ◌^◌, List, refl, ap, arith}
 use Rattle.value_order.specs.KeyText.{tree_text}
-use Rattle.roots.specs.Pairs.{Pair}
+use Rattle.roots.specs.Entries.{Entry}
 use Rattle.engine.specs.World.{Collection}
 use Rattle.engine.specs.Documents.{key_of}
 use Rattle.engine.specs.Refusals.{words}
@@ -8,11 +8,11 @@ use Rattle.engine.specs.Stored.{key_under}
 use Rattle.engine.specs.Loading.{AddsEntry, AddsDocument}
 use Rattle.engine.proofs.loading.load_pair.Goals as goal
 
-entry_key : (pair : Pair) (cs next : List Collection) (h : AddsEntry cs pair next) → pair.key ≡ key_under 0 0 (tree_text (words h.new.name))
-entry_key pair cs next h = ap (λ (p : Pair). p.key) h.pair_is
+entry_key : (pair : Entry) (cs next : List Collection) (h : AddsEntry cs pair next) → pair.key ≡ key_under 0 0 (tree_text (words h.new.name))
+entry_key pair cs next h = ap (λ (p : Entry). p.key) h.pair_is
 
-document_key : (pair : Pair) (cs next : List Collection) (h : AddsDocument cs pair next) → pair.key ≡ key_under h.number 0 (tree_text (key_of h.document))
-document_key pair cs next h = ap (λ (p : Pair). p.key) h.pair_is
+document_key : (pair : Entry) (cs next : List Collection) (h : AddsDocument cs pair next) → pair.key ≡ key_under h.number 0 (tree_text (key_of h.document))
+document_key pair cs next h = ap (λ (p : Entry). p.key) h.pair_is
 
 small : (n : ℕ) → n ≤ 1000 → n < 2 ^ 32
 small n most = omega (arith, most)

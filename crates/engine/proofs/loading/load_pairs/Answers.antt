@@ -1,5 +1,5 @@
 use Rattle.std.proofs.Common.{◌≡◌, List, [], refl, subst, sym}
-use Rattle.roots.specs.Pairs.{Pair}
+use Rattle.roots.specs.Entries.{Entry}
 use Rattle.engine.specs.World.{Collection}
 use Rattle.engine.specs.Progress.{Progress}
 use Rattle.engine.specs.Loading.{IsLoading}
@@ -16,7 +16,7 @@ pub pairs-preserved : goal.pairs-preserved
 pairs-preserved c = record {
   loading = c.in-Ok.ensures.loading;
   left = λ pairs last fit is loads.
-      let p : Pair = record { key = c.in-Some.pair.key.now; value = c.in-Some.pair.value.now } in
+      let p : Entry = record { key = c.in-Some.pair.key.now; value = c.in-Some.pair.value.now } in
       let one = left_one c.pairs.rest.now c.in-Some.pair.rest.now p c.pairs.collections.now last c.in-Some.ensures.fits c.in-Some.ensures.spelled (c.pairs.invariant.left pairs last fit is loads) in
       let next : c.load_pair.new.collections.now ≡ one.next = c.in-Ok.ensures.adds one.next one.adds in
       subst (λ (cs : List Collection). Left c.in-Some.pair.rest.now cs last) (sym next) one.left;
@@ -24,7 +24,7 @@ pairs-preserved c = record {
 
 pub returns-in-Err-clause-loads : goal.returns-in-Err-clause-loads
 returns-in-Err-clause-loads c pairs last fit is loads =
-    let p : Pair = record { key = c.in-Some.pair.key.now; value = c.in-Some.pair.value.now } in
+    let p : Entry = record { key = c.in-Some.pair.key.now; value = c.in-Some.pair.value.now } in
     let one = left_one c.pairs.rest.now c.in-Some.pair.rest.now p c.pairs.collections.now last c.in-Some.ensures.fits c.in-Some.ensures.spelled (c.pairs.invariant.left pairs last fit is loads) in
     c.in-Err.ensures.adds one.next one.adds
 

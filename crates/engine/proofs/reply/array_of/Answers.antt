@@ -2,7 +2,7 @@ use Rattle.std.proofs.Common.{◌≡◌, ◌∷◌, [], List, sym, ap, subst, �
 use Rattle.std.specs.Prelude.{All}
 use Rattle.std.proofs.lemmas.List.Elements.{All-head, All-tail}
 use Rattle.bson.specs.Tree.{document, Pairs, Items, append_items}
-use Rattle.bson.specs.Edits.{append_items-none, append_items-one}
+use Rattle.bson.specs.EditsLaws.{append_items-none, append_items-one}
 use Rattle.engine.specs.Lawful.{IsWithin}
 use Rattle.engine.specs.Cursors.{items_of_documents}
 use Rattle.engine.proofs.Batches.{empty_rest}

@@ -4,19 +4,20 @@ use Rattle.std.specs.Prelude.{Result, Err, Vec}
 use Rattle.std.specs.Global.{Global}
 use Rattle.roots.specs.declared.store.CommitFault.{CommitFault}
 use Rattle.engine.specs.View.{world, turn_start}
-use Rattle.engine.specs.World.{World, undone}
+use Rattle.engine.specs.World.{World, after_undo}
 use Rattle.page.specs.History.{History}
 use Rattle.bson.specs.Tree.{Pairs}
 use Rattle.op_msg.specs.Request.{respelled}
 use Rattle.engine.specs.Step.{ForMemory}
 use Rattle.server.specs.declared.connection.Connection.{Connection}
-use Rattle.engine.specs.Durable.{Holds, disk_history, store_of, HasNoRoom}
+use Rattle.engine.specs.Durable.{Holds, disk_history, store_of}
 use Rattle.server.specs.Turn.{ChangeNothing, Runs, calls, frames_of, refused_frames}
 use Rattle.server.specs.Taking.{HaveRoom, full_body, respelled_frames}
 use Rattle.server.specs.View.{frames_in}
 use Rattle.path.specs.declared.refusal.Refusal.TheVariants.{OutOfMemory, Full}
 use Rattle.server.proofs.Images.{stays, moved, moved_back, on_same}
 use Rattle.server.proofs.Refusing.{refused_room, refused_respelled, whole}
+use Rattle.server.specs.Durable.{NoRoomFor}
 use Rattle.server.proofs.serving.run_messages.Goals as goal
 
 abbrev failed : CommitFault → Result (Unit {0}) CommitFault
@@ -42,11 +43,12 @@ returns-in-Err-Full-clause-settles g c =
     ∙ length-map (frames_in before) (λ f. (f.0, respelled f.1 full_body)) ∙ length-map before (λ f. (f.0, f.1.items)) in
     let long : length new ≡ c.args.refusals.len = search rules in
     let taken : c.deref_mut.result.now ≡ connections = search rules in
-    let world_is : world c.commit_turn.new.self ≡ undone (world c.args.engine.now) (world c.serve_connections.new.engine) =
-    (c.in-Err-Full.ensures.full (ap failed c.in-Err-Full.field-0-is)).0 ∙ ap (λ (w : World). undone w (world c.serve_connections.new.engine)) (c.serve_connections.ensures.turn_start ∙ c.requires.idle) in
+    let world_is : world c.commit_turn.new.self ≡ after_undo (world c.args.engine.now) (world c.serve_connections.new.engine) =
+    (c.in-Err-Full.ensures.full (ap failed c.in-Err-Full.field-0-is)).0 ∙ ap (λ (w : World). after_undo w (world c.serve_connections.new.engine)) (c.serve_connections.ensures.turn_start ∙ c.requires.idle) in
     let serves = c.serve_connections.ensures.serves in
-    let no_room : HasNoRoom (store_of c.args.engine.now) (world c.serve_connections.new.engine).collections =
-    subst (λ store. HasNoRoom store (world c.serve_connections.new.engine).collections) c.serve_connections.ensures.store (c.in-Err-Full.ensures.full (ap failed c.in-Err-Full.field-0-is)).1 in
+    let full = c.in-Err-Full.ensures.full (ap failed c.in-Err-Full.field-0-is) in
+    let no_room : NoRoomFor (store_of c.args.engine.now) (store_of c.commit_turn.new.self) (world c.serve_connections.new.engine) =
+    subst (λ store. NoRoomFor store (store_of c.commit_turn.new.self) (world c.serve_connections.new.engine)) c.serve_connections.ensures.store (record { no_room = full.1; counted = full.2 }) in
     record {
       replies = serves.replies;
       last = world c.serve_connections.new.engine;
@@ -104,7 +106,7 @@ returns-in-Err-Memory-clause-settles g c =
       replies = serve.serves.replies;
       last = world e1;
       runs = ran;
-      ends = inr (inl c.requires.refusals, c.in-Err-Memory.ensures.memory (ap failed c.in-Err-Memory.field-0-is) ∙ ap (λ (w : World). undone w (world e1)) before);
+      ends = inr (inl c.requires.refusals, c.in-Err-Memory.ensures.memory (ap failed c.in-Err-Memory.field-0-is) ∙ ap (λ (w : World). after_undo w (world e1)) before);
     }
 
 pub returns-in-Err-Memory-clause-any_moment : goal.returns-in-Err-Memory-clause-any_moment

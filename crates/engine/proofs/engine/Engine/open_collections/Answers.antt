@@ -1,6 +1,6 @@
-use Rattle.roots.specs.Pairs.{spelled}
+use Rattle.roots.specs.EntryView.{entries_of}
 use Rattle.engine.specs.declared.engine.Engine.{Engine}
-use Rattle.engine.proofs.OpenSteps.{opened, refused_store, refused_pairs}
+use Rattle.engine.proofs.OpenSteps.{opened, refused_store, refused_entries}
 use Rattle.engine.proofs.engine.Engine.open_collections.Goals as goal
 
 pub returns-in-Err-clause-refused : goal.returns-in-Err-clause-refused
@@ -9,8 +9,8 @@ returns-in-Err-clause-refused g c = refused_store g.D.Disk.history c.args.disk c
 pub returns-in-Ok-load-clause-opened : goal.returns-in-Ok-load-clause-opened
 returns-in-Ok-load-clause-opened g c =
     let engine : Engine g.row.D.Denot = record { alloc = c.args.alloc; collections = c.in-Ok-load.collections; store = c.in-Ok.found.0 } in
-    opened g.D.Disk.history c.args.disk engine (spelled c.in-Ok.found.1) c.in-Ok.ensures.opened c.in-Ok-load.ensures.loading c.in-Ok-load.ensures.readable c.in-Ok.ensures.pairs c.in-Ok-load.ensures.spelled
+    opened g.D.Disk.history c.args.disk engine (entries_of c.in-Ok.found.1) c.in-Ok.ensures.opened c.in-Ok-load.ensures.loading c.in-Ok-load.ensures.readable c.in-Ok.ensures.entries c.in-Ok-load.ensures.entries
 
 pub returns-clause-refused : goal.returns-clause-refused
 returns-clause-refused g c =
-    refused_pairs g.D.Disk.history c.args.disk c.in-Ok.found.0 c.into_disk.result (spelled c.in-Ok.found.1) c.in-Err-load.fault c.in-Ok.ensures.opened c.into_disk.ensures c.in-Err-load.ensures.fault c.in-Ok.ensures.pairs c.in-Err-load.ensures.damaged
+    refused_entries g.D.Disk.history c.args.disk c.in-Ok.found.0 c.into_disk.result (entries_of c.in-Ok.found.1) c.in-Err-load.fault c.in-Ok.ensures.opened c.into_disk.ensures c.in-Err-load.ensures.fault c.in-Ok.ensures.entries c.in-Err-load.ensures.damaged

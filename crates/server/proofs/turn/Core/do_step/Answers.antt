@@ -6,46 +6,50 @@ use Rattle.server.specs.declared.turn.TurnFault.{TurnFault}
 use Rattle.server.specs.declared.turn.TurnFault.TheVariants as turns
 use Rattle.server.specs.declared.drive.DriveFault.{DriveFault}
 use Rattle.server.specs.declared.drive.DriveFault.TheVariants as stops
-use Rattle.server.specs.History.{Happens, turns_in}
-use Rattle.server.specs.OneStep.{Adds}
+use Rattle.server.specs.Moment.{Instant}
+use Rattle.server.specs.OneStep.{Adds, Goes}
+use Rattle.server.specs.declared.drive.DriveOut.{DriveOut}
 use Rattle.server.specs.View.{state, frames_in, out_of}
-use Rattle.server.specs.Durable.{collections_of}
+use Rattle.server.specs.Durable.{instant_of}
 use Rattle.server.specs.declared.step.Step.{Step}
 use Rattle.server.proofs.Histories.{one_turn, bytes_on, gone_on, frames_append}
-use Rattle.server.proofs.Images.{unmoved}
+use Rattle.server.proofs.Images.{unmoved, same_moment}
 use Rattle.server.proofs.turn.Core.do_step.Goals as goal
 
 pub returns-else-is_err-clause-does : goal.returns-else-is_err-clause-does
 returns-else-is_err-clause-does g c =
+    let history = g.D.Disk.history in
+    let first : Instant = instant_of history c.args.self.now in
+    let last : Instant = instant_of history c.turn.new.self in
     let turn = c.in-Ok-turn.turn in
     let kept : c.append.new.self.items ≡ c.args.out.now.replies.items ++ turn.replies.items = search rules in
     let frames = frames_in turn.replies.items in
-    record {
+    let out : DriveOut = record { replies = c.append.new.self; turns = c.args.out.now.turns + 1; stopped = c.args.out.now.stopped } in
+    subst (λ (s : Step). Goes first s c.args.out.now out last) (sym c.in-Turn.is)
+    (record {
       frames = frames;
-      states = collections_of c.turn.new.self ∷ [];
-      happens = subst (λ (s : Step). Happens (state c.args.self.now) (s ∷ []) frames (collections_of c.turn.new.self ∷ []) (state c.turn.new.self)) (sym c.in-Turn.is)
-          (one_turn (state c.args.self.now) (state c.turn.new.self) (out_of turn) c.in-Ok-turn.ensures.turns);
-      adds = subst (λ (s : Step). Adds frames (turns_in (s ∷ [])) c.args.out.now (record { replies = c.append.new.self; turns = c.args.out.now.turns + 1; stopped = c.args.out.now.stopped })) (sym c.in-Turn.is)
-          (record { replies = ap frames_in kept ∙ frames_append c.args.out.now.replies.items turn.replies.items; counted = refl; stopped = refl });
-    }
+      happens = one_turn first last (out_of turn) c.in-Ok-turn.ensures.turns;
+      moment = refl;
+      adds = record { replies = ap frames_in kept ∙ frames_append c.args.out.now.replies.items turn.replies.items; counted = refl; stopped = refl };
+    })
 
 pub returns-in-Err-Memory-clause-disk : goal.returns-in-Err-Memory-clause-disk
 returns-in-Err-Memory-clause-disk g c = unmoved g.D.Disk.history c.args.self.now c.feed.new.self c.requires.sound c.feed.ensures.disk c.feed.ensures.store
 
 pub returns-in-Err-Closed-clause-does : goal.returns-in-Err-Closed-clause-does
-returns-in-Err-Closed-clause-does g c = bytes_on c.args.step.now c.in-Bytes.id c.in-Bytes.chunk c.args.out.now (state c.args.self.now) (state c.feed.new.self) c.in-Bytes.is (c.in-Err-Closed.ensures.fed (λ e. absurd cc) ∙ ap (fed (state c.args.self.now) c.in-Bytes.id) c.deref.ensures.value)
+returns-in-Err-Closed-clause-does g c = bytes_on c.args.step.now c.in-Bytes.id c.in-Bytes.chunk c.args.out.now (instant_of g.D.Disk.history c.args.self.now) (instant_of g.D.Disk.history c.feed.new.self) c.in-Bytes.is (c.in-Err-Closed.ensures.fed (λ e. absurd cc) ∙ ap (fed (state c.args.self.now) c.in-Bytes.id) c.deref.ensures.value) (same_moment g.D.Disk.history c.args.self.now c.feed.new.self c.feed.ensures.disk c.feed.ensures.store)
 
 pub returns-in-Err-Closed-clause-disk : goal.returns-in-Err-Closed-clause-disk
 returns-in-Err-Closed-clause-disk g c = unmoved g.D.Disk.history c.args.self.now c.feed.new.self c.requires.sound c.feed.ensures.disk c.feed.ensures.store
 
 pub returns-in-Ok-clause-does : goal.returns-in-Ok-clause-does
-returns-in-Ok-clause-does g c = bytes_on c.args.step.now c.in-Bytes.id c.in-Bytes.chunk c.args.out.now (state c.args.self.now) (state c.feed.new.self) c.in-Bytes.is (c.in-Ok.ensures.fed (λ e. absurd cc) ∙ ap (fed (state c.args.self.now) c.in-Bytes.id) c.deref.ensures.value)
+returns-in-Ok-clause-does g c = bytes_on c.args.step.now c.in-Bytes.id c.in-Bytes.chunk c.args.out.now (instant_of g.D.Disk.history c.args.self.now) (instant_of g.D.Disk.history c.feed.new.self) c.in-Bytes.is (c.in-Ok.ensures.fed (λ e. absurd cc) ∙ ap (fed (state c.args.self.now) c.in-Bytes.id) c.deref.ensures.value) (same_moment g.D.Disk.history c.args.self.now c.feed.new.self c.feed.ensures.disk c.feed.ensures.store)
 
 pub returns-in-Ok-clause-disk : goal.returns-in-Ok-clause-disk
 returns-in-Ok-clause-disk g c = unmoved g.D.Disk.history c.args.self.now c.feed.new.self c.requires.sound c.feed.ensures.disk c.feed.ensures.store
 
 pub returns-in-Gone-clause-does : goal.returns-in-Gone-clause-does
-returns-in-Gone-clause-does g c = gone_on c.args.step.now c.in-Gone.id c.args.out.now (state c.args.self.now) (state c.gone.new.self) c.in-Gone.is c.gone.ensures.state
+returns-in-Gone-clause-does g c = gone_on c.args.step.now c.in-Gone.id c.args.out.now (instant_of g.D.Disk.history c.args.self.now) (instant_of g.D.Disk.history c.gone.new.self) c.in-Gone.is c.gone.ensures.state (same_moment g.D.Disk.history c.args.self.now c.gone.new.self c.gone.ensures.disk c.gone.ensures.store)
 
 pub returns-in-Gone-clause-disk : goal.returns-in-Gone-clause-disk
 returns-in-Gone-clause-disk g c = unmoved g.D.Disk.history c.args.self.now c.gone.new.self c.requires.sound c.gone.ensures.disk c.gone.ensures.store

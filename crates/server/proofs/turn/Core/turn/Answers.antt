@@ -1,11 +1,12 @@
 use Rattle.std.proofs.Common.{◌≡◌, length, false, refl, sym, subst, ◌∙◌, rules}
 use Rattle.std.specs.Prelude.{Bool}
 use Rattle.engine.specs.View.{world}
-use Rattle.engine.specs.Durable.{Holds}
+use Rattle.roots.specs.Store.{HasFullCause}
+use Rattle.engine.specs.Durable.{Holds, store_of}
 use Rattle.engine.specs.Step.{ForMemory}
 use Rattle.server.specs.Durable.{is_stopped}
 use Rattle.server.specs.declared.turn.TurnFault.TheVariants as turns
-use Rattle.server.specs.Turn.{Cut, TurnFails, faults, forget_all, connections_taken}
+use Rattle.server.specs.Turn.{Cut, Turns, TurnFails, faults, forget_all, connections_taken}
 use Rattle.server.specs.Taking.{closed_connections, faults_in}
 use Rattle.server.specs.View.{state, frames_in}
 use Rattle.server.proofs.Images.{engine_holds, stays, forgotten}
@@ -24,8 +25,9 @@ returns-clause-turns g c =
     let forgets : world c.forget_closed.new.engine ≡ forget_all (world c.run_messages.new.engine) prepared.closed.items = search rules in
     let go_on : c.close_connections.new.connections ≡ closed_connections (connections_taken connections) (faults_in connections) = search rules in
     let long : length c.close_connections.new.connections ≡ c.run_messages.new.connections.len = search rules in
-    turned core (frames_in c.in-Some.replies.items) (world c.run_messages.new.engine) prepared.closed.items (world c.forget_closed.new.engine) _
-    c.in-Some.ensures.settles closes forgets (whole c.close_connections.new.connections _ c.run_messages.new.connections.len long ∙ go_on ∙ all_closed connections)
+    let turns = turned core (frames_in c.in-Some.replies.items) (world c.run_messages.new.engine) prepared.closed.items (world c.forget_closed.new.engine) _
+    (store_of c.run_messages.new.engine) c.in-Some.ensures.settles closes forgets (whole c.close_connections.new.connections _ c.run_messages.new.connections.len long ∙ go_on ∙ all_closed connections) in
+    subst (λ store. Turns ForMemory (HasFullCause (store_of core.engine) store) (state core) _ _) (sym c.forget_closed.ensures.store) turns
 
 pub returns-clause-full : goal.returns-clause-full
 returns-clause-full g c =
@@ -38,7 +40,7 @@ returns-clause-full g c =
     let go_on : c.close_connections.new.connections ≡ closed_connections (connections_taken connections) (faults_in connections) = search rules in
     let long : length c.close_connections.new.connections ≡ c.run_messages.new.connections.len = search rules in
     turned_for core (frames_in c.in-Some.replies.items) (world c.run_messages.new.engine) prepared.closed.items (world c.forget_closed.new.engine) _
-    c.in-Some.ensures.settles closes forgets (whole c.close_connections.new.connections _ c.run_messages.new.connections.len long ∙ go_on ∙ all_closed connections)
+    (store_of c.run_messages.new.engine) c.in-Some.ensures.settles closes forgets (whole c.close_connections.new.connections _ c.run_messages.new.connections.len long ∙ go_on ∙ all_closed connections)
 
 pub returns-clause-acknowledged : goal.returns-clause-acknowledged
 returns-clause-acknowledged g c running = engine_holds g.D.Disk.history c.forget_closed.new.engine c.forget_closed.ensures.sound c.forget_closed.ensures.idle (c.forget_closed.ensures.running ∙ c.in-Some.ensures.running ∙ running)
