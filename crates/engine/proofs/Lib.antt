@@ -26,3 +26,4 @@ pub mod Growing
 pub mod Deleting
 pub mod Finding
 pub mod ReadingLaws
+pub mod EmptyImage

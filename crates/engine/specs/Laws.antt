@@ -1,5 +1,5 @@
 -- Laws of the definitions.
-use Rattle.std.specs.Prelude.{◌≡◌, ℕ, List, Result, Ok, Err}
+use Rattle.std.specs.Prelude.{◌≡◌, ℕ, List, [], replicate, Result, Ok, Err}
 use Rattle.bson.specs.Tree.{Pairs}
 use Rattle.bson.specs.declared.fault.BsonFault.{BsonFault}
 use Rattle.engine.specs.World.{World, Collection, new_world}
@@ -17,6 +17,11 @@ BeginsLawful = IsLawful new_world
 -- a lawful world steps to a lawful world, whatever it is told
 abbrev pub StaysLawful : Type 0
 StaysLawful = (world : World) (connection : ℕ) (body : Result Pairs BsonFault) → IsLawful world → IsLawful (step world connection body).0
+
+-- an image whose root sectors are zeros holds no collection
+abbrev pub ZerosHoldNothing : Type 0
+ZerosHoldNothing =
+    (image : ℕ → List ℕ) → image 0 ≡ replicate 512 0 → image 1 ≡ replicate 512 0 → Holds image []
 
 -- an image holds one list of collections at most
 abbrev pub HoldsOne : Type 0

@@ -1,6 +1,6 @@
 //! Laws of the definitions, each the contract of a function that does nothing.
 
-ghost use Rattle.engine.specs.Laws.{BeginsLawful, StaysLawful, ReadsChangeNothing, HoldsOne, RepliesSendable};
+ghost use Rattle.engine.specs.Laws.{BeginsLawful, StaysLawful, ReadsChangeNothing, HoldsOne, ZerosHoldNothing, RepliesSendable};
 
 /// The world that an engine begins with is lawful.
 pub fn begins_lawful()
@@ -20,6 +20,11 @@ pub fn reads_change_nothing()
 /// What a lawful world replies is within `REPLY_LIMIT`.
 pub fn replies_sendable()
     ensures { RepliesSendable }
+{}
+
+/// A disk of zeros holds no collection.
+pub fn zeros_hold_nothing()
+    ensures { ZerosHoldNothing }
 {}
 
 /// An image of a disk holds one list of collections at most.

@@ -3,6 +3,7 @@
 -- number of the request, no flags, and one body.
 use Rattle.std.specs.Prelude.{◌≡◌, ℕ, ◌+◌, List, [], ◌∷◌, ◌++◌, length, take, drop, Bool, true, false, Result, Ok, Err, Option, Some, None}
 use Rattle.std.specs.Int.{w32, to_le_bytes}
+use Rattle.bson.specs.declared.fault.BsonFault.TheVariants as bson_faults
 use Rattle.bson.specs.Tree.{Pairs}
 use Rattle.bson.specs.Spelling.{frame_of, pairs_bytes}
 use Rattle.bson.specs.Reading.{document_at}
@@ -35,7 +36,7 @@ head_of (Err fault) = Err fault
 pub record IsRequest (frame : Frame) (request : Request) : Type 0 where
   pub number : request.request_id ≡ frame.number
   pub more : request.more_to_come ≡ frame.more_to_come
-  pub body : Gives BSON_MEMORY (λ d. d) request.body (body_of frame)
+  pub body : Gives bson_faults.Memory (λ d. d) request.body (body_of frame)
 
 -- What a call of `next` may answer, by what stands at the front, with what is left after it.
 abbrev pub IsNext : Result (Option (Frame × List ℕ)) FrameFault → List ℕ → Result (Option Request) FrameFault → List ℕ → Type 0

@@ -26,7 +26,7 @@ pub struct Request {
 
 /// The document that the bytes of a body are.
 fn read_document(alloc: Global, bytes: &[u8]) -> Result<Document, BsonFault>
-    ensures { Gives BSON_MEMORY (λ d. d) result (document_in bytes.now) }
+    ensures { Gives BsonFault.Memory (λ d. d) result (document_in bytes.now) }
 {
     match decode(alloc, bytes) {
         Ok((document, _)) => Ok(document),

@@ -4,12 +4,14 @@ use Rattle.std.specs.Prelude.{◌&&◌, nat_lt, Option, Some, None, Result, Ok, 
 use Rattle.std.specs.Ordering.{nat_cmp}
 use Rattle.std.specs.declared.cmp.Ordering.{Ordering}
 use Rattle.std.specs.declared.cmp.Ordering.TheVariants as orders
+use Rattle.std.proofs.lemmas.Bool.{ltb-true}
 use Rattle.std.proofs.lemmas.Bool.Decides.{nat_tests}
 use Rattle.engine.specs.World.{by_order}
 use Rattle.op_msg.specs.Frame.{Frame}
 use Rattle.op_msg.specs.declared.fault.FrameFault.{FrameFault}
 use Rattle.server.specs.ServerState.{are_above, are_ascending, new_connection, add_bytes, feed_connections, drop_connection}
-use Rattle.server.specs.Turn.{front_of, connection_at, connection_after, connections_after, taken_at, connections_taken}
+use Rattle.server.specs.InOrder.{AreCalledAbove, AreCalledInOrder}
+use Rattle.server.specs.Turn.{Call, calls, call_at, front_of, connection_at, connection_after, connections_after, taken_at, connections_taken}
 use Rattle.server.specs.declared.connection.Connection.{Connection}
 
 both : (a b : Bool) → (a && b) ≡ true → (a ≡ true) × (b ≡ true)
@@ -30,19 +32,20 @@ added_id l (Some fault) bytes = refl
 
 feed_above : (low : ℕ) (ls : List Connection) (id : ℕ) (bytes : List ℕ) → nat_lt low id ≡ true → are_above low ls ≡ true → are_above low (feed_connections ls id bytes) ≡ true
 feed_above low [] id bytes below h = join (nat_lt low id) true below refl
-feed_above low (l ∷ ls) id bytes below h = at (nat_cmp id l.id) refl
+feed_above low (l ∷ ls) id bytes below h = at (nat_cmp id l.id) refl (λ more. feed_above l.id ls id bytes more (both (nat_lt low l.id) (are_above l.id ls) h).1)
   where
     parts : (nat_lt low l.id ≡ true) × (are_above l.id ls ≡ true)
     parts = both (nat_lt low l.id) (are_above l.id ls) h
 
-    at : (o : Ordering) → nat_cmp id l.id ≡ o → are_above low (by_order o (new_connection id bytes ∷ l ∷ ls) (add_bytes l l.fault bytes ∷ ls) (l ∷ feed_connections ls id bytes)) ≡ true
-    at orders.Less e =
+    at : (o : Ordering) → nat_cmp id l.id ≡ o → (nat_lt l.id id ≡ true → are_above l.id (feed_connections ls id bytes) ≡ true)
+        → are_above low (by_order o (new_connection id bytes ∷ l ∷ ls) (add_bytes l l.fault bytes ∷ ls) (l ∷ feed_connections ls id bytes)) ≡ true
+    at orders.Less e later =
         let less : nat_lt id l.id ≡ true = grind (arith, nat_tests) in
         join (nat_lt low id) (nat_lt id l.id && are_above l.id ls) below (join (nat_lt id l.id) (are_above l.id ls) less parts.1)
-    at orders.Equal e = same_id low l (add_bytes l l.fault bytes) ls (added_id l l.fault bytes) h
-    at orders.Greater e =
+    at orders.Equal e later = same_id low l (add_bytes l l.fault bytes) ls (added_id l l.fault bytes) h
+    at orders.Greater e later =
         let more : nat_lt l.id id ≡ true = grind (arith, nat_tests) in
-        join (nat_lt low l.id) (are_above l.id (feed_connections ls id bytes)) parts.0 (feed_above l.id ls id bytes more parts.1)
+        join (nat_lt low l.id) (are_above l.id (feed_connections ls id bytes)) parts.0 (later more)
 
 pub feed_ascends : (ls : List Connection) (id : ℕ) (bytes : List ℕ) → are_ascending ls ≡ true → are_ascending (feed_connections ls id bytes) ≡ true
 feed_ascends [] id bytes h = refl
@@ -68,15 +71,15 @@ lower low high (l ∷ ls) below h =
 
 drop_above : (low : ℕ) (ls : List Connection) (id : ℕ) → are_above low ls ≡ true → are_above low (drop_connection ls id) ≡ true
 drop_above low [] id h = refl
-drop_above low (l ∷ ls) id h = at (nat_cmp id l.id)
+drop_above low (l ∷ ls) id h = at (nat_cmp id l.id) (drop_above l.id ls id (both (nat_lt low l.id) (are_above l.id ls) h).1)
   where
     parts : (nat_lt low l.id ≡ true) × (are_above l.id ls ≡ true)
     parts = both (nat_lt low l.id) (are_above l.id ls) h
 
-    at : (o : Ordering) → are_above low (by_order o (l ∷ ls) ls (l ∷ drop_connection ls id)) ≡ true
-    at orders.Less = h
-    at orders.Equal = lower low l.id ls parts.0 parts.1
-    at orders.Greater = join (nat_lt low l.id) (are_above l.id (drop_connection ls id)) parts.0 (drop_above l.id ls id parts.1)
+    at : (o : Ordering) → are_above l.id (drop_connection ls id) ≡ true → are_above low (by_order o (l ∷ ls) ls (l ∷ drop_connection ls id)) ≡ true
+    at orders.Less later = h
+    at orders.Equal later = lower low l.id ls parts.0 parts.1
+    at orders.Greater later = join (nat_lt low l.id) (are_above l.id (drop_connection ls id)) parts.0 later
 
 above_ascends : (low : ℕ) (ls : List Connection) → are_above low ls ≡ true → are_ascending ls ≡ true
 above_ascends low [] h = refl
@@ -120,3 +123,37 @@ after_above low (l ∷ ls) =
 pub after_ascends : (ls : List Connection) → are_ascending ls ≡ true → are_ascending (connections_after ls) ≡ true
 after_ascends [] h = refl
 after_ascends (l ∷ ls) h = ap (λ (n : ℕ). are_above n (connections_after ls)) (after_id l (front_of l)) ∙ after_above l.id ls ∙ h
+
+-- ---- the calls of a turn
+
+called_lower : (low high : ℕ) (cs : List Call) → low < high → AreCalledAbove high cs → AreCalledAbove low cs
+called_lower low high [] below h = tt
+called_lower low high (c ∷ cs) below h = (omega (arith, below, h.0), h.1)
+
+called_above : (low : ℕ) (ls : List Connection) → are_above low ls ≡ true → AreCalledAbove low (calls ls)
+called_above low [] h = tt
+called_above low (l ∷ ls) h = at (front_of l) (called_above l.id ls (both (nat_lt low l.id) (are_above l.id ls) h).1)
+  where
+    parts : (nat_lt low l.id ≡ true) × (are_above l.id ls ≡ true)
+    parts = both (nat_lt low l.id) (are_above l.id ls) h
+
+    below : low < l.id
+    below = ltb-true low l.id parts.0
+
+    at : (front : Result (Option (Frame × List ℕ)) FrameFault) → AreCalledAbove l.id (calls ls) → AreCalledAbove low (call_at l front ++ calls ls)
+    at (Ok (Some x)) later = (below, later)
+    at (Ok None) later = called_lower low l.id (calls ls) below later
+    at (Err fault) later = called_lower low l.id (calls ls) below later
+
+above_in_order : (low : ℕ) (cs : List Call) → AreCalledAbove low cs → AreCalledInOrder cs
+above_in_order low [] h = tt
+above_in_order low (c ∷ cs) h = h.1
+
+pub calls_ascend : (ls : List Connection) → are_ascending ls ≡ true → AreCalledInOrder (calls ls)
+calls_ascend [] h = tt
+calls_ascend (l ∷ ls) h = at (front_of l) (called_above l.id ls h)
+  where
+    at : (front : Result (Option (Frame × List ℕ)) FrameFault) → AreCalledAbove l.id (calls ls) → AreCalledInOrder (call_at l front ++ calls ls)
+    at (Ok (Some x)) later = later
+    at (Ok None) later = above_in_order l.id (calls ls) later
+    at (Err fault) later = above_in_order l.id (calls ls) later

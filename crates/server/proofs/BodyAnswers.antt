@@ -20,7 +20,7 @@ module _ (w : World) (id : ℕ) (fault : BsonFault) (refusal : Refusal) (read : 
       subst (λ (r : Result Pairs BsonFault). Answers ForMemory w id r w (refusal_reply refusal)) (sym e) (inl (λ i. (w, refusal_reply (is i))))
 
 pub refused_body : (w : World) (id : ℕ) (fault : BsonFault) (refusal : Refusal) (read : Result Pairs BsonFault) → (fault ≡ faults.Memory → refusal ≡ refusals.OutOfMemory)
-    → (fault ≢ faults.Memory → refusal ≡ refusals.InvalidBSON) → Fails BSON_MEMORY fault read → Answers ForMemory w id read w (refusal_reply refusal)
+    → (fault ≢ faults.Memory → refusal ≡ refusals.InvalidBSON) → Fails faults.Memory fault read → Answers ForMemory w id read w (refusal_reply refusal)
 refused_body w id faults.Memory refusal read memory other fails = no_memory w id faults.Memory refusal read (memory refl)
 refused_body w id faults.Truncated refusal read memory other fails = no_document w id faults.Truncated refusal read (fails (λ e. absurd cc)) (other (λ e. absurd cc))
 refused_body w id faults.Length refusal read memory other fails = no_document w id faults.Length refusal read (fails (λ e. absurd cc)) (other (λ e. absurd cc))

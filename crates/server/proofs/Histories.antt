@@ -132,8 +132,11 @@ starts history first all out nothing none goes sound = record {
   sound = sound;
   on = goes_nowhere (disk_history history first);
   running = refl;
-  in_order = λ running keeps. (omega arith, moved_between (disk_history history first) (HoldsEither (collections_of first) (collections_of first))
-      (λ image here. inl (holds_now history first sound running keeps image here)));
+  in_order = λ running keeps. (
+    omega arith,
+    moved_between (disk_history history first) (HoldsEither (collections_of first) (collections_of first))
+        (λ image here. inl (holds_now history first sound running keeps image here)),
+  );
   idle = λ _. refl;
   limit = refl;
 }
@@ -190,7 +193,7 @@ module _ {D : Type 0} (history : D → History) (first : Core D) (all : List Ste
       → (IsRunning first → LeavesNow (disk_history history last) (λ image. Holds image (collections_of last)))
       → IsRunning first → KeepsWord (disk_history history last)
       → LeavesInOrder (disk_history history last) (clock_of history first) (collections_of first) (s.ends ++ ends_of x (instant_of history last)) (collections_of last)
-  order_by steps.Turn last new goes safe holds = order_turned last safe holds
+  order_by steps.Turn last new goes safe holds running keeps = order_turned last safe holds running keeps
   order_by (steps.Bytes id chunk) last new goes safe holds running keeps =
       subst (λ (es : List TurnEnd). LeavesInOrder (disk_history history last) (clock_of history first) (collections_of first) es (collections_of last)) (sym (append-nil s.ends)) (order_on last safe running keeps)
   order_by (steps.Gone id) last new goes safe holds running keeps =
@@ -313,14 +316,17 @@ module _ {D : Type 0} (history : D → History) (first : Core D) (all : List Ste
       record {
         given = frames_in new.replies.items;
         ends = s.ends ++ end ∷ [];
-        happens = (at new 1 does.adds _ does.is, record {
-          before = state now;
-          earlier = s.ends;
-          lost = does.lost;
-          happens = before new 1 does.adds;
-          turn = subst (λ (m : Moment). Turns ForMemory (RoomRanOut m (moment_of history last)) (state now) does.lost (state last)) s.moment does.turn;
-          counted = refl;
-        });
+        happens = (
+          at new 1 does.adds _ does.is,
+          record {
+            before = state now;
+            earlier = s.ends;
+            lost = does.lost;
+            happens = before new 1 does.adds;
+            turn = subst (λ (m : Moment). Turns ForMemory (RoomRanOut m (moment_of history last)) (state now) does.lost (state last)) s.moment does.turn;
+            counted = refl;
+          },
+        );
         frames = refl;
         bytes = λ _. refl;
         turns = omega (arith, does.adds.counted, s.counted);

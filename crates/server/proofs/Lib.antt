@@ -9,3 +9,4 @@ pub mod ConnectionServed
 pub mod ConnectionsServed
 pub mod StreamsTaken
 pub mod Ascending
+pub mod AnewLemmas

@@ -40,10 +40,10 @@ module _ (h k : History) (on : GoesOn h k) (keeps : KeepsWord k) where
         (λ word image left. ⊎_elim (λ holds. inl (subst (Holds image) is holds)) (λ holds. inr holds) (safe word image left))
 
     pub in_order_further : (from : ℕ) (before : List Collection) (ends : List TurnEnd) → now ≡ last_collections before ends → LeavesInOrder h from before ends now → LeavesInOrder k from before ends last
-    in_order_further from before [] is order = (omega (arith, order.0, on.clock keeps), tail_on from before is order.1)
+    in_order_further from before [] is order = (omega (arith, order.0, on.clock), tail_on from before is order.1)
     in_order_further from before (e ∷ later) is order = (
       order.0,
-      omega (arith, order.1, on.clock keeps),
+      omega (arith, order.1, on.clock),
       between_on from e.at.clock (HoldsEither before e.collections) order.1 order.2,
       in_order_further e.at.clock e.collections later is order.3,
     )
@@ -53,15 +53,17 @@ module _ (h k : History) (on : GoesOn h k) (keeps : KeepsWord k) where
     pub in_order_ended : (from : ℕ) (before : List Collection) (ends : List TurnEnd) → now ≡ last_collections before ends → LeavesInOrder h from before ends now
         → LeavesInOrder k from before (ends ++ end ∷ []) end.collections
     in_order_ended from before [] is order = (
-      omega (arith, order.0, on.clock keeps, at_end),
+      omega (arith, order.0, on.clock, at_end),
       omega (arith, at_end),
       subst (λ (n : ℕ). LeavesBetween k from n (HoldsEither before end.collections)) (sym at_end) (tail_on now end.collections safe from before is order.1),
-      omega (arith, at_end),
-      subst (λ (n : ℕ). LeavesBetween k n k.clock (HoldsEither end.collections end.collections)) (sym at_end) (moved_between k (HoldsEither end.collections end.collections) (λ image here. inl (holds image here))),
+      (
+        omega (arith, at_end),
+        subst (λ (n : ℕ). LeavesBetween k n k.clock (HoldsEither end.collections end.collections)) (sym at_end) (moved_between k (HoldsEither end.collections end.collections) (λ image here. inl (holds image here))),
+      ),
     )
     in_order_ended from before (e ∷ later) is order = (
       order.0,
-      omega (arith, order.1, on.clock keeps),
+      omega (arith, order.1, on.clock),
       between_on from e.at.clock (HoldsEither before e.collections) order.1 order.2,
       in_order_ended e.at.clock e.collections later is order.3,
     )

@@ -90,11 +90,9 @@ pub record Drives {D : Type 0} (history : D → History) (first : Core D) (all :
   pub bytes : (id : ℕ) → bytes_for id out ≡ bytes_to id given
   pub turns : out.turns ≡ turns_done out.stopped all
   pub on : GoesOn (disk_history history first) (disk_history history last)
-
   -- from each turn's end to the next one's, a crash leaves the collections of the one or of the other
   pub in_order : IsRunning first → KeepsWord (disk_history history last)
       → LeavesInOrder (disk_history history last) (clock_of history first) (collections_of first) ends (collections_of last)
-
   -- at the end, those after all turns that answered, or after one more in which the device failed
   pub at_end : IsRunning first → (IsStopped out.stopped → ⊥)
       → LeavesNow (disk_history history last) (λ image. Holds image (last_collections (collections_of first) ends))

@@ -7,8 +7,10 @@ pub mod View
 pub mod Durable
 pub mod OneStep
 pub mod Headline
+pub mod Anew
 pub mod Faults
 pub mod Rows
 pub mod Chunks
+pub mod InOrder
 pub mod Streams
 pub mod Taking

@@ -8,6 +8,7 @@ use Rattle.bson.specs.Tree.{Pairs}
 use Rattle.bson.specs.Spelling.{frame_of, pairs_bytes}
 use Rattle.bson.specs.Outcome.{Gives}
 use Rattle.bson.specs.declared.fault.BsonFault.{BsonFault}
+use Rattle.bson.specs.declared.fault.BsonFault.TheVariants as bson_faults
 use Rattle.engine.specs.World.{World, after_commit, after_undo}
 use Rattle.engine.specs.Refusals.{refusal_reply}
 use Rattle.engine.specs.Step.{Answers}
@@ -78,7 +79,7 @@ pub record Serves (beside : Refusal → Type 0) (calls : List Call) (old new : W
 -- a request with this body, whatever frame it came in
 abbrev pub IsAnswer : (Refusal → Type 0) → World → ℕ → Request → World → Pairs → Type 0
 IsAnswer beside old id request new reply =
-    (read : Result Pairs BsonFault) → Gives BSON_MEMORY (λ d. d) request.body read → Answers beside old id read new reply
+    (read : Result Pairs BsonFault) → Gives bson_faults.Memory (λ d. d) request.body read → Answers beside old id read new reply
 
 -- The messages of the links ran. The turn kept what they changed and hands out these replies, or it took back what they changed
 -- and hands out refusals: for want of room only where there is none in the last world.

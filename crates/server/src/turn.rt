@@ -7,7 +7,9 @@ ghost use Rattle.engine.specs.Step.{ForMemory};
 ghost use Rattle.server.specs.WorldCode.{world_set, bool_set};
 ghost use Rattle.server.specs.ServerState.{are_ascending};
 
-use crate::connection::{FeedFault, Connection, close_connections, end_connection, feed_connection, waits};
+use crate::connection::{
+    Connection, FeedFault, close_connections, end_connection, feed_connection, waits,
+};
 use crate::preparing::{Prepared, prepare};
 use crate::serving::{forget_closed, run_messages};
 use engine::{ConnId, Engine};

@@ -7,8 +7,9 @@ use Rattle.bson.specs.Reading.{fixed_at, count_at, ended_at, text_at, content_at
 use Rattle.op_msg.specs.Frame.{part_at, sections_at, frame_of, front}
 use Rattle.op_msg.specs.Request.{reply_bytes}
 use Rattle.engine.specs.Documents.{checked, insert_one}
-use Rattle.engine.specs.Command.{command_of}
-use Rattle.engine.specs.Step.{run_insert, run_find}
+use Rattle.commands.specs.Command.{command_of}
+use Rattle.engine.specs.Insert.{run_insert}
+use Rattle.engine.specs.Find.{run_find}
 use Rattle.server.specs.Rows.{insert_frame, find_frame}
 use Rattle.server.proofs.laws.first_rows.Goals as goal
 

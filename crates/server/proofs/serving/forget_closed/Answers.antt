@@ -6,7 +6,7 @@ use Rattle.server.proofs.serving.forget_closed.Goals as goal
 
 pub closed-preserved : goal.closed-preserved
 closed-preserved g c =
-    let i = c.closed.connection-index in
+    let i = c.closed.id-index in
     let fs = c.args.closed.now in
     let d = c.closed-item.result in
     let inv = c.closed.invariant in

@@ -10,7 +10,7 @@ invariant-closed g l = record {
   disk : disk_history g.D.Disk.history l.engine ≡ disk_history g.D.Disk.history l.initial.engine;
   running : is_stopped l.engine ≡ is_stopped l.initial.engine;
   store : store_of l.engine ≡ store_of l.initial.engine;
-  world_is : world l.engine ≡ forget_all (world l.initial.engine) (take l.connection-index l.closed);
+  world_is : world l.engine ≡ forget_all (world l.initial.engine) (take l.id-index l.closed);
   idle : turn_start l.engine ≡ world l.engine;
   has_changes : has_changes l.engine ≡ has_changes l.initial.engine;
 }

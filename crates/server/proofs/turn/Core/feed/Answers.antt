@@ -1,7 +1,10 @@
-use Rattle.std.proofs.Common.{List, Ok, Err, ap}
+use Rattle.std.proofs.Common.{◌≡◌, ◌≢◌, ℕ, true, List, Ok, Err, ap, ◌∙◌}
 use Rattle.std.specs.Prelude.{Result, OnErr}
+use Rattle.server.specs.declared.connection.FeedFault.{FeedFault}
+use Rattle.server.specs.declared.connection.FeedFault.TheVariants as faults
 use Rattle.engine.specs.View.{world}
-use Rattle.server.specs.ServerState.{ServerState}
+use Rattle.server.specs.ServerState.{ServerState, are_ascending, feed_connections}
+use Rattle.server.proofs.Ascending.{feed_ascends}
 use Rattle.server.specs.declared.connection.Connection.{Connection}
 use Rattle.server.proofs.turn.Core.feed.Goals as goal
 
@@ -18,3 +21,13 @@ pub returns-clause-err : goal.returns-clause-err
 returns-clause-err g c =
     let with_links : List Connection → ServerState = λ ls. record { world = world c.args.self.now.engine; connections = ls } in
     on_err c.feed_connection.result (λ same. ap with_links same) c.feed_connection.ensures.err
+
+ascends_fed : (r : Result (Unit {0}) FeedFault) (old new : List Connection) (id : ℕ) (bytes : List ℕ) → are_ascending old ≡ true
+    → (r ≢ Err faults.Memory → new ≡ feed_connections old id bytes) → OnErr r (new ≡ old) → are_ascending new ≡ true
+ascends_fed (Ok x) old new id bytes h fed same = ap are_ascending (fed (λ e. absurd cc)) ∙ feed_ascends old id bytes h
+ascends_fed (Err e) old new id bytes h fed same = ap are_ascending same ∙ h
+
+pub invariant_of-self-clause-ascending : goal.invariant_of-self-clause-ascending
+invariant_of-self-clause-ascending g c =
+    ascends_fed c.feed_connection.result c.args.self.now.connections.items c.feed_connection.new.connections.items c.args.id c.args.bytes.now
+    c.args.self.now.ascending c.feed_connection.ensures.fed c.feed_connection.ensures.err

@@ -1,14 +1,16 @@
-use Rattle.std.proofs.Common.{◌≡◌, length, false, refl, sym, subst, ◌∙◌, rules}
+use Rattle.std.proofs.Common.{◌≡◌, ap, length, false, refl, sym, subst, ◌∙◌, rules}
 use Rattle.std.specs.Prelude.{Bool}
 use Rattle.engine.specs.View.{world}
-use Rattle.roots.specs.Store.{HasFullCause}
 use Rattle.engine.specs.Durable.{Holds, store_of}
 use Rattle.engine.specs.Step.{ForMemory}
 use Rattle.server.specs.Durable.{is_stopped}
 use Rattle.server.specs.declared.turn.TurnFault.TheVariants as turns
-use Rattle.server.specs.Turn.{Cut, Turns, TurnFails, faults, forget_all, connections_taken}
-use Rattle.server.specs.Taking.{closed_connections, faults_in}
+use Rattle.server.specs.Turn.{Cut, TurnFails, faults, forget_all, connections_taken}
+use Rattle.server.specs.Durable.{NoRoomFor}
+use Rattle.server.specs.Taking.{EndsTurn, closed_connections, faults_in}
 use Rattle.server.specs.View.{state, frames_in}
+use Rattle.server.specs.ServerState.{are_ascending}
+use Rattle.server.proofs.Ascending.{taken_ascends, after_ascends}
 use Rattle.server.proofs.Images.{engine_holds, stays, forgotten}
 use Rattle.server.proofs.ConnectionsServed.{all_closed}
 use Rattle.server.proofs.Refusing.{whole}
@@ -25,9 +27,10 @@ returns-clause-turns g c =
     let forgets : world c.forget_closed.new.engine ≡ forget_all (world c.run_messages.new.engine) prepared.closed.items = search rules in
     let go_on : c.close_connections.new.connections ≡ closed_connections (connections_taken connections) (faults_in connections) = search rules in
     let long : length c.close_connections.new.connections ≡ c.run_messages.new.connections.len = search rules in
-    let turns = turned core (frames_in c.in-Some.replies.items) (world c.run_messages.new.engine) prepared.closed.items (world c.forget_closed.new.engine) _
-    (store_of c.run_messages.new.engine) c.in-Some.ensures.settles closes forgets (whole c.close_connections.new.connections _ c.run_messages.new.connections.len long ∙ go_on ∙ all_closed connections) in
-    subst (λ store. Turns ForMemory (HasFullCause (store_of core.engine) store) (state core) _ _) (sym c.forget_closed.ensures.store) turns
+    let settles = subst (λ store. EndsTurn ForMemory (NoRoomFor (store_of core.engine) store) (world core.engine) connections (frames_in c.in-Some.replies.items) (world c.run_messages.new.engine))
+    (sym c.forget_closed.ensures.store) c.in-Some.ensures.settles in
+    turned core (frames_in c.in-Some.replies.items) (world c.run_messages.new.engine) prepared.closed.items (world c.forget_closed.new.engine) _
+    (store_of c.forget_closed.new.engine) settles closes forgets (whole c.close_connections.new.connections _ c.run_messages.new.connections.len long ∙ go_on ∙ all_closed connections)
 
 pub returns-clause-full : goal.returns-clause-full
 returns-clause-full g c =
@@ -71,3 +74,16 @@ returns-in_default-clause-fails g c =
 
 pub returns-in_default-clause-device : goal.returns-in_default-clause-device
 returns-in_default-clause-device g c _ k = c.in_default.ensures.device refl k
+
+pub invariant_of-self-clause-ascending : goal.invariant_of-self-clause-ascending
+invariant_of-self-clause-ascending g c = ap are_ascending c.run_messages.ensures.connections ∙ taken_ascends c.args.self.now.connections.items c.args.self.now.ascending
+
+pub invariant_of-self-2-clause-ascending : goal.invariant_of-self-2-clause-ascending
+invariant_of-self-2-clause-ascending g c =
+    let connections = c.args.self.now.connections.items in
+    let prepared = c.in_ok-refusals.field-0 in
+    let beside : prepared.faults.items ≡ faults_in connections = search rules in
+    let go_on : c.close_connections.new.connections ≡ closed_connections (connections_taken connections) (faults_in connections) = search rules in
+    let long : length c.close_connections.new.connections ≡ c.run_messages.new.connections.len = search rules in
+    ap are_ascending (whole c.close_connections.new.connections _ c.run_messages.new.connections.len long ∙ go_on ∙ all_closed connections)
+    ∙ after_ascends connections c.args.self.now.ascending

@@ -1,0 +1,36 @@
+use Rattle.std.proofs.Common.{◌≡◌, ℕ, List, [], sym, ap, subst, ◌∙◌}
+use Rattle.std.specs.Prelude.{replicate}
+use Rattle.page.specs.History.{Sector, KeepsWord, HasTime, now, reads}
+use Rattle.page.specs.Memory.{memory_history}
+use Rattle.page.specs.Replay.{blank}
+use Rattle.page.proofs.Moments.{goes_further}
+use Rattle.engine.specs.World.{World, Collection, new_world}
+use Rattle.engine.specs.Durable.{Holds}
+use Rattle.engine.proofs.EmptyImage.{zeros_hold_nothing}
+use Rattle.server.specs.ServerState.{ServerState}
+use Rattle.server.specs.View.{state}
+use Rattle.server.specs.Durable.{disk_history, collections_of}
+use Rattle.server.specs.Anew.{new_server}
+use Rattle.server.proofs.AnewLemmas.{one_collections}
+use Rattle.server.proofs.anew.run_anew.Goals as goal
+
+pub returns-in-Ok : goal.returns-in-Ok
+returns-in-Ok c =
+    let first = c.in-Ok.core in
+    let last = c.drive.new.self in
+    let disk = c.new.result in
+    let drives = c.drive.ensures.drives in
+    let word : HasTime (disk_history memory_history last) → KeepsWord (disk_history memory_history last) =
+    λ time. (goes_further (memory_history disk) (disk_history memory_history first) (disk_history memory_history last) c.in-Ok.ensures.on drives.on).keeps c.new.ensures.fresh.word time in
+    record {
+      first = first;
+      running = c.in-Ok.ensures.sound.1;
+      drives = drives;
+      empty = λ time.
+          let held : Holds (reads (now (memory_history disk))) (collections_of first) = c.in-Ok.ensures.holds (drives.on.kept (word time)) in
+          let none : Holds (reads (now (memory_history disk))) [] =
+          zeros_hold_nothing (reads (now (memory_history disk))) (ap (λ (s : ℕ → Sector). (s 0).read) c.new.ensures.zeros) (ap (λ (s : ℕ → Sector). (s 1).read) c.new.ensures.zeros) in
+          let same : collections_of first ≡ [] = one_collections (reads (now (memory_history disk))) (collections_of first) [] held none in
+          c.in-Ok.ensures.state ∙ ap (λ (cs : List Collection). let s : ServerState = record { world = record new_world { collections = cs }; connections = [] } in s) same;
+      word = word;
+    }
