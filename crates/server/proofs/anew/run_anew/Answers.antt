@@ -17,9 +17,9 @@ use Rattle.server.proofs.anew.run_anew.Goals as goal
 pub returns-in-Ok : goal.returns-in-Ok
 returns-in-Ok c =
     let first = c.in-Ok.core in
-    let last = c.drive.new.self in
+    let last = c.drive-out.new.self in
     let disk = c.new.result in
-    let drives = c.drive.ensures.drives in
+    let drives = c.drive-out.ensures.drives in
     let word : HasTime (disk_history memory_history last) → KeepsWord (disk_history memory_history last) =
     λ time. (goes_further (memory_history disk) (disk_history memory_history first) (disk_history memory_history last) c.in-Ok.ensures.on drives.on).keeps c.new.ensures.fresh.word time in
     record {

@@ -1,5 +1,6 @@
-use Rattle.std.proofs.Common.{◌≡◌, [], Ok, Err, true, false, refl, sym, ap, ◌∙◌, rules}
-use Rattle.std.specs.Prelude.{Option, Some, None, is_none}
+use Rattle.std.proofs.Common.{◌≡◌, get_or, [], Ok, Err, true, false, refl, sym, ap, ◌∙◌, rules}
+use Rattle.std.specs.Prelude.{Option, Some, None, is_some, not}
+use Rattle.std.proofs.lemmas.List.{get_or_default}
 use Rattle.op_msg.specs.Frame.{front}
 use Rattle.op_msg.specs.Request.{is_waiting}
 use Rattle.op_msg.specs.declared.fault.FrameFault.{FrameFault}
@@ -15,26 +16,29 @@ returns-in-Err c =
     sym (ap is_waiting_in p.3)
 
 -- what stands at the front of an open connection, and of one that a fault closed
-open_waits : (l : Connection) (fault : Option FrameFault) → is_none fault ≡ true → is_waiting (front_if_open fault l.frames) ≡ is_waiting (front l.frames)
+open_waits : (l : Connection) (fault : Option FrameFault) → is_some fault ≡ false → is_waiting (front_if_open fault l.frames) ≡ is_waiting (front l.frames)
 open_waits l None e = refl
 open_waits l (Some fault) e = absurd cc
 
-closed_waits : (l : Connection) (fault : Option FrameFault) → is_none fault ≡ false → is_waiting (front_if_open fault l.frames) ≡ false
+closed_waits : (l : Connection) (fault : Option FrameFault) → is_some fault ≡ true → is_waiting (front_if_open fault l.frames) ≡ false
 closed_waits l None e = absurd cc
 closed_waits l (Some fault) e = refl
 
 pub returns-then-is_none : goal.returns-then-is_none
 returns-then-is_none c =
     let ls = c.args.connections.now in
-    let l = c.index-connections-i-then-is_none.result in
+    let l = c.index-connections-i.result in
+    let x : Connection = get_or ls c.in-Ok.i l in
     let p = placed ls c.args.id l (Ok c.in-Ok.i) c.in-Ok.ensures.place in
-    let clear : is_none l.fault ≡ true = search rules in
-    c.waiting.ensures ∙ sym (ap is_waiting_in p.3 ∙ ap (λ (x : Connection). is_waiting (front_of x)) (sym c.index-connections-i-then-is_none.is) ∙ open_waits l l.fault clear)
+    let clear : is_some x.fault ≡ false = c.is_none.ensures ∙ ap not c.if-is_none.true in
+    let same = get_or_default ls c.in-Ok.i c.index-connections-i-then-is_none.result l c.in-Ok.ensures.within in
+    c.waiting.ensures ∙ ap (λ (y : Connection). is_waiting (front y.frames)) same ∙ sym (ap is_waiting_in p.3 ∙ open_waits x x.fault clear)
 
 pub returns-else-is_none : goal.returns-else-is_none
 returns-else-is_none c =
     let ls = c.args.connections.now in
     let l = c.index-connections-i.result in
+    let x : Connection = get_or ls c.in-Ok.i l in
     let p = placed ls c.args.id l (Ok c.in-Ok.i) c.in-Ok.ensures.place in
-    let shut : is_none l.fault ≡ false = sym c.is_none.ensures ∙ c.if-is_none.false in
-    c.is_none.ensures ∙ shut ∙ sym (ap is_waiting_in p.3 ∙ ap (λ (x : Connection). is_waiting (front_of x)) (sym c.index-connections-i.is) ∙ closed_waits l l.fault shut)
+    let shut : is_some x.fault ≡ true = c.is_none.ensures ∙ ap not c.if-is_none.false in
+    c.if-is_none.false ∙ sym (ap is_waiting_in p.3 ∙ closed_waits x x.fault shut)
