@@ -4,18 +4,18 @@ ghost use Rattle.roots.specs.Store.{IsSound};
 
 use crate::rows::{row, value_of};
 use page::{Disk, MemDisk};
-use roots::{CommitFault, Config, PairList, Store};
+use roots::{CommitFault, Config, EntryList, Store};
 use std::process::Abort;
 use std::test::Fail;
 
 const CONFIG: Config = Config { max_pages: 40 };
 
-fn commit(rt: &impl Abort, store: &mut Store<MemDisk>, pairs: &PairList)
+fn commit(rt: &impl Abort, store: &mut Store<MemDisk>, entries: &EntryList)
     requires { IsSound memory_history store.old }
     ensures { IsSound memory_history store.new }
 {
-    let Ok(pages) = store.write_image(pairs) else {
-        panic!(rt; "the pairs aren't written");
+    let Ok(pages) = store.write_entries(entries) else {
+        panic!(rt; "the entries aren't written");
     };
     assert!(rt; store.commit(pages).is_ok());
 }
@@ -29,10 +29,10 @@ fn new_store(rt: &(impl Abort + AllocGlobal)) -> Store<MemDisk>
     }
 }
 
-/// Opens the disk again. Answers the value of the only pair.
+/// Opens the disk again. Answers the value of the only entry.
 fn opened_again(rt: &(impl Abort + AllocGlobal), disk: MemDisk) -> (Store<MemDisk>, Vec<u8>) {
-    match Store::open_pairs(rt.alloc(), disk, CONFIG) {
-        Ok((store, pairs)) => (store, value_of(rt, &pairs)),
+    match Store::open_entries(rt.alloc(), disk, CONFIG) {
+        Ok((store, entries)) => (store, value_of(rt, &entries)),
         Err(_) => panic!(rt; "what was committed doesn't open"),
     }
 }
@@ -116,7 +116,7 @@ fn two_pages(rt: HostRuntime) -> Result<(), Fail> {
     Ok(())
 }
 
-/// No pairs have no page, and pages past the limit are Full and change nothing.
+/// No entries have no page, and pages past the limit are Full and change nothing.
 #[test]
 fn limits(rt: HostRuntime) -> Result<(), Fail> {
     let Ok(mut store) = Store::open(
@@ -126,8 +126,8 @@ fn limits(rt: HostRuntime) -> Result<(), Fail> {
     ) else {
         panic!(&rt; "zeros don't open");
     };
-    commit(&rt, &mut store, &PairList::new(rt.alloc()));
-    let Err(fault) = store.write_image(&row(&rt, &[1; 61_134])) else {
+    commit(&rt, &mut store, &EntryList::new(rt.alloc()));
+    let Err(fault) = store.write_entries(&row(&rt, &[1; 61_134])) else {
         panic!(&rt; "sixteen pages hold no more than fifteen");
     };
     assert_eq!(rt; fault, CommitFault::Full);

@@ -3,20 +3,20 @@ ghost use Rattle.roots.specs.Store.{IsSound};
 
 use crate::rows::{row, value_of};
 use page::{Disk, FailDisk, MemDisk, StopDisk};
-use roots::{CommitFault, Config, OpenFault, PairList, Store};
+use roots::{CommitFault, Config, EntryList, OpenFault, Store};
 use std::process::Abort;
 use std::test::Fail;
 
 const CONFIG: Config = Config { max_pages: 40 };
 
-/// The values of the states, each of which is one pair. The last fills its page.
+/// The values of the states, each of which is one entry. The last fills its page.
 const STATES: [&[u8]; 4] = [&[1; 70], &[2; 4993], &[3; 3], &[4; 4069]];
 
-fn commit<D: Disk>(store: &mut Store<D>, pairs: &PairList) -> Result<(), CommitFault>
+fn commit<D: Disk>(store: &mut Store<D>, entries: &EntryList) -> Result<(), CommitFault>
     requires { IsSound D.history store.old }
     ensures { IsSound D.history store.new }
 {
-    let pages = store.write_image(pairs)?;
+    let pages = store.write_entries(entries)?;
     store.commit(pages)
 }
 
@@ -35,13 +35,13 @@ fn drive<D: Disk>(rt: &(impl Abort + AllocGlobal), store: &mut Store<D>) -> Resu
 
 /// What an image holds: the number of its commit, whose bytes are that state's.
 fn found(rt: &(impl Abort + AllocGlobal), disk: MemDisk) -> Result<(u64, MemDisk), Fail> {
-    let Ok((store, pairs)) = Store::open_pairs(rt.alloc(), disk, CONFIG) else {
+    let Ok((store, entries)) = Store::open_entries(rt.alloc(), disk, CONFIG) else {
         panic!(rt; "an image that doesn't open");
     };
     let version = store.version();
     match STATES.get((version as usize).wrapping_sub(1)) {
-        Some(state) => assert!(rt; &value_of(rt, &pairs)[..] == *state),
-        None => assert!(rt; version == 0 && pairs.bytes().is_empty()),
+        Some(state) => assert!(rt; &value_of(rt, &entries)[..] == *state),
+        None => assert!(rt; version == 0 && entries.bytes().is_empty()),
     }
     Ok((version, store.into_disk()))
 }

@@ -4,45 +4,45 @@ ghost use Rattle.page.specs.Memory.{memory_history};
 ghost use Rattle.roots.specs.Store.{IsSound};
 
 use page::MemDisk;
-use roots::{CommitFault, Config, OpenFault, PairList, Store, split_pair};
+use roots::{CommitFault, Config, EntryList, OpenFault, Store, split_entry};
 use std::process::Abort;
 use std::test::Fail;
 
 const CONFIG: Config = Config { max_pages: 40 };
 
 /// Opens a disk, once more where memory ran out.
-fn opened(rt: &(impl Abort + AllocGlobal), disk: MemDisk) -> (Store<MemDisk>, PairList)
+fn opened(rt: &(impl Abort + AllocGlobal), disk: MemDisk) -> (Store<MemDisk>, EntryList)
     ensures { IsSound memory_history result.0 }
 {
-    let (disk, fault) = match Store::open_pairs(rt.alloc(), disk, CONFIG) {
+    let (disk, fault) = match Store::open_entries(rt.alloc(), disk, CONFIG) {
         Ok(found) => return found,
         Err(refused) => refused,
     };
     // a disk in memory that finds none fails
     assert!(rt; fault == OpenFault::Memory || fault == OpenFault::Device);
-    match Store::open_pairs(rt.alloc(), disk, CONFIG) {
+    match Store::open_entries(rt.alloc(), disk, CONFIG) {
         Ok(found) => found,
         Err(_) => panic!(rt; "a disk that doesn't open"),
     }
 }
 
-/// A row of one pair, pushed once more where memory ran out.
-fn pushed(rt: &(impl Abort + AllocGlobal), value: &[u8]) -> PairList
+/// A row of one entry, pushed once more where memory ran out.
+fn pushed(rt: &(impl Abort + AllocGlobal), value: &[u8]) -> EntryList
     requires { length value.now < 2 ^ 32 }
 {
-    let mut pairs = PairList::new(rt.alloc());
-    if pairs.push(b"k", value).is_err() {
-        assert!(rt; pairs.bytes().is_empty());
-        assert!(rt; pairs.push(b"k", value).is_ok());
+    let mut entries = EntryList::new(rt.alloc());
+    if entries.push(b"k", value).is_err() {
+        assert!(rt; entries.bytes().is_empty());
+        assert!(rt; entries.push(b"k", value).is_ok());
     }
-    pairs
+    entries
 }
 
-fn commit(store: &mut Store<MemDisk>, pairs: &PairList) -> Result<(), CommitFault>
+fn commit(store: &mut Store<MemDisk>, entries: &EntryList) -> Result<(), CommitFault>
     requires { IsSound memory_history store.old }
     ensures { IsSound memory_history store.new }
 {
-    let pages = store.write_image(pairs)?;
+    let pages = store.write_entries(entries)?;
     store.commit(pages)
 }
 
@@ -51,13 +51,13 @@ fn once_more(
     rt: &impl Abort,
     mut store: Store<MemDisk>,
     before: u64,
-    pairs: &PairList,
+    entries: &EntryList,
 ) -> Store<MemDisk>
     requires { IsSound memory_history store }
     ensures { IsSound memory_history result }
 {
     if store.version() == before {
-        assert!(rt; commit(&mut store, pairs).is_ok());
+        assert!(rt; commit(&mut store, entries).is_ok());
     }
     store
 }
@@ -66,22 +66,22 @@ fn once_more(
 fn committed(
     rt: &(impl Abort + AllocGlobal),
     mut store: Store<MemDisk>,
-    pairs: &PairList,
+    entries: &EntryList,
 ) -> Store<MemDisk>
     requires { IsSound memory_history store }
     ensures { IsSound memory_history result }
 {
     let before = store.version();
-    match commit(&mut store, pairs) {
+    match commit(&mut store, entries) {
         Ok(()) => store,
         Err(CommitFault::Memory) => {
             assert!(rt; store.version() == before);
-            once_more(rt, store, before, pairs)
+            once_more(rt, store, before, entries)
         }
         Err(fault) => {
             assert!(rt; fault == CommitFault::Device);
             let (store, _) = opened(rt, store.into_disk());
-            once_more(rt, store, before, pairs)
+            once_more(rt, store, before, entries)
         }
     }
 }
@@ -98,10 +98,10 @@ fn held(
     ensures { IsSound memory_history result }
 {
     let store = committed(rt, store, &pushed(rt, value));
-    let (store, pairs) = opened(rt, store.into_disk());
+    let (store, entries) = opened(rt, store.into_disk());
     assert_eq!(rt; store.version(), version);
-    let Some(found) = split_pair(pairs.bytes()) else {
-        panic!(rt; "no pair");
+    let Some(found) = split_entry(entries.bytes()) else {
+        panic!(rt; "no entry");
     };
     assert!(rt; found.value == value && found.rest.is_empty());
     store

@@ -1,7 +1,9 @@
 //! Disks with roots written by hand.
+ghost use Rattle.std.specs.Prelude.{◌≤◌, length};
+
 use crate::rows::row;
-use page::{Disk, MemDisk};
-use roots::{CommitFault, Config, OpenFault, PairList, Root, Store};
+use page::{Disk, MemDisk, chain_page, write_page};
+use roots::{CommitFault, Config, OpenFault, Root, Store};
 use std::process::Abort;
 use std::test::Fail;
 
@@ -33,12 +35,12 @@ fn root(generation: u64) -> [u8; 512] {
 
 #[test]
 fn zeros_are_the_empty_database(rt: HostRuntime) -> Result<(), Fail> {
-    let opened = Store::open_pairs(rt.alloc(), MemDisk::new(rt.alloc()), CONFIG);
-    let Ok((store, pairs)) = opened else {
+    let opened = Store::open_entries(rt.alloc(), MemDisk::new(rt.alloc()), CONFIG);
+    let Ok((store, entries)) = opened else {
         panic!(&rt; "zeros don't open");
     };
     assert_eq!(rt; store.version(), 0);
-    assert!(rt; pairs.bytes().is_empty());
+    assert!(rt; entries.bytes().is_empty());
     Ok(())
 }
 
@@ -107,32 +109,31 @@ fn the_greatest_generation_is_full(rt: HostRuntime) -> Result<(), Fail> {
         panic!(&rt; "the greatest generation doesn't open");
     };
     assert_eq!(rt; store.version(), u64::MAX);
-    let Err(fault) = store.write_image(&row(&rt, b"pair")) else {
+    let Err(fault) = store.write_entries(&row(&rt, b"entry")) else {
         panic!(&rt; "a generation past the greatest");
     };
     assert_eq!(rt; fault, CommitFault::Full);
     Ok(())
 }
 
-/// What opening answers where these bytes were committed.
-fn opened_over(rt: &(impl Abort + AllocGlobal), bytes: &[u8]) -> Result<u64, OpenFault> {
-    let Ok(mut store) = Store::open(rt.alloc(), MemDisk::new(rt.alloc()), CONFIG) else {
-        panic!(rt; "zeros don't open");
+/// What opening answers where the chain of the first commit is one page of these bytes.
+fn opened_over(rt: &(impl Abort + AllocGlobal), bytes: &[u8]) -> Result<u64, OpenFault>
+    requires { length bytes.now ≤ 4076 }
+{
+    let mut disk = MemDisk::new(rt.alloc());
+    assert!(rt; write_page(&mut disk, 1, &chain_page(1, 1, 0, bytes)).is_ok());
+    let root = Root {
+        generation: 1,
+        tree: 1,
+        pages: 2,
     };
-    let Ok(bytes) = Vec::from_slice(rt.alloc(), bytes) else {
-        panic!(rt; "no memory");
-    };
-    let Ok(pages) = store.write_image(&PairList::from_bytes(bytes)) else {
-        panic!(rt; "the bytes aren't written");
-    };
-    assert!(rt; store.commit(pages).is_ok());
-    opened(rt, store.into_disk())
+    assert!(rt; disk.write(1, &root.sector()).is_ok());
+    opened(rt, disk)
 }
 
 #[test]
 fn bytes_that_are_no_pairs_are_damage(rt: HostRuntime) -> Result<(), Fail> {
-    assert_eq!(rt; opened_over(&rt, &[]), Ok(1));
-    // the pair of no bytes, and behind it one of the key 0 and the value 7
+    // the entry of no bytes, and behind it one of the key 0 and the value 7
     let two = [0, 0, 0, 0, 0, 0, 1, 0, 1, 0, 0, 0, 0, 7];
     assert_eq!(rt; opened_over(&rt, &two), Ok(1));
     // one byte of it is missing, or one too many
