@@ -25,8 +25,8 @@ count_of (chain next bytes) = length bytes
 abbrev pub body_of : Content → List ℕ
 body_of (chain next bytes) = little_bytes 4 next ++ bytes
 
-abbrev pub padded : List ℕ → List ℕ
-padded bytes = bytes ++ replicate (4080 - length bytes) 0
+abbrev pub body_and_zeros : List ℕ → List ℕ
+body_and_zeros bytes = bytes ++ replicate (4080 - length bytes) 0
 
 abbrev pub header : ℕ → ℕ → ℕ → ℕ → List ℕ
 header kind count page generation =
@@ -39,7 +39,7 @@ IsFit sheet = length (body_of sheet.content) ≤ 4080
 unfoldable pub page_bytes : Sheet → List ℕ
 page_bytes sheet =
     header (kind_of sheet.content) (count_of sheet.content) sheet.page sheet.generation
-    ++ padded (body_of sheet.content)
+    ++ body_and_zeros (body_of sheet.content)
 
 infixl 10 ◌>>=◌
 abbrev pub ◌>>=◌ : {A B : Type 0} → Result A PageFault → (A → Result B PageFault)

@@ -70,7 +70,7 @@ impl FileDisk {
         let Ok(file) = file else {
             return Err(FileFault::Device);
         };
-        locked(file.try_lock())?;
+        lock_answer(file.try_lock())?;
         FileDisk::over(rt.alloc(), file)
     }
 
@@ -82,7 +82,7 @@ impl FileDisk {
         let Ok(file) = File::open(rt, path) else {
             return Err(FileFault::Device);
         };
-        locked(file.try_lock_shared())?;
+        lock_answer(file.try_lock_shared())?;
         FileDisk::over(rt.alloc(), file)
     }
 
@@ -133,7 +133,7 @@ impl FileDisk {
 }
 
 /// What the answer to a lock says of an opening.
-fn locked(answer: Result<(), TryLockError>) -> Result<(), FileFault> {
+fn lock_answer(answer: Result<(), TryLockError>) -> Result<(), FileFault> {
     match answer {
         Ok(()) => Ok(()),
         Err(TryLockError::WouldBlock) => Err(FileFault::Locked),

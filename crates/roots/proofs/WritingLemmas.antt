@@ -1,5 +1,5 @@
 -- How the writing of entries ends.
-use Rattle.std.proofs.Common.{◌≡◌, ◌≢◌, ℕ, ◌+◌, ◌-◌, ◌*◌, ◌^◌, ◌<◌, ◌≤◌, List, length, max, true, false, inl, inr, Ok, Err, refl, sym, ap, subst, ◌∙◌, arith}
+use Rattle.std.proofs.Common.{◌≡◌, ℕ, ◌+◌, ◌-◌, ◌^◌, ◌<◌, ◌≤◌, List, length, max, true, false, inl, inr, Ok, Err, refl, sym, ap, subst, ◌∙◌, arith}
 use Rattle.std.specs.Prelude.{◌⊎◌, Result}
 use Rattle.std.specs.List.{AllByRecursion}
 use Rattle.page.specs.History.{History, KeepsWord, now, reads}
@@ -7,7 +7,7 @@ use Rattle.page.specs.Crash.{GoesOn, LeavesOnly, IsImageOutside}
 use Rattle.page.proofs.Moments.{goes_nowhere, started}
 use Rattle.roots.specs.Chain.{IsChain, AreOfCommit, IsSectorIn, first_of, path_bytes}
 use Rattle.roots.specs.Committing.{WritesEntries}
-use Rattle.roots.specs.Entries.{Entry, IsFit, AreEntries, entries_in, entries_bytes}
+use Rattle.roots.specs.Entries.{Entry, IsFit, entries_in, entries_bytes}
 use Rattle.roots.specs.EntryLaws.{are_entries_by, read_same}
 use Rattle.roots.specs.Free.{AreFree}
 use Rattle.roots.specs.Image.{StandsFor}

@@ -10,8 +10,8 @@ use std::test::Fail;
 
 const CONFIG: Config = Config { max_pages: 40 };
 
-/// Opens a disk, once more where memory ran out.
-fn opened(rt: &(impl Abort + AllocGlobal), disk: MemDisk) -> (Store<MemDisk>, EntryList)
+/// Opens a disk, once more after an allocation failure.
+fn open_again(rt: &(impl Abort + AllocGlobal), disk: MemDisk) -> (Store<MemDisk>, EntryList)
     ensures { IsSound memory_history result.0 }
 {
     let (disk, fault) = match Store::open_entries(rt.alloc(), disk, CONFIG) {
@@ -26,8 +26,8 @@ fn opened(rt: &(impl Abort + AllocGlobal), disk: MemDisk) -> (Store<MemDisk>, En
     }
 }
 
-/// A row of one entry, pushed once more where memory ran out.
-fn pushed(rt: &(impl Abort + AllocGlobal), value: &[u8]) -> EntryList
+/// A list of one entry, pushed once more after an allocation failure.
+fn list_of(rt: &(impl Abort + AllocGlobal), value: &[u8]) -> EntryList
     requires { length value.now < 2 ^ 32 }
 {
     let mut entries = EntryList::new(rt.alloc());
@@ -46,7 +46,7 @@ fn commit(store: &mut Store<MemDisk>, entries: &EntryList) -> Result<(), CommitF
     store.commit(pages)
 }
 
-/// Commits a row, unless that was done.
+/// Commits a list, unless that was done.
 fn once_more(
     rt: &impl Abort,
     mut store: Store<MemDisk>,
@@ -62,8 +62,8 @@ fn once_more(
     store
 }
 
-/// Commits a row, once more where memory ran out, and on the disk opened again where the disk found none.
-fn committed(
+/// Commits a list, once more after an allocation failure, and on the disk opened again where the disk found none.
+fn commit_list(
     rt: &(impl Abort + AllocGlobal),
     mut store: Store<MemDisk>,
     entries: &EntryList,
@@ -80,14 +80,14 @@ fn committed(
         }
         Err(fault) => {
             assert!(rt; fault == CommitFault::Device);
-            let (store, _) = opened(rt, store.into_disk());
+            let (store, _) = open_again(rt, store.into_disk());
             once_more(rt, store, before, entries)
         }
     }
 }
 
 /// Commits a value as this version, and finds it on the disk opened again.
-fn held(
+fn commit_and_find(
     rt: &(impl Abort + AllocGlobal),
     store: Store<MemDisk>,
     value: &[u8],
@@ -97,8 +97,8 @@ fn held(
     requires short { length value.now < 2 ^ 32 }
     ensures { IsSound memory_history result }
 {
-    let store = committed(rt, store, &pushed(rt, value));
-    let (store, entries) = opened(rt, store.into_disk());
+    let store = commit_list(rt, store, &list_of(rt, value));
+    let (store, entries) = open_again(rt, store.into_disk());
     assert_eq!(rt; store.version(), version);
     let Some(found) = split_entry(entries.bytes()) else {
         panic!(rt; "no entry");
@@ -109,11 +109,11 @@ fn held(
 
 #[test]
 fn refused_growths(rt: HostRuntime) -> Result<(), Fail> {
-    let (store, none) = opened(&rt, MemDisk::new(rt.alloc()));
+    let (store, none) = open_again(&rt, MemDisk::new(rt.alloc()));
     assert!(rt; none.bytes().is_empty());
-    let store = held(&rt, store, &[1; 70], 1);
-    let store = held(&rt, store, &[2; 4993], 2);
-    let store = held(&rt, store, &[], 3);
+    let store = commit_and_find(&rt, store, &[1; 70], 1);
+    let store = commit_and_find(&rt, store, &[2; 4993], 2);
+    let store = commit_and_find(&rt, store, &[], 3);
     drop(store);
     Ok(())
 }

@@ -1,11 +1,11 @@
-//! Rows of one entry.
+//! Lists of one entry.
 ghost use Rattle.std.specs.Prelude.{◌<◌, ◌^◌, length};
 
 use roots::{EntryList, split_entry};
 use std::process::Abort;
 
-/// A entry of the key `k` and this value: seven bytes, and those of the value.
-pub(crate) fn row(rt: &(impl Abort + AllocGlobal), value: &[u8]) -> EntryList
+/// An entry of the key `k` and this value: seven bytes, and those of the value.
+pub(crate) fn list_of(rt: &(impl Abort + AllocGlobal), value: &[u8]) -> EntryList
     requires { length value.now < 2 ^ 32 }
 {
     let mut entries = EntryList::new(rt.alloc());
