@@ -12,7 +12,8 @@ pub record GoesOn (old new : History) : Type 0 where
 
 -- a crash at any moment from old to new leaves an image that has P
 abbrev pub LeavesOnly : History → History → ((ℕ → List ℕ) → Type 0) → Type 0
-LeavesOnly old new P = KeepsWord new → (image : ℕ → List ℕ) → LeftSince new old.clock image → P image
+LeavesOnly old new P =
+    KeepsWord new → (image : ℕ → List ℕ) → LeftSince new old.clock image → P image
 
 -- a crash now leaves an image that has P
 abbrev pub LeavesNow : History → ((ℕ → List ℕ) → Type 0) → Type 0
@@ -27,7 +28,8 @@ abbrev pub put : (ℕ → List ℕ) → ℕ → List ℕ → ℕ → List ℕ
 put image sector bytes k = if k == sector then bytes else image k
 
 -- In the sectors that are kept a crash leaves what reads give, and that decides P of every image.
-pub record Secures (sectors : ℕ → Sector) (Kept : ℕ → Type 0) (P : (ℕ → List ℕ) → Type 0) : Type 0 where
+pub record Secures (sectors : ℕ → Sector) (Kept : ℕ → Type 0)
+    (P : (ℕ → List ℕ) → Type 0) : Type 0 where
   pub durable : (k : ℕ) → Kept k → IsDurable (sectors k)
   pub decides : (image : ℕ → List ℕ) → ((k : ℕ) → Kept k → image k ≡ reads sectors k) → P image
 

@@ -1,5 +1,5 @@
--- The 4,096 bytes of a page: a header of sixteen bytes (kind, zero, count, the page's own number, the generation of its
--- commit), then what its kind has, then zeros. Numbers have their lowest byte first.
+-- The 4,096 bytes of a page: a header of sixteen bytes (kind, zero, count, the page's own number, the generation of the
+-- commit that wrote it), then what its kind has, then zeros. Numbers have their lowest byte first.
 use Rattle.std.specs.Prelude.{ℕ, ◌-◌, Bool, not, ◌||◌, ◌&&◌, ◌==◌, nat_lt, ◌≤◌, if◌then◌else◌, List, ◌∷◌, ◌++◌, length, take, drop, replicate, slice_index, Result, Ok, Err}
 use Rattle.std.specs.List.{list_all}
 use Rattle.byteorder.specs.Endian.{little_bytes, little_number}
@@ -25,11 +25,12 @@ count_of (chain next bytes) = length bytes
 abbrev pub body_of : Content → List ℕ
 body_of (chain next bytes) = little_bytes 4 next ++ bytes
 
-abbrev pub padded : List ℕ → List ℕ
-padded bytes = bytes ++ replicate (4080 - length bytes) 0
+abbrev pub body_and_zeros : List ℕ → List ℕ
+body_and_zeros bytes = bytes ++ replicate (4080 - length bytes) 0
 
 abbrev pub header : ℕ → ℕ → ℕ → ℕ → List ℕ
-header kind count page generation = kind ∷ 0 ∷ little_bytes 2 count ++ little_bytes 4 page ++ little_bytes 8 generation
+header kind count page generation =
+    kind ∷ 0 ∷ little_bytes 2 count ++ little_bytes 4 page ++ little_bytes 8 generation
 
 -- the content finds room behind the header
 abbrev pub IsFit : Sheet → Type 0
@@ -37,10 +38,12 @@ IsFit sheet = length (body_of sheet.content) ≤ 4080
 
 unfoldable pub page_bytes : Sheet → List ℕ
 page_bytes sheet =
-    header (kind_of sheet.content) (count_of sheet.content) sheet.page sheet.generation ++ padded (body_of sheet.content)
+    header (kind_of sheet.content) (count_of sheet.content) sheet.page sheet.generation
+    ++ body_and_zeros (body_of sheet.content)
 
 infixl 10 ◌>>=◌
-abbrev pub ◌>>=◌ : {A B : Type 0} → Result A PageFault → (A → Result B PageFault) → Result B PageFault
+abbrev pub ◌>>=◌ : {A B : Type 0} → Result A PageFault → (A → Result B PageFault)
+    → Result B PageFault
 (Ok x) >>= f = f x
 (Err e) >>= f = Err e
 
@@ -55,18 +58,25 @@ are_zeros bytes = list_all (λ b. b == 0) bytes
 -- A chain's page, by its count, its next page and the 4,076 bytes behind that. All pages of a chain but the last are full.
 abbrev pub chain_in : ℕ → ℕ → List ℕ → Result Content PageFault
 chain_in count next bytes =
-    unless (nat_lt 4076 count || (not (next == 0) && nat_lt count 4076) || not (are_zeros (drop count bytes))) faults.Length
+    unless
+    (nat_lt 4076 count || (not (next == 0) && nat_lt count 4076)
+    || not (are_zeros (drop count bytes)))
+    faults.Length
     (Ok (chain next (take count bytes)))
 
 -- The generation of the page of this number, in a file whose root has this generation.
 abbrev pub generation_in : ℕ → ℕ → List ℕ → Result ℕ PageFault
 generation_in page generation bytes =
     unless (not (slice_index bytes 0 == 3) || not (slice_index bytes 1 == 0)) faults.Kind
-    (unless (not (little_number 4 (drop 4 bytes) == page) || little_number 8 (drop 8 bytes) == 0 || nat_lt generation (little_number 8 (drop 8 bytes))) faults.Number
+    (unless
+    (not (little_number 4 (drop 4 bytes) == page) || little_number 8 (drop 8 bytes) == 0
+    || nat_lt generation (little_number 8 (drop 8 bytes)))
+    faults.Number
     (Ok (little_number 8 (drop 8 bytes))))
 
 abbrev pub content_in : List ℕ → Result Content PageFault
-content_in bytes = chain_in (little_number 2 (drop 2 bytes)) (little_number 4 (drop 16 bytes)) (drop 20 bytes)
+content_in bytes =
+    chain_in (little_number 2 (drop 2 bytes)) (little_number 4 (drop 16 bytes)) (drop 20 bytes)
 
 abbrev pub sheet_in : ℕ → ℕ → List ℕ → Result Sheet PageFault
 sheet_in number generation bytes = do

@@ -1,5 +1,7 @@
 -- The numbers of faults.
 use Rattle.std.specs.Prelude.{ℕ}
+use Rattle.page.specs.declared.file.FileFault.{FileFault}
+use Rattle.page.specs.declared.file.FileFault.TheVariants as files
 use Rattle.page.specs.declared.page_image.PageFault.{PageFault}
 use Rattle.page.specs.declared.page_image.PageFault.TheVariants as pages
 
@@ -10,3 +12,7 @@ page_fault_number pages.Order = 3
 page_fault_number pages.Length = 4
 page_fault_number pages.Device = 5
 page_fault_number pages.Memory = 6
+
+abbrev pub file_fault_number : FileFault → ℕ
+file_fault_number files.Device = 1
+file_fault_number files.Locked = 2

@@ -11,7 +11,11 @@ abbrev pub content_of : PageContent → Content
 content_of (contents.Chain next bytes) = chain next bytes.items
 
 abbrev pub sheet_of : PageImage → Sheet
-sheet_of image = record { page = image.page; generation = image.generation; content = content_of image.content }
+sheet_of image = record {
+  page = image.page;
+  generation = image.generation;
+  content = content_of image.content;
+}
 
 -- What a function returned, seen by view, is what reading gives, unless memory ran out.
 abbrev pub Gives : {X Y : Type 0} → (X → Y) → Result X PageFault → Result Y PageFault → Type 0

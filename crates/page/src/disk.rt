@@ -31,7 +31,8 @@ pub trait Disk {
         ensures time { Ticks (history self.old) (history self.new) (is_ok result) }
         ensures value { KeepsWord (history self.new)
             → OnOk result (bytes.new ≡ (now (history self.old) sector).read) }
-        ensures same { KeepsWord (history self.new) → now (history self.new) ≡ now (history self.old) };
+        ensures same { KeepsWord (history self.new)
+            → now (history self.new) ≡ now (history self.old) };
 
     /// Writes a sector. Until a sync succeeds, a crash may leave what was written or what was there.
     fn write(&mut self, sector: u64, bytes: &[u8; 512]) -> Result<(), DeviceFault>

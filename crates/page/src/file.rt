@@ -1,11 +1,10 @@
 //! A disk in a file. It promises nothing: what a file keeps can't be known here.
-
-ghost use Rattle.std.specs.Prelude.{◌≤◌, length};
+ghost use Rattle.std.specs.Prelude.{◌≡◌, ◌≤◌, length};
 ghost use Rattle.page.specs.Unknown.{unknown_history};
 
 use crate::{DeviceFault, Disk};
 use std::alloc::Global;
-use std::fs::{File, OpenOptions};
+use std::fs::{File, OpenOptions, TryLockError};
 use std::io;
 use std::os::unix::fs::FileExt;
 use std::rt::Files;
@@ -17,51 +16,102 @@ const GATHERED: usize = 65_536;
 /// The sectors that are read at once: those of a page.
 const PAGE_SECTORS: u64 = 8;
 
-/// Sectors of a file. Writes of sectors that lie side by side are gathered into one, and a page is read at once.
+/// Why a file isn't opened.
+#[derive(Clone, Copy, Debug, PartialEq, Eq)]
+pub enum FileFault {
+    /// The file can't be opened, made or locked, or memory ran out for its buffer.
+    Device = 1,
+    /// Someone has the file open to write it, or to read it where it is to be written.
+    Locked,
+}
+
+impl FileFault {
+    ghost use Rattle.page.specs.FaultNames.{file_fault_name};
+
+    /// The fault's name, as it is printed.
+    pub fn name(self) -> &'static str
+        ensures { result.now ≡ file_fault_name self }
+    {
+        match self {
+            FileFault::Device => "Device",
+            FileFault::Locked => "Locked",
+        }
+    }
+}
+
+/// Sectors of a file, which is locked while it is open. Writes of sectors that lie side by side are gathered into one, and
+/// a page is read at once. After a write or a sync that failed, each later call fails.
 #[derive(Drop)]
 pub struct FileDisk {
     file: File,
     // writes that were not handed on yet, from this sector on
     first: u64,
     gathered: Vec<u8>,
+    // a write or a sync failed, so what the file holds isn't known any more
+    has_failed: bool,
     // the page that was read last
     page: Option<u64>,
     bytes: [u8; 4096],
 }
 
 impl FileDisk {
-    /// Opens a file for reading and writing, and makes a missing one where that is asked for.
+    /// Opens a file for reading and writing, and makes a missing one where that is asked for. No one else can open it
+    /// meanwhile.
     pub fn open<R: Files<File = File> + AllocGlobal>(
         rt: &R,
         path: &str,
         make: bool,
-    ) -> Result<FileDisk, DeviceFault> {
-        let file = open_file(rt, path, make).map_err(|_| DeviceFault)?;
+    ) -> Result<FileDisk, FileFault> {
+        let file = if make {
+            open_or_make(rt, path)
+        } else {
+            open_file(rt, path)
+        };
+        let Ok(file) = file else {
+            return Err(FileFault::Device);
+        };
+        lock_answer(file.try_lock())?;
         FileDisk::over(rt.alloc(), file)
     }
 
-    fn over(alloc: Global, file: File) -> Result<FileDisk, DeviceFault> {
+    /// Opens a file for reading alone. Others can do so at the same time, and none can open it to write.
+    pub fn open_to_read<R: Files<File = File> + AllocGlobal>(
+        rt: &R,
+        path: &str,
+    ) -> Result<FileDisk, FileFault> {
+        let Ok(file) = File::open(rt, path) else {
+            return Err(FileFault::Device);
+        };
+        lock_answer(file.try_lock_shared())?;
+        FileDisk::over(rt.alloc(), file)
+    }
+
+    fn over(alloc: Global, file: File) -> Result<FileDisk, FileFault> {
         match Vec::with_capacity(alloc, GATHERED) {
             Ok(gathered) => Ok(FileDisk {
                 file,
                 first: 0,
                 gathered,
+                has_failed: false,
                 page: None,
                 bytes: [0; 4096],
             }),
-            Err(_) => Err(DeviceFault),
+            Err(_) => Err(FileFault::Device),
         }
     }
 
     /// Hands on the writes that were gathered.
     fn flush(&mut self) -> Result<(), DeviceFault> {
+        if self.has_failed {
+            return Err(DeviceFault);
+        }
         if self.gathered.is_empty() {
             return Ok(());
         }
-        let written = self
-            .file
-            .write_all_at(&self.gathered, self.first.wrapping_mul(512));
+        let place = self.first.wrapping_mul(512);
+        let written = self.file.write_all_at(&self.gathered, place);
         self.gathered.clear();
+        self.has_failed = written.is_err();
         written.map_err(|_| DeviceFault)
     }
 
@@ -82,12 +132,43 @@ impl FileDisk {
     }
 }
 
-fn open_file<R: Files<File = File>>(rt: &R, path: &str, make: bool) -> io::Result<File> {
-    OpenOptions::new()
-        .read(true)
-        .write(true)
-        .create(make)
-        .open(rt, path)
+/// What the answer to a lock says of an opening.
+fn lock_answer(answer: Result<(), TryLockError>) -> Result<(), FileFault> {
+    match answer {
+        Ok(()) => Ok(()),
+        Err(TryLockError::WouldBlock) => Err(FileFault::Locked),
+        Err(TryLockError::Error(_)) => Err(FileFault::Device),
+    }
+}
+
+fn open_file<R: Files<File = File>>(rt: &R, path: &str) -> io::Result<File> {
+    OpenOptions::new().read(true).write(true).open(rt, path)
+}
+
+/// Opens a file, or makes it and makes that durable.
+fn open_or_make<R: Files<File = File>>(rt: &R, path: &str) -> io::Result<File> {
+    match File::create_new(rt, path) {
+        Ok(file) => {
+            File::open(rt, folder_of(path))?.sync_all()?;
+            Ok(file)
+        }
+        Err(error) => {
+            if error.kind() == io::ErrorKind::AlreadyExists {
+                open_file(rt, path)
+            } else {
+                Err(error)
+            }
+        }
+    }
+}
+
+/// The folder of a file.
+fn folder_of(path: &str) -> &str {
+    match path.rsplit_once('/') {
+        Some(("", _)) => "/",
+        Some((folder, _)) => folder,
+        None => ".",
+    }
 }
 
 /// Fills a buffer from a place in the file on; what lies past the file's end is zeros.
@@ -128,6 +209,9 @@ impl Disk for FileDisk {
     }
 
     fn write(&mut self, sector: u64, bytes: &[u8; 512]) -> Result<(), DeviceFault> {
+        if self.has_failed {
+            return Err(DeviceFault);
+        }
         if self.page == Some(sector / PAGE_SECTORS) {
             self.page = None;
         }
@@ -142,6 +226,8 @@ impl Disk for FileDisk {
 
     fn sync(&mut self) -> Result<(), DeviceFault> {
         self.flush()?;
-        self.file.sync_data().map_err(|_| DeviceFault)
+        let synced = self.file.sync_data();
+        self.has_failed = synced.is_err();
+        synced.map_err(|_| DeviceFault)
     }
 }

@@ -12,7 +12,7 @@ mod stop;
 
 pub use disk::{DeviceFault, Disk};
 pub use fail_once::FailDisk;
-pub use file::FileDisk;
+pub use file::{FileDisk, FileFault};
 pub use memory::MemDisk;
 pub use page_image::{
     CHAIN_BYTES, PAGE_BYTES, PageContent, PageFault, PageImage, chain_page, is_all_zero,

@@ -44,8 +44,10 @@ fn record(
     latest: &mut BTreeMap<u64, [u8; 512]>,
     call: Call,
 ) -> Result<(), AllocError>
-    ensures calls { calls.new.items ≡ (if is_ok result then calls.old.items ++ call ∷ [] else calls.old.items) }
-    ensures latest { OnOk result ((k : ℕ) → bytes_in latest.new k ≡ read_after call.step k (bytes_in latest.old k)) }
+    ensures calls { calls.new.items
+        ≡ (if is_ok result then calls.old.items ++ call ∷ [] else calls.old.items) }
+    ensures latest { OnOk result ((k : ℕ)
+        → bytes_in latest.new k ≡ read_after call.step k (bytes_in latest.old k)) }
     ensures same { OnErr result ((k : ℕ) → bytes_in latest.new k ≡ bytes_in latest.old k) }
 {
     calls.reserve(1)?;

@@ -1,8 +1,8 @@
 -- How a commit ends.
-use Rattle.std.proofs.Common.{◌≡◌, ◌≢◌, ℕ, ◌+◌, ◌-◌, ◌%◌, ◌^◌, ◌<◌, ◌≤◌, List, length, max, true, false, inl, inr, Ok, Err, Vec, refl, sym, ap, subst, ◌∙◌, arith}
-use Rattle.std.specs.Prelude.{◌⊎◌, Result}
+use Rattle.std.proofs.Common.{◌≡◌, ℕ, ◌+◌, ◌-◌, ◌%◌, ◌^◌, ◌<◌, List, max, true, false, inl, inr, Ok, Err, refl, sym, ap, subst, ◌∙◌, arith}
+use Rattle.std.specs.Prelude.{◌⊎◌}
 use Rattle.page.specs.History.{History, KeepsWord, now, reads}
-use Rattle.page.specs.Crash.{GoesOn, LeavesOnly, LeavesNow, AreDurable, put}
+use Rattle.page.specs.Crash.{GoesOn, LeavesOnly, AreDurable, put}
 use Rattle.page.proofs.Moments.{goes_nowhere, started}
 use Rattle.roots.specs.Chain.{IsChain, first_of, path_bytes}
 use Rattle.roots.specs.Committing.{CommitsPages}
@@ -14,7 +14,6 @@ use Rattle.roots.specs.Store.{IsSound, IsRunning, IsWritten, committed_entries, 
 use Rattle.roots.specs.declared.free.ChainPages.{ChainPages}
 use Rattle.roots.specs.declared.root.Root.{Root}
 use Rattle.roots.specs.declared.store.Store.{Store}
-use Rattle.roots.specs.declared.store.CommitFault.{CommitFault}
 use Rattle.roots.specs.declared.store.CommitFault.TheVariants as faults
 use Rattle.roots.proofs.CommitSteps.{any_moment, new_bytes, new_reaches, handed_chain, handed_possible}
 use Rattle.roots.proofs.StandsLemmas.{either_stands, stands_now}

@@ -1,15 +1,14 @@
 -- An image that holds the bytes of entries stands for these.
-use Rattle.std.proofs.Common.{◌≡◌, ℕ, List, inl, inr, sym, subst}
+use Rattle.std.proofs.Common.{ℕ, List, inl, inr, sym, subst}
 use Rattle.std.specs.Prelude.{◌⊎◌}
-use Rattle.page.specs.History.{History, KeepsWord, now, reads}
+use Rattle.page.specs.History.{History, now, reads}
 use Rattle.page.specs.Crash.{LeavesNow}
 use Rattle.roots.specs.Chain.{path_bytes}
 use Rattle.roots.specs.Entries.{AreEntries, entries_in}
 use Rattle.roots.specs.EntryLaws.{read_fit}
 use Rattle.roots.specs.Image.{HoldsBytes, StandsFor}
-use Rattle.roots.specs.Store.{Reaches, IsSound, IsRunning, committed_entries}
+use Rattle.roots.specs.Store.{Reaches}
 use Rattle.roots.specs.declared.root.Root.{Root}
-use Rattle.roots.specs.declared.store.Store.{Store}
 use Rattle.roots.proofs.CommitSteps.{holds_now}
 
 pub stands_by : (image : ℕ → List ℕ) (bytes : List ℕ) → AreEntries bytes → HoldsBytes image bytes → StandsFor image (entries_in bytes)

@@ -1,5 +1,5 @@
 -- How the writing of entries ends.
-use Rattle.std.proofs.Common.{◌≡◌, ◌≢◌, ℕ, ◌+◌, ◌-◌, ◌*◌, ◌^◌, ◌<◌, ◌≤◌, List, length, max, true, false, inl, inr, Ok, Err, refl, sym, ap, subst, ◌∙◌, arith}
+use Rattle.std.proofs.Common.{◌≡◌, ◌≢◌, ℕ, ◌+◌, ◌-◌, ◌^◌, ◌<◌, ◌≤◌, List, length, max, true, false, inl, inr, Ok, Err, refl, sym, ap, subst, ◌∙◌, arith}
 use Rattle.std.specs.Prelude.{◌⊎◌, Result}
 use Rattle.std.specs.List.{AllByRecursion}
 use Rattle.page.specs.History.{History, KeepsWord, now, reads}
@@ -7,7 +7,7 @@ use Rattle.page.specs.Crash.{GoesOn, LeavesOnly, IsImageOutside}
 use Rattle.page.proofs.Moments.{goes_nowhere, started}
 use Rattle.roots.specs.Chain.{IsChain, AreOfCommit, IsSectorIn, first_of, path_bytes}
 use Rattle.roots.specs.Committing.{WritesEntries}
-use Rattle.roots.specs.Entries.{Entry, IsFit, AreEntries, entries_in, entries_bytes}
+use Rattle.roots.specs.Entries.{Entry, IsFit, entries_in, entries_bytes}
 use Rattle.roots.specs.EntryLaws.{are_entries_by, read_same}
 use Rattle.roots.specs.Free.{AreFree}
 use Rattle.roots.specs.Image.{StandsFor}
@@ -31,10 +31,13 @@ module _ {D : Type 0} (history : D → History) (old : Store D) (sound : IsSound
   module _ (n : ℕ) (fault : CommitFault) (le : old.full_takes ≤ n)
       (full : fault ≡ faults.Full → HasFullCause old (counting n))
       (too_long : fault ≡ faults.Full → (old.root.generation ≡ 2 ^ 64 - 1) ⊎ IsTooLong old given)
-      (memory : fault ≡ faults.Memory → n ≡ old.full_takes) (stopped : fault ≡ faults.Device → old.stopped ≡ true)
+      (other : fault ≢ faults.Full → n ≡ old.full_takes) (stopped : fault ≡ faults.Device → old.stopped ≡ true)
       (idle : old.stopped ≡ true → n ≡ old.full_takes) where
     same_fault : (e : CommitFault) → (let r : Result ChainPages CommitFault = Err fault in r) ≡ Err e → fault ≡ e
     same_fault e is = cc
+
+    not_full : fault ≡ faults.Memory → fault ≢ faults.Full
+    not_full is full = absurd (let no = sym is ∙ full in cc)
 
     same_store : n ≡ old.full_takes → counting n ≡ old
     same_store is = ap counting is
@@ -53,10 +56,11 @@ module _ {D : Type 0} (history : D → History) (old : Store D) (sound : IsSound
       version = refl;
       pages = refl;
       takes = le;
+      no_take = λ no_full. other (λ is. no_full (ap (λ (f : CommitFault). Err f) is));
       full = λ is. full (same_fault faults.Full is);
       too_long = λ is. too_long (same_fault faults.Full is);
       no_page = λ is. refl;
-      memory = λ is. same_store (memory (same_fault faults.Memory is));
+      memory = λ is. same_store (other (not_full (same_fault faults.Memory is)));
       device = λ is k. inl (stopped (same_fault faults.Device is));
       stops = λ is. stopped (same_fault faults.Device is);
       idle = λ was. same_store (idle was);
@@ -88,6 +92,7 @@ module _ {D : Type 0} (history : D → History) (old : Store D) (sound : IsSound
       version = refl;
       pages = refl;
       takes = omega arith;
+      no_take = λ _. refl;
       full = λ is. absurd cc;
       too_long = λ is. absurd cc;
       no_page = λ is. absurd cc;
@@ -129,6 +134,7 @@ module _ {D : Type 0} (history : D → History) (old : Store D) (sound : IsSound
       version = refl;
       pages = refl;
       takes = omega arith;
+      no_take = λ _. refl;
       full = λ is. absurd cc;
       too_long = λ is. absurd cc;
       no_page = λ is. absurd cc;

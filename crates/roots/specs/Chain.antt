@@ -20,7 +20,9 @@ bytes_of (chain next bytes) = bytes
 abbrev pub IsPath : (ℕ → List ℕ) → ℕ → ℕ → List ℕ → ℕ → Type 0
 IsPath image generation first [] end = first ≡ end
 IsPath image generation first (page ∷ pages) end =
-    (first ≡ page) × (0 < page) × ((sheet : Sheet) × (sheet_at image generation page ≡ Ok sheet) × IsPath image generation (next_of sheet.content) pages end)
+    (first ≡ page) × (0 < page)
+    × ((sheet : Sheet) × (sheet_at image generation page ≡ Ok sheet)
+    × IsPath image generation (next_of sheet.content) pages end)
 
 abbrev pub IsChain : (ℕ → List ℕ) → ℕ → ℕ → List ℕ → Type 0
 IsChain image generation first pages = IsPath image generation first pages 0
@@ -41,7 +43,8 @@ AreOfCommit image generation pages =
 -- the bytes of the chain that has these pages
 abbrev pub path_bytes : (ℕ → List ℕ) → ℕ → List ℕ → List ℕ
 path_bytes image generation [] = []
-path_bytes image generation (page ∷ pages) = piece_in (sheet_at image generation page) ++ path_bytes image generation pages
+path_bytes image generation (page ∷ pages) =
+    piece_in (sheet_at image generation page) ++ path_bytes image generation pages
 
 -- the pages ascend, from above 0
 abbrev pub AreApart : List ℕ → Type 0

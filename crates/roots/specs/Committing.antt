@@ -1,5 +1,5 @@
 -- What the two calls of a commit do.
-use Rattle.std.specs.Prelude.{◌≡◌, ◌≢◌, ◌⊎◌, ◌+◌, ◌-◌, ◌^◌, ◌≤◌, max, List, false, true, Result, Ok, Err, IfOk, OnOk, OnErr}
+use Rattle.std.specs.Prelude.{◌≡◌, ◌≢◌, ◌⊎◌, ◌+◌, ◌-◌, ◌^◌, ◌≤◌, max, List, true, Result, Err, IfOk, OnOk}
 use Rattle.page.specs.History.{History, KeepsWord}
 use Rattle.page.specs.Crash.{GoesOn, LeavesOnly, LeavesNow}
 use Rattle.roots.specs.Entries.{Entry}
@@ -30,6 +30,7 @@ pub record WritesEntries {D : Type 0} (history : D → History) (given : List En
   pub version : version_of new ≡ version_of old
   pub pages : pages_of new ≡ pages_of old
   pub takes : full_takes_of old ≤ full_takes_of new
+  pub no_take : result ≢ Err faults.Full → full_takes_of new ≡ full_takes_of old
   -- Full has a cause that is counted, and today the free pages are too few for the bytes
   pub full : result ≡ Err faults.Full → HasFullCause old new
   pub too_long : result ≡ Err faults.Full

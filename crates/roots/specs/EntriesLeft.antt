@@ -9,7 +9,8 @@ IsAbove None entry = Unit {0}
 IsAbove (Some last) entry = IsBelow last entry.key
 
 -- an entry that may follow stands at the front of the bytes
-pub record IsEntryAbove (last : Option (List ℕ)) (bytes : List ℕ) (entry : Entry) (rest : List ℕ) : Type 0 where
+pub record IsEntryAbove (last : Option (List ℕ)) (bytes : List ℕ) (entry : Entry)
+    (rest : List ℕ) : Type 0 where
   pub fits : IsFit entry
   pub above : IsAbove last entry
   pub bytes_are : bytes ≡ entry_bytes entry ++ rest

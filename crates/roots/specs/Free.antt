@@ -22,4 +22,5 @@ end_of (page ∷ pages) = max (page + 1) (end_of pages)
 -- the free pages below a number, from page 1 on
 unfoldable pub free_pages : List ℕ → ℕ → List ℕ
 free_pages live zero = []
-free_pages live (suc n) = if nat_lt 0 n && is_free live n then free_pages live n ++ n ∷ [] else free_pages live n
+free_pages live (suc n) =
+    if nat_lt 0 n && is_free live n then free_pages live n ++ n ∷ [] else free_pages live n

@@ -30,14 +30,17 @@ pub record IsOpened {D : Type 0} (history : D → History) (disk : D) (store : S
       → LeavesOnly (history disk) (disk_history history store) (IsImage (now (history disk)))
 
 -- The disk was handed back as it was, with this fault.
-pub record IsRefused {D : Type 0} (history : D → History) (disk back : D) (fault : OpenFault) : Type 0 where
+pub record IsRefused {D : Type 0} (history : D → History) (disk back : D)
+    (fault : OpenFault) : Type 0 where
   pub untouched : ReadsOnly (history disk) (history back)
   -- a fault of the bytes comes only where they hold no entries
   pub damaged : fault ≢ faults.Device → fault ≢ faults.Memory → KeepsWord (history back)
       → (entries : List Entry) → Holds (reads (now (history disk))) entries → ⊥
   pub foreign : fault ≡ faults.NotADatabase → KeepsWord (history back)
-      → root_of (reads (now (history disk)) 0) (reads (now (history disk)) 1) ≡ Err faults.NotADatabase
+      → root_of (reads (now (history disk)) 0) (reads (now (history disk)) 1)
+      ≡ Err faults.NotADatabase
   pub later : fault ≡ faults.NewerFormat → KeepsWord (history back)
-      → root_of (reads (now (history disk)) 0) (reads (now (history disk)) 1) ≡ Err faults.NewerFormat
+      → root_of (reads (now (history disk)) 0) (reads (now (history disk)) 1)
+      ≡ Err faults.NewerFormat
   pub device : fault ≡ faults.Device → KeepsWord (history back)
       → (history disk).failures < (history back).failures

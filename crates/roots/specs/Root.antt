@@ -13,7 +13,8 @@ magic = codes "DOCPAGE1"
 
 abbrev pub root_head : Root → List ℕ
 root_head root =
-    magic ++ little_bytes 4 1 ++ little_bytes 4 4096 ++ little_bytes 8 root.generation ++ little_bytes 4 root.tree ++ little_bytes 4 root.pages
+    magic ++ little_bytes 4 1 ++ little_bytes 4 4096 ++ little_bytes 8 root.generation
+    ++ little_bytes 4 root.tree ++ little_bytes 4 root.pages
 
 abbrev pub root_bytes : Root → List ℕ
 root_bytes root = root_head root ++ replicate 480 0
@@ -25,11 +26,16 @@ no_root = record { generation = 0; tree = 0; pages = 1 }
 -- ---- reading a sector
 
 unfoldable pub fields_in : List ℕ → Root
-fields_in bytes = record { generation = little_number 8 (drop 16 bytes); tree = little_number 4 (drop 24 bytes); pages = little_number 4 (drop 28 bytes) }
+fields_in bytes = record {
+  generation = little_number 8 (drop 16 bytes);
+  tree = little_number 4 (drop 24 bytes);
+  pages = little_number 4 (drop 28 bytes);
+}
 
 -- A commit has a number, a file has at most 1,048,576 pages, and the tree begins below their number.
 abbrev pub is_possible : Root → Bool
-is_possible root = nat_lt 0 root.generation && (nat_lt root.tree root.pages && not (nat_lt 1048576 root.pages))
+is_possible root =
+    nat_lt 0 root.generation && (nat_lt root.tree root.pages && not (nat_lt 1048576 root.pages))
 
 unfoldable pub begins_right : List ℕ → Bool
 begins_right bytes = little_number 8 bytes == little_number 8 magic
@@ -57,7 +63,9 @@ newer_root even odd =
     if not (even.generation % 2 == 0) then Err faults.Damaged else
     if odd.generation == even.generation + 1 then Ok odd else
     if (odd.generation == 0) && (even.generation == 0) then Ok even else
-    if not (odd.generation == 0) && (not (even.generation == 0) && (odd.generation == even.generation - 1)) then Ok even else Err faults.Damaged
+    if not (odd.generation == 0)
+    && (not (even.generation == 0) && (odd.generation == even.generation - 1))
+    then Ok even else Err faults.Damaged
 
 -- what is no database goes before what is of a newer format, and that before damage
 abbrev pub worse_fault : OpenFault → OpenFault → OpenFault

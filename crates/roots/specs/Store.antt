@@ -85,7 +85,8 @@ pub record HoldsChain (h : History) (generation : ℕ) (pages : List ℕ) : Type
   pub entries : KeepsWord h → AreEntries (path_bytes (reads (now h)) generation pages)
 
 -- These pages hold entries for the next commit.
-pub record IsWritten {D : Type 0} (history : D → History) (store : Store D) (pages : ChainPages) : Type 0 where
+pub record IsWritten {D : Type 0} (history : D → History) (store : Store D)
+    (pages : ChainPages) : Type 0 where
   pub inside : AllByRecursion (λ (page : ℕ). page < pages.end) pages.pages.items
   pub few : length pages.pages.items < pages.end
   pub within : pages.end ≤ max store.limit store.root.pages
@@ -97,7 +98,8 @@ abbrev pub reach : ChainPages → ℕ
 reach pages = pages.end
 
 -- These pages are the least free ones, and no more than the entries need.
-pub record AreLeast {D : Type 0} (store : Store D) (pages : ChainPages) (entries : List Entry) : Type 0 where
+pub record AreLeast {D : Type 0} (store : Store D) (pages : ChainPages)
+    (entries : List Entry) : Type 0 where
   pub least : pages.pages.items ≡ free_pages store.live.items pages.end
   pub ends : pages.end ≡ end_of pages.pages.items
   pub enough : length (entries_bytes entries) ≤ 4076 * length pages.pages.items

@@ -41,7 +41,8 @@ pub fn split_entry(bytes: &[u8]) -> Option<SplitEntry<'_>>
     ensures spelled { IfSome result (λ found.
         let entry : Entry = record { key = found.key.now; value = found.value.now } in
         bytes.now ≡ entry_bytes entry ++ found.rest.now) }
-    ensures fits { IfSome result (λ found. IsFit (record { key = found.key.now; value = found.value.now })) }
+    ensures fits { IfSome result (λ found.
+        IsFit (record { key = found.key.now; value = found.value.now })) }
     ensures none { IfNone result ((entry : Entry) (rest : List ℕ)
         → IsFit entry → bytes.now ≡ entry_bytes entry ++ rest → ⊥) }
 {

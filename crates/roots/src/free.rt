@@ -27,11 +27,14 @@ pub(crate) fn take(
     requires { 1 ≤ limit }
     ensures free { IfOk result (λ found. IfSome found (λ taken.
         AreFree live.now taken.pages.items taken.end)) }
-    ensures count { IfOk result (λ found. IfSome found (λ taken. length taken.pages.items ≡ count)) }
+    ensures count { IfOk result (λ found. IfSome found (λ taken.
+        length taken.pages.items ≡ count)) }
     ensures least { IfOk result (λ found. IfSome found (λ taken.
         taken.pages.items ≡ free_pages live.now taken.end)) }
-    ensures ends { IfOk result (λ found. IfSome found (λ taken. taken.end ≡ end_of taken.pages.items)) }
-    ensures none { IfOk result (λ found. IfNone found (length (free_pages live.now limit) < count)) }
+    ensures ends { IfOk result (λ found. IfSome found (λ taken.
+        taken.end ≡ end_of taken.pages.items)) }
+    ensures none { IfOk result (λ found. IfNone found
+        (length (free_pages live.now limit) < count)) }
     ensures within { IfOk result (λ found. IfSome found (λ taken. taken.end ≤ limit)) }
 {
     let mut taken = ChainPages {

@@ -9,7 +9,8 @@ use crate::{CommitFault, LEAST_LIMIT, MAX_PAGES, OpenFault};
 
 /// An image stands for one list of entries at most.
 pub fn one_state()
-    ensures { (image : ℕ → List ℕ) (a b : List Entry) → StandsFor image a → StandsFor image b → a ≡ b }
+    ensures { (image : ℕ → List ℕ) (a b : List Entry)
+        → StandsFor image a → StandsFor image b → a ≡ b }
 {}
 
 /// An image holds one set of entries at most.

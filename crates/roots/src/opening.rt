@@ -110,7 +110,8 @@ pub(crate) fn read_root<D: Disk>(disk: &mut D) -> Result<Root, OpenFault>
         KeepsWord (D.history disk.new) → IfErr result (λ fault. fault ≢ OpenFault.Device
         → root_of (image 0) (image 1) ≡ Err fault) }
     ensures known { IfOk result IsKnown }
-    ensures device { KeepsWord (D.history disk.new) → IfErr result (λ fault. fault ≡ OpenFault.Device
+    ensures device { KeepsWord (D.history disk.new)
+        → IfErr result (λ fault. fault ≡ OpenFault.Device
         → (D.history disk.old).failures < (D.history disk.new).failures) }
     ensures memory { result ≢ Err OpenFault.Memory }
 {

@@ -51,8 +51,10 @@ fn read_link<D: Disk>(
         KeepsWord (D.history disk.new)
         → IfErr result (λ fault. fault ≢ OpenFault.Device → fault ≢ OpenFault.Memory
         → (sheet : Sheet) → read ≡ Ok sheet → ⊥) }
-    ensures kinds { IfErr result (λ fault. (fault ≢ OpenFault.NotADatabase) × (fault ≢ OpenFault.NewerFormat)) }
-    ensures device { KeepsWord (D.history disk.new) → IfErr result (λ fault. fault ≡ OpenFault.Device
+    ensures kinds { IfErr result (λ fault.
+        (fault ≢ OpenFault.NotADatabase) × (fault ≢ OpenFault.NewerFormat)) }
+    ensures device { KeepsWord (D.history disk.new)
+        → IfErr result (λ fault. fault ≡ OpenFault.Device
         → (D.history disk.old).failures < (D.history disk.new).failures) }
 {
     let mut bytes = [0; 4096];
@@ -84,8 +86,10 @@ pub(crate) fn read_chain<D: Disk>(
         KeepsWord (D.history disk.new)
         → IfErr result (λ fault. fault ≢ OpenFault.Device → fault ≢ OpenFault.Memory
         → (pages : List ℕ) → HasChain image root pages → ⊥) }
-    ensures kinds { IfErr result (λ fault. (fault ≢ OpenFault.NotADatabase) × (fault ≢ OpenFault.NewerFormat)) }
-    ensures device { KeepsWord (D.history disk.new) → IfErr result (λ fault. fault ≡ OpenFault.Device
+    ensures kinds { IfErr result (λ fault.
+        (fault ≢ OpenFault.NotADatabase) × (fault ≢ OpenFault.NewerFormat)) }
+    ensures device { KeepsWord (D.history disk.new)
+        → IfErr result (λ fault. fault ≡ OpenFault.Device
         → (D.history disk.old).failures < (D.history disk.new).failures) }
 {
     let mut chain = Chain {

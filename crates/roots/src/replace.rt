@@ -17,7 +17,8 @@ pub(crate) fn replace<D: Disk>(
     // Until the first sync a crash leaves what it could leave before; then what reads gave, with the sector or without.
     ensures any_moment { LeavesOnly (D.history disk.old) (D.history disk.new)
         (IsOldOrPut (now (D.history disk.old)) sector bytes.now) }
-    ensures synced { KeepsWord (D.history disk.new) → OnOk result (AreDurable (now (D.history disk.new))) }
+    ensures synced { KeepsWord (D.history disk.new)
+        → OnOk result (AreDurable (now (D.history disk.new))) }
     ensures reads { let before = reads (now (D.history disk.old)) in
         KeepsWord (D.history disk.new)
         → OnOk result (reads (now (D.history disk.new)) ≡ put before sector bytes.now) }

@@ -2,20 +2,20 @@
 ghost use Rattle.page.specs.Memory.{memory_history};
 ghost use Rattle.roots.specs.Store.{IsSound};
 
-use crate::rows::{row, value_of};
-use page::{Disk, MemDisk};
-use roots::{CommitFault, Config, PairList, Store};
+use crate::lists::{list_of, value_of};
+use page::{Disk, MemDisk, is_all_zero};
+use roots::{CommitFault, Config, EntryList, Store};
 use std::process::Abort;
 use std::test::Fail;
 
 const CONFIG: Config = Config { max_pages: 40 };
 
-fn commit(rt: &impl Abort, store: &mut Store<MemDisk>, pairs: &PairList)
+fn commit(rt: &impl Abort, store: &mut Store<MemDisk>, entries: &EntryList)
     requires { IsSound memory_history store.old }
     ensures { IsSound memory_history store.new }
 {
-    let Ok(pages) = store.write_image(pairs) else {
-        panic!(rt; "the pairs aren't written");
+    let Ok(pages) = store.write_entries(entries) else {
+        panic!(rt; "the entries aren't written");
     };
     assert!(rt; store.commit(pages).is_ok());
 }
@@ -29,16 +29,12 @@ fn new_store(rt: &(impl Abort + AllocGlobal)) -> Store<MemDisk>
     }
 }
 
-/// Opens the disk again. Answers the value of the only pair.
-fn opened_again(rt: &(impl Abort + AllocGlobal), disk: MemDisk) -> (Store<MemDisk>, Vec<u8>) {
-    match Store::open_pairs(rt.alloc(), disk, CONFIG) {
-        Ok((store, pairs)) => (store, value_of(rt, &pairs)),
+/// Opens the disk again. Answers the value of the only entry.
+fn open_again(rt: &(impl Abort + AllocGlobal), disk: MemDisk) -> (Store<MemDisk>, Vec<u8>) {
+    match Store::open_entries(rt.alloc(), disk, CONFIG) {
+        Ok((store, entries)) => (store, value_of(rt, &entries)),
         Err(_) => panic!(rt; "what was committed doesn't open"),
     }
-}
-
-fn all_zero(bytes: &[u8]) -> bool {
-    bytes.iter().all(|b| *b == 0)
 }
 
 fn sector(rt: &impl Abort, disk: &mut MemDisk, number: u64) -> [u8; 512] {
@@ -51,7 +47,7 @@ fn sector(rt: &impl Abort, disk: &mut MemDisk, number: u64) -> [u8; 512] {
 #[test]
 fn first_commit(rt: HostRuntime) -> Result<(), Fail> {
     let mut store = new_store(&rt);
-    commit(&rt, &mut store, &row(&rt, &[7; 70]));
+    commit(&rt, &mut store, &list_of(&rt, &[7; 70]));
     let mut disk = store.into_disk();
     // two reads and a sync opened it
     assert_eq!(rt; disk.calls(), 3 + 9 + 2);
@@ -61,7 +57,7 @@ fn first_commit(rt: HostRuntime) -> Result<(), Fail> {
     assert!(rt; root[8..16] == [1, 0, 0, 0, 0, 16, 0, 0][..]);
     assert!(rt; root[16..24] == [1, 0, 0, 0, 0, 0, 0, 0][..]);
     assert!(rt; root[24..32] == [1, 0, 0, 0, 2, 0, 0, 0][..]);
-    assert!(rt; all_zero(&root[32..]));
+    assert!(rt; is_all_zero(&root[32..]));
     assert!(rt; sector(&rt, &mut disk, 0) == [0; 512]);
 
     let page = sector(&rt, &mut disk, 8);
@@ -69,7 +65,7 @@ fn first_commit(rt: HostRuntime) -> Result<(), Fail> {
     assert!(rt; page[8..20] == [1, 0, 0, 0, 0, 0, 0, 0, 0, 0, 0, 0][..]);
     assert!(rt; page[20..27] == [1, 0, 70, 0, 0, 0, b'k'][..]);
     assert!(rt; page[27..97] == [7; 70][..]);
-    assert!(rt; all_zero(&page[97..]));
+    assert!(rt; is_all_zero(&page[97..]));
     assert!(rt; sector(&rt, &mut disk, 15) == [0; 512]);
     Ok(())
 }
@@ -78,11 +74,11 @@ fn first_commit(rt: HostRuntime) -> Result<(), Fail> {
 #[test]
 fn three_commits(rt: HostRuntime) -> Result<(), Fail> {
     let mut store = new_store(&rt);
-    commit(&rt, &mut store, &row(&rt, b"1"));
-    commit(&rt, &mut store, &row(&rt, b"12"));
-    commit(&rt, &mut store, &row(&rt, b"123"));
+    commit(&rt, &mut store, &list_of(&rt, b"1"));
+    commit(&rt, &mut store, &list_of(&rt, b"12"));
+    commit(&rt, &mut store, &list_of(&rt, b"123"));
     assert_eq!(rt; store.version(), 3);
-    let (store, value) = opened_again(&rt, store.into_disk());
+    let (store, value) = open_again(&rt, store.into_disk());
     assert_eq!(rt; store.version(), 3);
     assert!(rt; value[..] == b"123"[..]);
     let mut disk = store.into_disk();
@@ -99,8 +95,8 @@ fn three_commits(rt: HostRuntime) -> Result<(), Fail> {
 #[test]
 fn two_pages(rt: HostRuntime) -> Result<(), Fail> {
     let mut store = new_store(&rt);
-    commit(&rt, &mut store, &row(&rt, &[9; 4993]));
-    let (store, value) = opened_again(&rt, store.into_disk());
+    commit(&rt, &mut store, &list_of(&rt, &[9; 4993]));
+    let (store, value) = open_again(&rt, store.into_disk());
     assert!(rt; value[..] == [9; 4993][..]);
     let mut disk = store.into_disk();
     assert!(rt;
@@ -116,7 +112,7 @@ fn two_pages(rt: HostRuntime) -> Result<(), Fail> {
     Ok(())
 }
 
-/// No pairs have no page, and pages past the limit are Full and change nothing.
+/// No entries have no page, and pages past the limit are Full and change nothing.
 #[test]
 fn limits(rt: HostRuntime) -> Result<(), Fail> {
     let Ok(mut store) = Store::open(
@@ -126,12 +122,14 @@ fn limits(rt: HostRuntime) -> Result<(), Fail> {
     ) else {
         panic!(&rt; "zeros don't open");
     };
-    commit(&rt, &mut store, &PairList::new(rt.alloc()));
-    let Err(fault) = store.write_image(&row(&rt, &[1; 61_134])) else {
+    commit(&rt, &mut store, &EntryList::new(rt.alloc()));
+    let Err(fault) = store.write_entries(&list_of(&rt, &[1; 61_134])) else {
         panic!(&rt; "sixteen pages hold no more than fifteen");
     };
     assert_eq!(rt; fault, CommitFault::Full);
-    commit(&rt, &mut store, &row(&rt, &[1; 61_133]));
+    assert_eq!(rt; store.full_takes(), 1);
+    commit(&rt, &mut store, &list_of(&rt, &[1; 61_133]));
     assert_eq!(rt; store.version(), 2);
+    assert_eq!(rt; store.full_takes(), 1);
     Ok(())
 }

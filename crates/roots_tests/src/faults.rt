@@ -1,22 +1,22 @@
 //! A store stopped at each write and sync, and failed at each call.
 ghost use Rattle.roots.specs.Store.{IsSound};
 
-use crate::rows::{row, value_of};
+use crate::lists::{list_of, value_of};
 use page::{Disk, FailDisk, MemDisk, StopDisk};
-use roots::{CommitFault, Config, OpenFault, PairList, Store};
+use roots::{CommitFault, Config, EntryList, OpenFault, Store};
 use std::process::Abort;
 use std::test::Fail;
 
 const CONFIG: Config = Config { max_pages: 40 };
 
-/// The values of the states, each of which is one pair. The last fills its page.
+/// The values of the states, each of which is one entry. The last fills its page.
 const STATES: [&[u8]; 4] = [&[1; 70], &[2; 4993], &[3; 3], &[4; 4069]];
 
-fn commit<D: Disk>(store: &mut Store<D>, pairs: &PairList) -> Result<(), CommitFault>
+fn commit<D: Disk>(store: &mut Store<D>, entries: &EntryList) -> Result<(), CommitFault>
     requires { IsSound D.history store.old }
     ensures { IsSound D.history store.new }
 {
-    let pages = store.write_image(pairs)?;
+    let pages = store.write_entries(entries)?;
     store.commit(pages)
 }
 
@@ -26,7 +26,7 @@ fn drive<D: Disk>(rt: &(impl Abort + AllocGlobal), store: &mut Store<D>) -> Resu
     ensures { IsSound D.history store.new }
 {
     for (i, state) in STATES.iter().enumerate() {
-        if commit(store, &row(rt, state)).is_err() {
+        if commit(store, &list_of(rt, state)).is_err() {
             return Err(i);
         }
     }
@@ -34,14 +34,14 @@ fn drive<D: Disk>(rt: &(impl Abort + AllocGlobal), store: &mut Store<D>) -> Resu
 }
 
 /// What an image holds: the number of its commit, whose bytes are that state's.
-fn found(rt: &(impl Abort + AllocGlobal), disk: MemDisk) -> Result<(u64, MemDisk), Fail> {
-    let Ok((store, pairs)) = Store::open_pairs(rt.alloc(), disk, CONFIG) else {
+fn state_in(rt: &(impl Abort + AllocGlobal), disk: MemDisk) -> Result<(u64, MemDisk), Fail> {
+    let Ok((store, entries)) = Store::open_entries(rt.alloc(), disk, CONFIG) else {
         panic!(rt; "an image that doesn't open");
     };
     let version = store.version();
     match STATES.get((version as usize).wrapping_sub(1)) {
-        Some(state) => assert!(rt; &value_of(rt, &pairs)[..] == *state),
-        None => assert!(rt; version == 0 && pairs.bytes().is_empty()),
+        Some(state) => assert!(rt; &value_of(rt, &entries)[..] == *state),
+        None => assert!(rt; version == 0 && entries.bytes().is_empty()),
     }
     Ok((version, store.into_disk()))
 }
@@ -50,12 +50,12 @@ fn found(rt: &(impl Abort + AllocGlobal), disk: MemDisk) -> Result<(u64, MemDisk
 /// second time it holds the same.
 fn all_images(rt: &(impl Abort + AllocGlobal), disk: &MemDisk, done: usize) -> Result<(), Fail> {
     for mask in 0..2048 {
-        let (first, opened) = found(rt, disk.image(mask)?)?;
+        let (first, opened) = state_in(rt, disk.image(mask)?)?;
         assert!(rt;
             first.wrapping_sub(done as u64) <= 1,
             "{mask} {first} {done}"
         );
-        let (second, _) = found(rt, opened)?;
+        let (second, _) = state_in(rt, opened)?;
         assert_eq!(rt; second, first);
     }
     Ok(())
@@ -95,16 +95,16 @@ fn both_subsets(rt: HostRuntime) -> Result<(), Fail> {
         panic!(&rt; "zeros don't open");
     };
     assert_eq!(rt;
-        commit(&mut store, &row(&rt, STATES[0])),
+        commit(&mut store, &list_of(&rt, STATES[0])),
         Err(CommitFault::Device)
     );
     let disk = store.into_disk().into_inner();
-    let (without, again) = found(&rt, disk.image(0)?)?;
+    let (without, again) = state_in(&rt, disk.image(0)?)?;
     assert_eq!(rt; without, 0);
-    assert_eq!(rt; found(&rt, again)?.0, 0);
-    let (with, again) = found(&rt, disk.image(1)?)?;
+    assert_eq!(rt; state_in(&rt, again)?.0, 0);
+    let (with, again) = state_in(&rt, disk.image(1)?)?;
     assert_eq!(rt; with, 1);
-    assert_eq!(rt; found(&rt, again)?.0, 1);
+    assert_eq!(rt; state_in(&rt, again)?.0, 1);
     Ok(())
 }
 
@@ -123,7 +123,7 @@ fn fail_at(rt: &(impl Abort + AllocGlobal), n: u64, lands: bool) -> Result<(), F
         panic!(rt; "no call failed");
     };
     assert_eq!(rt;
-        commit(&mut store, &row(rt, STATES[0])),
+        commit(&mut store, &list_of(rt, STATES[0])),
         Err(CommitFault::Device)
     );
     all_images(rt, &store.into_disk().into_inner(), done)

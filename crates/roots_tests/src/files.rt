@@ -14,11 +14,11 @@ fn an_empty_file(rt: HostRuntime) -> Result<(), Fail> {
     let Ok(disk) = FileDisk::open(&rt, path, false) else {
         panic!(&rt; "the file isn't opened");
     };
-    let Ok((store, pairs)) = Store::open_pairs(rt.alloc(), disk, CONFIG) else {
+    let Ok((store, entries)) = Store::open_entries(rt.alloc(), disk, CONFIG) else {
         panic!(&rt; "no bytes don't open");
     };
     assert_eq!(rt; store.version(), 0);
-    assert!(rt; pairs.bytes().is_empty());
+    assert!(rt; entries.bytes().is_empty());
     drop(store);
     let left = fs::read(&rt, path)?;
     fs::remove_file(&rt, path)?;

@@ -4,90 +4,90 @@ ghost use Rattle.page.specs.Memory.{memory_history};
 ghost use Rattle.roots.specs.Store.{IsSound};
 
 use page::MemDisk;
-use roots::{CommitFault, Config, OpenFault, PairList, Store, split_pair};
+use roots::{CommitFault, Config, EntryList, OpenFault, Store, split_entry};
 use std::process::Abort;
 use std::test::Fail;
 
 const CONFIG: Config = Config { max_pages: 40 };
 
-/// Opens a disk, once more where memory ran out.
-fn opened(rt: &(impl Abort + AllocGlobal), disk: MemDisk) -> (Store<MemDisk>, PairList)
+/// Opens a disk, once more after an allocation failure.
+fn open_again(rt: &(impl Abort + AllocGlobal), disk: MemDisk) -> (Store<MemDisk>, EntryList)
     ensures { IsSound memory_history result.0 }
 {
-    let (disk, fault) = match Store::open_pairs(rt.alloc(), disk, CONFIG) {
+    let (disk, fault) = match Store::open_entries(rt.alloc(), disk, CONFIG) {
         Ok(found) => return found,
         Err(refused) => refused,
     };
     // a disk in memory that finds none fails
     assert!(rt; fault == OpenFault::Memory || fault == OpenFault::Device);
-    match Store::open_pairs(rt.alloc(), disk, CONFIG) {
+    match Store::open_entries(rt.alloc(), disk, CONFIG) {
         Ok(found) => found,
         Err(_) => panic!(rt; "a disk that doesn't open"),
     }
 }
 
-/// A row of one pair, pushed once more where memory ran out.
-fn pushed(rt: &(impl Abort + AllocGlobal), value: &[u8]) -> PairList
+/// A list of one entry, pushed once more after an allocation failure.
+fn list_of(rt: &(impl Abort + AllocGlobal), value: &[u8]) -> EntryList
     requires { length value.now < 2 ^ 32 }
 {
-    let mut pairs = PairList::new(rt.alloc());
-    if pairs.push(b"k", value).is_err() {
-        assert!(rt; pairs.bytes().is_empty());
-        assert!(rt; pairs.push(b"k", value).is_ok());
+    let mut entries = EntryList::new(rt.alloc());
+    if entries.push(b"k", value).is_err() {
+        assert!(rt; entries.bytes().is_empty());
+        assert!(rt; entries.push(b"k", value).is_ok());
     }
-    pairs
+    entries
 }
 
-fn commit(store: &mut Store<MemDisk>, pairs: &PairList) -> Result<(), CommitFault>
+fn commit(store: &mut Store<MemDisk>, entries: &EntryList) -> Result<(), CommitFault>
     requires { IsSound memory_history store.old }
     ensures { IsSound memory_history store.new }
 {
-    let pages = store.write_image(pairs)?;
+    let pages = store.write_entries(entries)?;
     store.commit(pages)
 }
 
-/// Commits a row, unless that was done.
+/// Commits a list, unless that was done.
 fn once_more(
     rt: &impl Abort,
     mut store: Store<MemDisk>,
     before: u64,
-    pairs: &PairList,
+    entries: &EntryList,
 ) -> Store<MemDisk>
     requires { IsSound memory_history store }
     ensures { IsSound memory_history result }
 {
     if store.version() == before {
-        assert!(rt; commit(&mut store, pairs).is_ok());
+        assert!(rt; commit(&mut store, entries).is_ok());
     }
     store
 }
 
-/// Commits a row, once more where memory ran out, and on the disk opened again where the disk found none.
-fn committed(
+/// Commits a list, once more after an allocation failure, and on the disk opened again where the disk found none.
+fn commit_list(
     rt: &(impl Abort + AllocGlobal),
     mut store: Store<MemDisk>,
-    pairs: &PairList,
+    entries: &EntryList,
 ) -> Store<MemDisk>
     requires { IsSound memory_history store }
     ensures { IsSound memory_history result }
 {
     let before = store.version();
-    match commit(&mut store, pairs) {
+    match commit(&mut store, entries) {
         Ok(()) => store,
         Err(CommitFault::Memory) => {
             assert!(rt; store.version() == before);
-            once_more(rt, store, before, pairs)
+            once_more(rt, store, before, entries)
         }
         Err(fault) => {
             assert!(rt; fault == CommitFault::Device);
-            let (store, _) = opened(rt, store.into_disk());
-            once_more(rt, store, before, pairs)
+            let (store, _) = open_again(rt, store.into_disk());
+            once_more(rt, store, before, entries)
         }
     }
 }
 
 /// Commits a value as this version, and finds it on the disk opened again.
-fn held(
+fn commit_and_find(
     rt: &(impl Abort + AllocGlobal),
     store: Store<MemDisk>,
     value: &[u8],
@@ -97,11 +97,11 @@ fn held(
     requires short { length value.now < 2 ^ 32 }
     ensures { IsSound memory_history result }
 {
-    let store = committed(rt, store, &pushed(rt, value));
-    let (store, pairs) = opened(rt, store.into_disk());
+    let store = commit_list(rt, store, &list_of(rt, value));
+    let (store, entries) = open_again(rt, store.into_disk());
     assert_eq!(rt; store.version(), version);
-    let Some(found) = split_pair(pairs.bytes()) else {
-        panic!(rt; "no pair");
+    let Some(found) = split_entry(entries.bytes()) else {
+        panic!(rt; "no entry");
     };
     assert!(rt; found.value == value && found.rest.is_empty());
     store
@@ -109,11 +109,11 @@ fn held(
 
 #[test]
 fn refused_growths(rt: HostRuntime) -> Result<(), Fail> {
-    let (store, none) = opened(&rt, MemDisk::new(rt.alloc()));
+    let (store, none) = open_again(&rt, MemDisk::new(rt.alloc()));
     assert!(rt; none.bytes().is_empty());
-    let store = held(&rt, store, &[1; 70], 1);
-    let store = held(&rt, store, &[2; 4993], 2);
-    let store = held(&rt, store, &[], 3);
+    let store = commit_and_find(&rt, store, &[1; 70], 1);
+    let store = commit_and_find(&rt, store, &[2; 4993], 2);
+    let store = commit_and_find(&rt, store, &[], 3);
     drop(store);
     Ok(())
 }

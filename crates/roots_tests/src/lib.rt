@@ -10,6 +10,6 @@ mod files;
 #[cfg(test)]
 mod growths;
 #[cfg(test)]
-mod opening;
+mod lists;
 #[cfg(test)]
-mod rows;
+mod opening;

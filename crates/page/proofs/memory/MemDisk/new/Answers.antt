@@ -1,4 +1,4 @@
-use Rattle.std.proofs.Common.{◌∙◌, ℕ, List, sym, subst, ap}
+use Rattle.std.proofs.Common.{◌∙◌, List, sym, subst, ap}
 use Rattle.page.specs.History.{now}
 use Rattle.page.specs.Crash.{IsDurable, IsFresh}
 use Rattle.page.specs.Replay.{replay, blank}

@@ -1,4 +1,4 @@
-use Rattle.std.proofs.Common.{◌≡◌, ◌≤◌, ◌<◌, ◌+◌, ◌-◌, ◌*◌, ◌^◌, ℕ, List, length, max, min, true, false, inl, inr, refl, sym, subst, ap, ◌∙◌, arith}
+use Rattle.std.proofs.Common.{◌≡◌, ◌≤◌, ◌<◌, ◌+◌, ◌-◌, ◌^◌, ℕ, List, length, max, min, true, false, inl, inr, refl, sym, subst, ap, ◌∙◌, arith}
 use Rattle.std.specs.Prelude.{◌⊎◌, Option, Some, None, IfSome, IfNone}
 use Rattle.std.proofs.lemmas.Bool.{cases_lt}
 use Rattle.roots.specs.EntryView.{entries_of}
@@ -49,7 +49,7 @@ returns-in-None g c =
     let bytes : length c.bytes-bytes.result.now ≡ length (entries_bytes given) = ap length c.bytes-bytes.ensures.spelled in
     refused g.D.Disk.history s c.requires.sound given c.saturating_add-self.result faults.Full (omega (arith, c.saturating_add-self.ensures))
     (λ is. inr (counted s.full_takes c.saturating_add-self.result c.saturating_add-self.ensures)) (λ is. inr (omega (arith, found, bytes, c.pages_for.ensures.needed)))
-    (λ is. absurd cc) (λ is. absurd cc) (λ was. absurd (let no : true ≡ false = sym was ∙ c.if-self.false in cc))
+    (λ no_full. absurd (no_full refl)) (λ is. absurd cc) (λ was. absurd (let no : true ≡ false = sym was ∙ c.if-self.false in cc))
 
 pub returns-in-Ok-write_chain : goal.returns-in-Ok-write_chain
 returns-in-Ok-write_chain g c =
