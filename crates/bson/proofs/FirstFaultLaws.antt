@@ -18,7 +18,7 @@ use Rattle.bson.specs.EditsLaws.{IsPairs-append, IsItems-append, pairs_levels-ap
 use Rattle.bson.specs.SizingLaws.{pairs_bytes-none, pairs_bytes-append, pairs_bytes-one, items_bytes-none, items_bytes-append}
 use Rattle.bson.specs.Reading.{Read, is_below, fixed_at, zero_at, name_at, kind_of, leaf, scalar_at, count_at, ended_at, content_at, element_by, item_by, pairs_by, items_by, value_at, pairs_in, items_in, length_at, document_at, stands_in, is_no_index}
 use Rattle.bson.specs.Raw.{tree_names}
-use Rattle.bson.specs.FirstFault.{Behind, scalar_seen, WrongScalar, TooDeep, WrongElement, wrong_type, wrong_name, wrong_here, wrong_value, WrongPair, WrongItem, InFrame, WrongFrame, wrong_count, wrong_end, wrong_in, WrongValue, WrongDocument, wrong_length, wrong_last, wrong_inside, FirstFault}
+use Rattle.bson.specs.FirstFault.{Behind, WrongScalar, TooDeep, WrongElement, wrong_type, wrong_name, wrong_here, wrong_value, WrongPair, WrongItem, InFrame, WrongFrame, wrong_count, wrong_end, wrong_in, WrongValue, WrongDocument, wrong_length, wrong_last, wrong_inside, FirstFault}
 use Rattle.bson.proofs.FrameLaws.{done, Takes, Takes-then, name_takes, content_takes, ended_takes}
 use Rattle.bson.proofs.TreeLaws.{Reads, IsBytes-rest, element_takes, item_takes, value_reads, length_takes, document_again}
 use Rattle.bson.proofs.FaultLaws.{fault_no}
@@ -284,7 +284,7 @@ frame_wrong {Y} {Z} inner read made bytes e fits each failed =
 leaf_wrong : (k : Kind) (bytes : List ℕ) (e : BsonFault) → leaf (scalar_at k bytes) ≡ Err e → Somewhere (WrongScalar k bytes) e
 leaf_wrong k bytes e failed =
     elim (bind_err {B = Tree × List ℕ} (scalar_at k bytes) (λ s. Ok (scalar s.0, s.1)) e failed) [
-      | inl bad ↦ record { place = 0; seen = scalar_seen k e bytes; stands = record { here = refl; upto = refl; judged = bad } }
+      | inl bad ↦ record { place = 0; seen = length bytes; stands = record { here = refl; upto = refl; judged = bad } }
       | inr o ↦ absurd (ok_err {X = Tree × List ℕ} (scalar o.0.0, o.0.1) e o.2)
     ]
 

@@ -9,4 +9,5 @@ pub mod FaultLaws
 pub mod RawLaws
 pub mod CheckLaws
 pub mod FirstFaultLaws
+pub mod SeenLaws
 pub mod BuildLaws

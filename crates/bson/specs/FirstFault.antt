@@ -3,14 +3,14 @@
 -- document or array that is open there, the pairs or items in it that are whole, and the type byte and the name of the
 -- one that is open. Behind what is seen there is nothing of which a definition here speaks but how many bytes are left
 -- and the zeros that end what is open.
-use Rattle.std.specs.Prelude.{◌≡◌, ◌≢◌, ◌⊎◌, ℕ, zero, suc, ◌+◌, ◌-◌, ◌<◌, ◌≤◌, Bool, true, false, List, ◌∷◌, ◌++◌, length, slice_index, Ok, Err}
+use Rattle.std.specs.Prelude.{◌≡◌, ◌≢◌, ◌⊎◌, ℕ, zero, suc, ◌+◌, ◌-◌, ◌<◌, ◌≤◌, Bool, true, false, List, ◌∷◌, ◌++◌, length, take, slice_index, Ok, Err}
 use Rattle.bson.specs.Tree.{Pairs, Items}
 use Rattle.bson.specs.Lawful.{IsName, IsPairs, IsItems, pairs_levels, items_levels}
 use Rattle.bson.specs.Limits.{message_limit}
 use Rattle.bson.specs.Spelling.{frame_of, pairs_bytes, items_bytes}
 use Rattle.bson.specs.Edits.{items_len}
 use Rattle.bson.specs.Reading.{zero_at, name_at, kind_of, scalar_at, count_at, length_at, document_at, stands_in, is_no_index}
-use Rattle.bson.specs.Raw.{tree_names, len_at}
+use Rattle.bson.specs.Raw.{tree_names}
 use Rattle.bson.specs.declared.fault.BsonFault.{BsonFault}
 use Rattle.bson.specs.declared.fault.BsonFault.TheVariants as faults
 use Rattle.bson.specs.declared.kind.Kind.{Kind}
@@ -26,14 +26,10 @@ pub record Behind (n : ℕ) (wrong : ℕ → ℕ → BsonFault → Type 0) (plac
 
 -- ---- what may be wrong at a place
 
--- A scalar: its count of four bytes, or that it doesn't fit; else what it is, up to its end.
-abbrev pub scalar_seen : Kind → BsonFault → List ℕ → ℕ
-scalar_seen k faults.Length bytes = 4
-scalar_seen k fault bytes = len_at k bytes
-
+-- a scalar, which is looked at with what is left behind it in its document
 pub record WrongScalar (k : Kind) (bytes : List ℕ) (place seen : ℕ) (fault : BsonFault) : Type 0 where
   pub here : place ≡ 0
-  pub upto : seen ≡ scalar_seen k fault bytes
+  pub upto : seen ≡ length bytes
   pub judged : scalar_at k bytes ≡ Err fault
 
 -- a document or an array one level too deep, whatever stands there
@@ -140,3 +136,21 @@ pub record FirstFault (bytes : List ℕ) (fault : BsonFault) : Type 0 where
   pub place : ℕ
   pub seen : ℕ
   pub stands : WrongDocument bytes place seen fault
+
+-- ---- whatever stands behind
+
+-- of the same length, and the same up to there
+pub record Agrees (seen : ℕ) (bytes other : List ℕ) : Type 0 where
+  pub long : length other ≡ length bytes
+  pub front : take seen other ≡ take seen bytes
+
+-- further left, an open document or array that ended with a zero does so no more
+pub record WrongEarlier (wrong : ℕ → ℕ → BsonFault → Type 0) (place : ℕ) : Type 0 where
+  pub at : ℕ
+  pub upto : ℕ
+  pub earlier : at < place
+  pub stands : wrong at upto faults.Length
+
+-- the same fault at the same place, or that
+abbrev pub IsStill : (ℕ → ℕ → BsonFault → Type 0) → ℕ → ℕ → BsonFault → Type 0
+IsStill wrong place seen fault = wrong place seen fault ⊎ WrongEarlier wrong place

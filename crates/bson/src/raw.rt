@@ -129,7 +129,10 @@ impl RawValue<'_> {
     {
         match read_value(alloc, MOST_LEVELS - 1, self.kind, self.bytes) {
             Ok((value, _)) => Ok(value),
-            Err(_) => Err(AllocError),
+            Err(fault) => match fault {
+                BsonFault::Memory => Err(AllocError),
+                _ => unreachable!(),
+            },
         }
     }
 }
