@@ -21,6 +21,7 @@ use Rattle.bson.specs.Raw.{tree_names}
 use Rattle.bson.specs.FirstFault.{Behind, WrongScalar, TooDeep, WrongElement, wrong_type, wrong_name, wrong_here, wrong_value, WrongPair, WrongItem, InFrame, WrongFrame, wrong_count, wrong_end, wrong_in, WrongValue, WrongDocument, wrong_length, wrong_last, wrong_inside, FirstFault}
 use Rattle.bson.proofs.FrameLaws.{done, Takes, Takes-then, name_takes, content_takes, ended_takes}
 use Rattle.bson.proofs.TreeLaws.{Reads, IsBytes-rest, element_takes, item_takes, value_reads, length_takes, document_again}
+use Rattle.bson.proofs.ReadLoopLaws.{element_shorter, item_shorter}
 use Rattle.bson.proofs.FaultLaws.{fault_no}
 use Rattle.bson.proofs.CheckLaws.{tree_names-append, Lacks-from_names}
 
@@ -399,3 +400,49 @@ is_fault bytes (Err e) fits given = λ not_memory. (
 
 pub raw_fault : (bytes : List ℕ) (e : BsonFault) → IsBytes bytes → document_at bytes ≡ Err e → FirstFault bytes e × HasNoDocument bytes
 raw_fault bytes e fits failed = is_fault bytes (Err e) fits (λ no_memory. failed) (fault_no bytes e failed)
+
+-- ---- the bound on the number of elements is never met
+
+pairs_bound : (more m n : ℕ) (earlier : List (List ℕ)) (bytes : List ℕ) → IsBytes bytes → length bytes ≤ m → length bytes ≤ n → pairs_by (value_at more) m earlier bytes ≡ pairs_by (value_at more) n earlier bytes
+unfolding pairs_by
+pairs_bound more zero zero earlier [] fits le le2 = refl
+pairs_bound more zero (suc n) earlier [] fits le le2 = refl
+pairs_bound more (suc m) zero earlier [] fits le le2 = refl
+pairs_bound more (suc m) (suc n) earlier [] fits le le2 = refl
+pairs_bound more zero n earlier (type ∷ bytes) fits le le2 = absurd (omega arith)
+pairs_bound more (suc m) zero earlier (type ∷ bytes) fits le le2 = absurd (omega arith)
+pairs_bound more (suc m) (suc n) earlier (type ∷ bytes) fits le le2 =
+    by (element_by (value_at more) (stands_in earlier) faults.Repeated type bytes) (λ x e.
+    let first = element_takes (value_at more) more (value_reads more) (stands_in earlier) faults.Repeated type bytes x (IsBytes-rest type bytes fits) e in
+    let lt = element_shorter more (stands_in earlier) faults.Repeated type bytes x.0.0 x.0.1 x.1 (IsBytes-rest type bytes fits) e in
+    pairs_bound more m n (earlier ++ x.0.0 ∷ []) x.1 first.0.takes.rest_fits (omega arith) (omega arith))
+  where
+    by : (r : Result Element BsonFault) → ((x : Element) → r ≡ Ok x → pairs_by (value_at more) m (earlier ++ x.0.0 ∷ []) x.1 ≡ pairs_by (value_at more) n (earlier ++ x.0.0 ∷ []) x.1)
+        → (r >>= λ first. pairs_by (value_at more) m (earlier ++ first.0.0 ∷ []) first.1 >>= λ others. Ok (pair first.0.0 first.0.1 others)) ≡ (r >>= λ first. pairs_by (value_at more) n (earlier ++ first.0.0 ∷ []) first.1 >>= λ others. Ok (pair first.0.0 first.0.1 others))
+    by (Ok x) later = ap (λ (o : Result Pairs BsonFault). o >>= λ others. Ok (pair x.0.0 x.0.1 others)) (later x refl)
+    by (Err e) later = refl
+
+items_bound : (more m n i : ℕ) (bytes : List ℕ) → IsBytes bytes → length bytes ≤ m → length bytes ≤ n → items_by (value_at more) m i bytes ≡ items_by (value_at more) n i bytes
+unfolding items_by
+items_bound more zero zero i [] fits le le2 = refl
+items_bound more zero (suc n) i [] fits le le2 = refl
+items_bound more (suc m) zero i [] fits le le2 = refl
+items_bound more (suc m) (suc n) i [] fits le le2 = refl
+items_bound more zero n i (type ∷ bytes) fits le le2 = absurd (omega arith)
+items_bound more (suc m) zero i (type ∷ bytes) fits le le2 = absurd (omega arith)
+items_bound more (suc m) (suc n) i (type ∷ bytes) fits le le2 =
+    by (item_by (value_at more) i type bytes) (λ x e.
+    let first = item_takes (value_at more) more (value_reads more) i type bytes x (IsBytes-rest type bytes fits) e in
+    let lt = item_shorter more i type bytes x.0 x.1 (IsBytes-rest type bytes fits) e in
+    items_bound more m n (i + 1) x.1 first.takes.rest_fits (omega arith) (omega arith))
+  where
+    by : (r : Read Tree) → ((x : Tree × List ℕ) → r ≡ Ok x → items_by (value_at more) m (i + 1) x.1 ≡ items_by (value_at more) n (i + 1) x.1)
+        → (r >>= λ first. items_by (value_at more) m (i + 1) first.1 >>= λ others. Ok (item first.0 others)) ≡ (r >>= λ first. items_by (value_at more) n (i + 1) first.1 >>= λ others. Ok (item first.0 others))
+    by (Ok x) later = ap (λ (o : Result Items BsonFault). o >>= λ others. Ok (item x.0 others)) (later x refl)
+    by (Err e) later = refl
+
+pub pairs_unbounded : (more most : ℕ) (content : List ℕ) → IsBytes content → length content ≤ most → pairs_by (value_at more) most [] content ≡ pairs_in (value_at more) content
+pairs_unbounded more most content fits le = pairs_bound more most (length content) [] content fits le (omega arith)
+
+pub items_unbounded : (more most : ℕ) (content : List ℕ) → IsBytes content → length content ≤ most → items_by (value_at more) most 0 content ≡ items_in (value_at more) content
+items_unbounded more most content fits le = items_bound more most (length content) 0 content fits le (omega arith)
