@@ -59,11 +59,11 @@ array_passed more bytes content u h c e =
 
 -- ---- documents
 
-tree_names-append : (ps : Pairs) (name : List ℕ) (t : Tree) → tree_names (append ps (pair name t no_pairs)) ≡ tree_names ps ++ name ∷ []
+pub tree_names-append : (ps : Pairs) (name : List ℕ) (t : Tree) → tree_names (append ps (pair name t no_pairs)) ≡ tree_names ps ++ name ∷ []
 tree_names-append no_pairs name t = refl
 tree_names-append (pair other u ps) name t = ap (λ (ns : List (List ℕ)). other ∷ ns) (tree_names-append ps name t)
 
-Lacks-from_names : (ps : Pairs) (name : List ℕ) → stands_in (tree_names ps) name ≡ false → Lacks ps name
+pub Lacks-from_names : (ps : Pairs) (name : List ℕ) → stands_in (tree_names ps) name ≡ false → Lacks ps name
 Lacks-from_names no_pairs name e = tt
 Lacks-from_names (pair other t ps) name e =
     let parts = or_false (bytes_eq name other) (stands_in (tree_names ps) name) e in

@@ -8,4 +8,6 @@ pub mod WriteLoopLaws
 pub mod FaultLaws
 pub mod RawLaws
 pub mod CheckLaws
+pub mod FirstFaultLaws
+pub mod SeenLaws
 pub mod BuildLaws

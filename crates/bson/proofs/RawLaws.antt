@@ -9,14 +9,13 @@ use Rattle.bson.specs.declared.kind.Kind.{Kind}
 use Rattle.bson.specs.Tree.{Scalar, text, binary, object_id, boolean, date, null, int32, timestamp, int64, min_key, max_key, Tree, scalar, document, array, Pairs, no_pairs, pair}
 use Rattle.bson.specs.Kinds.{kind}
 use Rattle.bson.specs.Lawful.{IsBytes, IsScalar, IsTree}
-use Rattle.bson.specs.Spelling.{Spells, HasNoDocument, scalar_bytes, frame_of, element, type_byte, tree_bytes, pairs_bytes, items_bytes}
+use Rattle.bson.specs.Spelling.{Spells, scalar_bytes, frame_of, element, type_byte, tree_bytes, pairs_bytes, items_bytes}
 use Rattle.bson.specs.SizingLaws.{frame_of-length, element-length, pairs_bytes-none, pairs_bytes-pair}
-use Rattle.bson.specs.Reading.{kind_of, name_at, stands_in, value_at, document_at, FirstFault}
+use Rattle.bson.specs.Reading.{kind_of, name_at, stands_in, value_at, document_at}
 use Rattle.bson.specs.Lookup.{lookup}
 use Rattle.bson.specs.Raw.{tree_names, pairs_or_none, pairs_spelled, Elements, IsFirst, number_at, len_at, value_or_null, value_spelled, SpellsValue, document_or_none, document_spelled, only_length, only_document}
 use Rattle.bson.proofs.FrameLaws.{ok_is, wide32, name_again, kind_again}
-use Rattle.bson.proofs.TreeLaws.{value_reads, AreNew-none, pairs_again, document_takes, document_again, is_fault}
-use Rattle.bson.proofs.FaultLaws.{fault_no}
+use Rattle.bson.proofs.TreeLaws.{value_reads, AreNew-none, pairs_again, document_takes, document_again}
 
 -- ---- what elements spell
 
@@ -216,6 +215,3 @@ raw_found bytes n fits e =
 -- what is spelled at the front is what reading found
 pub raw_only : (bytes front rest : List ℕ) (ps : Pairs) → Spells front ps → bytes ≡ front ++ rest → only_document (document_at bytes) ≡ Ok ps
 raw_only bytes front rest ps s e = ap (λ (xs : List ℕ). only_document (document_at xs)) e ∙ ap only_document (document_again front ps rest s)
-
-pub raw_fault : (bytes : List ℕ) (e : BsonFault) → document_at bytes ≡ Err e → FirstFault bytes e × HasNoDocument bytes
-raw_fault bytes e failed = is_fault bytes (Err e) (λ no_memory. failed) (fault_no bytes e failed)

@@ -1,12 +1,12 @@
 -- The two laws: what is read is spelled so, and what is spelled so is read.
 use Rattle.std.proofs.Common.{◌≡◌, ◌≢◌, ◌⊎◌, ℕ, zero, suc, ◌+◌, ◌-◌, ◌%◌, ◌^◌, ◌<◌, ◌≤◌, Bool, true, false, not, ltb, List, [], ◌∷◌, ◌++◌, length, take, drop, Result, Ok, Err, refl, sym, ap, subst, ◌∙◌, append_assoc, arith, inl, inr}
-use Rattle.std.specs.Prelude.{IfOk, IfErr}
+use Rattle.std.specs.Prelude.{IfOk}
 use Rattle.std.specs.Str.{bytes_eq}
 use Rattle.std.specs.List.{list_any}
 use Rattle.std.specs.Fmt.{decimal}
 use Rattle.std.specs.Int.{w32, to_le_bytes, from_le_bytes}
 use Rattle.bson.specs.Limits.{message_limit}
-use Rattle.std.proofs.lemmas.List.{length-append, length-take, take_at, take-append-drop}
+use Rattle.std.proofs.lemmas.List.{length-append, length-take, take_at}
 use Rattle.std.proofs.lemmas.Bool.{ltb-false, le-ltb}
 use Rattle.std.proofs.lemmas.List.Folds.{list_any-append}
 use Rattle.std.proofs.lemmas.Str.{IsUtf8-from_ascii}
@@ -19,9 +19,9 @@ use Rattle.bson.specs.declared.kind.Kind.TheVariants as kinds
 use Rattle.bson.specs.Tree.{Scalar, text, binary, object_id, boolean, date, null, int32, timestamp, int64, min_key, max_key, Tree, scalar, document, array, Pairs, no_pairs, pair, Items, no_items, item}
 use Rattle.bson.specs.Kinds.{kind_byte, scalar_kind, kind}
 use Rattle.bson.specs.Lawful.{IsBytes, levels, pairs_levels, items_levels, NoZero, IsName, Lacks, IsScalar, IsTree, IsPairs, IsItems}
-use Rattle.bson.specs.Spelling.{Spells, HasNoDocument, scalar_bytes, frame_of, type_byte, element, tree_bytes, pairs_bytes, items_bytes}
+use Rattle.bson.specs.Spelling.{Spells, scalar_bytes, frame_of, type_byte, element, tree_bytes, pairs_bytes, items_bytes}
 use Rattle.bson.specs.Outcome.{◌>>=◌, Gives, unless}
-use Rattle.bson.specs.Reading.{Read, FirstFault, element_by, item_by, stands_in, is_no_index, kind_of, name_at, leaf, scalar_at, content_at, pairs_by, items_by, pairs_in, items_in, value_at, is_below, ended_at, length_at, document_at}
+use Rattle.bson.specs.Reading.{Read, element_by, item_by, stands_in, is_no_index, kind_of, name_at, leaf, scalar_at, content_at, pairs_by, items_by, pairs_in, items_in, value_at, is_below, ended_at, length_at, document_at}
 use Rattle.bson.proofs.FrameLaws.{or_false, is_below-false, not_below, bind_ok, unless_ok, done, ok_is, Takes, Takes-then, content_takes, content_again, name_takes, name_again, kind_again, kind_takes, front32, wide32, ended_takes, ended_again}
 use Rattle.bson.proofs.ScalarLaws.{scalar_takes, scalar_again}
 
@@ -429,17 +429,6 @@ is_found bytes (Err e) fits given = tt
 
 pub is_only : (bytes front rest : List ℕ) (ps : Pairs) (r : Result (Pairs × ℕ) BsonFault) → Gives faults.Memory (λ x. x) r (document_at bytes) → Spells front ps → bytes ≡ front ++ rest → Gives faults.Memory (λ x. x) r (Ok (ps, length front))
 is_only bytes front rest ps r given s e = subst (λ (read : Result (Pairs × ℕ) BsonFault). Gives faults.Memory (λ x. x) r read) (ap document_at e ∙ document_again front ps rest s) given
-
-pub is_fault : (bytes : List ℕ) (r : Result (Pairs × ℕ) BsonFault) → Gives faults.Memory (λ x. x) r (document_at bytes) → IfErr r (λ e. e ≢ faults.Memory → FirstFault bytes e × HasNoDocument bytes)
-is_fault bytes (Ok x) given = tt
-is_fault bytes (Err e) given = λ not_memory. (
-  record { found = given not_memory },
-  λ n ps s.
-      let again = document_again (take n bytes) ps (drop n bytes) s in
-      let whole : document_at bytes ≡ Ok (ps, length (take n bytes)) = ap document_at (sym (take-append-drop n bytes)) ∙ again in
-      let failed = given not_memory in
-      absurd cc,
-)
 
 -- a value has one spelling, and no document's spelling begins another's
 pub one_spelling : (a b x y : List ℕ) (ps qs : Pairs) → Spells a ps → Spells b qs → a ++ x ≡ b ++ y → (ps ≡ qs) × (a ≡ b)

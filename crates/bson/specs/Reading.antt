@@ -2,7 +2,7 @@
 -- further left decides: of an element first its type byte, then its name, then its value; of a value first its
 -- count, and whether that fits what is left of the document's content, then what the count is of. A document or
 -- array at level 101 is too deep whatever stands there.
-use Rattle.std.specs.Prelude.{◌≡◌, ℕ, zero, suc, ◌+◌, ◌-◌, ◌^◌, Bool, true, false, not, ◌||◌, ◌==◌, nat_lt, nat_le, if◌then◌else◌, List, [], ◌∷◌, ◌++◌, length, take, drop, slice_index, Result, Ok, Err}
+use Rattle.std.specs.Prelude.{ℕ, zero, suc, ◌+◌, ◌-◌, ◌^◌, Bool, true, false, not, ◌||◌, ◌==◌, nat_lt, nat_le, if◌then◌else◌, List, [], ◌∷◌, ◌++◌, length, take, drop, slice_index, Result, Ok, Err}
 use Rattle.std.specs.Int.{w32, w64, from_le_bytes, cast_signed}
 use Rattle.std.specs.Str.{is_utf8, bytes_eq}
 use Rattle.std.specs.List.{list_any, position_or_len}
@@ -224,7 +224,3 @@ document_at bytes = do
   content ← ended_at faults.Length (len - 5) (drop 4 bytes)
   ps ← pairs_in (value_at 99) content.0
   Ok (ps, len)
-
--- the first fault from the left
-pub record FirstFault (bytes : List ℕ) (fault : BsonFault) : Type 0 where
-  pub found : document_at bytes ≡ Err fault

@@ -1,11 +1,13 @@
 //! Laws of the definitions, as contracts of functions that do nothing; the numbers of faults and limits.
 
-ghost use Rattle.std.specs.Prelude.{◌≡◌, ◌≢◌, ◌<◌, ◌≤◌, ◌^◌, ◌++◌, ℕ, List, length, take, Ok, Err};
+ghost use Rattle.std.specs.Prelude.{◌≡◌, ◌≢◌, [], ◌<◌, ◌≤◌, ◌^◌, ◌++◌, ℕ, List, length, take, Ok, Err};
 ghost use Rattle.bson.specs.Tree.{Tree, Pairs};
 ghost use Rattle.bson.specs.Kinds.{kind};
 ghost use Rattle.bson.specs.Lawful.{IsBytes, IsTree, levels};
 ghost use Rattle.bson.specs.Spelling.{Spells, IsSpellable, tree_bytes};
-ghost use Rattle.bson.specs.Reading.{document_at};
+ghost use Rattle.bson.specs.FirstFault.{WrongDocument, Agrees, IsStill};
+ghost use Rattle.bson.specs.Reading.{value_at, pairs_by, items_by, pairs_in, items_in, document_at};
+ghost use Rattle.bson.specs.declared.fault.BsonFault.{BsonFault};
 ghost use Rattle.bson.specs.declared.fault.BsonFault.TheVariants as faults;
 ghost use Rattle.bson.specs.Faults.{bson_fault_number, build_fault_number, encode_fault_number};
 
@@ -62,4 +64,21 @@ pub fn reading_is_spelling()
 /// No bytes are the reason that memory runs out.
 pub fn no_bytes_want_memory()
     ensures { (bytes : List ℕ) → document_at bytes ≢ Err faults.Memory }
+{}
+
+/// What is wrong stays wrong at its place, whatever stands behind the bytes that were seen; unless a document or
+/// an array that is open there does not end with a zero any more, which is wrong further left.
+pub fn unseen_bytes_do_not_matter()
+    ensures { (bytes other : List ℕ) (place seen : ℕ) (fault : BsonFault) → IsBytes bytes
+        → WrongDocument bytes place seen fault → Agrees seen bytes other
+        → IsStill (WrongDocument other) place seen fault }
+{}
+
+/// The bound on the number of elements that ends the definition of reading is never met: a greater one
+/// changes nothing.
+pub fn elements_are_not_bounded()
+    ensures pairs { (more most : ℕ) (content : List ℕ) → IsBytes content → length content ≤ most
+        → pairs_by (value_at more) most [] content ≡ pairs_in (value_at more) content }
+    ensures items { (more most : ℕ) (content : List ℕ) → IsBytes content → length content ≤ most
+        → items_by (value_at more) most 0 content ≡ items_in (value_at more) content }
 {}

@@ -6,7 +6,8 @@ ghost use Rattle.bson.specs.Kinds.{kind};
 ghost use Rattle.bson.specs.View.{tree};
 ghost use Rattle.bson.specs.Lookup.{lookup};
 ghost use Rattle.bson.specs.Spelling.{Spells, HasNoDocument};
-ghost use Rattle.bson.specs.Reading.{document_at, FirstFault};
+ghost use Rattle.bson.specs.Reading.{document_at};
+ghost use Rattle.bson.specs.FirstFault.{FirstFault};
 ghost use Rattle.bson.specs.Raw.{only_document};
 ghost use Rattle.bson.specs.declared.fault.BsonFault.TheVariants as faults;
 
@@ -128,7 +129,10 @@ impl RawValue<'_> {
     {
         match read_value(alloc, MOST_LEVELS - 1, self.kind, self.bytes) {
             Ok((value, _)) => Ok(value),
-            Err(_) => Err(AllocError),
+            Err(fault) => match fault {
+                BsonFault::Memory => Err(AllocError),
+                _ => unreachable!(),
+            },
         }
     }
 }

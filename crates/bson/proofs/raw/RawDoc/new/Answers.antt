@@ -2,7 +2,8 @@ use Rattle.std.proofs.Common.{Ok, sym, ap, subst, ◌∙◌, arith}
 use Rattle.bson.specs.Spelling.{Spells}
 use Rattle.bson.specs.Raw.{only_document, document_spelled}
 use Rattle.bson.specs.Reading.{document_at}
-use Rattle.bson.proofs.RawLaws.{raw_found, raw_only, raw_fault, length_err}
+use Rattle.bson.proofs.RawLaws.{raw_found, raw_only, length_err}
+use Rattle.bson.proofs.FirstFaultLaws.{raw_fault}
 use Rattle.bson.proofs.FaultLaws.{fault_no}
 use Rattle.bson.proofs.raw.RawDoc.new.Goals as goal
 
@@ -29,7 +30,7 @@ returns-in-Err-clause-only c = λ front rest ps s e.
     ap only_document (sym (length_err (document_at c.args.bytes.now) c.in-Err.fault c.in-Err.ensures)) ∙ raw_only c.args.bytes.now front rest ps s e
 
 pub returns-in-Err-clause-fault : goal.returns-in-Err-clause-fault
-returns-in-Err-clause-fault c = raw_fault c.args.bytes.now c.in-Err.fault (length_err (document_at c.args.bytes.now) c.in-Err.fault c.in-Err.ensures)
+returns-in-Err-clause-fault c = raw_fault c.args.bytes.now c.in-Err.fault (λ i. omega (arith, c.type_inv.bytes i)) (length_err (document_at c.args.bytes.now) c.in-Err.fault c.in-Err.ensures)
 
 pub returns-in-Err-clause-memory : goal.returns-in-Err-clause-memory
 returns-in-Err-clause-memory c = fault_no c.args.bytes.now c.in-Err.fault (length_err (document_at c.args.bytes.now) c.in-Err.fault c.in-Err.ensures)
