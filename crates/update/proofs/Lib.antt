@@ -1,2 +1,3 @@
 pub mod StepLemmas
-pub mod StoredLemmas
+pub mod IdLemmas
+pub mod ArrayLemmas
