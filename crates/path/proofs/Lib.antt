@@ -1,4 +1,3 @@
 pub mod NameLemmas
 pub mod IndexLemmas
 pub mod WalkLemmas
-pub mod EditLemmas

@@ -7,4 +7,6 @@ pub mod Reach
 pub mod Place
 pub mod Edits
 pub mod Laws
+pub mod EditLaws
+pub mod PlaceLaws
 pub mod Rows

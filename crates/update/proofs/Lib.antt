@@ -1,2 +1,4 @@
 pub mod StepLemmas
-pub mod StoredLemmas
+pub mod IdLemmas
+pub mod ArrayLemmas
+pub mod LawLemmas

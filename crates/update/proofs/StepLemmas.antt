@@ -1,7 +1,7 @@
 -- Steps of loops that carry a value on: what is left begins with the element at hand.
 use Rattle.std.proofs.Common.{◌≡◌, ℕ, zero, suc, ◌+◌, ◌<◌, ◌≤◌, List, [], ◌∷◌, ◌++◌, length, drop, get_or, map, Result, Ok, Err, refl, sym, ap, ◌∙◌, arith, drop-cons}
 use Rattle.std.specs.Prelude.{◌≢◌}
-use Rattle.std.specs.Result.{IsErrAnd}
+use Rattle.std.specs.Result.{IsErrAnd, IfOk}
 use Rattle.std.proofs.lemmas.List.{drop_all}
 use Rattle.bson.specs.Tree.{Tree, Pairs, no_pairs, pair, Items, no_items, item, count, count_pairs, count_items}
 use Rattle.bson.specs.View.{tree, pairs_of, items_of}
@@ -56,3 +56,7 @@ map_step f xs i x lt is = ap (map f) (drop_step xs i x lt is)
 
 pub map_none : {X Y : Type 0} (f : X → Y) (xs : List X) (i : ℕ) → length xs ≤ i → map f (drop i xs) ≡ []
 map_none f xs i le = ap (map f) (drop_all i xs le)
+
+pub if_ok_map : {A E : Type 0} (r : Result A E) (P Q : A → Type 0) → ((a : A) → P a → Q a) → IfOk r P → IfOk r Q
+if_ok_map (Ok a) P Q f h = f a h
+if_ok_map (Err e) P Q f h = h

@@ -11,4 +11,5 @@ pub mod Operators
 pub mod Reading
 pub mod Applying
 pub mod Upserts
+pub mod Laws
 pub mod View

@@ -72,10 +72,13 @@ fn with_items(source: Array, values: &[Value]) -> Result<Value, Refusal>
     'values: for value in values {
         match array.push(value.copy()?) {
             Ok(()) => {}
+            Err(BuildFault::Deep) => return Err(Refusal::BadValue),
             Err(BuildFault::Memory) => return Err(Refusal::OutOfMemory),
-            Err(_) => return Err(Refusal::BadValue),
+            Err(BuildFault::Name) => unreachable!(),
+            Err(BuildFault::Repeated) => unreachable!(),
         }
     }
+    let _levels = array.levels();
     Ok(Value::Array(array))
 }
 

@@ -11,6 +11,7 @@ mod bounds;
 mod copying;
 mod edit;
 mod fields;
+pub mod laws;
 mod numbers;
 mod operators;
 mod reading;

@@ -6,6 +6,7 @@ ghost use Rattle.bson.specs.View.{tree};
 ghost use Rattle.path.specs.View.{Gives};
 ghost use Rattle.filter.specs.Matches.{is_equal};
 ghost use Rattle.value_order.specs.Order.{compare};
+ghost use Rattle.update.specs.Fronts.{MayStand};
 ghost use Rattle.update.specs.Replacements.{replace};
 ghost use Rattle.update.specs.Stored.{id_name, without, first_pair};
 
@@ -27,6 +28,7 @@ fn is_equal(a: &Value, b: &Value) -> bool
 
 /// A copy of the document with this `_id` first in place of its own.
 fn copy_with_id(alloc: Global, id: Option<&Value>, new: &Document) -> Result<Document, NoMemory>
+    requires { MayStand id_name (option_map (λ v. tree v.now) id) }
     ensures { IfOk result (λ d. d
         ≡ first_pair id_name (option_map (λ v. tree v.now) id.entry) (without new.now id_name)) }
 {
@@ -47,13 +49,10 @@ fn copy_with_id(alloc: Global, id: Option<&Value>, new: &Document) -> Result<Doc
 }
 
 /// A copy of the new document with the old one's `_id`. `ImmutableField` where it has another one.
-pub(crate) fn replace(
-    alloc: Global,
-    new: &Document,
-    old: &Document,
-) -> Result<Document, Refusal>
+pub(crate) fn replace(alloc: Global, new: &Document, old: &Document) -> Result<Document, Refusal>
     ensures { Gives (λ d. d) (replace new.now old.now) result }
 {
+    let (_new_levels, _old_levels) = (new.levels(), old.levels());
     let given = new.get(ID);
     let Some(kept) = old.get(ID) else {
         return Ok(copy_with_id(alloc, given, new)?);

@@ -78,7 +78,7 @@ pub fn names_fault(document: &Document) -> Option<Refusal>
 pub fn limits_fault(document: &Document, limit: u32) -> Option<Refusal>
     ensures { result ≡ limits_fault limit document.now }
 {
-    if limit as usize < document.encoded_len() {
+    if (limit as usize) < document.encoded_len() {
         return Some(Refusal::BSONObjectTooLarge);
     }
     if STORED_LEVELS <= document.levels() {
@@ -126,6 +126,7 @@ pub fn stored_fault(document: &Document, limit: u32) -> Option<Refusal>
 pub fn id_first(document: Document) -> Result<Document, NoMemory>
     ensures { IfOk result (λ d. d ≡ id_first document) }
 {
+    let _levels = document.levels();
     match document.position(ID) {
         None => Ok(document),
         Some(0) => Ok(document),

@@ -1,6 +1,6 @@
 use Rattle.std.proofs.Common.{◌∷◌}
 use Rattle.bson.specs.Tree.{document}
-use Rattle.path.proofs.EditLemmas.{cuts}
+use Rattle.path.specs.EditLaws.{cuts}
 use Rattle.path.proofs.laws.cuts_only_there.Goals as goal
 
 pub returns : goal.returns

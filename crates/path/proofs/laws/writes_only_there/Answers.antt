@@ -1,7 +1,7 @@
 use Rattle.std.proofs.Common.{Some, Ok, ◌∷◌, ap}
 use Rattle.bson.specs.Tree.{document}
 use Rattle.path.specs.Edits.{if_ok}
-use Rattle.path.proofs.EditLemmas.{writes}
+use Rattle.path.specs.EditLaws.{writes}
 use Rattle.path.proofs.laws.writes_only_there.Goals as goal
 
 pub returns : goal.returns

@@ -5,14 +5,18 @@ use Rattle.std.specs.Str.{bytes_eq}
 use Rattle.bson.specs.Tree.{Tree, scalar, null, document, array, Pairs, no_pairs, pair, Items, no_items, item}
 use Rattle.bson.specs.Lawful.{levels, IsTree, IsPairs, IsItems}
 use Rattle.bson.specs.Lookup.{lookup}
-use Rattle.bson.specs.Edits.{put, cut, items_len, item_at}
+use Rattle.bson.specs.Edits.{put, cut, items_len, item_at, with_item}
 use Rattle.bson.specs.EditsLaws.{lookup-put, lookup-put_other, lookup-cut, lookup-cut_other, item_at-with_item, item_at-with_item_other}
 use Rattle.path.specs.declared.refusal.Refusal.{Refusal}
 use Rattle.path.specs.declared.refusal.Refusal.TheVariants as refusals
 use Rattle.path.specs.Parts.{index_of}
 use Rattle.path.specs.Edits.{if_ok, within, put_item, write_field, write_item, write, put_or_cut, cut_found, cut_field, with_found, cut_item, cut_off}
 use Rattle.path.specs.Laws.{names, with_name, without_name, names_left, WritesField, WritesItem, WritesItemAt, Writes, Made, CutsField, CutsItem, CutsItemAt, Cuts}
-use Rattle.path.proofs.IndexLemmas.{items_len-with_item}
+
+items_len-with_item : (ts : Items) (i : ℕ) (u : Tree) → items_len (with_item ts i u) ≡ items_len ts
+items_len-with_item no_items i u = refl
+items_len-with_item (item t ts) zero u = refl
+items_len-with_item (item t ts) (suc i) u = ap suc (items_len-with_item ts i u)
 
 -- ---- what was put
 
@@ -54,7 +58,7 @@ items_len-put (item t ts) (suc i) u = omega (arith, items_len-put ts i u)
 
 -- ---- an answer that was given
 
-within_ok : (most : ℕ) (r : Result Tree Refusal) (u : Tree) → within most r ≡ Ok u → r ≡ Ok u
+pub within_ok : (most : ℕ) (r : Result Tree Refusal) (u : Tree) → within most r ≡ Ok u → r ≡ Ok u
 within_ok most (Err e) u is = absurd cc
 within_ok most (Ok t) u is = by (nat_le (levels t) most) is
   where
@@ -62,7 +66,7 @@ within_ok most (Ok t) u is = by (nat_le (levels t) most) is
     by true is = is
     by false is = absurd cc
 
-if_ok_value : {A B : Type 0} (r : Result A Refusal) (f : A → Result B Refusal) (b : B) → if_ok r f ≡ Ok b → (a : A) × (r ≡ Ok a) × (f a ≡ Ok b)
+pub if_ok_value : {A B : Type 0} (r : Result A Refusal) (f : A → Result B Refusal) (b : B) → if_ok r f ≡ Ok b → (a : A) × (r ≡ Ok a) × (f a ≡ Ok b)
 if_ok_value (Ok a) f b is = (a, refl, is)
 if_ok_value (Err e) f b is = absurd cc
 

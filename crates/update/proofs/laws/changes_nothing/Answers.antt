@@ -1,0 +1,5 @@
+use Rattle.update.proofs.LawLemmas.{changes_nothing}
+use Rattle.update.proofs.laws.changes_nothing.Goals as goal
+
+pub returns : goal.returns
+returns c = changes_nothing

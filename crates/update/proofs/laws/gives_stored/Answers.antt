@@ -1,0 +1,5 @@
+use Rattle.update.proofs.LawLemmas.{gives_stored}
+use Rattle.update.proofs.laws.gives_stored.Goals as goal
+
+pub returns : goal.returns
+returns c = gives_stored

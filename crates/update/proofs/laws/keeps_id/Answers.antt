@@ -1,0 +1,5 @@
+use Rattle.update.proofs.LawLemmas.{keeps_id}
+use Rattle.update.proofs.laws.keeps_id.Goals as goal
+
+pub returns : goal.returns
+returns c = keeps_id

@@ -1,0 +1,5 @@
+use Rattle.update.proofs.LawLemmas.{keeps_others}
+use Rattle.update.proofs.laws.keeps_others.Goals as goal
+
+pub returns : goal.returns
+returns c = keeps_others

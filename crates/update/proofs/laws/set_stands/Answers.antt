@@ -1,0 +1,5 @@
+use Rattle.update.proofs.LawLemmas.{set_stands}
+use Rattle.update.proofs.laws.set_stands.Goals as goal
+
+pub returns : goal.returns
+returns c = set_stands
