@@ -81,7 +81,7 @@ pub fn limits_fault(document: &Document, limit: u32) -> Option<Refusal>
     if (limit as usize) < document.encoded_len() {
         return Some(Refusal::BSONObjectTooLarge);
     }
-    if STORED_LEVELS <= document.levels() {
+    if STORED_LEVELS < document.levels() {
         return Some(Refusal::BadValue);
     }
     None
