@@ -8,7 +8,7 @@ use clap::error::ErrorKind;
 use clap::{Arg, ArgAction, Command};
 use engine::ConnId;
 use op_msg::FrameFault;
-use page::{Disk, FileDisk};
+use page::{Disk, FileDisk, FileFault};
 use roots::{Config, OpenFault};
 use std::alloc::Global;
 use std::fs::File;
@@ -33,6 +33,9 @@ pub enum ProgramFault {
     /// The file can't be opened as a database.
     #[error("{}", .0.name())]
     Open(OpenFault),
+    /// Another process has the file open.
+    #[error("Locked")]
+    Locked,
     /// Memory ran out.
     #[error("Memory")]
     Memory,
@@ -53,6 +56,7 @@ impl ProgramFault {
         match self {
             ProgramFault::Usage => 2,
             ProgramFault::Open(_)
+            | ProgramFault::Locked
             | ProgramFault::Memory
             | ProgramFault::Device
             | ProgramFault::Stopped
@@ -90,8 +94,10 @@ fn run_words<R: AllocGlobal + Files<File = File>>(
     output: &mut impl Write,
 ) -> Result<(), ProgramFault> {
     let file = read_words(rt.alloc(), words)?;
-    let Ok(disk) = FileDisk::open(rt, &file, true) else {
-        return Err(ProgramFault::Open(OpenFault::Device));
+    let disk = match FileDisk::open(rt, &file, true) {
+        Ok(disk) => disk,
+        Err(FileFault::Locked) => return Err(ProgramFault::Locked),
+        Err(FileFault::Device) => return Err(ProgramFault::Open(OpenFault::Device)),
     };
     match Core::open(rt.alloc(), disk, CONFIG) {
         Ok(mut core) => exec(rt.alloc(), &mut core, input, output),
