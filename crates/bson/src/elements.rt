@@ -1,11 +1,12 @@
 //! Elements of bytes that are known to spell a document.
 
-ghost use Rattle.std.specs.Prelude.{◌≡◌, ◌^◌, ◌<◌, ◌≤◌, length, MatchOption};
+ghost use Rattle.std.specs.Prelude.{◌≡◌, ◌^◌, ◌<◌, ◌≤◌, length, MatchOption, option_map};
+ghost use Rattle.bson.specs.RawNames.{next_name};
 ghost use Rattle.bson.specs.Tree.{no_pairs};
 ghost use Rattle.bson.specs.Reading.{stands_in};
 ghost use Rattle.bson.specs.Raw.{tree_names, pairs_spelled, Elements, IsFirst, number_at, len_at};
 
-use crate::frames::read_name;
+use crate::frames::{first_zero, read_name};
 use crate::kind::Kind;
 use crate::scalars::read_kind;
 
@@ -42,6 +43,27 @@ fn value_len(kind: Kind, bytes: &[u8]) -> usize
         Kind::Date | Kind::Timestamp | Kind::Int64 => 8,
         Kind::Null | Kind::MinKey | Kind::MaxKey => 0,
     }
+}
+
+/// The name of the first of some elements and the elements behind it, where one stands there. The name is not
+/// judged as text, and no value is looked into.
+pub(crate) fn next_name(elements: &[u8]) -> Option<(&[u8], &[u8])>
+    ensures { option_map (λ x. (x.0.now, x.1.now)) result ≡ next_name elements.now }
+{
+    let Some((type_byte, after)) = elements.split_first() else {
+        return None;
+    };
+    let Ok(kind) = read_kind(*type_byte) else {
+        return None;
+    };
+    let Some(end) = first_zero(after) else {
+        return None;
+    };
+    let (name, _) = after.split_at(end);
+    let (_, value) = after.split_at(end + 1);
+    let len = value_len(kind, value).min(value.len());
+    let (_, rest) = value.split_at(len);
+    Some((name, rest))
 }
 
 /// The first element, where there is one. It steps over the element's value without a look into it.
