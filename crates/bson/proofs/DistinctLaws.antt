@@ -1,7 +1,7 @@
 -- Names as they stand in elements: one more, those of pairs that are spelled, and names that ascend.
-use Rattle.std.proofs.Common.{◌≡◌, ◌≢◌, ◌⊎◌, ℕ, zero, suc, ◌+◌, ◌^◌, ◌<◌, ◌≤◌, Bool, true, false, not, Option, Some, None, List, [], ◌∷◌, ◌++◌, length, take, drop, Result, Ok, Err, refl, sym, ap, subst, ◌∙◌, append_assoc, arith, inl, inr}
+use Rattle.std.proofs.Common.{◌≡◌, ◌≢◌, ◌⊎◌, ℕ, zero, suc, ◌+◌, ◌^◌, ◌<◌, ◌≤◌, Bool, true, false, not, ◌||◌, Option, Some, None, List, [], ◌∷◌, ◌++◌, length, take, drop, Result, Ok, Err, refl, sym, ap, subst, ◌∙◌, append_assoc, arith, inl, inr}
 use Rattle.std.specs.Prelude.{IsTrue, nat_lt, nat_le, if◌then◌else◌}
-use Rattle.std.specs.Str.{is_utf8}
+use Rattle.std.specs.Str.{bytes_eq, is_utf8}
 use Rattle.std.specs.Ordering.{nat_cmp, is_le, ordering_reverse}
 use Rattle.std.specs.declared.cmp.Ordering.{Ordering}
 use Rattle.std.specs.declared.cmp.Ordering.TheVariants as orders
@@ -9,7 +9,7 @@ use Rattle.std.specs.Cmp.Lexicographic.{slice_cmp}
 use Rattle.std.specs.BTreeMap.Comparable.{le_lt_trans}
 use Rattle.std.proofs.lemmas.Cmp.{nat_list_cmp_total}
 use Rattle.std.proofs.lemmas.Bool.{cases_lt}
-use Rattle.std.proofs.lemmas.List.{length-append, length-drop, take_at, drop_at, nil_from_length}
+use Rattle.std.proofs.lemmas.List.{append-nil, length-append, length-drop, take_at, drop_at, nil_from_length}
 use Rattle.bson.specs.Reading.{zero_at, name_at, kind_of, stands_in}
 use Rattle.bson.specs.Outcome.{unless}
 use Rattle.bson.specs.Raw.{tree_names, len_at}
@@ -230,3 +230,30 @@ new_here content earlier bytes type known count front k x parts lawful short bef
     let all : names_in content ≡ tree_names front ++ x.0 ∷ names_in rest =
     ap names_in parts ∙ names_front front (type ∷ bytes) lawful short ∙ ap (λ (ns : List (List ℕ)). tree_names front ++ ns) (names_more (type ∷ bytes) (x.0, rest) next) in
     ap (λ (ps : Pairs). stands_in (tree_names ps) x.0) (pairs_spelled-is earlier front before) ∙ new (tree_names front) x.0 (names_in rest) all (omega (arith, counted, lt))
+
+names_none : names_in [] ≡ []
+unfolding names_by
+names_none = refl
+
+append-none : (ns : List (List ℕ)) → ns ++ [] ≡ ns
+append-none [] = refl
+append-none (n ∷ ns) = ap (λ (ms : List (List ℕ)). n ∷ ms) (append-none ns)
+
+-- the names of elements that spell pairs
+pub names_spelled : (elements : List ℕ) → Elements elements (pairs_spelled elements) → names_in elements ≡ tree_names (pairs_spelled elements)
+names_spelled elements e =
+    let ps = pairs_spelled elements in
+    let whole : elements ≡ pairs_bytes ps ++ [] = e.spelled ∙ sym (append-nil (pairs_bytes ps)) in
+    ap names_in whole ∙ names_front ps [] e.lawful (omega (arith, ap length e.spelled, e.short)) ∙ ap (λ (ns : List (List ℕ)). tree_names ps ++ ns) names_none ∙ append-none (tree_names ps)
+
+-- one more name that is another one, or is the one
+pub other_name : (bytes name other after : List ℕ) → Some (other, after) ≡ next_name bytes → stands_in (names_in bytes) name ≡ (bytes_eq name other || stands_in (names_in after) name)
+other_name bytes name other after e = ap (λ (ns : List (List ℕ)). stands_in ns name) (names_more bytes (other, after) (sym e))
+
+pub no_name : (bytes name : List ℕ) → None ≡ next_name bytes → stands_in (names_in bytes) name ≡ false
+unfolding names_by
+no_name [] name e = refl
+no_name (type ∷ bytes) name e = ap (λ (o : Option Named). stands_in (name_and (names_by (length bytes)) o) name) (sym e)
+
+pub after_shorter : (bytes other after : List ℕ) → Some (other, after) ≡ next_name bytes → length after < length bytes
+after_shorter bytes other after e = next_shorter bytes (other, after) (sym e)

@@ -1,7 +1,7 @@
 //! Elements of bytes that are known to spell a document.
 
 ghost use Rattle.std.specs.Prelude.{◌≡◌, ◌^◌, ◌<◌, ◌≤◌, length, MatchOption, option_map};
-ghost use Rattle.bson.specs.RawNames.{next_name};
+ghost use Rattle.bson.specs.RawNames.{next_name, names_in};
 ghost use Rattle.bson.specs.Tree.{no_pairs};
 ghost use Rattle.bson.specs.Reading.{stands_in};
 ghost use Rattle.bson.specs.Raw.{tree_names, pairs_spelled, Elements, IsFirst, number_at, len_at};
@@ -95,12 +95,19 @@ pub(crate) fn has_element(elements: &[u8], name: &str) -> bool
     requires { Elements elements.now (pairs_spelled elements.now) }
     ensures { result ≡ stands_in (tree_names (pairs_spelled elements.now)) name.now }
 {
+    has_name_in(elements, name.as_bytes())
+}
+
+/// Whether this name stands in these elements, whatever they are.
+fn has_name_in(elements: &[u8], name: &[u8]) -> bool
+    ensures { result ≡ stands_in (names_in elements.now) name.now }
+{
     let mut rest = elements;
-    'elements: while let Some(element) = split_element(rest) {
-        if name == element.name {
+    'elements: while let Some((other, after)) = next_name(rest) {
+        if name == other {
             return true;
         }
-        rest = element.rest;
+        rest = after;
     }
     false
 }
