@@ -77,9 +77,18 @@ pub record CheckedPairs (more : ℕ) (content rest : List ℕ) : Type 0 where
   pub lawful : IsPairs front
   pub depth : pairs_levels front ≤ more
 
-pub pairs_unchecked : (more : ℕ) (content : List ℕ) → IsBytes content → CheckedPairs more content content
+abbrev pub pairs_unchecked : (more : ℕ) (content : List ℕ) → IsBytes content → CheckedPairs more content content
 pairs_unchecked more content fits =
     record { front = no_pairs; so_far = pairs_start more content fits; parts = ap (λ (x : List ℕ). x ++ content) (sym pairs_bytes-none); lawful = tt; depth = omega arith }
+
+-- and so many of them
+pub record CountedPairs (more : ℕ) (content rest : List ℕ) (count : ℕ) : Type 0 where
+  pub checked : CheckedPairs more content rest
+  pub counted : count ≡ length (tree_names checked.front)
+  pub within : count + length rest ≤ length content
+
+pub pairs_uncounted : (more : ℕ) (content : List ℕ) → IsBytes content → CountedPairs more content content 0
+pairs_uncounted more content fits = record { checked = pairs_unchecked more content fits; counted = refl; within = omega arith }
 
 pub rest_within : (more : ℕ) (content rest : List ℕ) → CheckedPairs more content rest → length rest ≤ length content
 rest_within more content rest k = omega (arith, ap length k.parts, length-append (pairs_bytes k.front) rest)
@@ -98,7 +107,7 @@ module _ (more : ℕ) (content rest earlier : List ℕ) (type : ℕ) (bytes : Li
   same_read : element_by (value_at more) (stands_in (tree_names (pairs_spelled earlier))) faults.Repeated type bytes ≡ element_by (value_at more) (stands_in (tree_names k.front)) faults.Repeated type bytes
   same_read = ap (λ (ps : Pairs). element_by (value_at more) (stands_in (tree_names ps)) faults.Repeated type bytes) (pairs_spelled-is earlier k.front before)
 
-  pub pair_checked : (after : List ℕ) → rest_of (element_by (value_at more) (stands_in (tree_names (pairs_spelled earlier))) faults.Repeated type bytes) ≡ Ok after → CheckedPairs more content after × (length after < length rest)
+  pub pair_checked : (after : List ℕ) → rest_of (element_by (value_at more) (stands_in (tree_names (pairs_spelled earlier))) faults.Repeated type bytes) ≡ Ok after → (next : CheckedPairs more content after) × (length after < length rest) × (length (tree_names next.front) ≡ length (tree_names k.front) + 1)
   pair_checked after e =
       let found = rest_ok (element_by (value_at more) (stands_in (tree_names k.front)) faults.Repeated type bytes) after (ap rest_of (sym same_read) ∙ e) in
       let name = found.0.0 in
@@ -117,12 +126,19 @@ module _ (more : ℕ) (content rest earlier : List ℕ) (type : ℕ) (bytes : Li
           depth = omega (arith, pairs_levels-append k.front (pair name t no_pairs), k.depth, r.0.depth);
         },
         omega (arith, size, length-append (element (type_byte t) name (tree_bytes t)) after),
+        ap length (tree_names-append k.front name t) ∙ length-append (tree_names k.front) (name ∷ []),
       )
 
   pub pair_refused : (f : BsonFault) → rest_of (element_by (value_at more) (stands_in (tree_names (pairs_spelled earlier))) faults.Repeated type bytes) ≡ Err f → outcome_of (pairs_in (value_at more) content) ≡ Err f
   pair_refused f e =
       let failed = rest_err (element_by (value_at more) (stands_in (tree_names k.front)) faults.Repeated type bytes) f (ap rest_of (sym same_read) ∙ e) in
       ap outcome_of (pairs_stop f more k.front (tree_names k.front) type bytes (pairs_in (value_at more) content) at_front failed)
+
+  pub pair_counted : (count : ℕ) (after : List ℕ) → count ≡ length (tree_names k.front) → count + length rest ≤ length content
+      → rest_of (element_by (value_at more) (stands_in (tree_names (pairs_spelled earlier))) faults.Repeated type bytes) ≡ Ok after → CountedPairs more content after (count + 1)
+  pair_counted count after counted within e =
+      let next = pair_checked after e in
+      record { checked = next.0; counted = omega (arith, counted, next.2); within = omega (arith, within, next.1) }
 
 pub pairs_passed : (more : ℕ) (content rest : List ℕ) → CheckedPairs more content rest → length rest ≡ 0 → outcome_of (pairs_in (value_at more) content) ≡ Ok tt
 pairs_passed more content rest k none =

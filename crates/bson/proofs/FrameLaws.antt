@@ -3,6 +3,7 @@ use Rattle.std.proofs.Common.{◌≡◌, ◌⊎◌, ℕ, ℤ, zero, suc, ◌+◌
 use Rattle.std.specs.Prelude.{IsUtf8, FitsSigned, nat_le}
 use Rattle.std.specs.Str.{is_utf8}
 use Rattle.std.specs.Int.{Width, w32, w64, byte_len, from_le_bytes, to_le_bytes, cast_signed, cast_unsigned}
+use Rattle.std.proofs.lemmas.Grind.{common_steps}
 use Rattle.std.proofs.lemmas.Bool.{cases_lt, ltb-false, le-ltb, eqb-true}
 use Rattle.std.proofs.lemmas.Int.{ints}
 use Rattle.std.proofs.lemmas.List.{take_at, drop_at, take-append-drop, length-append, length-take, get_or-drop, get_or-take, get_or_past, get_or_at, drop_more}
@@ -252,6 +253,9 @@ zero_at-NoZero (suc b ∷ bs) rest h =
     let test : eqb (suc b) 0 ≡ false = eqb-suc b in
     let step : zero_at ((suc b ∷ bs) ++ 0 ∷ rest) ≡ 1 + zero_at (bs ++ 0 ∷ rest) = ap (λ (t : Bool). cond (not t) (1 + zero_at (bs ++ 0 ∷ rest)) 0) test in
     omega (arith, step, zero_at-NoZero bs rest h.1)
+
+pub zero_later : (b : ℕ) (bytes : List ℕ) → zero_at (suc b ∷ bytes) ≡ suc (zero_at bytes)
+zero_later b bytes = grind (arith, common_steps)
 
 pub name_takes : (bytes : List ℕ) (x : List ℕ × List ℕ) → IsBytes bytes → name_at bytes ≡ Ok x → Takes bytes (x.0 ++ 0 ∷ []) x.1 × IsName x.0
 unfolding name_at

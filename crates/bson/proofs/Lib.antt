@@ -7,6 +7,7 @@ pub mod FrontLaws
 pub mod WriteLoopLaws
 pub mod FaultLaws
 pub mod RawLaws
+pub mod DistinctLaws
 pub mod CheckLaws
 pub mod FirstFaultLaws
 pub mod SeenLaws

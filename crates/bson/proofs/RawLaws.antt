@@ -53,7 +53,7 @@ frame_len content rest short =
     let n = number_at-is (length content + 5) ((content ++ 0 ∷ []) ++ rest) (omega (arith, short, frame_of-length content)) in
     omega (arith, n, frame_of-length content)
 
-tree_len : (t : Tree) (rest : List ℕ) → IsTree t → length (tree_bytes t) < 2 ^ 31 → len_at (kind t) (tree_bytes t ++ rest) ≡ length (tree_bytes t)
+pub tree_len : (t : Tree) (rest : List ℕ) → IsTree t → length (tree_bytes t) < 2 ^ 31 → len_at (kind t) (tree_bytes t ++ rest) ≡ length (tree_bytes t)
 unfolding tree_bytes len_at
 tree_len (scalar s) rest lawful short = scalar_len s rest lawful short
 tree_len (document ps) rest lawful short = frame_len (pairs_bytes ps) rest short

@@ -3,7 +3,6 @@
 use Rattle.std.proofs.Common.{◌≡◌, ℕ, zero, suc, ◌+◌, ◌<◌, ◌≤◌, Bool, true, false, not, List, [], ◌∷◌, ◌++◌, length, take, drop, Ok, Err, refl, sym, ap, subst, ◌∙◌, append_assoc, arith, inl, inr, ◌≢◌, ◌⊎◌, ◌-◌, ◌^◌, ltb, eqb, get_or, Result}
 use Rattle.std.specs.Prelude.{nat_le, slice_index, nat_lt}
 use Rattle.std.specs.Str.{is_utf8}
-use Rattle.std.proofs.lemmas.Grind.{common_steps}
 use Rattle.std.proofs.lemmas.List.{length-append, length-drop, take-append-drop, take_at, drop_at, drop-take, length-take, drop_more, get_or-take, get_or-drop, get_or_at, take_all}
 use Rattle.bson.specs.declared.fault.BsonFault.{BsonFault}
 use Rattle.bson.specs.declared.fault.BsonFault.TheVariants as faults
@@ -20,7 +19,7 @@ use Rattle.std.specs.Int.{w32, to_le_bytes, from_le_bytes}
 use Rattle.bson.specs.Limits.{message_limit}
 use Rattle.bson.specs.Lawful.{IsBytes}
 use Rattle.bson.specs.SizingLaws.{frame_of-length}
-use Rattle.bson.proofs.FrameLaws.{ok_is, cases_bool, wide32, not_below, is_below-false, count_again}
+use Rattle.bson.proofs.FrameLaws.{zero_later, ok_is, cases_bool, wide32, not_below, is_below-false, count_again}
 use Rattle.bson.proofs.TreeLaws.{length_takes}
 
 -- ---- lists that agree up to a place
@@ -75,9 +74,6 @@ behind_still n wrong place seen at upto fault e1 e2 (inr e) =
     inr (record { at = n + e.at; upto = n + e.upto; earlier = omega (arith, e.earlier, e1); stands = record { at = e.at; upto = e.upto; place_is = refl; seen_is = refl; inner = e.stands } })
 
 -- ---- names
-
-zero_later : (b : ℕ) (bytes : List ℕ) → zero_at (suc b ∷ bytes) ≡ suc (zero_at bytes)
-zero_later b bytes = grind (arith, common_steps)
 
 zero_same : (bytes other : List ℕ) → length other ≡ length bytes → take (suc (zero_at bytes)) other ≡ take (suc (zero_at bytes)) bytes → zero_at other ≡ zero_at bytes
 zero_same [] [] long front = refl

@@ -10,6 +10,7 @@ pub mod Limits
 pub mod Outcome
 pub mod Reading
 pub mod Raw
+pub mod RawNames
 pub mod FirstFault
 pub mod Writing
 pub mod Lookup

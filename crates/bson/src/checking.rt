@@ -1,13 +1,15 @@
 //! Whether bytes spell a document, found out without memory. Each function accepts what its namesake in
 //! `reading` accepts, with the same faults.
 
-ghost use Rattle.std.specs.Prelude.{◌≡◌, ◌^◌, ◌<◌, ◌≤◌, length};
+ghost use Rattle.std.specs.Prelude.{true, false, ℕ, List, Ok, ◌≡◌, ◌^◌, ◌<◌, ◌≤◌, length};
 ghost use Rattle.bson.specs.Outcome.{GivesExactly};
-ghost use Rattle.bson.specs.Reading.{leaf, scalar_at, value_at, element_by, item_by, stands_in, pairs_in, items_in, document_at};
+ghost use Rattle.bson.specs.Reading.{leaf, scalar_at, value_at, element_by, item_by, stands_in, kind_of, name_at, pairs_in, items_in, document_at};
+ghost use Rattle.bson.specs.declared.kind.Kind.{Kind};
 ghost use Rattle.bson.specs.Raw.{tree_names, pairs_spelled, Elements, rest_of, outcome_of, only_length};
 ghost use Rattle.bson.specs.declared.fault.BsonFault.TheVariants as faults;
 
 use crate::MOST_LEVELS;
+use crate::distinct::count_distinct;
 use crate::elements::has_element;
 use crate::fault::BsonFault;
 use crate::frames::{read_content, read_ended, read_fixed, read_name, read_text};
@@ -63,24 +65,39 @@ fn check_value(more: u32, kind: Kind, bytes: &[u8]) -> Result<&[u8], BsonFault>
     }
 }
 
+/// Whether a name stands among the elements before it, which are looked at where it isn't known to be new.
+fn is_repeated(is_new: bool, earlier: &[u8], name: &str) -> bool
+    requires earlier { Elements earlier.now (pairs_spelled earlier.now) }
+    requires new { is_new ≡ true → stands_in (tree_names (pairs_spelled earlier.now)) name.now ≡ false }
+    ensures { result ≡ stands_in (tree_names (pairs_spelled earlier.now)) name.now }
+{
+    if is_new {
+        return false;
+    }
+    has_element(earlier, name)
+}
+
 /// What is left behind an element of a document, after its type byte.
 #[cycle(checking)]
 #[tactic(auto, unfolding(crate::specs::Reading::element_by))]
 fn check_pair<'a>(
     more: u32,
+    is_new: bool,
     earlier: &[u8],
     type_byte: u8,
     bytes: &'a [u8],
 ) -> Result<&'a [u8], BsonFault>
     requires more { more ≤ 99 }
     requires earlier { Elements earlier.now (pairs_spelled earlier.now) }
+    requires new { is_new ≡ true → (k : Kind) (x : List ℕ × List ℕ) → kind_of type_byte ≡ Ok k
+        → name_at bytes.now ≡ Ok x → stands_in (tree_names (pairs_spelled earlier.now)) x.0 ≡ false }
     ensures { GivesExactly (λ r. r.now) result
         (rest_of (element_by (value_at more) (stands_in (tree_names (pairs_spelled earlier.now)))
         faults.Repeated type_byte bytes.now)) }
 {
     let kind = read_kind(type_byte)?;
     let (name, rest) = read_name(bytes)?;
-    if has_element(earlier, name) {
+    if is_repeated(is_new, earlier, name) {
         return Err(BsonFault::Repeated);
     }
     check_value(more, kind, rest)
@@ -102,18 +119,21 @@ fn check_item(more: u32, i: usize, type_byte: u8, bytes: &[u8]) -> Result<&[u8],
     check_value(more, kind, rest)
 }
 
-/// The elements of a document. Each name is looked for among the elements before it, which takes time in
-/// proportion to the square of their number.
+/// The elements of a document. Where their names don't ascend, each is looked for among the elements before it,
+/// which takes time in proportion to the square of their number.
 #[cycle(checking)]
 fn check_pairs(more: u32, content: &[u8]) -> Result<(), BsonFault>
     requires more { more ≤ 99 }
     requires short { length content.now < 2 ^ 31 }
     ensures { GivesExactly (λ u. u) result (outcome_of (pairs_in (value_at more) content.now)) }
 {
+    let distinct = count_distinct(content);
+    let mut count = 0usize;
     let mut rest = content;
     'pairs: while let Some((type_byte, after)) = rest.split_first() {
         let (earlier, _) = content.split_at(content.len() - rest.len());
-        rest = check_pair(more, earlier, *type_byte, after)?;
+        rest = check_pair(more, count < distinct, earlier, *type_byte, after)?;
+        count += 1;
     }
     Ok(())
 }

@@ -1,11 +1,12 @@
 //! Elements of bytes that are known to spell a document.
 
-ghost use Rattle.std.specs.Prelude.{◌≡◌, ◌^◌, ◌<◌, ◌≤◌, length, MatchOption};
+ghost use Rattle.std.specs.Prelude.{◌≡◌, ◌^◌, ◌<◌, ◌≤◌, length, MatchOption, option_map};
+ghost use Rattle.bson.specs.RawNames.{next_name, names_in};
 ghost use Rattle.bson.specs.Tree.{no_pairs};
 ghost use Rattle.bson.specs.Reading.{stands_in};
 ghost use Rattle.bson.specs.Raw.{tree_names, pairs_spelled, Elements, IsFirst, number_at, len_at};
 
-use crate::frames::read_name;
+use crate::frames::{first_zero, read_name};
 use crate::kind::Kind;
 use crate::scalars::read_kind;
 
@@ -44,6 +45,27 @@ fn value_len(kind: Kind, bytes: &[u8]) -> usize
     }
 }
 
+/// The name of the first of some elements and the elements behind it, where one stands there. The name is not
+/// judged as text, and no value is looked into.
+pub(crate) fn next_name(elements: &[u8]) -> Option<(&[u8], &[u8])>
+    ensures { option_map (λ x. (x.0.now, x.1.now)) result ≡ next_name elements.now }
+{
+    let Some((type_byte, after)) = elements.split_first() else {
+        return None;
+    };
+    let Ok(kind) = read_kind(*type_byte) else {
+        return None;
+    };
+    let Some(end) = first_zero(after) else {
+        return None;
+    };
+    let (name, _) = after.split_at(end);
+    let (_, value) = after.split_at(end + 1);
+    let len = value_len(kind, value).min(value.len());
+    let (_, rest) = value.split_at(len);
+    Some((name, rest))
+}
+
 /// The first element, where there is one. It steps over the element's value without a look into it.
 pub(crate) fn split_element(elements: &[u8]) -> Option<Element<'_>>
     requires { Elements elements.now (pairs_spelled elements.now) }
@@ -73,12 +95,19 @@ pub(crate) fn has_element(elements: &[u8], name: &str) -> bool
     requires { Elements elements.now (pairs_spelled elements.now) }
     ensures { result ≡ stands_in (tree_names (pairs_spelled elements.now)) name.now }
 {
+    has_name_in(elements, name.as_bytes())
+}
+
+/// Whether this name stands in these elements, whatever they are.
+fn has_name_in(elements: &[u8], name: &[u8]) -> bool
+    ensures { result ≡ stands_in (names_in elements.now) name.now }
+{
     let mut rest = elements;
-    'elements: while let Some(element) = split_element(rest) {
-        if name == element.name {
+    'elements: while let Some((other, after)) = next_name(rest) {
+        if name == other {
             return true;
         }
-        rest = element.rest;
+        rest = after;
     }
     false
 }

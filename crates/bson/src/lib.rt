@@ -8,6 +8,7 @@ mod array;
 mod binary;
 mod checking;
 mod copying;
+mod distinct;
 mod document;
 mod elements;
 mod fault;

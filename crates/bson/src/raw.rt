@@ -67,9 +67,9 @@ impl<'a> Model for RawValue<'a> {
 
 impl<'a> RawDoc<'a> {
     /// The document at the front of the input. It accepts exactly what `decode` accepts, with the same
-    /// faults, and takes no memory, so it never answers `Memory`. Without memory it looks for each name
-    /// among the elements before it: its time is in proportion to the bytes for documents of a few dozen
-    /// fields, and grows beyond that with the square of the number of fields of one document.
+    /// faults, and takes no memory, so it never answers `Memory`. Its time is in proportion to the bytes
+    /// where names ascend and for documents of a few dozen fields, and grows beyond that with the square
+    /// of the number of fields of one document, since each name is looked for among those before it.
     pub fn new(bytes: &'a [u8]) -> Result<RawDoc<'a>, BsonFault>
         // What the reading definition gives.
         ensures gives { result ≡ only_document (document_at bytes.now) }

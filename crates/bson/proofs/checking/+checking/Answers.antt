@@ -1,7 +1,10 @@
-use Rattle.std.proofs.Common.{arith, rules}
+use Rattle.std.proofs.Common.{ℕ, List, ◌++◌, length, ap, ◌∙◌, arith, rules}
+use Rattle.std.proofs.lemmas.Bool.{ltb-true}
+use Rattle.bson.specs.Spelling.{pairs_bytes}
+use Rattle.bson.proofs.DistinctLaws.{new_here}
 use Rattle.std.proofs.lemmas.Result.{err_from_is_err_and}
 use Rattle.bson.proofs.RawLaws.{Elements-spelled}
-use Rattle.bson.proofs.CheckLaws.{pairs_unchecked, before_rest, pair_checked, pair_refused, pairs_passed, items_unchecked, item_checked, item_refused, items_passed, document_refused, array_refused}
+use Rattle.bson.proofs.CheckLaws.{pairs_uncounted, pair_counted, before_rest, pair_checked, pair_refused, pairs_passed, items_unchecked, item_checked, item_refused, items_passed, document_refused, array_refused}
 use Rattle.bson.proofs.checking.+checking.Goals as goal
 
 -- ---- arrays
@@ -28,31 +31,42 @@ check_items-returns t c = items_passed c.args.more c.args.content.now c.items.re
 -- ---- documents
 
 pub check_pairs-pairs-init : goal.check_pairs-pairs-init
-check_pairs-pairs-init t c = pairs_unchecked c.args.more c.args.content.now (λ i. omega (arith, c.type_inv.content i))
+check_pairs-pairs-init t c = pairs_uncounted c.args.more c.args.content.now (λ i. omega (arith, c.type_inv.content i))
 
 pub check_pairs-check_pair-requires : goal.check_pairs-check_pair-requires
 check_pairs-check_pair-requires t c =
-    let before = before_rest c.args.more c.args.content.now c.pairs.rest.now c.split_at.result.0.now _ c.pairs.invariant (omega arith) c.split_at.ensures.front c.requires.more c.requires.short in
-    (search rules, (c.requires.more, Elements-spelled c.split_at.result.0.now c.pairs.invariant.front before))
+    let before = before_rest c.args.more c.args.content.now c.pairs.rest.now c.split_at.result.0.now _ c.pairs.invariant.checked (omega arith) c.split_at.ensures.front c.requires.more c.requires.short in (
+      search rules,
+      (
+        c.requires.more,
+        (
+          Elements-spelled c.split_at.result.0.now c.pairs.invariant.checked.front before,
+          λ known k x kinded read.
+              new_here c.args.content.now c.split_at.result.0.now c.in-Some.after.now c.in-Some.type_byte.now c.count_distinct-distinct.result c.pairs.count c.pairs.invariant.checked.front k x
+              (c.pairs.invariant.checked.parts ∙ ap (λ (xs : List ℕ). pairs_bytes c.pairs.invariant.checked.front ++ xs) c.in-Some.ensures.cases.0) c.pairs.invariant.checked.lawful
+              (omega (arith, ap length before.spelled, before.short)) before c.pairs.invariant.counted c.count_distinct-distinct.ensures (ltb-true c.pairs.count c.count_distinct-distinct.result known) kinded read,
+        ),
+      ),
+    )
 
 pub check_pairs-returns-in_err-rest : goal.check_pairs-returns-in_err-rest
 check_pairs-returns-in_err-rest t c =
     let p = err_from_is_err_and c.from_residual.result c.from_residual.ensures.1 in
-    let before = before_rest c.args.more c.args.content.now c.pairs.rest.now c.split_at.result.0.now _ c.pairs.invariant (omega arith) c.split_at.ensures.front c.requires.more c.requires.short in
-    rw (p.1, p.2) (pair_refused c.args.more c.args.content.now c.pairs.rest.now c.split_at.result.0.now c.in-Some.type_byte.now c.in-Some.after.now c.pairs.invariant c.in-Some.ensures.cases.0 before c.in_err-rest.field-0.0 c.in_err-rest.ensures)
+    let before = before_rest c.args.more c.args.content.now c.pairs.rest.now c.split_at.result.0.now _ c.pairs.invariant.checked (omega arith) c.split_at.ensures.front c.requires.more c.requires.short in
+    rw (p.1, p.2) (pair_refused c.args.more c.args.content.now c.pairs.rest.now c.split_at.result.0.now c.in-Some.type_byte.now c.in-Some.after.now c.pairs.invariant.checked c.in-Some.ensures.cases.0 before c.in_err-rest.field-0.0 c.in_err-rest.ensures)
 
 pub check_pairs-pairs-smaller : goal.check_pairs-pairs-smaller
 check_pairs-pairs-smaller t c =
-    let before = before_rest c.args.more c.args.content.now c.pairs.rest.now c.split_at.result.0.now _ c.pairs.invariant (omega arith) c.split_at.ensures.front c.requires.more c.requires.short in
-    (pair_checked c.args.more c.args.content.now c.pairs.rest.now c.split_at.result.0.now c.in-Some.type_byte.now c.in-Some.after.now c.pairs.invariant c.in-Some.ensures.cases.0 before c.in_ok-rest.rest.now c.in_ok-rest.ensures).1
+    let before = before_rest c.args.more c.args.content.now c.pairs.rest.now c.split_at.result.0.now _ c.pairs.invariant.checked (omega arith) c.split_at.ensures.front c.requires.more c.requires.short in
+    (pair_checked c.args.more c.args.content.now c.pairs.rest.now c.split_at.result.0.now c.in-Some.type_byte.now c.in-Some.after.now c.pairs.invariant.checked c.in-Some.ensures.cases.0 before c.in_ok-rest.rest.now c.in_ok-rest.ensures).1
 
 pub check_pairs-pairs-preserved : goal.check_pairs-pairs-preserved
 check_pairs-pairs-preserved t c =
-    let before = before_rest c.args.more c.args.content.now c.pairs.rest.now c.split_at.result.0.now _ c.pairs.invariant (omega arith) c.split_at.ensures.front c.requires.more c.requires.short in
-    (pair_checked c.args.more c.args.content.now c.pairs.rest.now c.split_at.result.0.now c.in-Some.type_byte.now c.in-Some.after.now c.pairs.invariant c.in-Some.ensures.cases.0 before c.in_ok-rest.rest.now c.in_ok-rest.ensures).0
+    let before = before_rest c.args.more c.args.content.now c.pairs.rest.now c.split_at.result.0.now _ c.pairs.invariant.checked (omega arith) c.split_at.ensures.front c.requires.more c.requires.short in
+    (pair_counted c.args.more c.args.content.now c.pairs.rest.now c.split_at.result.0.now c.in-Some.type_byte.now c.in-Some.after.now c.pairs.invariant.checked c.in-Some.ensures.cases.0 before c.pairs.count c.in_ok-rest.rest.now c.pairs.invariant.counted c.pairs.invariant.within c.in_ok-rest.ensures)
 
 pub check_pairs-returns : goal.check_pairs-returns
-check_pairs-returns t c = pairs_passed c.args.more c.args.content.now c.pairs.rest.now c.pairs.invariant c.in_default.ensures.cases
+check_pairs-returns t c = pairs_passed c.args.more c.args.content.now c.pairs.rest.now c.pairs.invariant.checked c.in_default.ensures.cases
 
 -- ---- values
 
@@ -65,3 +79,8 @@ pub check_value-returns-in_err-check_items-in-Array : goal.check_value-returns-i
 check_value-returns-in_err-check_items-in-Array t c =
     let p = err_from_is_err_and c.from_residual-in_err-check_items-in-Array.result c.from_residual-in_err-check_items-in-Array.ensures.1 in
     rw (p.1, p.2, c.in-Array.is) (array_refused c.in_err-check_items-in-Array.field-0.0 c.args.more c.args.bytes.now (c.in_ok-content-in-Array.content.now, c.in_ok-content-in-Array.rest.now) (omega arith) c.in_ok-content-in-Array.ensures.gives c.in_err-check_items-in-Array.ensures)
+
+-- ---- elements
+
+pub check_pair-is_repeated-requires-clause-new : goal.check_pair-is_repeated-requires-clause-new
+check_pair-is_repeated-requires-clause-new t c = λ known. c.requires.new known c.in_ok-kind.kind (c.in_ok-name.name.now, c.in_ok-name.rest.now) c.in_ok-kind.ensures c.in_ok-name.ensures

@@ -1,5 +1,5 @@
 use Rattle.std.proofs.Common.{◌+◌, ◌*◌, length}
-use Rattle.bson.proofs.CheckLaws.{CheckedPairs, CheckedItems}
+use Rattle.bson.proofs.CheckLaws.{CountedPairs, CheckedItems}
 use Rattle.bson.proofs.checking.+checking.Given as goal
 
 abbrev pub decreases-check_value : goal.decreases-check_value
@@ -18,7 +18,7 @@ abbrev pub decreases-check_pairs : goal.decreases-check_pairs
 decreases-check_pairs l = 3 * l.more + 2
 
 abbrev pub invariant-check_pairs-pairs : goal.invariant-check_pairs-pairs
-invariant-check_pairs-pairs l = CheckedPairs l.more l.content l.rest
+invariant-check_pairs-pairs l = CountedPairs l.more l.content l.rest l.count
 
 abbrev pub decreases-check_pairs-pairs : goal.decreases-check_pairs-pairs
 decreases-check_pairs-pairs l = length l.rest

@@ -1,0 +1,34 @@
+-- The names of elements as they stand, one behind the other: no name is judged as text, no value is looked into.
+use Rattle.std.specs.Prelude.{◌≡◌, ℕ, zero, suc, ◌+◌, ◌<◌, false, nat_lt, if◌then◌else◌, Option, Some, None, List, [], ◌∷◌, ◌++◌, length, take, drop, Result, Ok, Err}
+use Rattle.bson.specs.Reading.{zero_at, kind_of, stands_in}
+use Rattle.bson.specs.Raw.{len_at}
+use Rattle.bson.specs.declared.fault.BsonFault.{BsonFault}
+use Rattle.bson.specs.declared.kind.Kind.{Kind}
+
+-- behind a type byte: the name, and the elements behind the value
+abbrev pub name_of : Result Kind BsonFault → List ℕ → Option (List ℕ × List ℕ)
+name_of (Err e) bytes = None
+name_of (Ok k) bytes =
+    if nat_lt (zero_at bytes) (length bytes) then Some (take (zero_at bytes) bytes, drop (len_at k (drop (zero_at bytes + 1) bytes)) (drop (zero_at bytes + 1) bytes)) else None
+
+-- the first name, and the elements behind its own
+abbrev pub next_name : List ℕ → Option (List ℕ × List ℕ)
+next_name [] = None
+next_name (type ∷ bytes) = name_of (kind_of type) bytes
+
+abbrev pub name_and : (List ℕ → List (List ℕ)) → Option (List ℕ × List ℕ) → List (List ℕ)
+name_and others None = []
+name_and others (Some x) = x.0 ∷ others x.1
+
+-- at most so many
+unfoldable pub names_by : ℕ → List ℕ → List (List ℕ)
+names_by zero bytes = []
+names_by (suc most) bytes = name_and (names_by most) (next_name bytes)
+
+-- all of them
+abbrev pub names_in : List ℕ → List (List ℕ)
+names_in bytes = names_by (length bytes) bytes
+
+-- none of the first so many names stood before
+abbrev pub AreNew : ℕ → List (List ℕ) → Type 0
+AreNew n names = (earlier : List (List ℕ)) (name : List ℕ) (later : List (List ℕ)) → names ≡ earlier ++ name ∷ later → length earlier < n → stands_in earlier name ≡ false
