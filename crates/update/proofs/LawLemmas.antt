@@ -64,6 +64,7 @@ cut_keeps_id (name ∷ rest) ps b = found (lookup ps name)
     left : (w : Option Tree) → lookup (put_or_cut name ps w) id_name ≡ lookup ps id_name
     left None = lookup-cut_other ps name id_name (λ s. bytes_differ name id_name b (sym s))
     left (Some w) = lookup-put_other ps name id_name w (λ s. bytes_differ name id_name b (sym s))
+
     found : (o : Option Tree) → lookup (cut_found (cut_off rest) name ps o) id_name ≡ lookup ps id_name
     found None = refl
     found (Some t) = left (cut_off rest t)
@@ -122,6 +123,7 @@ editable name path e = by (begins_with_id got.0) refl got.2
   where
     got : (a : Path) × (path_in name ≡ Ok a) × (no_id a ≡ Ok path)
     got = if_ok_value (path_in name) no_id path e
+
     by : (b : Bool) → begins_with_id got.0 ≡ b → (if b then Err refusals.ImmutableField else Ok got.0) ≡ Ok path → begins_with_id path ≡ false
     by true p e = absurd cc
     by false p e = let same : got.0 ≡ path = ok_same e in ap begins_with_id (sym same) ∙ p
@@ -199,9 +201,11 @@ replaced_keeps new old qs t at e = by (lookup new id_name) (sym (ap (λ (o : Opt
   where
     kept : pair id_name t (without new id_name) ≡ qs → lookup qs id_name ≡ Some t
     kept same = ap (λ (x : Pairs). lookup x id_name) (sym same) ∙ lookup-first t (without new id_name)
+
     equal : (b : Bool) → (if b then Ok (pair id_name t (without new id_name)) else Err refusals.ImmutableField) ≡ Ok qs → lookup qs id_name ≡ Some t
     equal true e = kept (ok_same e)
     equal false e = absurd cc
+
     by : (o : Option Tree) → with_id t o new ≡ Ok qs → lookup qs id_name ≡ Some t
     by None e = kept (ok_same e)
     by (Some id) e = equal (is_equal (compare t id)) e
