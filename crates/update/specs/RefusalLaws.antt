@@ -1,6 +1,6 @@
 -- The refusals of an update that is applied, each of which is one of eight.
-use Rattle.std.proofs.Common.{◌≡◌, ℕ, suc, ◌+◌, Bool, true, false, List, [], ◌∷◌, length, Option, Some, None, Result, Ok, Err, refl, sym, ap, subst, ◌∙◌, inl, inr}
-use Rattle.std.specs.Prelude.{if◌then◌else◌, ◌⊎◌, ◌==◌, ◌+ℤ◌, ℤ, nat_lt, nat_le}
+use Rattle.std.proofs.Common.{◌≡◌, ℕ, suc, ◌+◌, Bool, true, false, List, [], ◌∷◌, length, Option, Some, None, Result, Ok, Err, refl, subst}
+use Rattle.std.specs.Prelude.{if◌then◌else◌, ◌==◌, ◌+ℤ◌, ℤ, nat_lt, nat_le}
 use Rattle.std.specs.List.{list_any}
 use Rattle.bson.specs.Tree.{Tree, scalar, int32 as int32_scalar, int64 as int64_scalar, document, array, Pairs, no_pairs, pair, Items, no_items, item, append_items}
 use Rattle.bson.specs.Lawful.{levels, pairs_levels}
@@ -21,9 +21,9 @@ use Rattle.update.specs.Numbers.{number_in, number_tree, fits_int32, fits_int64,
 use Rattle.update.specs.Bounds.{lowered, raised}
 use Rattle.update.specs.Arrays.{pushed, pulled, if_there}
 use Rattle.update.specs.Renames.{moved}
-use Rattle.update.specs.Replacements.{with_id, in_place_of, replace}
+use Rattle.update.specs.Replacements.{with_id, in_place_of}
 use Rattle.update.specs.Operators.{apply_action}
-use Rattle.update.specs.Applying.{apply_edit, apply_edits, changed, apply}
+use Rattle.update.specs.Applying.{apply_edit, apply_edits, changed}
 use Rattle.update.specs.Laws.{IsOfApplying, RefusesByName}
 
 err_same : {X : Type 0} {x y : Refusal} → ◌≡◌ {A = Result X Refusal} (Err x) (Err y) → x ≡ y

@@ -1,19 +1,19 @@
 -- The laws of updates, proved.
-use Rattle.std.proofs.Common.{◌≡◌, ◌≢◌, ℕ, suc, ◌≤◌, Bool, true, false, List, [], ◌∷◌, ◌++◌, length, Option, Some, None, Result, Ok, Err, refl, sym, ap, subst, ◌∙◌, arith, inl, inr}
+use Rattle.std.proofs.Common.{◌≡◌, ◌≢◌, ℕ, suc, Bool, true, false, List, [], ◌∷◌, ◌++◌, length, Option, Some, None, Result, Ok, Err, refl, sym, ap, subst, ◌∙◌, inl}
 use Rattle.std.specs.Prelude.{if◌then◌else◌, ◌||◌, nat_lt}
 use Rattle.std.specs.Option.{option_and_then}
-use Rattle.std.specs.List.{Contains, list_any}
+use Rattle.std.specs.List.{Contains}
 use Rattle.std.specs.Str.{bytes_eq}
 use Rattle.std.proofs.lemmas.Slice.Eq.{bytes_eq-Decides}
 use Rattle.std.proofs.lemmas.Bool.{ltb-false}
-use Rattle.bson.specs.Tree.{Tree, scalar, text, binary, object_id, boolean, date, null, int32, timestamp, int64, min_key, max_key, document, array, Pairs, no_pairs, pair, Items}
+use Rattle.bson.specs.Tree.{Tree, scalar, text, document, array, Pairs, no_pairs, pair, Items}
 use Rattle.bson.specs.Lawful.{pairs_levels}
 use Rattle.bson.specs.Lookup.{lookup}
-use Rattle.bson.specs.Edits.{put, cut, lookup-put_other, lookup-cut_other, lookup-absent}
+use Rattle.bson.specs.Edits.{put, lookup-put_other, lookup-cut_other}
 use Rattle.bson.specs.Spelling.{framed, pairs_bytes}
 use Rattle.path.specs.declared.refusal.Refusal.{Refusal}
 use Rattle.path.specs.declared.refusal.Refusal.TheVariants as refusals
-use Rattle.path.specs.Edits.{if_ok, within, write, write_at, set_at, put_or_cut, cut_found, cut_field, cut_off, cut_at}
+use Rattle.path.specs.Edits.{if_ok, within, write, write_at, set_at, put_or_cut, cut_found, cut_off, cut_at}
 use Rattle.path.specs.EditLaws.{if_ok_value}
 use Rattle.path.specs.Parts.{is_front, meets}
 use Rattle.path.specs.Place.{value_at, passes_array}
@@ -25,16 +25,16 @@ use Rattle.filter.specs.Elements.{read_element_condition}
 use Rattle.filter.specs.Matches.{is_equal}
 use Rattle.filter.specs.ProjectionReading.{begins_with_id}
 use Rattle.filter.specs.Reading.{path_in, has_operators}
-use Rattle.update.specs.Update.{Path, Number, Action, set, unset, increment, at_most, at_least, push, pull, rename, Edit, Update, replacement, edits, paths_with, paths_of, meets_any}
+use Rattle.update.specs.Update.{Path, Number, Action, set, unset, increment, at_most, at_least, push, pull, rename, Edit, Update, replacement, edits, paths_with, meets_any}
 use Rattle.update.specs.Stored.{id_name, without, first_pair, id_first, id_of, id_fault, no_array, or_else, fault_if, limits_fault, pairs_fault, stored_fault, unless, judged}
 use Rattle.update.specs.Numbers.{number_in}
 use Rattle.update.specs.Arrays.{items_to_push, if_there, pulled}
 use Rattle.update.specs.Renames.{moved}
 use Rattle.update.specs.Replacements.{with_id, in_place_of, replace}
 use Rattle.update.specs.Operators.{operator_of, no_id, editable_path, new_path, read_action, apply_action}
-use Rattle.update.specs.Reading.{conflicts, without_conflict, read_edit, read_edits, known_operator, operands_in, read_operator, read_operators, read_update}
-use Rattle.update.specs.Applying.{apply_edit, apply_edits, changed, apply}
-use Rattle.update.specs.Laws.{KeepsId, MeetsNothing, AllMeetNothing, ChangesNothing, IsPath, ArePaths, SetStands, KeepsOthers, IsStored, GivesStored}
+use Rattle.update.specs.Reading.{conflicts, without_conflict, read_edit, read_edits, known_operator, operands_in, read_operator, read_operators}
+use Rattle.update.specs.Applying.{apply_edit, apply_edits, changed}
+use Rattle.update.specs.Laws.{KeepsId, MeetsNothing, ChangesNothing, IsPath, ArePaths, SetStands, KeepsOthers, IsStored, GivesStored}
 use Rattle.update.specs.declared.operators.Operator.{Operator}
 use Rattle.update.specs.declared.operators.Operator.TheVariants as operators
 
