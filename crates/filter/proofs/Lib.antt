@@ -5,3 +5,4 @@ pub mod ProjectionLemmas
 pub mod StableSortLemmas
 pub mod SortLemmas
 pub mod TakenOutLemmas
+pub mod FirstKeyLemmas

@@ -81,7 +81,7 @@ in_direction-turned a b = by (key_cmp a b) ∙ sym (key_cmp_total.antisymm b a)
     by Equal = refl
     by Greater = refl
 
-directed_total : (descending : Bool) → IsTotalOrder (λ a b. in_direction descending (key_cmp a b))
+pub directed_total : (descending : Bool) → IsTotalOrder (λ a b. in_direction descending (key_cmp a b))
 directed_total false = key_cmp_total
 directed_total true = subst (λ (R : Key → Key → Ordering). IsTotalOrder R) (λ i a b. sym (in_direction-turned a b) i) (back_total key_cmp_total)
 

@@ -1,8 +1,9 @@
 -- What a projection leaves is no longer and nests no deeper.
-use Rattle.std.specs.Prelude.{◌≡◌, ℕ, zero, suc, ◌+◌, ◌/◌, ◌%◌, ◌≤◌, ◌==◌, not, if◌then◌else◌, Bool, true, false, Option, Some, None, List, [], ◌∷◌, length}
+use Rattle.std.specs.Prelude.{◌≡◌, ℕ, zero, suc, ◌+◌, ◌/◌, ◌%◌, ◌≤◌, ◌==◌, ◌||◌, not, if◌then◌else◌, Bool, true, false, Option, Some, None, List, [], ◌∷◌, length}
 use Rattle.std.specs.List.{list_any}
+use Rattle.std.specs.Str.{bytes_eq}
 use Rattle.std.specs.Fmt.{decimal, digits, digits_onto, digit_glyph}
-use Rattle.std.proofs.Common.{refl, ap, arith}
+use Rattle.std.proofs.Common.{refl, ap, ◌∙◌, arith}
 use Rattle.std.proofs.lemmas.Bool.{eqb-true, eqb-false}
 use Rattle.bson.specs.Tree.{Tree, scalar, document, array, Pairs, no_pairs, pair, Items, no_items, item}
 use Rattle.bson.specs.Lawful.{levels, pairs_levels, items_levels}
@@ -12,6 +13,19 @@ use Rattle.filter.specs.Projection.{Path, Projection, below, is_end, is_none, on
 
 abbrev pub NoLarger : Type 0
 NoLarger = (p : Projection) (ps : Pairs) → (length (pairs_bytes (project p ps)) ≤ length (pairs_bytes ps)) × (pairs_levels (project p ps) ≤ pairs_levels ps)
+
+-- the pairs of these names, in order
+abbrev pub named_pairs : List (List ℕ) → Pairs → Pairs
+named_pairs names no_pairs = no_pairs
+named_pairs names (pair name t ps) = if list_any (bytes_eq name) names then pair name t (named_pairs names ps) else named_pairs names ps
+
+abbrev pub paths_to : List (List ℕ) → List Path
+paths_to [] = []
+paths_to (name ∷ names) = (name ∷ []) ∷ paths_to names
+
+-- an inclusion of fields keeps exactly the fields of these names, whole and in order
+abbrev pub IncludesNamedFields : Type 0
+IncludesNamedFields = (names : List (List ℕ)) (ps : Pairs) → project (true, paths_to names) ps ≡ named_pairs names ps
 
 -- ---- a lesser number has no more digits
 
@@ -136,3 +150,53 @@ module _ (includes : Bool) where
 
 pub project_no_larger : NoLarger
 project_no_larger p ps = pairs-within p.0 p.1 ps
+
+-- ---- an inclusion of fields
+
+module _ (name : List ℕ) where
+  nothing_below : (names : List (List ℕ)) → list_any (bytes_eq name) names ≡ false → is_none (below name (paths_to names)) ≡ true
+  nothing_below [] e = refl
+  nothing_below (other ∷ names) e = by (bytes_eq name other) e (nothing_below names)
+    where
+      by : (b : Bool) → (b || list_any (bytes_eq name) names) ≡ false → (list_any (bytes_eq name) names ≡ false → is_none (below name (paths_to names)) ≡ true)
+          → is_none (if b then [] ∷ below name (paths_to names) else below name (paths_to names)) ≡ true
+      by true e later = absurd cc
+      by false e later = later e
+
+  ends_below : (names : List (List ℕ)) → list_any (bytes_eq name) names ≡ true
+      → (is_none (below name (paths_to names)) ≡ false) × (list_any is_end (below name (paths_to names)) ≡ true)
+  ends_below [] e = absurd cc
+  ends_below (other ∷ names) e = by (bytes_eq name other) e (ends_below names)
+    where
+      by : (b : Bool) → (b || list_any (bytes_eq name) names) ≡ true
+          → (list_any (bytes_eq name) names ≡ true → (is_none (below name (paths_to names)) ≡ false) × (list_any is_end (below name (paths_to names)) ≡ true))
+          → (is_none (if b then [] ∷ below name (paths_to names) else below name (paths_to names)) ≡ false)
+          × (list_any is_end (if b then [] ∷ below name (paths_to names) else below name (paths_to names)) ≡ true)
+      by true e later = (refl, refl)
+      by false e later = later e
+
+picked : (paths : List Path) (whole : Tree) (part : Option Tree) (a b : Bool) → is_none paths ≡ a → list_any is_end paths ≡ b
+    → pick true paths whole part ≡ (if a then None else if b then Some whole else part)
+picked paths whole part a b p q = λ i. if p i then None else if q i then Some whole else part
+
+of_tree-pick : (paths : List Path) (t : Tree) → (part : Option Tree) × (of_tree true paths t ≡ pick true paths t part)
+of_tree-pick paths (scalar s) = (only false (scalar s), refl)
+of_tree-pick paths (document ps) = (Some (document (of_pairs true paths ps)), refl)
+of_tree-pick paths (array ts) = (Some (array (of_items true paths ts)), refl)
+
+pub includes_named_fields : IncludesNamedFields
+includes_named_fields names no_pairs = refl
+includes_named_fields names (pair name t ps) = by (list_any (bytes_eq name) names) refl (includes_named_fields names ps)
+  where
+    chosen : (part : Option Tree) × (of_tree true (below name (paths_to names)) t ≡ pick true (below name (paths_to names)) t part)
+    chosen = of_tree-pick (below name (paths_to names)) t
+
+    by : (b : Bool) → list_any (bytes_eq name) names ≡ b → of_pairs true (paths_to names) ps ≡ named_pairs names ps
+        → add_pair name (of_tree true (below name (paths_to names)) t) (of_pairs true (paths_to names) ps) ≡ (if b then pair name t (named_pairs names ps) else named_pairs names ps)
+    by true e rest =
+        let found = ends_below name names e in
+        ap (λ (o : Option Tree). add_pair name o (of_pairs true (paths_to names) ps)) (chosen.1 ∙ picked (below name (paths_to names)) t chosen.0 false true found.0 found.1)
+        ∙ ap (pair name t) rest
+    by false e rest =
+        ap (λ (o : Option Tree). add_pair name o (of_pairs true (paths_to names) ps)) (chosen.1 ∙ picked (below name (paths_to names)) t chosen.0 true (list_any is_end (below name (paths_to names))) (nothing_below name names e) refl)
+        ∙ rest

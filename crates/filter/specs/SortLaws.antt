@@ -1,13 +1,15 @@
 -- A sort in its own words: the same documents, none below an earlier one, and those that tie in the order given.
-use Rattle.std.specs.Prelude.{List, [], ◌∷◌}
-use Rattle.std.specs.List.{AllByRecursion}
+use Rattle.std.specs.Prelude.{◌≡◌, Bool, false, List, [], ◌∷◌}
+use Rattle.std.specs.List.{AllByRecursion, Contains, flat_map}
 use Rattle.std.specs.List.Sorted.{IsPermutation, IsSorted, IsStable}
 use Rattle.std.specs.Cmp.{IsTotalOrder}
 use Rattle.std.specs.declared.cmp.Ordering.{Ordering}
 use Rattle.std.specs.declared.cmp.Ordering.TheVariants.{Less, Equal, Greater}
 use Rattle.std.proofs.lemmas.List.Sorted.{IsPermutation-refl, IsPermutation-trans, IsPermutation-cons, IsPermutation-insert}
-use Rattle.bson.specs.Tree.{Pairs}
-use Rattle.filter.specs.Sort.{SortField, compare_by, put_before, insert_in_order, sorted, order}
+use Rattle.bson.specs.Tree.{Pairs, document}
+use Rattle.path.specs.Reach.{reach}
+use Rattle.value_order.specs.Order.{Key, key_cmp}
+use Rattle.filter.specs.Sort.{SortField, keys_of, precedes, sort_key, compare_by, put_before, insert_in_order, sorted, order}
 
 pub record IsOrdered (fields : List SortField) (documents : List Pairs) : Type 0 where
   pub same : IsPermutation documents (order fields documents)
@@ -16,6 +18,17 @@ pub record IsOrdered (fields : List SortField) (documents : List Pairs) : Type 0
 
 abbrev pub OrdersStably : Type 0
 OrdersStably = (fields : List SortField) → IsTotalOrder (compare_by fields) × ((documents : List Pairs) → IsOrdered fields documents)
+
+-- a key that is one of these, and that none of these precedes
+pub record IsFirstKey (descending : Bool) (keys : List Key) (key : Key) : Type 0 where
+  pub member : Contains keys key
+  pub first : AllByRecursion (λ other. precedes descending (key_cmp other key) ≡ false) keys
+
+-- a document's key at a field is the first of the keys that it has there
+abbrev pub SortsByFirstKey : Type 0
+SortsByFirstKey =
+    (field : SortField) (ps : Pairs) (key : Key) (keys : List Key) → flat_map keys_of (reach field.0 (document ps)) ≡ key ∷ keys
+    → IsFirstKey field.1 (key ∷ keys) (sort_key field ps)
 
 -- ---- whatever the comparison
 

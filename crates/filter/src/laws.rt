@@ -1,7 +1,7 @@
 //! Laws of the definitions and rows worked by hand, as contracts.
 
-ghost use Rattle.filter.specs.ProjectionLaws.{NoLarger};
-ghost use Rattle.filter.specs.SortLaws.{OrdersStably};
+ghost use Rattle.filter.specs.ProjectionLaws.{NoLarger, IncludesNamedFields};
+ghost use Rattle.filter.specs.SortLaws.{OrdersStably, SortsByFirstKey};
 ghost use Rattle.filter.specs.Rows.{MatchRows, RefusalRows, SortRows, ProjectionRows};
 
 /// What filters hold of.
@@ -32,4 +32,14 @@ pub fn leaves_no_more()
 /// A sort leaves the same documents, none below an earlier one, and those that tie in the order given.
 pub fn orders_stably()
     ensures { OrdersStably }
+{}
+
+/// A document's key at a field is one of the keys that it has there, and none of them precedes it.
+pub fn sorts_by_first_key()
+    ensures { SortsByFirstKey }
+{}
+
+/// An inclusion of fields keeps exactly the fields of these names, whole and in order.
+pub fn includes_named_fields()
+    ensures { IncludesNamedFields }
 {}

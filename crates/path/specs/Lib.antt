@@ -8,5 +8,6 @@ pub mod Place
 pub mod Edits
 pub mod Laws
 pub mod EditLaws
+pub mod IndexLaws
 pub mod PlaceLaws
 pub mod Rows

@@ -6,7 +6,7 @@ use Rattle.std.proofs.lemmas.Slice.Eq.{bytes_eq-Decides}
 use Rattle.std.proofs.lemmas.List.{drop_all}
 use Rattle.bson.specs.Tree.{Tree, Pairs, no_pairs, pair, append}
 use Rattle.bson.specs.View.{tree, pairs_of}
-use Rattle.bson.specs.Edits.{place, pair_at, pairs_len, without_pair}
+use Rattle.bson.specs.Edits.{place, pair_at, without_pair}
 use Rattle.bson.specs.EditsLaws.{append-none, append-one, pairs_of-push, place-there, place-absent, pair_at-pairs_of, pairs_of-remove, lookup-absent, IsPairs-without_pair, pairs_levels-without_pair}
 use Rattle.bson.specs.Lookup.{lookup}
 use Rattle.bson.specs.Lawful.{levels, pairs_levels, IsName, Lacks, IsTree, IsPairs, IsDocument}

@@ -1,4 +1,3 @@
 pub mod StepLemmas
 pub mod IdLemmas
 pub mod ArrayLemmas
-pub mod LawLemmas

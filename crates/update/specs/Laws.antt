@@ -1,7 +1,7 @@
 -- Laws of updates, said apart from how they are read and applied.
-use Rattle.std.specs.Prelude.{◌≡◌, ℕ, suc, ◌≤◌, Bool, false, length, Option, Some, None, Result, Ok, Err, List, [], ◌∷◌}
+use Rattle.std.specs.Prelude.{◌≡◌, ℕ, suc, ◌≤◌, false, length, Some, None, Ok, Err, List, [], ◌∷◌}
 use Rattle.std.specs.List.{Contains}
-use Rattle.bson.specs.Tree.{Tree, array, document, Pairs, pair}
+use Rattle.bson.specs.Tree.{Tree, document, Pairs, pair}
 use Rattle.bson.specs.Lawful.{pairs_levels}
 use Rattle.bson.specs.Lookup.{lookup}
 use Rattle.bson.specs.Spelling.{frame_of, pairs_bytes}

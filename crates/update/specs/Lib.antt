@@ -12,4 +12,6 @@ pub mod Reading
 pub mod Applying
 pub mod Upserts
 pub mod Laws
+pub mod UpdateLaws
+pub mod RefusalLaws
 pub mod View

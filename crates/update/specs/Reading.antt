@@ -1,6 +1,6 @@
 -- The update that a document spells, or the first misuse from the left. At one path these are looked for in order: a
 -- fault of the path, `_id`, the operand, an earlier path of the update that it meets.
-use Rattle.std.specs.Prelude.{ℕ, ◌++◌, ◌||◌, Bool, false, true, if◌then◌else◌, Option, Some, None, Result, Ok, Err, List, [], ◌∷◌}
+use Rattle.std.specs.Prelude.{ℕ, ◌++◌, ◌||◌, Bool, false, if◌then◌else◌, Option, Some, None, Result, Ok, Err, List, [], ◌∷◌}
 use Rattle.std.specs.List.{list_any}
 use Rattle.bson.specs.Tree.{Tree, document, Pairs, no_pairs, pair}
 use Rattle.path.specs.declared.refusal.Refusal.{Refusal}

@@ -1,5 +1,5 @@
 -- A replacement takes the whole document's place and keeps its `_id`, which it may only repeat.
-use Rattle.std.specs.Prelude.{if◌then◌else◌, Bool, Option, Some, None, Result, Ok, Err}
+use Rattle.std.specs.Prelude.{if◌then◌else◌, Option, Some, None, Result, Ok, Err}
 use Rattle.bson.specs.Tree.{Tree, Pairs, pair}
 use Rattle.bson.specs.Lookup.{lookup}
 use Rattle.value_order.specs.Order.{compare}

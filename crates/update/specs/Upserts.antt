@@ -1,6 +1,6 @@
 -- The document that an upsert starts from: the equalities at the filter's top level, set in order. Below `_id` none is
 -- set.
-use Rattle.std.specs.Prelude.{ℕ, if◌then◌else◌, Bool, true, false, Result, Ok, Err, List, [], ◌∷◌}
+use Rattle.std.specs.Prelude.{if◌then◌else◌, Bool, false, Result, Ok, Err}
 use Rattle.bson.specs.Tree.{Pairs, no_pairs}
 use Rattle.path.specs.declared.refusal.Refusal.{Refusal}
 use Rattle.path.specs.declared.refusal.Refusal.TheVariants as refusals

@@ -1,6 +1,7 @@
 //! Laws of the definitions, as contracts.
 
-ghost use Rattle.update.specs.Laws.{KeepsId, ChangesNothing, SetStands, KeepsOthers, GivesStored};
+ghost use Rattle.update.specs.Laws.{KeepsId, ChangesNothing, SetStands, KeepsOthers};
+ghost use Rattle.update.specs.Laws.{GivesStored, RefusesByName};
 
 /// No update changes `_id`.
 pub fn keeps_id()
@@ -26,4 +27,9 @@ pub fn keeps_others()
 /// What an update gives may be stored, and its `_id` stands first.
 pub fn gives_stored()
     ensures { GivesStored }
+{}
+
+/// An update that is applied is refused by one of eight refusals.
+pub fn refuses_by_name()
+    ensures { RefusesByName }
 {}

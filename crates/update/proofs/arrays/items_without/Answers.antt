@@ -1,5 +1,5 @@
-use Rattle.std.proofs.Common.{◌≡◌, rules, List, sym, ap, subst, ◌∙◌}
-use Rattle.std.specs.Prelude.{filter, not}
+use Rattle.std.proofs.Common.{rules, sym, ap, subst, ◌∙◌}
+use Rattle.std.specs.Prelude.{not}
 use Rattle.std.proofs.lemmas.Fn.{filter_same}
 use Rattle.bson.specs.EditsLaws.{IsArray-filter}
 use Rattle.bson.specs.Lawful.{IsArray}

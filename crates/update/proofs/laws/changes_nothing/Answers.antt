@@ -1,4 +1,4 @@
-use Rattle.update.proofs.LawLemmas.{changes_nothing}
+use Rattle.update.specs.UpdateLaws.{changes_nothing}
 use Rattle.update.proofs.laws.changes_nothing.Goals as goal
 
 pub returns : goal.returns

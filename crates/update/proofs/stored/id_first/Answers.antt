@@ -1,4 +1,4 @@
-use Rattle.std.proofs.Common.{◌≡◌, Some, None, sym, ◌∙◌}
+use Rattle.std.proofs.Common.{◌≡◌, sym, ◌∙◌}
 use Rattle.bson.specs.EditsLaws.{place-there}
 use Rattle.update.specs.Fronts.{to_front}
 use Rattle.update.specs.Stored.{id_name, id_first}

@@ -1,4 +1,4 @@
-use Rattle.std.proofs.Common.{◌≡◌, ◌<◌, length, sym, ap, subst, ◌∙◌, arith}
+use Rattle.std.proofs.Common.{◌<◌, length, sym, ap, subst, ◌∙◌, arith}
 use Rattle.bson.specs.Edits.{pairs_len}
 use Rattle.bson.specs.EditsLaws.{pairs_len-pairs_of}
 use Rattle.bson.specs.Lawful.{IsDocument}

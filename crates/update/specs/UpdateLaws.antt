@@ -1,20 +1,20 @@
--- Proofs of the laws of updates.
-use Rattle.std.proofs.Common.{◌≡◌, ◌≢◌, ℕ, suc, ◌≤◌, Bool, true, false, List, [], ◌∷◌, ◌++◌, length, Option, Some, None, Result, Ok, Err, refl, sym, ap, subst, ◌∙◌, arith, inl, inr}
+-- The laws of updates, proved.
+use Rattle.std.proofs.Common.{◌≡◌, ◌≢◌, ℕ, suc, Bool, true, false, List, [], ◌∷◌, ◌++◌, length, Option, Some, None, Result, Ok, Err, refl, sym, ap, subst, ◌∙◌, inl}
 use Rattle.std.specs.Prelude.{if◌then◌else◌, ◌||◌, nat_lt}
 use Rattle.std.specs.Option.{option_and_then}
-use Rattle.std.specs.List.{Contains, list_any}
+use Rattle.std.specs.List.{Contains}
 use Rattle.std.specs.Str.{bytes_eq}
 use Rattle.std.proofs.lemmas.Slice.Eq.{bytes_eq-Decides}
 use Rattle.std.proofs.lemmas.Bool.{ltb-false}
-use Rattle.bson.specs.Tree.{Tree, scalar, text, binary, object_id, boolean, date, null, int32, timestamp, int64, min_key, max_key, document, array, Pairs, no_pairs, pair, Items}
+use Rattle.bson.specs.Tree.{Tree, scalar, text, document, array, Pairs, no_pairs, pair, Items}
 use Rattle.bson.specs.Lawful.{pairs_levels}
 use Rattle.bson.specs.Lookup.{lookup}
-use Rattle.bson.specs.Edits.{put, cut}
-use Rattle.bson.specs.EditsLaws.{lookup-put_other, lookup-cut_other, lookup-absent}
+use Rattle.bson.specs.Edits.{put}
+use Rattle.bson.specs.EditsLaws.{lookup-put_other, lookup-cut_other}
 use Rattle.bson.specs.Spelling.{frame_of, pairs_bytes}
 use Rattle.path.specs.declared.refusal.Refusal.{Refusal}
 use Rattle.path.specs.declared.refusal.Refusal.TheVariants as refusals
-use Rattle.path.specs.Edits.{if_ok, within, write, write_at, set_at, put_or_cut, cut_found, cut_field, cut_off, cut_at}
+use Rattle.path.specs.Edits.{if_ok, within, write, write_at, set_at, put_or_cut, cut_found, cut_off, cut_at}
 use Rattle.path.specs.EditLaws.{if_ok_value}
 use Rattle.path.specs.Parts.{is_front, meets}
 use Rattle.path.specs.Place.{value_at, passes_array}
@@ -26,16 +26,16 @@ use Rattle.filter.specs.Elements.{read_element_condition}
 use Rattle.filter.specs.Matches.{is_equal}
 use Rattle.filter.specs.ProjectionReading.{begins_with_id}
 use Rattle.filter.specs.Reading.{path_in, has_operators}
-use Rattle.update.specs.Update.{Path, Number, Action, set, unset, increment, at_most, at_least, push, pull, rename, Edit, Update, replacement, edits, paths_with, paths_of, meets_any}
+use Rattle.update.specs.Update.{Path, Number, Action, set, unset, increment, at_most, at_least, push, pull, rename, Edit, Update, replacement, edits, paths_with, meets_any}
 use Rattle.update.specs.Stored.{id_name, without, first_pair, id_first, id_of, id_fault, no_array, or_else, fault_if, limits_fault, pairs_fault, stored_fault, unless, judged}
 use Rattle.update.specs.Numbers.{number_in}
 use Rattle.update.specs.Arrays.{items_to_push, if_there, pulled}
 use Rattle.update.specs.Renames.{moved}
 use Rattle.update.specs.Replacements.{with_id, in_place_of, replace}
 use Rattle.update.specs.Operators.{operator_of, no_id, editable_path, new_path, read_action, apply_action}
-use Rattle.update.specs.Reading.{conflicts, without_conflict, read_edit, read_edits, known_operator, operands_in, read_operator, read_operators, read_update}
-use Rattle.update.specs.Applying.{apply_edit, apply_edits, changed, apply}
-use Rattle.update.specs.Laws.{KeepsId, MeetsNothing, AllMeetNothing, ChangesNothing, IsPath, ArePaths, SetStands, KeepsOthers, IsStored, GivesStored}
+use Rattle.update.specs.Reading.{conflicts, without_conflict, read_edit, read_edits, known_operator, operands_in, read_operator, read_operators}
+use Rattle.update.specs.Applying.{apply_edit, apply_edits, changed}
+use Rattle.update.specs.Laws.{KeepsId, MeetsNothing, ChangesNothing, IsPath, ArePaths, SetStands, KeepsOthers, IsStored, GivesStored}
 use Rattle.update.specs.declared.operators.Operator.{Operator}
 use Rattle.update.specs.declared.operators.Operator.TheVariants as operators
 
@@ -65,6 +65,7 @@ cut_keeps_id (name ∷ rest) ps b = found (lookup ps name)
     left : (w : Option Tree) → lookup (put_or_cut name ps w) id_name ≡ lookup ps id_name
     left None = lookup-cut_other ps name id_name (λ s. bytes_differ name id_name b (sym s))
     left (Some w) = lookup-put_other ps name id_name w (λ s. bytes_differ name id_name b (sym s))
+
     found : (o : Option Tree) → lookup (cut_found (cut_off rest) name ps o) id_name ≡ lookup ps id_name
     found None = refl
     found (Some t) = left (cut_off rest t)
@@ -123,6 +124,7 @@ editable name path e = by (begins_with_id got.0) refl got.2
   where
     got : (a : Path) × (path_in name ≡ Ok a) × (no_id a ≡ Ok path)
     got = if_ok_value (path_in name) no_id path e
+
     by : (b : Bool) → begins_with_id got.0 ≡ b → (if b then Err refusals.ImmutableField else Ok got.0) ≡ Ok path → begins_with_id path ≡ false
     by true p e = absurd cc
     by false p e = let same : got.0 ≡ path = ok_same e in ap begins_with_id (sym same) ∙ p
@@ -200,9 +202,11 @@ replaced_keeps new old qs t at e = by (lookup new id_name) (sym (ap (λ (o : Opt
   where
     kept : pair id_name t (without new id_name) ≡ qs → lookup qs id_name ≡ Some t
     kept same = ap (λ (x : Pairs). lookup x id_name) (sym same) ∙ lookup-first t (without new id_name)
+
     equal : (b : Bool) → (if b then Ok (pair id_name t (without new id_name)) else Err refusals.ImmutableField) ≡ Ok qs → lookup qs id_name ≡ Some t
     equal true e = kept (ok_same e)
     equal false e = absurd cc
+
     by : (o : Option Tree) → with_id t o new ≡ Ok qs → lookup qs id_name ≡ Some t
     by None e = kept (ok_same e)
     by (Some id) e = equal (is_equal (compare t id)) e

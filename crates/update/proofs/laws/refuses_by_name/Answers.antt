@@ -1,0 +1,5 @@
+use Rattle.update.specs.RefusalLaws.{refuses_by_name}
+use Rattle.update.proofs.laws.refuses_by_name.Goals as goal
+
+pub returns : goal.returns
+returns c = refuses_by_name
