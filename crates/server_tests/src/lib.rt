@@ -4,7 +4,7 @@
 #[cfg(test)]
 mod chunks;
 #[cfg(test)]
-mod commands;
+mod by_command;
 #[cfg(test)]
 mod first_path;
 #[cfg(test)]
