@@ -59,41 +59,6 @@ impl<D: Disk> Engine<D> {
     /// Opens the database on a disk that a crash may have left; a disk of zeros holds the empty one. It writes nothing, and
     /// syncs before it answers. An `Err` hands the disk back.
     pub fn open(alloc: Global, disk: D, config: Config) -> Result<Engine<D>, (D, OpenFault)>
-        ensures sound { IfOk result (λ engine. IsSound D.history engine × IsRunning engine) }
-        ensures turn_start { IfOk result (λ engine. turn_start engine ≡ world engine) }
-        ensures rests { IfOk result (λ engine. has_changes engine ≡ false) }
-        ensures world { IfOk result (λ engine. world engine ≡ record { collections = (world engine).collections; cursors = []; next = 1; touched = [] }) }
-        ensures on { IfOk result (λ engine. GoesOn (D.history disk) (disk_history D.history engine)) }
-        ensures on_err { IfErr result (λ e. GoesOn (D.history disk) (D.history e.0)) }
-        ensures limit { IfOk result (λ engine. stores.limit_of (store_of engine) ≡ stores.limit_in config) }
-
-        ensures only { IfOk result (λ engine. OnlySyncs (D.history disk) (disk_history D.history engine)) }
-
-        // It gives what was read, and from then on every image holds that alone.
-        ensures holds { IfOk result (λ engine. KeepsWord (disk_history D.history engine) → Holds (reads (now (D.history disk))) (world engine).collections) }
-        ensures alone { IfOk result (λ engine. LeavesNow (disk_history D.history engine) (λ image. Holds image (world engine).collections)) }
-
-        // Where reads give one of the images, the images during the call and after it are among those from before.
-        ensures any_moment { IfOk result (λ engine. IsImage (now (D.history disk)) (reads (now (D.history disk)))
-            → LeavesOnly (D.history disk) (disk_history D.history engine) (IsImage (now (D.history disk)))) }
-        ensures any_moment_err { IfErr result (λ e. IsImage (now (D.history disk)) (reads (now (D.history disk)))
-            → LeavesOnly (D.history disk) (D.history e.0) (IsImage (now (D.history disk)))) }
-
-        // A fault of the bytes comes only where they hold no collections.
-        ensures damaged { IfErr result (λ e. e.1 ≢ OpenFault.Device → e.1 ≢ OpenFault.Memory → KeepsWord (D.history e.0)
-            → (collections : List Collection) → Holds (reads (now (D.history disk))) collections → ⊥) }
-        ensures foreign { IfErr result (λ e. e.1 ≡ OpenFault.NotADatabase → KeepsWord (D.history e.0)
-            → root_of (reads (now (D.history disk)) 0) (reads (now (D.history disk)) 1) ≡ Err OpenFault.NotADatabase) }
-        ensures later { IfErr result (λ e. e.1 ≡ OpenFault.NewerFormat → KeepsWord (D.history e.0)
-            → root_of (reads (now (D.history disk)) 0) (reads (now (D.history disk)) 1) ≡ Err OpenFault.NewerFormat) }
-        ensures device { IfErr result (λ e. e.1 ≡ OpenFault.Device → KeepsWord (D.history e.0)
-            → (D.history disk).failures < (D.history e.0).failures) }
-    {
-        Engine::open_collections(alloc, disk, config)
-    }
-
-    /// Opens a disk as `open` does.
-    fn open_collections(alloc: Global, disk: D, config: Config) -> Result<Engine<D>, (D, OpenFault)>
         ensures opened { IfOk result (IsOpened D.history disk) }
         ensures limit { IfOk result (λ engine. stores.limit_of (store_of engine) ≡ stores.limit_in config) }
         ensures refused { IfErr result (λ e. IsRefused D.history disk e.0 e.1) }
@@ -166,9 +131,11 @@ impl<D: Disk> Engine<D> {
         }
     }
 
-    /// Ends the turn as `commit_turn` does.
-    fn end_turn(&mut self) -> Result<(), CommitFault>
-        requires { IsSound D.history self.old }
+    /// Ends the turn, and makes durable what its commands changed. Where nothing changed, nothing is written. `Memory` and
+    /// `Full` undo the turn, as `undo_turn` does. At `Device` the engine has stopped: what the turn changed may be durable
+    /// or not.
+    pub fn commit_turn(&mut self) -> Result<(), CommitFault>
+        requires sound { IsSound D.history self.old }
         ensures { Commits D.history result self.old self.new }
     {
         if !self.collections.is_changed() {
@@ -199,47 +166,6 @@ impl<D: Disk> Engine<D> {
                 Err(CommitFault::Full)
             }
         }
-    }
-
-    /// Ends the turn, and makes durable what its commands changed. Where nothing changed, nothing is written. `Memory` and
-    /// `Full` undo the turn, as `undo_turn` does. At `Device` the engine has stopped: what the turn changed may be durable
-    /// or not.
-    pub fn commit_turn(&mut self) -> Result<(), CommitFault>
-        requires sound { IsSound D.history self.old }
-        ensures sound { IsSound D.history self.new }
-        ensures on { GoesOn (disk_history D.history self.old) (disk_history D.history self.new) }
-        ensures done { OnOk result (world self.new ≡ after_commit (world self.old)) }
-        ensures stops { result ≡ Err CommitFault.Device → (world self.new ≡ after_commit (world self.old)) × (is_stopped self.new ≡ true) }
-        ensures memory { result ≡ Err CommitFault.Memory → world self.new ≡ after_undo (turn_start self.old) (world self.old) }
-        ensures full { result ≡ Err CommitFault.Full
-            → (world self.new ≡ after_undo (turn_start self.old) (world self.old))
-            × HasNoRoom (store_of self.old) (world self.old).collections
-            × stores.HasFullCause (store_of self.old) (store_of self.new) }
-        ensures takes { full_takes_of self.old ≤ full_takes_of self.new }
-        ensures turn_start { turn_start self.new ≡ world self.new }
-        ensures limit { stores.limit_of (store_of self.new) ≡ stores.limit_of (store_of self.old) }
-        ensures running { result ≢ Err CommitFault.Device → is_stopped self.new ≡ is_stopped self.old }
-
-        // A crash at any moment of the call leaves the collections as they were before the turn or as they are after it.
-        ensures any_moment { IsRunning self.old → LeavesOnly (disk_history D.history self.old) (disk_history D.history self.new)
-            (λ image. Holds image (turn_start self.old).collections ⊎ Holds image (world self.old).collections) }
-
-        // Where the turn is undone, it leaves them as they were before, at every moment.
-        ensures kept { IsRunning self.old → result ≢ Err CommitFault.Device → OnErr result (LeavesOnly (disk_history D.history self.old) (disk_history D.history self.new)
-            (λ image. Holds image (turn_start self.old).collections)) }
-
-        // At Ok it leaves them as they are after it, and nothing else.
-        ensures acknowledged { IsRunning self.old → OnOk result (LeavesNow (disk_history D.history self.new) (λ image. Holds image (world self.old).collections)) }
-
-        ensures device { result ≡ Err CommitFault.Device → KeepsWord (disk_history D.history self.new)
-            → (is_stopped self.old ≡ true) ⊎ ((disk_history D.history self.old).failures < (disk_history D.history self.new).failures) }
-        ensures idle { is_stopped self.old ≡ true → disk_history D.history self.new ≡ disk_history D.history self.old }
-
-        // Where the commands changed nothing, it makes no call of the disk.
-        ensures quiet { has_changes self.old ≡ false → (result ≡ Ok tt) × (store_of self.new ≡ store_of self.old) }
-        ensures rests { has_changes self.new ≡ false }
-    {
-        self.end_turn()
     }
 
     /// Ends the turn, and takes back what its commands changed. It takes no memory.

@@ -5,6 +5,8 @@ pub mod Moment
 pub mod History
 pub mod View
 pub mod Durable
+pub mod Opening
+pub mod Turning
 pub mod OneStep
 pub mod Headline
 pub mod Anew

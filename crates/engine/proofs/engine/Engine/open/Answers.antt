@@ -1,17 +1,16 @@
-use Rattle.engine.proofs.Saving.{if_ok, if_err}
+use Rattle.roots.specs.EntryView.{entries_of}
+use Rattle.engine.specs.declared.engine.Engine.{Engine}
+use Rattle.engine.proofs.OpenSteps.{opened, refused_store, refused_entries}
 use Rattle.engine.proofs.engine.Engine.open.Goals as goal
 
-pub returns-clause-holds : goal.returns-clause-holds
-returns-clause-holds g c = if_ok c.open_collections.result (λ engine h. h.holds) c.open_collections.ensures.opened
+pub returns-in-Err-clause-refused : goal.returns-in-Err-clause-refused
+returns-in-Err-clause-refused g c = refused_store g.D.Disk.history c.args.disk c.in-Err.refused.0 c.in-Err.refused.1 c.in-Err.ensures.refused
 
-pub returns-clause-alone : goal.returns-clause-alone
-returns-clause-alone g c = if_ok c.open_collections.result (λ engine h. h.alone) c.open_collections.ensures.opened
+pub returns-in-Ok-load-clause-opened : goal.returns-in-Ok-load-clause-opened
+returns-in-Ok-load-clause-opened g c =
+    let engine : Engine g.row.D.Denot = record { alloc = c.args.alloc; collections = c.in-Ok-load.collections; store = c.in-Ok.found.0 } in
+    opened g.D.Disk.history c.args.disk engine (entries_of c.in-Ok.found.1) c.in-Ok.ensures.opened c.in-Ok-load.ensures.loading c.in-Ok-load.ensures.readable c.in-Ok.ensures.entries c.in-Ok-load.ensures.entries
 
-pub returns-clause-any_moment : goal.returns-clause-any_moment
-returns-clause-any_moment g c = if_ok c.open_collections.result (λ engine h. h.any_moment) c.open_collections.ensures.opened
-
-pub returns-clause-damaged : goal.returns-clause-damaged
-returns-clause-damaged g c = if_err c.open_collections.result (λ e h. h.damaged) c.open_collections.ensures.refused
-
-pub returns-clause-only : goal.returns-clause-only
-returns-clause-only g c = if_ok c.open_collections.result (λ engine h. h.only) c.open_collections.ensures.opened
+pub returns-clause-refused : goal.returns-clause-refused
+returns-clause-refused g c =
+    refused_entries g.D.Disk.history c.args.disk c.in-Ok.found.0 c.into_disk.result (entries_of c.in-Ok.found.1) c.in-Err-load.fault c.in-Ok.ensures.opened c.into_disk.ensures c.in-Err-load.ensures.fault c.in-Ok.ensures.entries c.in-Err-load.ensures.damaged
