@@ -17,7 +17,8 @@ items_len (item t ts) = suc (items_len ts)
 -- the place of a name
 abbrev pub place : Pairs → List ℕ → Option ℕ
 place no_pairs name = None
-place (pair other t ps) name = if bytes_eq name other then Some 0 else option_map suc (place ps name)
+place (pair other t ps) name =
+    if bytes_eq name other then Some 0 else option_map suc (place ps name)
 
 -- the name and the value at a place
 abbrev pub pair_at : Pairs → ℕ → Option (List ℕ × Tree)
@@ -55,7 +56,8 @@ without_item (item t ts) (suc i) = item t (without_item ts i)
 -- with this value at a name: in the name's place, or at the end where it is new
 abbrev pub put : Pairs → List ℕ → Tree → Pairs
 put no_pairs name t = pair name t no_pairs
-put (pair other u ps) name t = if bytes_eq name other then pair other t ps else pair other u (put ps name t)
+put (pair other u ps) name t =
+    if bytes_eq name other then pair other t ps else pair other u (put ps name t)
 
 -- without a name
 abbrev pub cut : Pairs → List ℕ → Pairs

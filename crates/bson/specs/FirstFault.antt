@@ -17,7 +17,8 @@ use Rattle.bson.specs.declared.kind.Kind.{Kind}
 use Rattle.bson.specs.declared.kind.Kind.TheVariants as kinds
 
 -- the same behind so many bytes
-pub record Behind (n : ℕ) (wrong : ℕ → ℕ → BsonFault → Type 0) (place seen : ℕ) (fault : BsonFault) : Type 0 where
+pub record Behind (n : ℕ) (wrong : ℕ → ℕ → BsonFault → Type 0) (place seen : ℕ)
+    (fault : BsonFault) : Type 0 where
   pub at : ℕ
   pub upto : ℕ
   pub place_is : place ≡ n + at
@@ -27,7 +28,8 @@ pub record Behind (n : ℕ) (wrong : ℕ → ℕ → BsonFault → Type 0) (plac
 -- ---- what may be wrong at a place
 
 -- a scalar, which is looked at with what is left behind it in its document
-pub record WrongScalar (k : Kind) (bytes : List ℕ) (place seen : ℕ) (fault : BsonFault) : Type 0 where
+pub record WrongScalar (k : Kind) (bytes : List ℕ) (place seen : ℕ)
+    (fault : BsonFault) : Type 0 where
   pub here : place ≡ 0
   pub upto : seen ≡ length bytes
   pub judged : scalar_at k bytes ≡ Err fault
@@ -43,7 +45,8 @@ pub record WrongCount (bytes : List ℕ) (place seen : ℕ) (fault : BsonFault) 
   pub here : place ≡ 0
   pub upto : seen ≡ 4
   pub fault_is : fault ≡ faults.Length
-  pub judged : (count_at 5 bytes ≡ Err faults.Length) ⊎ ((n : ℕ × List ℕ) × (count_at 5 bytes ≡ Ok n) × (length n.1 ≤ n.0 - 5))
+  pub judged : (count_at 5 bytes ≡ Err faults.Length)
+      ⊎ ((n : ℕ × List ℕ) × (count_at 5 bytes ≡ Ok n) × (length n.1 ≤ n.0 - 5))
 
 -- it fits, and where it ends there is no zero
 pub record WrongEnd (bytes : List ℕ) (place seen : ℕ) (fault : BsonFault) : Type 0 where
@@ -57,47 +60,61 @@ pub record WrongEnd (bytes : List ℕ) (place seen : ℕ) (fault : BsonFault) : 
 
 -- An element: a type byte that is not known; a name without a zero or that is not UTF-8; a name that is wrong here; or
 -- its value.
-pub data WrongElement (value : Kind → List ℕ → ℕ → ℕ → BsonFault → Type 0) (wrong : List ℕ → Bool) (named : BsonFault) (type : ℕ) (bytes : List ℕ) (place seen : ℕ) (fault : BsonFault) : Type 0 where
-  wrong_type : place ≡ 0 → seen ≡ 1 → kind_of type ≡ Err fault → WrongElement value wrong named type bytes place seen fault
-  wrong_name : place ≡ 1 → seen ≡ zero_at bytes + 2 → (k : Kind) → kind_of type ≡ Ok k → name_at bytes ≡ Err fault → WrongElement value wrong named type bytes place seen fault
+pub data WrongElement (value : Kind → List ℕ → ℕ → ℕ → BsonFault → Type 0) (wrong : List ℕ → Bool)
+    (named : BsonFault) (type : ℕ) (bytes : List ℕ) (place seen : ℕ)
+    (fault : BsonFault) : Type 0 where
+  wrong_type : place ≡ 0 → seen ≡ 1 → kind_of type ≡ Err fault
+      → WrongElement value wrong named type bytes place seen fault
+  wrong_name : place ≡ 1 → seen ≡ zero_at bytes + 2 → (k : Kind) → kind_of type ≡ Ok k
+      → name_at bytes ≡ Err fault → WrongElement value wrong named type bytes place seen fault
   wrong_here :
-      place ≡ 1 → (name rest : List ℕ) → seen ≡ length name + 2 → (k : Kind) → kind_of type ≡ Ok k → IsName name → bytes ≡ name ++ 0 ∷ rest → wrong name ≡ true → fault ≡ named
+      place ≡ 1 → (name rest : List ℕ) → seen ≡ length name + 2 → (k : Kind) → kind_of type ≡ Ok k
+          → IsName name → bytes ≡ name ++ 0 ∷ rest → wrong name ≡ true → fault ≡ named
       → WrongElement value wrong named type bytes place seen fault
   wrong_value :
-      (name rest : List ℕ) (k : Kind) → kind_of type ≡ Ok k → IsName name → bytes ≡ name ++ 0 ∷ rest → wrong name ≡ false → Behind (length name + 2) (value k rest) place seen fault
+      (name rest : List ℕ) (k : Kind) → kind_of type ≡ Ok k → IsName name → bytes ≡ name ++ 0 ∷ rest
+          → wrong name ≡ false → Behind (length name + 2) (value k rest) place seen fault
       → WrongElement value wrong named type bytes place seen fault
 
 -- ---- what stands before it
 
 -- in the elements of a document, behind whole pairs
-pub record WrongPair (more : ℕ) (value : Kind → List ℕ → ℕ → ℕ → BsonFault → Type 0) (content : List ℕ) (place seen : ℕ) (fault : BsonFault) : Type 0 where
+pub record WrongPair (more : ℕ) (value : Kind → List ℕ → ℕ → ℕ → BsonFault → Type 0)
+    (content : List ℕ) (place seen : ℕ) (fault : BsonFault) : Type 0 where
   pub before : Pairs
   pub type : ℕ
   pub bytes : List ℕ
   pub parts : content ≡ pairs_bytes before ++ type ∷ bytes
   pub lawful : IsPairs before
   pub depth : pairs_levels before ≤ more
-  pub element : Behind (length (pairs_bytes before)) (WrongElement value (stands_in (tree_names before)) faults.Repeated type bytes) place seen fault
+  pub element : Behind (length (pairs_bytes before))
+      (WrongElement value (stands_in (tree_names before)) faults.Repeated type bytes)
+      place seen fault
 
 -- in the elements of an array, behind whole items
-pub record WrongItem (more : ℕ) (value : Kind → List ℕ → ℕ → ℕ → BsonFault → Type 0) (content : List ℕ) (place seen : ℕ) (fault : BsonFault) : Type 0 where
+pub record WrongItem (more : ℕ) (value : Kind → List ℕ → ℕ → ℕ → BsonFault → Type 0)
+    (content : List ℕ) (place seen : ℕ) (fault : BsonFault) : Type 0 where
   pub before : Items
   pub type : ℕ
   pub bytes : List ℕ
   pub parts : content ≡ items_bytes 0 before ++ type ∷ bytes
   pub lawful : IsItems before
   pub depth : items_levels before ≤ more
-  pub element : Behind (length (items_bytes 0 before)) (WrongElement value (is_no_index (items_len before)) faults.ArrayName type bytes) place seen fault
+  pub element : Behind (length (items_bytes 0 before))
+      (WrongElement value (is_no_index (items_len before)) faults.ArrayName type bytes)
+      place seen fault
 
 -- in a document or an array whose length fits and that a zero ends
-pub record InFrame (inner : List ℕ → ℕ → ℕ → BsonFault → Type 0) (bytes : List ℕ) (place seen : ℕ) (fault : BsonFault) : Type 0 where
+pub record InFrame (inner : List ℕ → ℕ → ℕ → BsonFault → Type 0) (bytes : List ℕ) (place seen : ℕ)
+    (fault : BsonFault) : Type 0 where
   pub content : List ℕ
   pub rest : List ℕ
   pub parts : bytes ≡ frame_of content ++ rest
   pub fault_in : Behind 4 (inner content) place seen fault
 
 -- a document or an array
-pub data WrongFrame (inner : List ℕ → ℕ → ℕ → BsonFault → Type 0) (bytes : List ℕ) (place seen : ℕ) (fault : BsonFault) : Type 0 where
+pub data WrongFrame (inner : List ℕ → ℕ → ℕ → BsonFault → Type 0) (bytes : List ℕ) (place seen : ℕ)
+    (fault : BsonFault) : Type 0 where
   wrong_count : WrongCount bytes place seen fault → WrongFrame inner bytes place seen fault
   wrong_end : WrongEnd bytes place seen fault → WrongFrame inner bytes place seen fault
   wrong_in : InFrame inner bytes place seen fault → WrongFrame inner bytes place seen fault
@@ -105,9 +122,11 @@ pub data WrongFrame (inner : List ℕ → ℕ → ℕ → BsonFault → Type 0) 
 -- a value where this many more levels are allowed
 unfoldable pub WrongValue : ℕ → Kind → List ℕ → ℕ → ℕ → BsonFault → Type 0
 WrongValue zero kinds.Document bytes place seen fault = TooDeep place seen fault
-WrongValue (suc more) kinds.Document bytes place seen fault = WrongFrame (WrongPair more (WrongValue more)) bytes place seen fault
+WrongValue (suc more) kinds.Document bytes place seen fault =
+    WrongFrame (WrongPair more (WrongValue more)) bytes place seen fault
 WrongValue zero kinds.Array bytes place seen fault = TooDeep place seen fault
-WrongValue (suc more) kinds.Array bytes place seen fault = WrongFrame (WrongItem more (WrongValue more)) bytes place seen fault
+WrongValue (suc more) kinds.Array bytes place seen fault =
+    WrongFrame (WrongItem more (WrongValue more)) bytes place seen fault
 WrongValue more k bytes place seen fault = WrongScalar k bytes place seen fault
 
 -- ---- a whole document
@@ -128,7 +147,8 @@ pub record WrongLast (bytes : List ℕ) (place seen : ℕ) (fault : BsonFault) :
 pub data WrongDocument (bytes : List ℕ) (place seen : ℕ) (fault : BsonFault) : Type 0 where
   wrong_length : WrongLength bytes place seen fault → WrongDocument bytes place seen fault
   wrong_last : WrongLast bytes place seen fault → WrongDocument bytes place seen fault
-  wrong_inside : (frame : InFrame (WrongPair 99 (WrongValue 99)) bytes place seen fault) → length frame.content + 5 ≤ message_limit → WrongDocument bytes place seen fault
+  wrong_inside : (frame : InFrame (WrongPair 99 (WrongValue 99)) bytes place seen fault)
+      → length frame.content + 5 ≤ message_limit → WrongDocument bytes place seen fault
 
 -- the first fault from the left
 pub record FirstFault (bytes : List ℕ) (fault : BsonFault) : Type 0 where

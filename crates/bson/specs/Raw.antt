@@ -44,7 +44,8 @@ pub record Elements (bytes : List ℕ) (ps : Pairs) : Type 0 where
 -- a first pair, taken apart: the kind of its value, its name, the spelling of its value, the elements behind it
 abbrev pub IsFirst : Pairs → Kind → List ℕ → List ℕ → List ℕ → Type 0
 IsFirst no_pairs k name value rest = ⊥
-IsFirst (pair first t ps) k name value rest = (k ≡ kind t) × (name ≡ first) × (value ≡ tree_bytes t) × (rest ≡ pairs_bytes ps)
+IsFirst (pair first t ps) k name value rest =
+    (k ≡ kind t) × (name ≡ first) × (value ≡ tree_bytes t) × (rest ≡ pairs_bytes ps)
 
 -- the number that begins a value, if it has four bytes
 abbrev pub number_at : List ℕ → ℕ

@@ -9,7 +9,10 @@ use Rattle.bson.specs.declared.kind.Kind.{Kind}
 abbrev pub name_of : Result Kind BsonFault → List ℕ → Option (List ℕ × List ℕ)
 name_of (Err e) bytes = None
 name_of (Ok k) bytes =
-    if nat_lt (zero_at bytes) (length bytes) then Some (take (zero_at bytes) bytes, drop (len_at k (drop (zero_at bytes + 1) bytes)) (drop (zero_at bytes + 1) bytes)) else None
+    if nat_lt (zero_at bytes) (length bytes)
+      then Some (take (zero_at bytes) bytes,
+        drop (len_at k (drop (zero_at bytes + 1) bytes)) (drop (zero_at bytes + 1) bytes))
+      else None
 
 -- the first name, and the elements behind its own
 abbrev pub next_name : List ℕ → Option (List ℕ × List ℕ)
@@ -31,4 +34,5 @@ names_in bytes = names_by (length bytes) bytes
 
 -- none of the first so many names stood before
 abbrev pub AreNew : ℕ → List (List ℕ) → Type 0
-AreNew n names = (earlier : List (List ℕ)) (name : List ℕ) (later : List (List ℕ)) → names ≡ earlier ++ name ∷ later → length earlier < n → stands_in earlier name ≡ false
+AreNew n names = (earlier : List (List ℕ)) (name : List ℕ) (later : List (List ℕ))
+    → names ≡ earlier ++ name ∷ later → length earlier < n → stands_in earlier name ≡ false

@@ -25,13 +25,15 @@ is_below least n = nat_lt n least || nat_le (2 ^ 31) n
 
 -- this many bytes
 unfoldable pub fixed_at : ℕ → List ℕ → Read (List ℕ)
-fixed_at len bytes = unless (nat_lt (length bytes) len) faults.Length (Ok (take len bytes, drop len bytes))
+fixed_at len bytes =
+    unless (nat_lt (length bytes) len) faults.Length (Ok (take len bytes, drop len bytes))
 
 -- a count of at least this many
 unfoldable pub count_at : ℕ → List ℕ → Read ℕ
 count_at least bytes = do
   four ← fixed_at 4 bytes
-  unless (is_below least (from_le_bytes w32 four.0)) faults.Length (Ok (from_le_bytes w32 four.0, four.1))
+  unless (is_below least (from_le_bytes w32 four.0)) faults.Length
+      (Ok (from_le_bytes w32 four.0, four.1))
 
 -- this many bytes, and a zero behind them
 unfoldable pub ended_at : BsonFault → ℕ → List ℕ → Read (List ℕ)
@@ -61,7 +63,8 @@ string_at bytes = do
 -- a subtype, and what is of it
 abbrev pub binary_of : List ℕ → List ℕ → Read Scalar
 binary_of [] rest = Err faults.Length
-binary_of (subtype ∷ bytes) rest = unless (subtype == 2) faults.Subtype (Ok (binary subtype bytes, rest))
+binary_of (subtype ∷ bytes) rest =
+    unless (subtype == 2) faults.Subtype (Ok (binary subtype bytes, rest))
 
 unfoldable pub binary_at : List ℕ → Read Scalar
 binary_at bytes = do
@@ -149,7 +152,8 @@ name_at bytes =
     (Ok (take (zero_at bytes) bytes, drop (zero_at bytes + 1) bytes)))
 
 -- An element after its type byte, where some names are wrong.
-unfoldable pub element_by : (Kind → List ℕ → Read Tree) → (List ℕ → Bool) → BsonFault → ℕ → List ℕ → Read (List ℕ × Tree)
+unfoldable pub element_by : (Kind → List ℕ → Read Tree) → (List ℕ → Bool) → BsonFault → ℕ → List ℕ
+    → Read (List ℕ × Tree)
 element_by read wrong fault type bytes = do
   kind ← kind_of type
   name ← name_at bytes
@@ -171,7 +175,8 @@ item_by read i type bytes = do
   Ok (first.0.1, first.1)
 
 -- The elements of a document. Each takes a byte at least, so there are at most as many as there are bytes.
-unfoldable pub pairs_by : (Kind → List ℕ → Read Tree) → ℕ → List (List ℕ) → List ℕ → Result Pairs BsonFault
+unfoldable pub pairs_by : (Kind → List ℕ → Read Tree) → ℕ → List (List ℕ) → List ℕ
+    → Result Pairs BsonFault
 pairs_by read most earlier [] = Ok no_pairs
 pairs_by read zero earlier (type ∷ bytes) = Err faults.TypeByte
 pairs_by read (suc most) earlier (type ∷ bytes) = do

@@ -47,7 +47,8 @@ unfoldable mutual
   -- the names of an array's items are `0`, `1`, `2` and so on
   pub items_bytes : ℕ → Items → List ℕ
   items_bytes i no_items = []
-  items_bytes i (item t ts) = element (type_byte t) (decimal i) (tree_bytes t) ++ items_bytes (i + 1) ts
+  items_bytes i (item t ts) =
+      element (type_byte t) (decimal i) (tree_bytes t) ++ items_bytes (i + 1) ts
 
 -- these bytes, all of them, spell this document
 pub record Spells (bytes : List ℕ) (ps : Pairs) : Type 0 where

@@ -64,7 +64,9 @@ parts_scalar-scalar_parts min_key = refl
 parts_scalar-scalar_parts max_key = refl
 
 abbrev coded_scalar : Coded Scalar
-coded_scalar = code_by Parts (coded× coded_ℕ (coded× coded_ℕ (coded× coded_ℤ coded_bytes))) scalar_parts parts_scalar parts_scalar-scalar_parts
+coded_scalar = code_by Parts
+    (coded× coded_ℕ (coded× coded_ℕ (coded× coded_ℤ coded_bytes)))
+    scalar_parts parts_scalar parts_scalar-scalar_parts
 
 abbrev mutual
   pub tree_number : Tree → Gv
@@ -74,7 +76,8 @@ abbrev mutual
 
   pub pairs_number : Pairs → Gv
   pairs_number no_pairs = gnil
-  pairs_number (pair name t ps) = gcons (coded_bytes.code name) (gcons (tree_number t) (pairs_number ps))
+  pairs_number (pair name t ps) =
+      gcons (coded_bytes.code name) (gcons (tree_number t) (pairs_number ps))
 
   pub items_number : Items → Gv
   items_number no_items = gnil
@@ -97,7 +100,8 @@ mutual
   pairs_one no_pairs (pair n t ps) e = absurd cc
   pairs_one (pair n t ps) no_pairs e = absurd cc
   pairs_one (pair n t ps) (pair m u qs) e =
-      λ i. pair (coded_bytes.inj n m (ap head e) i) (tree_one t u (ap (λ g. head (tail g)) e) i) (pairs_one ps qs (ap (λ g. tail (tail g)) e) i)
+      λ i. pair (coded_bytes.inj n m (ap head e) i) (tree_one t u (ap (λ g. head (tail g)) e) i)
+          (pairs_one ps qs (ap (λ g. tail (tail g)) e) i)
 
   pub items_one : (x y : Items) → items_number x ≡ items_number y → x ≡ y
   items_one no_items no_items e = refl

@@ -17,6 +17,8 @@ IsFront old new = take (length old) new ≡ old
 
 -- the length of what stands from a place on was put into the four bytes there
 abbrev pub Fills : ℕ → List ℕ → List ℕ → Result (Unit {0}) EncodeFault → Type 0
-Fills start old new (Ok _) = (new ≡ take start old ++ (to_le_bytes w32 (length old - start) ++ drop (start + 4) old)) × (length old - start ≤ message_limit)
+Fills start old new (Ok _) =
+    (new ≡ take start old ++ (to_le_bytes w32 (length old - start) ++ drop (start + 4) old))
+    × (length old - start ≤ message_limit)
 Fills start old new (Err TooLarge) = message_limit < length old - start
 Fills start old new (Err Memory) = Unit {0}

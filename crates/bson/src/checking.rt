@@ -68,7 +68,8 @@ fn check_value(more: u32, kind: Kind, bytes: &[u8]) -> Result<&[u8], BsonFault>
 /// Whether a name stands among the elements before it, which are looked at where it isn't known to be new.
 fn is_repeated(is_new: bool, earlier: &[u8], name: &str) -> bool
     requires earlier { Elements earlier.now (pairs_spelled earlier.now) }
-    requires new { is_new ≡ true → stands_in (tree_names (pairs_spelled earlier.now)) name.now ≡ false }
+    requires new { is_new ≡ true
+        → stands_in (tree_names (pairs_spelled earlier.now)) name.now ≡ false }
     ensures { result ≡ stands_in (tree_names (pairs_spelled earlier.now)) name.now }
 {
     if is_new {
@@ -90,7 +91,8 @@ fn check_pair<'a>(
     requires more { more ≤ 99 }
     requires earlier { Elements earlier.now (pairs_spelled earlier.now) }
     requires new { is_new ≡ true → (k : Kind) (x : List ℕ × List ℕ) → kind_of type_byte ≡ Ok k
-        → name_at bytes.now ≡ Ok x → stands_in (tree_names (pairs_spelled earlier.now)) x.0 ≡ false }
+        → name_at bytes.now ≡ Ok x
+        → stands_in (tree_names (pairs_spelled earlier.now)) x.0 ≡ false }
     ensures { GivesExactly (λ r. r.now) result
         (rest_of (element_by (value_at more) (stands_in (tree_names (pairs_spelled earlier.now)))
         faults.Repeated type_byte bytes.now)) }

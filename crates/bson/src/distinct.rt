@@ -17,7 +17,8 @@ pub(crate) fn count_distinct(elements: &[u8]) -> usize
 
 /// Whether a name is above the last one, or the first of all.
 fn is_above(name: &[u8], last: &[u8], is_first: bool) -> bool
-    ensures { result ≡ true → (is_first ≡ true) ⊎ (slice_cmp nat_cmp last.now name.now ≡ Ordering.Less) }
+    ensures { result ≡ true
+        → (is_first ≡ true) ⊎ (slice_cmp nat_cmp last.now name.now ≡ Ordering.Less) }
 {
     if is_first {
         return true;

@@ -55,7 +55,8 @@ pub fn one_value()
 
 /// What reading gives is what is spelled at the front of the input.
 pub fn reading_is_spelling()
-    ensures read { (bytes : List ℕ) (ps : Pairs) (n : ℕ) → IsBytes bytes → document_at bytes ≡ Ok (ps, n)
+    ensures read { (bytes : List ℕ) (ps : Pairs) (n : ℕ) → IsBytes bytes
+        → document_at bytes ≡ Ok (ps, n)
         → (n ≤ length bytes) × Spells (take n bytes) ps }
     ensures spelled { (front rest : List ℕ) (ps : Pairs) → Spells front ps
         → document_at (front ++ rest) ≡ Ok (ps, length front) }

@@ -141,7 +141,8 @@ pub(crate) fn read_scalar(
     kind: Kind,
     bytes: &[u8],
 ) -> Result<(Value, &[u8]), BsonFault>
-    ensures { Gives faults.Memory (λ x. (tree x.0, x.1.now)) result (leaf (scalar_at kind bytes.now)) }
+    ensures { Gives faults.Memory (λ x. (tree x.0, x.1.now)) result
+        (leaf (scalar_at kind bytes.now)) }
 {
     match kind {
         Kind::Document | Kind::Array => Err(BsonFault::TypeByte),

@@ -37,7 +37,8 @@ command_of (pair name t ps) =
 -- What a command that was read keeps: a namespace of at most 255 bytes, and from 1 to 1,000 documents.
 abbrev pub IsBounded : Command → Type 0
 IsBounded ping = Unit {0}
-IsBounded (insert c) = (length c.namespace ≤ 255) × (length c.documents ≤ 1000) × (1 ≤ length c.documents)
+IsBounded (insert c) =
+    (length c.namespace ≤ 255) × (length c.documents ≤ 1000) × (1 ≤ length c.documents)
 IsBounded (find c) = length c.namespace ≤ 255
 IsBounded (count c) = Unit {0}
 IsBounded (delete c) = Unit {0}

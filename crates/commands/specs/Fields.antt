@@ -8,7 +8,8 @@ use Rattle.path.specs.declared.refusal.Refusal.TheVariants as refusals
 use Rattle.commands.specs.Values.{text_in}
 
 -- the fields in the order written, up to the first that is refused
-abbrev pub read_fields : {F : Type 0} → (F → List ℕ → Tree → Result F Refusal) → F → Pairs → Result F Refusal
+abbrev pub read_fields : {F : Type 0} → (F → List ℕ → Tree → Result F Refusal) → F → Pairs
+    → Result F Refusal
 read_fields read found no_pairs = Ok found
 read_fields read found (pair name t ps) = do
   next ← read found name t

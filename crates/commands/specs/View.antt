@@ -18,13 +18,16 @@ abbrev pub documents_at : List (Bor Pairs) → List Pairs
 documents_at ds = map (λ d. d.now) ds
 
 abbrev pub insert_read : Insert → inserts.Insert
-insert_read c = record { namespace = string_bytes c.namespace; documents = documents_at c.documents.items }
+insert_read c =
+    record { namespace = string_bytes c.namespace; documents = documents_at c.documents.items }
 
 abbrev pub find_read : Find → finds.Find
-find_read c = record { namespace = string_bytes c.namespace; query = c.query; batch_size = c.batch_size }
+find_read c =
+    record { namespace = string_bytes c.namespace; query = c.query; batch_size = c.batch_size }
 
 abbrev pub count_read : Count → counts.Count
-count_read c = record { namespace = string_bytes c.namespace; filter = c.filter; skip = c.skip; limit = c.limit }
+count_read c = record {
+  namespace = string_bytes c.namespace; filter = c.filter; skip = c.skip; limit = c.limit }
 
 abbrev pub delete_read : Delete → deletes.Delete
 delete_read c = record { namespace = string_bytes c.namespace; deletions = c.deletions.items }

@@ -107,7 +107,8 @@ fn read_deletion(alloc: Global, statement: &Document) -> Result<Deletion, Refusa
 
 /// The statements that the items of an array spell.
 fn all_deletions(alloc: Global, items: &[Value]) -> Result<Vec<Deletion>, Refusal>
-    ensures { Gives (λ v. v.items) (each_of (spelled_in read_deletion) (items_of items.now)) result }
+    ensures { Gives (λ v. v.items)
+        (each_of (spelled_in read_deletion) (items_of items.now)) result }
 {
     let mut deletions = Vec::with_capacity(alloc, items.len())?;
     'items: for item in items {
@@ -140,7 +141,8 @@ impl<'a> Model for DeleteFields<'a> {
 
     ghost coded = { Prim.hlevel (codes, coded_conditions) };
 
-    ghost view = { λ a. record { common = a.common; deletions = option_map (λ v. v.items) a.deletions } };
+    ghost view = { λ a. record { common = a.common; deletions = option_map
+        (λ v. v.items) a.deletions } };
 }
 
 impl<'a> Fields<'a> for DeleteFields<'a> {

@@ -14,7 +14,8 @@ use Rattle.engine.specs.Durable.{Holds, disk_history, has_changes, is_stopped, I
 use Rattle.engine.specs.declared.engine.Engine.{Engine}
 
 -- These entries were saved, or not.
-pub record Saves {D : Type 0} (history : D → History) (entries : List Entry) (result : Result (Unit {0}) CommitFault) (old new : Store D) : Type 0 where
+pub record Saves {D : Type 0} (history : D → History) (entries : List Entry)
+    (result : Result (Unit {0}) CommitFault) (old new : Store D) : Type 0 where
   pub sound : stores.IsSound history new
   pub on : GoesOn (stores.disk_history history old) (stores.disk_history history new)
   pub any_moment : stores.IsRunning old
@@ -23,10 +24,12 @@ pub record Saves {D : Type 0} (history : D → History) (entries : List Entry) (
   pub kept : stores.IsRunning old → result ≢ Err faults.Device
       → OnErr result (LeavesOnly (stores.disk_history history old) (stores.disk_history history new)
       (λ image. StandsFor image (stores.committed_entries history old)))
-  pub acknowledged : OnOk result (LeavesNow (stores.disk_history history new) (λ image. StandsFor image entries))
+  pub acknowledged : OnOk result
+      (LeavesNow (stores.disk_history history new) (λ image. StandsFor image entries))
   pub committed : KeepsWord (stores.disk_history history new)
       → OnOk result (stores.committed_entries history new ≡ entries)
-  pub before : result ≢ Err faults.Device → OnErr result (KeepsWord (stores.disk_history history new)
+  pub before : result ≢ Err faults.Device
+      → OnErr result (KeepsWord (stores.disk_history history new)
       → stores.committed_entries history new ≡ stores.committed_entries history old)
   pub limit : stores.limit_of new ≡ stores.limit_of old
   pub running : result ≢ Err faults.Device → stores.is_stopped new ≡ stores.is_stopped old
@@ -40,14 +43,17 @@ pub record Saves {D : Type 0} (history : D → History) (entries : List Entry) (
   pub idle : stores.is_stopped old ≡ true → new ≡ old
 
 -- The turn was ended, and what it changed is durable, or not.
-pub record Commits {D : Type 0} (history : D → History) (result : Result (Unit {0}) CommitFault) (old new : Engine D) : Type 0 where
+pub record Commits {D : Type 0} (history : D → History) (result : Result (Unit {0}) CommitFault)
+    (old new : Engine D) : Type 0 where
   pub sound : IsSound history new
   pub on : GoesOn (disk_history history old) (disk_history history new)
   pub done : OnOk result (world new ≡ after_commit (world old))
-  pub stops : result ≡ Err faults.Device → (world new ≡ after_commit (world old)) × (is_stopped new ≡ true)
+  pub stops : result ≡ Err faults.Device
+      → (world new ≡ after_commit (world old)) × (is_stopped new ≡ true)
   pub memory : result ≡ Err faults.Memory → world new ≡ after_undo (turn_start old) (world old)
   pub full : result ≡ Err faults.Full → (world new ≡ after_undo (turn_start old) (world old))
-      × HasNoRoom (store_of old) (world old).collections × stores.HasFullCause (store_of old) (store_of new)
+      × HasNoRoom (store_of old) (world old).collections
+          × stores.HasFullCause (store_of old) (store_of new)
   pub ended : turn_start new ≡ world new
   pub limit : stores.limit_of (store_of new) ≡ stores.limit_of (store_of old)
   pub takes : full_takes_of old ≤ full_takes_of new
@@ -61,9 +67,11 @@ pub record Commits {D : Type 0} (history : D → History) (result : Result (Unit
       (λ image. Holds image (turn_start old).collections))
   -- at Ok it leaves them as they are after it, and nothing else
   pub acknowledged : IsRunning old
-      → OnOk result (LeavesNow (disk_history history new) (λ image. Holds image (world old).collections))
+      → OnOk result
+          (LeavesNow (disk_history history new) (λ image. Holds image (world old).collections))
   pub device : result ≡ Err faults.Device → KeepsWord (disk_history history new)
-      → (is_stopped old ≡ true) ⊎ ((disk_history history old).failures < (disk_history history new).failures)
+      → (is_stopped old ≡ true)
+          ⊎ ((disk_history history old).failures < (disk_history history new).failures)
   pub idle : is_stopped old ≡ true → disk_history history new ≡ disk_history history old
   -- where the commands changed nothing, there is nothing to write
   pub quiet : has_changes old ≡ false → (result ≡ Ok tt) × (store_of new ≡ store_of old)

@@ -18,7 +18,8 @@ abbrev pub batch_len : ℕ → ℕ → ℕ → List Pairs → ℕ
 batch_len i most room [] = 0
 batch_len i zero room (ps ∷ rest) = 0
 batch_len i (suc most) room (ps ∷ rest) =
-    if i == 0 || nat_le (item_size i ps) room then suc (batch_len (i + 1) most (room - item_size i ps) rest) else 0
+    if i == 0 || nat_le (item_size i ps) room
+        then suc (batch_len (i + 1) most (room - item_size i ps) rest) else 0
 
 -- an array of a batch has at most 900,000 bytes, five of which are its own
 abbrev pub batch_of : ℕ → List Pairs → ℕ
@@ -37,7 +38,8 @@ cursor_reply batch_name batch number namespace =
 
 -- A cursor is one too many past the cursors that a connection may have (none yet), or past the last number.
 abbrev pub is_refused : World → ℕ → Bool
-is_refused world connection = nat_le 0 (count_of connection world.cursors) || nat_le (2 ^ 63) world.next
+is_refused world connection =
+    nat_le 0 (count_of connection world.cursors) || nat_le (2 ^ 63) world.next
 
 abbrev pub next_cursor : World → ℕ → List ℕ → List Pairs → Cursor
 next_cursor world connection namespace rest =
@@ -55,6 +57,7 @@ open_cursor world connection namespace rest =
 
 abbrev pub first_batch : World → ℕ → List ℕ → List Pairs → ℕ → Result (World × Pairs) Refusal
 first_batch world connection namespace documents n =
-    if nat_le (length documents) n then Ok (world, cursor_reply (codes "firstBatch") documents 0 namespace) else (do
+    if nat_le (length documents) n
+      then Ok (world, cursor_reply (codes "firstBatch") documents 0 namespace) else (do
       opened ← open_cursor world connection namespace (drop n documents)
       Ok (opened, cursor_reply (codes "firstBatch") (take n documents) world.next namespace))

@@ -20,7 +20,8 @@ without_first passes xs = without_at (position passes xs) xs
 -- what a statement leaves
 abbrev pub after_deletion : Deletion → List Pairs → List Pairs
 after_deletion d ds =
-    if d.only_first then without_first (matches d.filter) ds else filter (λ ps. not (matches d.filter ps)) ds
+    if d.only_first then without_first (matches d.filter) ds
+    else filter (λ ps. not (matches d.filter ps)) ds
 
 -- what the statements leave, one after the other
 abbrev pub after_deletions : List Deletion → List Pairs → List Pairs
@@ -30,12 +31,17 @@ after_deletions (d ∷ rest) ds = after_deletions rest (after_deletion d ds)
 -- the collections after a delete from the one of a name; a missing one is not made
 abbrev pub deleted_in : Option Collection → List Deletion → List Collection → List Collection
 deleted_in None deletions cs = cs
-deleted_in (Some c) deletions cs = put_collection (record c { documents = after_deletions deletions c.documents }) cs
+deleted_in (Some c) deletions cs =
+    put_collection (record c { documents = after_deletions deletions c.documents }) cs
 
 unfoldable pub run_delete : World → Delete → Result (World × Pairs) Refusal
 run_delete world c =
     let documents = documents_of world.collections c.namespace in
     Ok (
-      record world { collections = deleted_in (find_collection world.collections c.namespace) c.deletions world.collections },
-      pair (codes "n") (total (length documents - length (after_deletions c.deletions documents))) no_pairs,
+      record world {
+        collections =
+          deleted_in (find_collection world.collections c.namespace) c.deletions world.collections
+      },
+      pair (codes "n")
+          (total (length documents - length (after_deletions c.deletions documents))) no_pairs,
     )

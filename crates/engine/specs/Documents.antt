@@ -55,7 +55,8 @@ id_of ps = option_and_then no_array (lookup ps id_name)
 -- the pairs of other names
 abbrev pub without : Pairs → List ℕ → Pairs
 without no_pairs name = no_pairs
-without (pair other t ps) name = if bytes_eq name other then without ps name else pair other t (without ps name)
+without (pair other t ps) name =
+    if bytes_eq name other then without ps name else pair other t (without ps name)
 
 abbrev pub first_pair : List ℕ → Option Tree → Pairs → Pairs
 first_pair name None ps = ps
@@ -85,7 +86,8 @@ key_of ps = unwrap_or (lookup ps id_name) (scalar null)
 -- the documents with one more in its order, or nothing where its `_id` is there
 abbrev pub place : Tree → Pairs → List Pairs → Option (List Pairs)
 place id new [] = Some (new ∷ [])
-place id new (d ∷ ds) = by_order (compare id (key_of d)) (Some (new ∷ d ∷ ds)) None (option_map (λ later. d ∷ later) (place id new ds))
+place id new (d ∷ ds) = by_order (compare id (key_of d)) (Some (new ∷ d ∷ ds)) None
+    (option_map (λ later. d ∷ later) (place id new ds))
 
 unfoldable pub insert_one : List Pairs → Pairs → Result (List Pairs) Refusal
 insert_one stored ps = do

@@ -76,4 +76,7 @@ pub record IsLawful (world : World) : Type 0 where
 
 -- a collection is told apart by its namespace, its number and its documents
 abbrev pub collection_code : Coded Collection
-collection_code = code_by ((List ℕ × ℕ) × List Pairs) (coded× (coded× (coded_list coded_ℕ) coded_ℕ) (coded_list coded_pairs)) (λ c. ((c.name, c.number), c.documents)) (λ p. record { name = p.0.0; number = p.0.1; documents = p.1 }) (λ _. refl)
+collection_code = code_by ((List ℕ × ℕ) × List Pairs)
+    (coded× (coded× (coded_list coded_ℕ) coded_ℕ) (coded_list coded_pairs))
+    (λ c. ((c.name, c.number), c.documents))
+    (λ p. record { name = p.0.0; number = p.0.1; documents = p.1 }) (λ _. refl)

@@ -60,7 +60,8 @@ pub record AddsEntry (cs : List Collection) (pair : Entry) (next : List Collecti
   pub room : length cs < 1000
   pub next_is : next ≡ put_collection new cs
 
-pub record AddsDocument (cs : List Collection) (pair : Entry) (next : List Collection) : Type 0 where
+pub record AddsDocument (cs : List Collection) (pair : Entry)
+    (next : List Collection) : Type 0 where
   pub number : ℕ
   pub document : Pairs
   pub at : ℕ

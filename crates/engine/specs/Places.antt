@@ -24,8 +24,11 @@ by_name name c = slice_cmp nat_cmp c.name name
 
 -- the document of this key stands there, or would stand there
 abbrev pub IsPlace : Tree → List Pairs → Result ℕ ℕ → Type 0
-IsPlace id ds (Ok i) = (i < length ds) × ((d : Pairs) → by_key id (slice_index_or ds i d) ≡ orders.Equal) × ((new : Pairs) → place id new ds ≡ None)
-IsPlace id ds (Err i) = IsGap (by_key id) ds i × ((new : Pairs) → place id new ds ≡ Some (insert ds i new))
+IsPlace id ds (Ok i) = (i < length ds)
+    × ((d : Pairs) → by_key id (slice_index_or ds i d) ≡ orders.Equal)
+    × ((new : Pairs) → place id new ds ≡ None)
+IsPlace id ds (Err i) =
+    IsGap (by_key id) ds i × ((new : Pairs) → place id new ds ≡ Some (insert ds i new))
 
 abbrev pub no_collection : Collection
 no_collection = record { name = []; number = 0; documents = [] }

@@ -24,7 +24,8 @@ without_document c i = record c { documents = remove c.documents i }
 abbrev pub undo : UndoEntry → List Collection → List Collection
 undo (entries.Made at) cs = remove cs at
 undo (entries.Stored at place) cs = slice_set cs at (without_document (collection_at cs at) place)
-undo (entries.Replaced at before) cs = slice_set cs at (record (collection_at cs at) { documents = before })
+undo (entries.Replaced at before) cs =
+    slice_set cs at (record (collection_at cs at) { documents = before })
 
 -- the collections as they were before these changes, of which the last is undone first
 abbrev pub rewind : List UndoEntry → List Collection → List Collection
@@ -34,8 +35,10 @@ rewind (change ∷ later) cs = undo change (rewind later cs)
 -- what a change names is there, and what it brings back may be there
 abbrev pub CanUndo : UndoEntry → List Collection → Type 0
 CanUndo (entries.Made at) cs = at < length cs
-CanUndo (entries.Stored at place) cs = (at < length cs) × (place < length (collection_at cs at).documents)
-CanUndo (entries.Replaced at before) cs = (at < length cs) × IsHeld (record (collection_at cs at) { documents = before })
+CanUndo (entries.Stored at place) cs =
+    (at < length cs) × (place < length (collection_at cs at).documents)
+CanUndo (entries.Replaced at before) cs =
+    (at < length cs) × IsHeld (record (collection_at cs at) { documents = before })
 
 abbrev pub CanRewind : List UndoEntry → List Collection → Type 0
 CanRewind [] cs = Unit {0}
@@ -83,7 +86,9 @@ inserted cs name documents =
 pub record Stands (name : List ℕ) (before now : List Collection) (at : ℕ) : Type 0 where
   pub within : at < length now
   pub is : collection_at now at ≡ with_documents before name (documents_of before name)
-  pub puts : (ds : List Pairs) → put_collection (with_documents before name ds) before ≡ slice_set now at (with_documents before name ds)
+  pub puts : (ds : List Pairs)
+      → put_collection (with_documents before name ds) before
+      ≡ slice_set now at (with_documents before name ds)
   pub room : is_full before name ≡ false
 
 -- a collection was not made for that reason, or for want of memory
@@ -97,18 +102,23 @@ with_document c ps = do
   Ok (record c { documents = stored })
 
 -- What a delete leaves a collection, which loses so many documents, and at least one.
-pub record Leaves (name : List ℕ) (deletions : List Deletion) (cs : List Collection) (at : ℕ) (documents : List Pairs) (gone : ℕ) : Type 0 where
+pub record Leaves (name : List ℕ) (deletions : List Deletion) (cs : List Collection) (at : ℕ)
+    (documents : List Pairs) (gone : ℕ) : Type 0 where
   pub within : at < length cs
   pub held : IsHeld (record (collection_at cs at) { documents = documents })
-  pub is : deleted_in (find_collection cs name) deletions cs ≡ slice_set cs at (record (collection_at cs at) { documents = documents })
+  pub is : deleted_in (find_collection cs name) deletions cs
+      ≡ slice_set cs at (record (collection_at cs at) { documents = documents })
   pub some : gone ≢ 0
   pub fewer : gone ≡ length (collection_at cs at).documents - length documents
-  pub count : gone ≡ length (documents_of cs name) - length (after_deletions deletions (documents_of cs name))
+  pub count : gone
+      ≡ length (documents_of cs name) - length (after_deletions deletions (documents_of cs name))
 
 -- a delete takes no document away
-pub record LeavesAll (name : List ℕ) (deletions : List Deletion) (cs : List Collection) : Type 0 where
+pub record LeavesAll (name : List ℕ) (deletions : List Deletion)
+    (cs : List Collection) : Type 0 where
   pub is : deleted_in (find_collection cs name) deletions cs ≡ cs
-  pub count : 0 ≡ length (documents_of cs name) - length (after_deletions deletions (documents_of cs name))
+  pub count : 0
+      ≡ length (documents_of cs name) - length (after_deletions deletions (documents_of cs name))
 
 -- ---- a progress is told apart by its collections and its changes
 
@@ -128,7 +138,11 @@ sum_change-change_sum (entries.Stored at place) = refl
 sum_change-change_sum (entries.Replaced at before) = refl
 
 abbrev pub change_code : Coded UndoEntry
-change_code = code_by (ℕ ⊎ ((ℕ × ℕ) ⊎ (ℕ × List Pairs))) (coded⊎ coded_ℕ (coded⊎ (coded× coded_ℕ coded_ℕ) (coded× coded_ℕ (coded_list coded_pairs)))) change_sum sum_change sum_change-change_sum
+change_code = code_by (ℕ ⊎ ((ℕ × ℕ) ⊎ (ℕ × List Pairs)))
+    (coded⊎ coded_ℕ (coded⊎ (coded× coded_ℕ coded_ℕ) (coded× coded_ℕ (coded_list coded_pairs))))
+    change_sum sum_change sum_change-change_sum
 
 abbrev pub progress_code : Coded Progress
-progress_code = code_by (List Collection × List UndoEntry) (coded× (coded_list collection_code) (coded_list change_code)) (λ p. (p.now, p.changes)) (λ x. record { now = x.0; changes = x.1 }) (λ _. refl)
+progress_code = code_by (List Collection × List UndoEntry)
+    (coded× (coded_list collection_code) (coded_list change_code)) (λ p. (p.now, p.changes))
+    (λ x. record { now = x.0; changes = x.1 }) (λ _. refl)

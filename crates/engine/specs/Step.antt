@@ -37,14 +37,16 @@ step world connection (Ok body) = answered world (read_and_run world connection 
 step world connection (Err fault) = (world, refusal_reply refusals.InvalidBSON)
 
 -- A refusal came beside the definition's step, for a cause of its own. It leaves the world as it was.
-pub record RefusedBeside (beside : Refusal → Type 0) (old new : World) (reply : Pairs) : Type 0 where
+pub record RefusedBeside (beside : Refusal → Type 0) (old new : World)
+    (reply : Pairs) : Type 0 where
   pub refusal : Refusal
   pub cause : beside refusal
   pub same : new ≡ old
   pub says : reply ≡ refusal_reply refusal
 
 -- What may be answered: the definition's step, or a refusal that may come beside it, by its cause.
-abbrev pub Answers : (Refusal → Type 0) → World → ℕ → Result Pairs BsonFault → World → Pairs → Type 0
+abbrev pub Answers : (Refusal → Type 0) → World → ℕ → Result Pairs BsonFault → World → Pairs
+    → Type 0
 Answers beside world connection body new reply =
     ((new, reply) ≡ step world connection body) ⊎ RefusedBeside beside world new reply
 

@@ -20,10 +20,13 @@ abbrev pub catalogue_value : ℕ → Pairs
 catalogue_value number = pair (codes "n") (int number) (pair (codes "x") (array no_items) no_pairs)
 
 abbrev pub catalogue_entry : Collection → Entry
-catalogue_entry c = record { key = key_under 0 0 (tree_text (words c.name)); value = frame_of (pairs_bytes (catalogue_value c.number)) }
+catalogue_entry c = record {
+  key = key_under 0 0 (tree_text (words c.name));
+  value = frame_of (pairs_bytes (catalogue_value c.number)) }
 
 abbrev pub document_entry : ℕ → Pairs → Entry
-document_entry number ps = record { key = key_under number 0 (tree_text (key_of ps)); value = frame_of (pairs_bytes ps) }
+document_entry number ps =
+    record { key = key_under number 0 (tree_text (key_of ps)); value = frame_of (pairs_bytes ps) }
 
 -- the documents of the collection that has this number
 abbrev pub documents_numbered : ℕ → List Collection → List Pairs
@@ -33,7 +36,8 @@ documents_numbered n (c ∷ cs) = if c.number == n then c.documents else documen
 -- the documents of the collections that have the numbers from 1 to n, in the order of these numbers
 abbrev pub documents_to : ℕ → List Collection → List Entry
 documents_to zero cs = []
-documents_to (suc n) cs = documents_to n cs ++ map (document_entry (suc n)) (documents_numbered (suc n) cs)
+documents_to (suc n) cs =
+    documents_to n cs ++ map (document_entry (suc n)) (documents_numbered (suc n) cs)
 
 -- all entries of a database: the catalogue, and then all documents
 unfoldable pub database_entries : List Collection → List Entry

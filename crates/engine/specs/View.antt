@@ -21,7 +21,8 @@ world engine = record { collections = engine.collections.now; cursors = []; next
 
 -- the world as it was at the beginning of the turn
 abbrev pub turn_start : {D : Type 0} → Engine D → World
-turn_start engine = record { collections = turn_start_of engine.collections; cursors = []; next = 1; touched = [] }
+turn_start engine =
+    record { collections = turn_start_of engine.collections; cursors = []; next = 1; touched = [] }
 
 -- the reply is within the limit of replies
 abbrev pub IsSendable : Pairs → Type 0

@@ -55,7 +55,10 @@ number_or new (Some c) = c.number
 
 -- the collection of a name with these documents: under its number, or a missing one under the least that is not in use
 abbrev pub with_documents : List Collection → List ℕ → List Pairs → Collection
-with_documents collections name stored = record { name = name; number = number_or (unused collections) (find_collection collections name); documents = stored }
+with_documents collections name stored = record {
+  name = name;
+  number = number_or (unused collections) (find_collection collections name);
+  documents = stored }
 
 -- a missing collection reads as empty
 abbrev pub documents_or_none : Option Collection → List Pairs
@@ -73,17 +76,21 @@ by_order orders.Greater less equal greater = greater
 -- the collection in place of the one of its name, or in its order among the others
 abbrev pub put_collection : Collection → List Collection → List Collection
 put_collection new [] = new ∷ []
-put_collection new (c ∷ cs) = by_order (slice_cmp nat_cmp new.name c.name) (new ∷ c ∷ cs) (new ∷ cs) (c ∷ put_collection new cs)
+put_collection new (c ∷ cs) =
+    by_order (slice_cmp nat_cmp new.name c.name)
+      (new ∷ c ∷ cs) (new ∷ cs) (c ∷ put_collection new cs)
 
 -- the cursors of a connection
 abbrev pub count_of : ℕ → List Cursor → ℕ
 count_of connection [] = 0
-count_of connection (c ∷ cs) = if c.connection == connection then suc (count_of connection cs) else count_of connection cs
+count_of connection (c ∷ cs) =
+    if c.connection == connection then suc (count_of connection cs) else count_of connection cs
 
 -- the cursors of the others
 abbrev pub without_cursors : ℕ → List Cursor → List Cursor
 without_cursors connection [] = []
-without_cursors connection (c ∷ cs) = if c.connection == connection then without_cursors connection cs else c ∷ without_cursors connection cs
+without_cursors connection (c ∷ cs) = if c.connection == connection
+  then without_cursors connection cs else c ∷ without_cursors connection cs
 
 -- a connection has ended
 abbrev pub forget : World → ℕ → World
@@ -94,7 +101,8 @@ forget world connection = record world { cursors = without_cursors connection wo
 -- the cursors whose numbers are not among these
 abbrev pub untouched : List ℕ → List Cursor → List Cursor
 untouched numbers [] = []
-untouched numbers (c ∷ cs) = if list_any (λ n. n == c.number) numbers then untouched numbers cs else c ∷ untouched numbers cs
+untouched numbers (c ∷ cs) =
+    if list_any (λ n. n == c.number) numbers then untouched numbers cs else c ∷ untouched numbers cs
 
 -- A turn that is done keeps what its commands made.
 abbrev pub after_commit : World → World
@@ -103,4 +111,8 @@ after_commit now = record now { touched = [] }
 -- A turn that is undone leaves the state from before it. Cursors that were opened, advanced or killed in it are closed,
 -- and the numbers that were drawn stay drawn.
 abbrev pub after_undo : World → World → World
-after_undo before now = record { collections = before.collections; cursors = untouched now.touched before.cursors; next = now.next; touched = [] }
+after_undo before now = record {
+  collections = before.collections;
+  cursors = untouched now.touched before.cursors;
+  next = now.next;
+  touched = [] }

@@ -29,7 +29,8 @@ impl Model for Collection {
 
     ghost coded = { collection_code };
 
-    ghost view = { λ a. record { name = string_bytes a.namespace; number = a.number; documents = a.documents.items } };
+    ghost view = { λ a. record {
+        name = string_bytes a.namespace; number = a.number; documents = a.documents.items } };
 
     ghost invariant = { λ a. IsHeld (record {
       name = string_bytes a.namespace;
@@ -40,7 +41,8 @@ impl Model for Collection {
 
 impl Collection {
     pub(crate) fn new(alloc: Global, namespace: &str, number: u32) -> Result<Collection, NoMemory>
-        ensures { IfOk result (λ c. c ≡ record { name = namespace.now; number = number; documents = [] }) }
+        ensures { IfOk result
+            (λ c. c ≡ record { name = namespace.now; number = number; documents = [] }) }
     {
         Ok(Collection {
             namespace: String::from_str(alloc, namespace)?,

@@ -79,7 +79,8 @@ impl Model for Collections {
 
     ghost view = { λ a. record { now = a.list.items; changes = a.changes.items } };
 
-    ghost invariant = { λ a. IsProgress (record { now = a.list.items; changes = a.changes.items }) };
+    ghost invariant = { λ a. IsProgress
+        (record { now = a.list.items; changes = a.changes.items }) };
 }
 
 impl Collections {
@@ -194,8 +195,11 @@ impl Collections {
     pub(crate) fn add(&mut self, namespace: &str, number: u32) -> Result<Option<()>, NoMemory>
         requires { self.old.changes ≡ [] }
         ensures changes { self.new.changes ≡ [] }
-        ensures added { IfOk result (λ made. IfSome made (λ _. IsAdded namespace.now number self.old.now self.new.now)) }
-        ensures none { IfOk result (λ made. IfNone made (find_collection self.old.now namespace.now ≡ None → uses self.old.now number ≡ false → length self.old.now < MOST_COLLECTIONS → ⊥)) }
+        ensures added { IfOk result
+            (λ made. IfSome made (λ _. IsAdded namespace.now number self.old.now self.new.now)) }
+        ensures none { IfOk result (λ made. IfNone made
+            (find_collection self.old.now namespace.now ≡ None → uses self.old.now number ≡ false
+            → length self.old.now < MOST_COLLECTIONS → ⊥)) }
         ensures same { IfOk result (λ made. IfNone made (self.new ≡ self.old)) }
         ensures err { OnErr result (self.new ≡ self.old) }
     {
@@ -217,7 +221,8 @@ impl Collections {
         ensures extends { Extends self.old self.new }
         ensures does { Does (with_document (collection_at self.old.now at) document.now)
             (collection_at self.new.now at) result }
-        ensures ok { OnOk result (self.new.now ≡ slice_set self.old.now at (collection_at self.new.now at)) }
+        ensures ok { OnOk result
+            (self.new.now ≡ slice_set self.old.now at (collection_at self.new.now at)) }
     {
         let alloc = *self.list.allocator();
         let document = stored(alloc, document)?;
@@ -236,7 +241,8 @@ impl Collections {
     /// Stores documents in a collection, up to the first that is refused.
     fn store_each(&mut self, namespace: &str, documents: &[&Document]) -> Result<(), Refusal>
         ensures extends { Extends self.old self.new }
-        ensures does { Does (inserted self.old.now namespace.now (documents_at documents.now)) self.new.now result }
+        ensures does { Does (inserted self.old.now namespace.now (documents_at documents.now))
+            self.new.now result }
     {
         let at = self.find_or_make(namespace)?;
         'documents: for document in documents {
@@ -281,7 +287,8 @@ impl Collections {
     /// Stores documents in a collection, which is made where it is missing: all of them, or none and the
     /// first refusal.
     pub(crate) fn insert(&mut self, namespace: &str, documents: &[&Document]) -> Result<(), Refusal>
-        ensures does { Does (inserted self.old.now namespace.now (documents_at documents.now)) self.new.now result }
+        ensures does { Does (inserted self.old.now namespace.now (documents_at documents.now))
+            self.new.now result }
         ensures turn_start { turn_start_of self.new ≡ turn_start_of self.old }
         ensures err { OnErr result (self.new ≡ self.old) }
     {
@@ -299,8 +306,10 @@ impl Collections {
         namespace: &str,
         deletions: &[Deletion],
     ) -> Result<Option<Rest>, NoMemory>
-        ensures some { IfOk result (λ found. IfSome found (λ rest. Leaves namespace.now deletions.now self.now.now rest.at rest.documents.items rest.gone)) }
-        ensures none { IfOk result (λ found. IfNone found (LeavesAll namespace.now deletions.now self.now.now)) }
+        ensures some { IfOk result (λ found. IfSome found (λ rest. Leaves namespace.now
+            deletions.now self.now.now rest.at rest.documents.items rest.gone)) }
+        ensures none { IfOk result
+            (λ found. IfNone found (LeavesAll namespace.now deletions.now self.now.now)) }
     {
         let Ok(at) = self.place_of(namespace) else {
             return Ok(None);
@@ -322,9 +331,11 @@ impl Collections {
     /// Leaves a collection the rest of its documents. An `Err` leaves all as it was.
     pub(crate) fn keep(&mut self, rest: Rest) -> Result<(), NoMemory>
         requires within { rest.at < length self.old.now }
-        requires held { IsHeld (record (collection_at self.old.now rest.at) { documents = rest.documents.items }) }
+        requires held { IsHeld
+            (record (collection_at self.old.now rest.at) { documents = rest.documents.items }) }
         ensures turn_start { turn_start_of self.new ≡ turn_start_of self.old }
-        ensures ok { OnOk result (self.new.now ≡ slice_set self.old.now rest.at (record (collection_at self.old.now rest.at) { documents = rest.documents.items })) }
+        ensures ok { OnOk result (self.new.now ≡ slice_set self.old.now rest.at
+            (record (collection_at self.old.now rest.at) { documents = rest.documents.items })) }
         ensures err { OnErr result (self.new ≡ self.old) }
     {
         self.changes.reserve(1)?;

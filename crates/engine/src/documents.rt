@@ -93,7 +93,8 @@ pub(crate) fn compare_ids(a: &Document, b: &Document) -> Ordering
 fn check_key(alloc: Global, id: &Value) -> Result<(), Refusal>
     ensures { MatchResult result
         (λ _. length (tree_text (tree id.now)) ≤ KEY_LIMIT)
-        (λ e. e ≢ Refusal.OutOfMemory → (e ≡ Refusal.KeyTooLong) × (KEY_LIMIT < length (tree_text (tree id.now)))) }
+        (λ e. e ≢ Refusal.OutOfMemory
+            → (e ≡ Refusal.KeyTooLong) × (KEY_LIMIT < length (tree_text (tree id.now)))) }
 {
     match id {
         Value::String(_)

@@ -60,7 +60,8 @@ impl<D: Disk> Engine<D> {
     /// syncs before it answers. An `Err` hands the disk back.
     pub fn open(alloc: Global, disk: D, config: Config) -> Result<Engine<D>, (D, OpenFault)>
         ensures opened { IfOk result (IsOpened D.history disk) }
-        ensures limit { IfOk result (λ engine. stores.limit_of (store_of engine) ≡ stores.limit_in config) }
+        ensures limit { IfOk result
+            (λ engine. stores.limit_of (store_of engine) ≡ stores.limit_in config) }
         ensures refused { IfErr result (λ e. IsRefused D.history disk e.0 e.1) }
     {
         let (store, entries) = match Store::open_entries(alloc, disk, config) {
@@ -97,7 +98,8 @@ impl<D: Disk> Engine<D> {
         ensures runs { Runs (world self.old) (read_and_run (world self.old) connection body.now)
             (world self.new) result }
         ensures turn_start { turn_start self.new ≡ turn_start self.old }
-        ensures has_changes { (world self.new).collections ≡ (world self.old).collections → has_changes self.new ≡ has_changes self.old }
+        ensures has_changes { (world self.new).collections ≡ (world self.old).collections
+            → has_changes self.new ≡ has_changes self.old }
         ensures sendable { IfOk result (λ d. IsSendable d) }
     {
         match Command::read(self.alloc, body)? {
@@ -120,9 +122,11 @@ impl<D: Disk> Engine<D> {
         ensures disk { disk_history D.history self.new ≡ disk_history D.history self.old }
         ensures running { is_stopped self.new ≡ is_stopped self.old }
         ensures store { store_of self.new ≡ store_of self.old }
-        ensures answers { Answers ForMemory (world self.old) connection (Ok body.now) (world self.new) (reply_of result) }
+        ensures answers { Answers ForMemory (world self.old) connection (Ok body.now)
+            (world self.new) (reply_of result) }
         ensures turn_start { turn_start self.new ≡ turn_start self.old }
-        ensures has_changes { (world self.new).collections ≡ (world self.old).collections → has_changes self.new ≡ has_changes self.old }
+        ensures has_changes { (world self.new).collections ≡ (world self.old).collections
+            → has_changes self.new ≡ has_changes self.old }
         ensures sendable { IsSendable (reply_of result) }
     {
         match self.run(connection, body) {
@@ -190,7 +194,8 @@ impl<D: Disk> Engine<D> {
         ensures running { is_stopped self.new ≡ is_stopped self.old }
         ensures store { store_of self.new ≡ store_of self.old }
         ensures world { world self.new ≡ forget (world self.old) connection }
-        ensures turn_start { turn_start self.old ≡ world self.old → turn_start self.new ≡ world self.new }
+        ensures turn_start { turn_start self.old ≡ world self.old
+            → turn_start self.new ≡ world self.new }
         ensures before { turn_start self.new ≡ forget (turn_start self.old) connection }
         ensures has_changes { has_changes self.new ≡ has_changes self.old }
     {

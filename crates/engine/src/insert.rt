@@ -23,7 +23,8 @@ impl<D: Disk> Engine<D> {
         requires some { 1 ≤ length documents.now }
         ensures disk { self.new.store ≡ self.old.store }
         ensures runs { Runs (world self.old)
-            (run_insert (world self.old) (record { namespace = namespace.now; documents = documents_at documents.now }))
+            (run_insert (world self.old)
+                (record { namespace = namespace.now; documents = documents_at documents.now }))
             (world self.new) result }
         ensures turn_start { turn_start self.new ≡ turn_start self.old }
         ensures has_changes { (world self.new).collections ≡ (world self.old).collections

@@ -46,7 +46,8 @@ fn unescaped(alloc: Global, text: &[u8]) -> Result<Vec<u8>, NoMemory>
 
 /// The name that a text of the catalogue is of.
 fn name_in(alloc: Global, text: &[u8]) -> Result<String, OpenFault>
-    ensures name { (name : List ℕ) → IsUtf8 name → text.now ≡ tree_text (words name) → IsReadAs (λ s. string_bytes s) result name }
+    ensures name { (name : List ℕ) → IsUtf8 name → text.now ≡ tree_text (words name)
+        → IsReadAs (λ s. string_bytes s) result name }
     ensures fault { IfErr result IsOfBytes }
 {
     let Some((_, escaped)) = text.split_first() else {
@@ -89,7 +90,8 @@ fn document_in(alloc: Global, bytes: &[u8]) -> Result<Document, OpenFault>
 /// The number that the catalogue says of a collection, where it is one that a collection may have.
 fn number_in(document: &Document) -> Option<u32>
     ensures some { IfSome result (λ number. (1 ≤ number) × (number ≤ MOST_COLLECTIONS)) }
-    ensures number { (number : ℕ) → 1 ≤ number → number ≤ MOST_COLLECTIONS → document.now ≡ catalogue_value number → result ≡ Some number }
+    ensures number { (number : ℕ) → 1 ≤ number → number ≤ MOST_COLLECTIONS
+        → document.now ≡ catalogue_value number → result ≡ Some number }
 {
     match document.get("n") {
         Some(Value::Int32(number)) => {
@@ -111,8 +113,11 @@ struct Key<'a> {
 
 /// The parts of a key.
 fn split_key(key: &[u8]) -> Option<Key<'_>>
-    ensures some { (number : ℕ) (text : List ℕ) → number < 2 ^ 32 → key.now ≡ key_under number 0 text → IfSome result (λ key. (key.number ≡ number) × (key.text.now ≡ text)) }
-    ensures none { (number : ℕ) (text : List ℕ) → key.now ≡ key_under number 0 text → IfNone result ⊥ }
+    ensures some { (number : ℕ) (text : List ℕ) → number < 2 ^ 32
+        → key.now ≡ key_under number 0 text
+        → IfSome result (λ key. (key.number ≡ number) × (key.text.now ≡ text)) }
+    ensures none { (number : ℕ) (text : List ℕ) → key.now ≡ key_under number 0 text
+        → IfNone result ⊥ }
 {
     let (number, behind) = key.split_first_chunk::<4>()?;
     let (_, text) = behind.split_first_chunk::<4>()?;
@@ -142,7 +147,10 @@ fn load_entry(
 ) -> Result<(), OpenFault>
     requires { IsLoading collections.old }
     ensures loading { OnOk result (IsLoading collections.new) }
-    ensures adds { (pair : Entry) (next : List Collection) (adds : AddsEntry collections.old.now pair next) → text.now ≡ tree_text (words adds.new.name) → pair.value ≡ value.now → IsNext result collections.new.now next }
+    ensures adds { (pair : Entry) (next : List Collection)
+        (adds : AddsEntry collections.old.now pair next)
+        → text.now ≡ tree_text (words adds.new.name) → pair.value ≡ value.now
+        → IsNext result collections.new.now next }
     ensures fault { IfErr result IsOfBytes }
 {
     let catalogue_value = match document_in(alloc, value) {
@@ -175,7 +183,9 @@ fn load_document(
 ) -> Result<(), OpenFault>
     requires { IsLoading collections.old }
     ensures loading { OnOk result (IsLoading collections.new) }
-    ensures adds { (pair : Entry) (next : List Collection) (adds : AddsDocument collections.old.now pair next) → number ≡ adds.number → pair.value ≡ value.now → IsNext result collections.new.now next }
+    ensures adds { (pair : Entry) (next : List Collection)
+        (adds : AddsDocument collections.old.now pair next) → number ≡ adds.number
+        → pair.value ≡ value.now → IsNext result collections.new.now next }
     ensures fault { IfErr result IsOfBytes }
 {
     let document = match document_in(alloc, value) {
@@ -203,7 +213,9 @@ fn load_pair(
 ) -> Result<(), OpenFault>
     requires { IsLoading collections.old }
     ensures loading { OnOk result (IsLoading collections.new) }
-    ensures adds { (next : List Collection) → Adds collections.old.now (record { key = key.now; value = value.now }) next → IsNext result collections.new.now next }
+    ensures adds { (next : List Collection)
+        → Adds collections.old.now (record { key = key.now; value = value.now }) next
+        → IsNext result collections.new.now next }
     ensures fault { IfErr result IsOfBytes }
 {
     let Some(key) = split_key(key) else {
@@ -219,7 +231,9 @@ fn load_pair(
 /// The collections that these pairs make.
 fn load_pairs(alloc: Global, bytes: &[u8]) -> Result<Collections, OpenFault>
     ensures loading { IfOk result IsLoading }
-    ensures loads { (pairs : List Entry) (last : List Collection) → AllByRecursion IsFit pairs → bytes.now ≡ entries_bytes pairs → Loads [] pairs last → IsReadAs (λ collections. collections.now) result last }
+    ensures loads { (pairs : List Entry) (last : List Collection) → AllByRecursion IsFit pairs
+        → bytes.now ≡ entries_bytes pairs → Loads [] pairs last
+        → IsReadAs (λ collections. collections.now) result last }
     ensures fault { IfErr result IsOfBytes }
 {
     let mut collections = Collections::new(alloc);
@@ -239,7 +253,9 @@ pub(crate) fn load(alloc: Global, list: &EntryList) -> Result<Collections, OpenF
     ensures readable { IfOk result (λ collections. All IsReadable collections.now) }
     ensures entries { IfOk result (λ collections. entries_of list.now
         ≡ database_entries collections.now) }
-    ensures damaged { IfErr result (λ fault. fault ≢ OpenFault.Memory → (collections : List Collection) → IsLawfulState collections → All IsReadable collections
+    ensures damaged { IfErr result
+        (λ fault. fault ≢ OpenFault.Memory → (collections : List Collection)
+        → IsLawfulState collections → All IsReadable collections
         → entries_of list.now ≡ database_entries collections → ⊥) }
     ensures fault { IfErr result IsOfBytes }
 {

@@ -106,7 +106,8 @@ pub(crate) fn find_reply(
     documents: Vec<Document>,
 ) -> Result<Document, NoMemory>
     requires { All IsWithin documents.items }
-    ensures { IfOk result (λ d. d ≡ ok_reply (cursor_reply (codes "firstBatch") documents.items 0 namespace.now)) }
+    ensures { IfOk result
+        (λ d. d ≡ ok_reply (cursor_reply (codes "firstBatch") documents.items 0 namespace.now)) }
 {
     let mut cursor = Document::new(alloc);
     put(

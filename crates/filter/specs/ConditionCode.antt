@@ -47,7 +47,8 @@ comparison_one comparisons.AtLeast y e = absurd (omega arith)
 
 abbrev predicate_number : Predicate → Gv
 predicate_number (equal t) = gcons (gnum 0) (coded_tree.code t)
-predicate_number (ordered c t) = gcons (gnum 1) (gcons (gnum (comparison_number c)) (coded_tree.code t))
+predicate_number (ordered c t) =
+    gcons (gnum 1) (gcons (gnum (comparison_number c)) (coded_tree.code t))
 predicate_number there = gcons (gnum 2) gnil
 predicate_number (of_kinds ks) = gcons (gnum 3) (coded_bytes.code ks)
 predicate_number (size n) = gcons (gnum 4) (gnum n)
@@ -55,7 +56,9 @@ predicate_number (size n) = gcons (gnum 4) (gnum n)
 predicate_one : (x y : Predicate) → predicate_number x ≡ predicate_number y → x ≡ y
 predicate_one (equal t) (equal u) e = ap equal (coded_tree.inj t u (ap tail e))
 predicate_one (equal t) y e = absurd cc
-predicate_one (ordered c t) (ordered d u) e = λ i. ordered (comparison_one c d (ap (λ g. value (head (tail g))) e) i) (coded_tree.inj t u (ap (λ g. tail (tail g)) e) i)
+predicate_one (ordered c t) (ordered d u) e = λ i. ordered
+    (comparison_one c d (ap (λ g. value (head (tail g))) e) i)
+    (coded_tree.inj t u (ap (λ g. tail (tail g)) e) i)
 predicate_one (ordered c t) y e = absurd cc
 predicate_one there there e = refl
 predicate_one there y e = absurd cc
@@ -70,7 +73,8 @@ abbrev mutual
   condition_number (any rs) = gcons (gnum 1) (conditions_number rs)
   condition_number (not_all rs) = gcons (gnum 2) (conditions_number rs)
   condition_number (not_any rs) = gcons (gnum 3) (conditions_number rs)
-  condition_number (at parts rs) = gcons (gnum 4) (gcons (coded_names.code parts) (conditions_number rs))
+  condition_number (at parts rs) =
+      gcons (gnum 4) (gcons (coded_names.code parts) (conditions_number rs))
   condition_number (is t) = gcons (gnum 5) (predicate_number t)
   condition_number (element rs) = gcons (gnum 6) (conditions_number rs)
   condition_number (element_document rs) = gcons (gnum 7) (conditions_number rs)
@@ -89,20 +93,23 @@ mutual
   condition_one (not_all x) y e = absurd cc
   condition_one (not_any x) (not_any y) e = ap not_any (conditions_one x y (ap tail e))
   condition_one (not_any x) y e = absurd cc
-  condition_one (at p x) (at q y) e = λ i. at (coded_names.inj p q (ap (λ g. head (tail g)) e) i) (conditions_one x y (ap (λ g. tail (tail g)) e) i)
+  condition_one (at p x) (at q y) e = λ i. at (coded_names.inj p q (ap (λ g. head (tail g)) e) i)
+      (conditions_one x y (ap (λ g. tail (tail g)) e) i)
   condition_one (at p x) y e = absurd cc
   condition_one (is t) (is u) e = ap is (predicate_one t u (ap tail e))
   condition_one (is t) y e = absurd cc
   condition_one (element x) (element y) e = ap element (conditions_one x y (ap tail e))
   condition_one (element x) y e = absurd cc
-  condition_one (element_document x) (element_document y) e = ap element_document (conditions_one x y (ap tail e))
+  condition_one (element_document x) (element_document y) e =
+      ap element_document (conditions_one x y (ap tail e))
   condition_one (element_document x) y e = absurd cc
 
   pub conditions_one : (x y : Conditions) → conditions_number x ≡ conditions_number y → x ≡ y
   conditions_one no_conditions no_conditions e = refl
   conditions_one no_conditions (condition r rs) e = absurd cc
   conditions_one (condition r rs) no_conditions e = absurd cc
-  conditions_one (condition r rs) (condition q qs) e = λ i. condition (condition_one r q (ap head e) i) (conditions_one rs qs (ap tail e) i)
+  conditions_one (condition r rs) (condition q qs) e =
+      λ i. condition (condition_one r q (ap head e) i) (conditions_one rs qs (ap tail e) i)
 
 abbrev pub coded_conditions : Coded Conditions
 coded_conditions = record { code = conditions_number; inj = conditions_one }

@@ -64,7 +64,8 @@ candidates_of true None = []
 candidates_of true (Some t) = t ∷ []
 
 abbrev pub passes : Predicate → Bool → Reached → Bool
-passes predicate alone r = list_any (candidate_passes predicate) (candidates_of alone r) || reached_passes predicate r
+passes predicate alone r =
+    list_any (candidate_passes predicate) (candidates_of alone r) || reached_passes predicate r
 
 -- ---- of a document, of what a path reached, of an element alone
 
@@ -105,7 +106,8 @@ abbrev mutual
   holds (at parts rs) s = if_reached (all_hold rs) (reached_in parts s)
   holds (is predicate) s = some_reached (passes predicate) s
   holds (element rs) s = some_reached (λ one r. some_element (λ t. all_hold rs (alone t)) r) s
-  holds (element_document rs) s = some_reached (λ one r. some_element (of_document (all_hold rs)) r) s
+  holds (element_document rs) s =
+      some_reached (λ one r. some_element (of_document (all_hold rs)) r) s
 
   pub all_hold : Conditions → Subject → Bool
   all_hold no_conditions s = true

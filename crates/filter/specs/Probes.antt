@@ -19,8 +19,10 @@ subject_of (subjects.Alone v) = alone (tree v.now)
 abbrev pub probe_passes : Probe → Bool → Reached → Bool
 probe_passes (probes.Predicate predicate) one r = passes (predicate_of predicate.now) one r
 probe_passes (probes.Element filter) one r = some_element (λ t. all_hold filter.now (alone t)) r
-probe_passes (probes.ElementDocument filter) one r = some_element (of_document (all_hold filter.now)) r
+probe_passes (probes.ElementDocument filter) one r =
+    some_element (of_document (all_hold filter.now)) r
 
 -- one of what a document's field leads to passes, or Missing does where it lacks the field and isn't passed over
 abbrev pub field_passes : (Reached → Bool) → (Tree → List Reached) → Option Tree → Bool → Bool
-field_passes pass go found passes_over = list_any pass (onwards go found (if passes_over then [] else None ∷ []))
+field_passes pass go found passes_over =
+    list_any pass (onwards go found (if passes_over then [] else None ∷ []))

@@ -15,7 +15,8 @@ Projection = Bool × List Path
 abbrev pub below : List ℕ → List Path → List Path
 below name [] = []
 below name ([] ∷ paths) = below name paths
-below name ((first ∷ rest) ∷ paths) = if bytes_eq name first then rest ∷ below name paths else below name paths
+below name ((first ∷ rest) ∷ paths) =
+    if bytes_eq name first then rest ∷ below name paths else below name paths
 
 abbrev pub is_end : Path → Bool
 is_end [] = true
@@ -31,7 +32,8 @@ only b t = if b then Some t else None
 -- Where no path says anything of a value, an inclusion drops it; where one ends there, it keeps it whole; else a part of
 -- it stays. An exclusion does the opposite.
 abbrev pub pick : Bool → List Path → Tree → Option Tree → Option Tree
-pick includes paths whole part = if is_none paths then only (not includes) whole else if list_any is_end paths then only includes whole else part
+pick includes paths whole part = if is_none paths then only (not includes) whole
+    else if list_any is_end paths then only includes whole else part
 
 abbrev pub add_pair : List ℕ → Option Tree → Pairs → Pairs
 add_pair name None ps = ps
@@ -47,12 +49,14 @@ module _ (includes : Bool) where
   abbrev mutual
     pub of_tree : List Path → Tree → Option Tree
     of_tree paths (scalar s) = pick includes paths (scalar s) (only (not includes) (scalar s))
-    of_tree paths (document ps) = pick includes paths (document ps) (Some (document (of_pairs paths ps)))
+    of_tree paths (document ps) =
+        pick includes paths (document ps) (Some (document (of_pairs paths ps)))
     of_tree paths (array ts) = pick includes paths (array ts) (Some (array (of_items paths ts)))
 
     pub of_pairs : List Path → Pairs → Pairs
     of_pairs paths no_pairs = no_pairs
-    of_pairs paths (pair name t ps) = add_pair name (of_tree (below name paths) t) (of_pairs paths ps)
+    of_pairs paths (pair name t ps) =
+        add_pair name (of_tree (below name paths) t) (of_pairs paths ps)
 
     pub of_items : List Path → Items → Items
     of_items paths no_items = no_items

@@ -55,11 +55,13 @@ with_field path b seen =
     if is_said seen.id && begins_with_id path then Err refusals.BadValue else
     if list_any (meets path) seen.paths then Err refusals.BadValue else
     if is_id path then Ok (record { fields = seen.fields; id = Some b; paths = seen.paths }) else
-    if agrees seen.fields b then Ok (record { fields = Some b; id = seen.id; paths = seen.paths ++ path ∷ [] }) else
+    if agrees seen.fields b
+      then Ok (record { fields = Some b; id = seen.id; paths = seen.paths ++ path ∷ [] }) else
     Err refusals.BadValue
 
 abbrev pub read_field : List ℕ → Tree → Seen → Result Seen Refusal
-read_field name t seen = if_ok (path_in name) (λ path. if_ok (flag_in t) (λ b. with_field path b seen))
+read_field name t seen =
+    if_ok (path_in name) (λ path. if_ok (flag_in t) (λ b. with_field path b seen))
 
 abbrev pub read_flags : Seen → Pairs → Result Seen Refusal
 read_flags seen no_pairs = Ok seen
@@ -79,7 +81,10 @@ names_id false (Some b) paths = not b
 names_id false None paths = false
 
 abbrev pub projection_of : Bool → Seen → Projection
-projection_of includes seen = (includes, if names_id includes seen.id seen.paths then seen.paths ++ id_path ∷ [] else seen.paths)
+projection_of includes seen =
+    (includes,
+      if names_id includes seen.id seen.paths then seen.paths ++ id_path ∷ [] else seen.paths)
 
 abbrev pub read_projection : Pairs → Result Projection Refusal
-read_projection ps = if_ok (read_flags nothing_seen ps) (λ seen. Ok (projection_of (mode seen.fields seen.id) seen))
+read_projection ps =
+    if_ok (read_flags nothing_seen ps) (λ seen. Ok (projection_of (mode seen.fields seen.id) seen))

@@ -81,14 +81,16 @@ is_empty_list (item t ts) = false
 -- ---- filters and operator documents
 
 -- a list of filters, or a path with what is asked there
-abbrev pub named_condition : List ℕ → Result Conditions Refusal → Result Conditions Refusal → Result Condition Refusal
+abbrev pub named_condition : List ℕ → Result Conditions Refusal → Result Conditions Refusal
+    → Result Condition Refusal
 named_condition name members operand =
     if bytes_eq name (codes "$and") then if_ok members (λ rs. Ok (all rs)) else
     if bytes_eq name (codes "$or") then if_ok members (λ rs. Ok (any rs)) else
     if bytes_eq name (codes "$nor") then if_ok members (λ rs. Ok (not_any rs)) else
     if_ok (path_in name) (λ path. if_ok operand (λ rs. Ok (at path rs)))
 
-abbrev pub operation : List ℕ → Result Condition Refusal → Result Condition Refusal → Tree → Result Condition Refusal
+abbrev pub operation : List ℕ → Result Condition Refusal → Result Condition Refusal → Tree
+    → Result Condition Refusal
 operation name inner negation t =
     if bytes_eq name (codes "$elemMatch") then inner else
     if bytes_eq name (codes "$not") then negation else
@@ -97,7 +99,8 @@ operation name inner negation t =
 abbrev mutual
   pub read_filter : Pairs → Result Conditions Refusal
   read_filter no_pairs = Ok no_conditions
-  read_filter (pair name t ps) = if_ok (named_condition name (read_members t) (read_operand t)) (λ r. if_ok (read_filter ps) (λ rs. Ok (condition r rs)))
+  read_filter (pair name t ps) = if_ok (named_condition name (read_members t) (read_operand t))
+      (λ r. if_ok (read_filter ps) (λ rs. Ok (condition r rs)))
 
   -- a list of filters that isn't empty
   pub read_members : Tree → Result Conditions Refusal
@@ -107,7 +110,8 @@ abbrev mutual
 
   pub read_filters : Items → Result Conditions Refusal
   read_filters no_items = Ok no_conditions
-  read_filters (item t ts) = if_ok (read_member t) (λ r. if_ok (read_filters ts) (λ rs. Ok (condition r rs)))
+  read_filters (item t ts) =
+      if_ok (read_member t) (λ r. if_ok (read_filters ts) (λ rs. Ok (condition r rs)))
 
   pub read_member : Tree → Result Condition Refusal
   read_member (document ps) = if_ok (read_filter ps) (λ rs. Ok (all rs))
@@ -116,20 +120,25 @@ abbrev mutual
 
   -- an operator document, or a value to be equal to
   pub read_operand : Tree → Result Conditions Refusal
-  read_operand (document ps) = if has_operators ps then read_operators ps else Ok (just (is (equal (document ps))))
+  read_operand (document ps) =
+      if has_operators ps then read_operators ps else Ok (just (is (equal (document ps))))
   read_operand (array ts) = Ok (just (is (equal (array ts))))
   read_operand (scalar s) = Ok (just (is (equal (scalar s))))
 
   pub read_operators : Pairs → Result Conditions Refusal
   read_operators no_pairs = Ok no_conditions
-  read_operators (pair name t ps) = if_ok (operation name (read_element t) (read_not t) t) (λ r. if_ok (read_operators ps) (λ rs. Ok (condition r rs)))
+  read_operators (pair name t ps) = if_ok (operation name (read_element t) (read_not t) t)
+      (λ r. if_ok (read_operators ps) (λ rs. Ok (condition r rs)))
 
   pub read_element : Tree → Result Condition Refusal
-  read_element (document ps) = if has_operators ps then if_ok (read_operators ps) (λ rs. Ok (element rs)) else if_ok (read_filter ps) (λ rs. Ok (element_document rs))
+  read_element (document ps) = if has_operators ps
+      then if_ok (read_operators ps) (λ rs. Ok (element rs))
+      else if_ok (read_filter ps) (λ rs. Ok (element_document rs))
   read_element (array ts) = Err refusals.TypeMismatch
   read_element (scalar s) = Err refusals.TypeMismatch
 
   pub read_not : Tree → Result Condition Refusal
-  read_not (document ps) = if has_operators ps then if_ok (read_operators ps) (λ rs. Ok (not_all rs)) else Err refusals.BadValue
+  read_not (document ps) = if has_operators ps
+      then if_ok (read_operators ps) (λ rs. Ok (not_all rs)) else Err refusals.BadValue
   read_not (array ts) = Err refusals.TypeMismatch
   read_not (scalar s) = Err refusals.TypeMismatch

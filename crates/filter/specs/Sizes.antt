@@ -18,6 +18,7 @@ deep_le-weight (conditions.Is t) = omega arith
 deep_le-weight (conditions.Element rs) = omega arith
 deep_le-weight (conditions.ElementDocument rs) = omega arith
 
-pub most_le-weights : (rs : List Condition) → max (most deep-Condition rs) 0 ≤ weights (conditions_of rs)
+pub most_le-weights : (rs : List Condition)
+    → max (most deep-Condition rs) 0 ≤ weights (conditions_of rs)
 most_le-weights [] = omega arith
 most_le-weights (r ∷ rs) = omega (arith, deep_le-weight r, most_le-weights rs)

@@ -36,7 +36,8 @@ precedes descending o = false
 -- the first of the keys, in the direction of the sort
 abbrev pub first_key : Bool → Key → List Key → Key
 first_key descending k [] = k
-first_key descending k (l ∷ ls) = first_key descending (if precedes descending (key_cmp l k) then l else k) ls
+first_key descending k (l ∷ ls) =
+    first_key descending (if precedes descending (key_cmp l k) then l else k) ls
 
 -- null, where nothing was reached
 abbrev pub key_among : Bool → List Key → Key
@@ -56,7 +57,8 @@ in_direction true Greater = Less
 
 abbrev pub compare_by : List SortField → Pairs → Pairs → Ordering
 compare_by [] a b = Equal
-compare_by (field ∷ fields) a b = ordering_then (in_direction field.1 (key_cmp (sort_key field a) (sort_key field b))) (compare_by fields a b)
+compare_by (field ∷ fields) a b = ordering_then
+    (in_direction field.1 (key_cmp (sort_key field a) (sort_key field b))) (compare_by fields a b)
 
 abbrev pub put_before : {A : Type 0} → Ordering → A → A → List A → List A → List A
 put_before Greater x y inserted ys = y ∷ inserted

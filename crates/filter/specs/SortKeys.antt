@@ -36,7 +36,9 @@ first_or_null (k ∷ ks) = k
 
 abbrev pub keys_cmp : List SortField → List Key → List Key → Ordering
 keys_cmp [] a b = Equal
-keys_cmp (field ∷ fields) a b = ordering_then (in_direction field.1 (key_cmp (first_or_null a) (first_or_null b))) (keys_cmp fields (drop 1 a) (drop 1 b))
+keys_cmp (field ∷ fields) a b = ordering_then
+    (in_direction field.1 (key_cmp (first_or_null a) (first_or_null b)))
+    (keys_cmp fields (drop 1 a) (drop 1 b))
 
 abbrev pub keys_held : Ranked → List Key
 keys_held r = map key_of r.keys.items

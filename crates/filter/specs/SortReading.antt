@@ -18,7 +18,8 @@ direction_in (scalar (int64 z)) = direction_of z
 direction_in t = Err refusals.TypeMismatch
 
 abbrev pub read_field : List ℕ → Tree → Result SortField Refusal
-read_field name t = if_ok (path_in name) (λ path. if_ok (direction_in t) (λ descending. Ok (path, descending)))
+read_field name t =
+    if_ok (path_in name) (λ path. if_ok (direction_in t) (λ descending. Ok (path, descending)))
 
 -- at most so many more fields; of one too many nothing is looked at
 abbrev pub read_fields : ℕ → Pairs → Result (List SortField) Refusal

@@ -71,7 +71,8 @@ only_kind None = Err refusals.BadValue
 only_kind (Some k) = Ok (k ∷ [])
 
 abbrev pub kinds_named : List ℕ → Result (List Kind) Refusal
-kinds_named name = if bytes_eq name (codes "number") then Ok (kinds.Int32 ∷ kinds.Int64 ∷ []) else only_kind (kind_named name)
+kinds_named name = if bytes_eq name (codes "number") then Ok (kinds.Int32 ∷ kinds.Int64 ∷ [])
+    else only_kind (kind_named name)
 
 -- the kinds that a name or a number stands for
 abbrev pub kinds_in : Tree → Result (List Kind) Refusal

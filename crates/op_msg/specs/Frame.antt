@@ -10,7 +10,8 @@ use Rattle.op_msg.specs.declared.fault.FrameFault.{FrameFault}
 use Rattle.op_msg.specs.declared.fault.FrameFault.TheVariants as faults
 
 infixl 10 ◌>>=◌
-abbrev pub ◌>>=◌ : {A B : Type 0} → Result A FrameFault → (A → Result B FrameFault) → Result B FrameFault
+abbrev pub ◌>>=◌ : {A B : Type 0} → Result A FrameFault → (A → Result B FrameFault)
+    → Result B FrameFault
 (Ok x) >>= f = f x
 (Err e) >>= f = Err e
 
@@ -37,7 +38,8 @@ first_or None bytes = bytes
 first_or (Some first) bytes = first
 
 abbrev pub with_body : Bodies → List ℕ → Bodies
-with_body found bytes = record { first = Some (first_or found.first bytes); several = is_some found.first }
+with_body found bytes =
+    record { first = Some (first_or found.first bytes); several = is_some found.first }
 
 -- the number in the four bytes at a place
 abbrev pub number_at : ℕ → List ℕ → ℕ

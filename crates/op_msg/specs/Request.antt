@@ -29,7 +29,8 @@ body_of frame = document_in frame.body
 -- What a message says of itself.
 abbrev pub head_of : Result (Option (Frame × List ℕ)) FrameFault → Result (Option Head) FrameFault
 head_of (Ok None) = Ok None
-head_of (Ok (Some x)) = Ok (Some (record { request_id = x.0.number; more_to_come = x.0.more_to_come }))
+head_of (Ok (Some x)) =
+    Ok (Some (record { request_id = x.0.number; more_to_come = x.0.more_to_come }))
 head_of (Err fault) = Err fault
 
 -- This request is that message. Its body may be missing where memory ran out.
@@ -39,7 +40,8 @@ pub record IsRequest (frame : Frame) (request : Request) : Type 0 where
   pub body : Gives bson_faults.Memory (λ d. d) request.body (body_of frame)
 
 -- What a call of `next` may answer, by what stands at the front, with what is left after it.
-abbrev pub IsNext : Result (Option (Frame × List ℕ)) FrameFault → List ℕ → Result (Option Request) FrameFault → List ℕ → Type 0
+abbrev pub IsNext : Result (Option (Frame × List ℕ)) FrameFault → List ℕ
+    → Result (Option Request) FrameFault → List ℕ → Type 0
 IsNext (Ok (Some x)) old (Ok (Some request)) new = IsRequest x.0 request × (new ≡ x.1)
 IsNext (Ok None) old (Ok None) new = new ≡ old
 IsNext (Err fault) old (Err e) new = (e ≡ fault) × (new ≡ old)
@@ -62,7 +64,8 @@ le_32 n = to_le_bytes w32 n
 -- What stands before a body of this length: the length of the whole, the reply's number, the request's, the opcode, no flags,
 -- and the kind of a section that is a body.
 abbrev pub head_bytes : ℕ → ℕ → ℕ → List ℕ
-head_bytes number request len = le_32 (len + 21) ++ le_32 number ++ le_32 request ++ le_32 2013 ++ le_32 0 ++ 0 ∷ []
+head_bytes number request len =
+    le_32 (len + 21) ++ le_32 number ++ le_32 request ++ le_32 2013 ++ le_32 0 ++ 0 ∷ []
 
 -- The frame of a body, as its bytes.
 abbrev pub frame_bytes : ℕ → ℕ → List ℕ → List ℕ

@@ -11,4 +11,5 @@ Finds view (Err e) read = read ≡ Err e
 
 -- the frame of the definition
 abbrev pub frame_in : Message → Frame
-frame_in message = record { number = message.number; more_to_come = message.more_to_come; body = message.body.now }
+frame_in message =
+    record { number = message.number; more_to_come = message.more_to_come; body = message.body.now }

@@ -102,7 +102,8 @@ fn read_frame(bytes: &[u8]) -> Result<Message<'_>, FrameFault>
 /// The message at the front, or nothing where it is not whole yet.
 #[tactic(auto, unfolding(crate::specs::Frame::front))]
 pub(crate) fn read_front(bytes: &[u8]) -> Result<Option<Front<'_>>, FrameFault>
-    ensures front { Finds (option_map (λ x. (frame_in x.message, drop x.len bytes.now))) result (front bytes.now) }
+    ensures front { Finds (option_map (λ x. (frame_in x.message, drop x.len bytes.now))) result
+        (front bytes.now) }
     ensures within { IfOk result (λ x. IfSome x (λ f. f.len ≤ length bytes.now)) }
 {
     if bytes.len() < 4 {

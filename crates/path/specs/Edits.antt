@@ -39,7 +39,8 @@ write_item_at made i ts =
     if nat_lt (items_len ts + 1000) i then Err refusals.BadValue else
     if_ok (within 98 (made (item_at ts i))) (λ u. Ok (put_item ts i u))
 
-abbrev pub write_item : (Option Tree → Result Tree Refusal) → Option ℕ → Items → Result Items Refusal
+abbrev pub write_item : (Option Tree → Result Tree Refusal) → Option ℕ → Items
+    → Result Items Refusal
 write_item made None ts = Err refusals.PathNotViable
 write_item made (Some i) ts = write_item_at made i ts
 
@@ -50,8 +51,10 @@ module _ (made : Option Tree → Result Tree Refusal) where
   write [] old = made old
   write (name ∷ rest) None = if_ok (write_field (write rest) name no_pairs) (λ ps. Ok (document ps))
   write (name ∷ rest) (Some (scalar s)) = Err refusals.PathNotViable
-  write (name ∷ rest) (Some (document ps)) = if_ok (write_field (write rest) name ps) (λ qs. Ok (document qs))
-  write (name ∷ rest) (Some (array ts)) = if_ok (write_item (write rest) (index_of name) ts) (λ us. Ok (array us))
+  write (name ∷ rest) (Some (document ps)) =
+      if_ok (write_field (write rest) name ps) (λ qs. Ok (document qs))
+  write (name ∷ rest) (Some (array ts)) =
+      if_ok (write_item (write rest) (index_of name) ts) (λ us. Ok (array us))
 
   abbrev pub write_at : List (List ℕ) → Pairs → Result Pairs Refusal
   write_at [] ps = Ok ps

@@ -70,7 +70,8 @@ leads_with_zero (b ∷ c ∷ bs) = b == 48
 
 -- the index of an array that the part names, where it is `0` or digits without a leading zero
 abbrev pub index_of : List ℕ → Option ℕ
-index_of name = if leads_with_zero name then None else if is_digits name then Some (number 0 name) else None
+index_of name =
+    if leads_with_zero name then None else if is_digits name then Some (number 0 name) else None
 
 -- the path is the other one or leads to it
 abbrev pub is_front : List (List ℕ) → List (List ℕ) → Bool

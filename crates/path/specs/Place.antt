@@ -30,4 +30,5 @@ some_passes passes (Some t) = passes t
 -- an array stands on the way, with parts left
 abbrev pub passes_array : List (List ℕ) → Tree → Bool
 passes_array [] t = false
-passes_array (name ∷ rest) t = if is_array t then true else some_passes (passes_array rest) (child name t)
+passes_array (name ∷ rest) t =
+    if is_array t then true else some_passes (passes_array rest) (child name t)

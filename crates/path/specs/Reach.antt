@@ -17,7 +17,8 @@ onwards go (Some t) none = go t
 -- on in each element that is a document, in order; one that lacks a field named by digits is passed over
 abbrev pub in_elements : (Tree → List Reached) → List ℕ → Items → List Reached
 in_elements go name no_items = []
-in_elements go name (item (document ps) ts) = onwards go (lookup ps name) (if is_digits name then [] else None ∷ []) ++ in_elements go name ts
+in_elements go name (item (document ps) ts) =
+    onwards go (lookup ps name) (if is_digits name then [] else None ∷ []) ++ in_elements go name ts
 in_elements go name (item t ts) = in_elements go name ts
 
 -- on in the element that the part numbers

@@ -22,4 +22,5 @@ pub record RunsAnew (all : List Step) (out : DriveOut) (last : Core MemDisk) : T
   pub running : IsRunning first
   pub drives : Drives memory_history first all out last
   pub empty : HasTime (disk_history memory_history last) → state first ≡ new_server
-  pub word : HasTime (disk_history memory_history last) → KeepsWord (disk_history memory_history last)
+  pub word : HasTime (disk_history memory_history last)
+      → KeepsWord (disk_history memory_history last)

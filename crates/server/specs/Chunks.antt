@@ -4,4 +4,5 @@ use Rattle.std.specs.Prelude.{◌≡◌, ℕ, List, ◌++◌}
 use Rattle.server.specs.ServerState.{ServerState, fed}
 
 abbrev pub ChunksJoin : Type 0
-ChunksJoin = (state : ServerState) (id : ℕ) (first later : List ℕ) → fed (fed state id first) id later ≡ fed state id (first ++ later)
+ChunksJoin = (state : ServerState) (id : ℕ) (first later : List ℕ)
+    → fed (fed state id first) id later ≡ fed state id (first ++ later)

@@ -35,29 +35,36 @@ abbrev pub bytes_for : ℕ → DriveOut → List ℕ
 bytes_for id out = bytes_to id (frames_in out.replies.items)
 
 abbrev pub BytesStandAt : ℕ → List Step → Type 0
-BytesStandAt i all = (id : ℕ) × (chunk : Vec ℕ Global) × (slice_get all i ≡ Some (steps.Bytes id chunk))
+BytesStandAt i all =
+    (id : ℕ) × (chunk : Vec ℕ Global) × (slice_get all i ≡ Some (steps.Bytes id chunk))
 
 abbrev pub TurnStandsAt : ℕ → List Step → Type 0
 TurnStandsAt i all = slice_get all i ≡ Some steps.Turn
 
 -- A history of these steps, and then one turn, whose replies are missing.
-pub record LosesTurn (first : Instant) (done : List Step) (given : List (ℕ × List ℕ)) (ends : List TurnEnd) (last : Instant) : Type 0 where
+pub record LosesTurn (first : Instant) (done : List Step) (given : List (ℕ × List ℕ))
+    (ends : List TurnEnd) (last : Instant) : Type 0 where
   pub before : ServerState
   pub earlier : List TurnEnd
   pub lost : Out
   pub happens : Happens first.moment first.state done given earlier before
-  pub turn : Turns ForMemory (RoomRanOut (last_moment first.moment earlier) last.moment) before lost last.state
+  pub turn : Turns ForMemory
+      (RoomRanOut (last_moment first.moment earlier) last.moment) before lost last.state
   pub counted : ends ≡ earlier ++ end_at last ∷ []
 
 -- A history of these steps, and then one turn that handed out nothing, by its fault and whether the server had stopped at the start.
-pub record FailsTurn (first : Instant) (was_stopped : Bool) (done : List Step) (given : List (ℕ × List ℕ)) (ends : List TurnEnd) (fault : TurnFault) (last : ServerState) : Type 0 where
+pub record FailsTurn (first : Instant) (was_stopped : Bool) (done : List Step)
+    (given : List (ℕ × List ℕ)) (ends : List TurnEnd) (fault : TurnFault)
+    (last : ServerState) : Type 0 where
   pub before : ServerState
   pub happens : Happens first.moment first.state done given ends before
   pub turn : TurnFails ForMemory before fault was_stopped last
 
 -- How a run ends, by the step and the fault at which it stopped, if it did.
-abbrev pub Ends : Instant → Bool → List Step → Option (ℕ × DriveFault) → List (ℕ × List ℕ) → List TurnEnd → Instant → Type 0
-Ends first was_stopped all None given ends last = Happens first.moment first.state all given ends last.state
+abbrev pub Ends : Instant → Bool → List Step → Option (ℕ × DriveFault) → List (ℕ × List ℕ)
+    → List TurnEnd → Instant → Type 0
+Ends first was_stopped all None given ends last =
+    Happens first.moment first.state all given ends last.state
 Ends first was_stopped all (Some (i, stops.Feed feeds.Memory)) given ends last =
     BytesStandAt i all × Happens first.moment first.state (take i all) given ends last.state
 Ends first was_stopped all (Some (i, stops.Feed feeds.Closed)) given ends last = ⊥
@@ -82,24 +89,30 @@ IsStopped (Some (i, stops.Feed fault)) = ⊥
 IsStopped (Some (i, stops.Gather)) = ⊥
 
 -- A run over these steps, from the first moment to the last.
-pub record Drives {D : Type 0} (history : D → History) (first : Core D) (all : List Step) (out : DriveOut) (last : Core D) : Type 0 where
+pub record Drives {D : Type 0} (history : D → History) (first : Core D) (all : List Step)
+    (out : DriveOut) (last : Core D) : Type 0 where
   pub given : List (ℕ × List ℕ)
   pub ends : List TurnEnd
-  pub happens : Ends (instant_of history first) (is_stopped first) all out.stopped given ends (instant_of history last)
+  pub happens : Ends (instant_of history first) (is_stopped first) all out.stopped given ends
+      (instant_of history last)
   pub frames : frames_in out.replies.items ≡ given
   pub bytes : (id : ℕ) → bytes_for id out ≡ bytes_to id given
   pub turns : out.turns ≡ turns_done out.stopped all
   pub on : GoesOn (disk_history history first) (disk_history history last)
   -- from each turn's end to the next one's, a crash leaves the collections of the one or of the other
   pub in_order : IsRunning first → KeepsWord (disk_history history last)
-      → LeavesInOrder (disk_history history last) (clock_of history first) (collections_of first) ends (collections_of last)
+      → LeavesInOrder (disk_history history last) (clock_of history first)
+          (collections_of first) ends (collections_of last)
   -- at the end, those after all turns that answered, or after one more in which the device failed
   pub at_end : IsRunning first → (IsStopped out.stopped → ⊥)
-      → LeavesNow (disk_history history last) (λ image. Holds image (last_collections (collections_of first) ends))
+      → LeavesNow (disk_history history last)
+          (λ image. Holds image (last_collections (collections_of first) ends))
   pub at_stop : IsRunning first
-      → LeavesNow (disk_history history last) (HoldsEither (last_collections (collections_of first) ends) (collections_of last))
+      → LeavesNow (disk_history history last)
+          (HoldsEither (last_collections (collections_of first) ends) (collections_of last))
   pub idle : is_stopped first ≡ true → disk_history history last ≡ disk_history history first
   pub running : (IsStopped out.stopped → ⊥) → is_stopped last ≡ is_stopped first
   pub limit : limit_of (store_of last) ≡ limit_of (store_of first)
   pub device : IsStopped out.stopped → KeepsWord (disk_history history last)
-      → (is_stopped first ≡ true) ⊎ ((disk_history history first).failures < (disk_history history last).failures)
+      → (is_stopped first ≡ true)
+          ⊎ ((disk_history history first).failures < (disk_history history last).failures)

@@ -14,18 +14,25 @@ use Rattle.server.specs.declared.step.Step.TheVariants as steps
 -- (the count stays at its greatest value).
 abbrev pub RoomRanOut : Moment → Moment → Type 0
 RoomRanOut old new =
-    (old.generation ≡ 2 ^ 64 - 1) ⊎ ((old.full_takes < new.full_takes) ⊎ (new.full_takes ≡ 2 ^ 64 - 1))
+    (old.generation ≡ 2 ^ 64 - 1)
+        ⊎ ((old.full_takes < new.full_takes) ⊎ (new.full_takes ≡ 2 ^ 64 - 1))
 
 -- From this moment and state on, after these steps the server may be this one, the frames that were handed out these, each with
 -- its connection, in order, and the turns' ends these.
-abbrev pub Happens : Moment → ServerState → List Step → List (ℕ × List ℕ) → List TurnEnd → ServerState → Type 0
+abbrev pub Happens : Moment → ServerState → List Step → List (ℕ × List ℕ) → List TurnEnd
+    → ServerState → Type 0
 Happens at state [] given ends new = (given ≡ []) × (ends ≡ []) × (new ≡ state)
-Happens at state (steps.Bytes id chunk ∷ later) given ends new = Happens at (fed state id chunk.items) later given ends new
-Happens at state (steps.Gone id ∷ later) given ends new = Happens at (ended state id) later given ends new
+Happens at state (steps.Bytes id chunk ∷ later) given ends new =
+    Happens at (fed state id chunk.items) later given ends new
+Happens at state (steps.Gone id ∷ later) given ends new =
+    Happens at (ended state id) later given ends new
 Happens at state (steps.Turn ∷ later) given ends new =
-    (mid : ServerState) × (out : Out) × (others : List (ℕ × List ℕ)) × (end : TurnEnd) × (more : List TurnEnd)
-    × Turns ForMemory (RoomRanOut at end.at) state out mid × (end.collections ≡ mid.world.collections)
-    × (given ≡ out.replies ++ others) × (ends ≡ end ∷ more) × Happens end.at mid later others more new
+    (mid : ServerState) × (out : Out) × (others : List (ℕ × List ℕ)) × (end : TurnEnd)
+        × (more : List TurnEnd)
+    × Turns ForMemory (RoomRanOut at end.at) state out mid
+        × (end.collections ≡ mid.world.collections)
+    × (given ≡ out.replies ++ others) × (ends ≡ end ∷ more)
+        × Happens end.at mid later others more new
 
 -- the bytes for a connection
 abbrev pub bytes_to : ℕ → List (ℕ × List ℕ) → List ℕ

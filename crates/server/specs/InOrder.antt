@@ -14,4 +14,5 @@ AreCalledInOrder [] = Unit {0}
 AreCalledInOrder (c ∷ cs) = AreCalledAbove c.connection.id cs
 
 abbrev pub CallsAscend : Type 0
-CallsAscend = (connections : List Connection) → are_ascending connections ≡ true → AreCalledInOrder (calls connections)
+CallsAscend = (connections : List Connection) → are_ascending connections ≡ true
+    → AreCalledInOrder (calls connections)

@@ -38,7 +38,8 @@ last_moment first (e ∷ later) = last_moment e.at later
 
 -- a crash at a moment from one to another leaves an image that has P
 abbrev pub LeavesBetween : History → ℕ → ℕ → ((ℕ → List ℕ) → Type 0) → Type 0
-LeavesBetween h from to P = (t : ℕ) → from ≤ t → t ≤ to → (image : ℕ → List ℕ) → IsImage (h.moment t) image → P image
+LeavesBetween h from to P =
+    (t : ℕ) → from ≤ t → t ≤ to → (image : ℕ → List ℕ) → IsImage (h.moment t) image → P image
 
 abbrev pub HoldsEither : List Collection → List Collection → (ℕ → List ℕ) → Type 0
 HoldsEither before after image = Holds image before ⊎ Holds image after
@@ -46,7 +47,9 @@ HoldsEither before after image = Holds image before ⊎ Holds image after
 -- From each turn's end to the next one's, a crash leaves the collections of the one or of the other, and from the last one's
 -- to now those after it or these.
 abbrev pub LeavesInOrder : History → ℕ → List Collection → List TurnEnd → List Collection → Type 0
-LeavesInOrder h from before [] now = (from ≤ h.clock) × LeavesBetween h from h.clock (HoldsEither before now)
+LeavesInOrder h from before [] now =
+    (from ≤ h.clock) × LeavesBetween h from h.clock (HoldsEither before now)
 LeavesInOrder h from before (e ∷ later) now =
-    (from ≤ e.at.clock) × (e.at.clock ≤ h.clock) × LeavesBetween h from e.at.clock (HoldsEither before e.collections)
+    (from ≤ e.at.clock) × (e.at.clock ≤ h.clock)
+        × LeavesBetween h from e.at.clock (HoldsEither before e.collections)
     × LeavesInOrder h e.at.clock e.collections later now

@@ -33,18 +33,22 @@ pub record Goes (first : Instant) (step : Step) (old new : DriveOut) (last : Ins
   pub adds : Adds frames (turns_in (step ∷ [])) old new
 
 -- the turn's frames are missing
-pub record Loses (first : Instant) (step : Step) (old new : DriveOut) (last : Instant) : Type 0 where
+pub record Loses (first : Instant) (step : Step) (old new : DriveOut)
+    (last : Instant) : Type 0 where
   pub is : step ≡ steps.Turn
   pub lost : Out
   pub turn : Turns ForMemory (RoomRanOut first.moment last.moment) first.state lost last.state
   pub adds : Adds [] 1 old new
 
 -- By the result, and whether the server had stopped before the step.
-abbrev pub Does : Instant → Step → DriveOut → Result (Unit {0}) DriveFault → Bool → DriveOut → Instant → Type 0
+abbrev pub Does : Instant → Step → DriveOut → Result (Unit {0}) DriveFault → Bool → DriveOut
+    → Instant → Type 0
 Does first step old (Ok _) was_stopped new last = Goes first step old new last
 Does first step old (Err (stops.Feed feeds.Memory)) was_stopped new last =
-    ((id : ℕ) × (chunk : Vec ℕ Global) × (step ≡ steps.Bytes id chunk)) × Adds [] 0 old new × (last.state ≡ first.state)
+    ((id : ℕ) × (chunk : Vec ℕ Global) × (step ≡ steps.Bytes id chunk)) × Adds [] 0 old new
+        × (last.state ≡ first.state)
 Does first step old (Err (stops.Feed feeds.Closed)) was_stopped new last = ⊥
 Does first step old (Err (stops.Turn fault)) was_stopped new last =
-    (step ≡ steps.Turn) × Adds [] 0 old new × TurnFails ForMemory first.state fault was_stopped last.state
+    (step ≡ steps.Turn) × Adds [] 0 old new
+        × TurnFails ForMemory first.state fault was_stopped last.state
 Does first step old (Err (stops.Gather)) was_stopped new last = Loses first step old new last

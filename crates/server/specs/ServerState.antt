@@ -32,7 +32,8 @@ add_bytes connection (Some fault) bytes = connection
 abbrev pub feed_connections : List Connection → ℕ → List ℕ → List Connection
 feed_connections [] id bytes = new_connection id bytes ∷ []
 feed_connections (l ∷ ls) id bytes =
-    by_order (nat_cmp id l.id) (new_connection id bytes ∷ l ∷ ls) (add_bytes l l.fault bytes ∷ ls) (l ∷ feed_connections ls id bytes)
+    by_order (nat_cmp id l.id) (new_connection id bytes ∷ l ∷ ls) (add_bytes l l.fault bytes ∷ ls)
+        (l ∷ feed_connections ls id bytes)
 
 -- Bytes came on a connection. The first ones open it.
 abbrev pub fed : ServerState → ℕ → List ℕ → ServerState
@@ -44,7 +45,8 @@ drop_connection (l ∷ ls) id = by_order (nat_cmp id l.id) (l ∷ ls) ls (l ∷ 
 
 -- A connection ended: its cursors, its bytes and its count of replies are forgotten.
 abbrev pub ended : ServerState → ℕ → ServerState
-ended state id = record { world = forget state.world id; connections = drop_connection state.connections id }
+ended state id =
+    record { world = forget state.world id; connections = drop_connection state.connections id }
 
 abbrev pub find_connection : List Connection → ℕ → Option Connection
 find_connection [] id = None

@@ -23,7 +23,8 @@ stream_of (turn ∷ later) = stream_of later
 
 abbrev pub connection_over : Connection → List Event → Connection
 connection_over connection [] = connection
-connection_over connection (bytes chunk ∷ later) = connection_over (add_bytes connection connection.fault chunk) later
+connection_over connection (bytes chunk ∷ later) =
+    connection_over (add_bytes connection connection.fault chunk) later
 connection_over connection (turn ∷ later) = connection_over (connection_after connection) later
 
 abbrev pub message_at : Result (Option (Frame × List ℕ)) FrameFault → List Frame
@@ -34,8 +35,10 @@ message_at (Err fault) = []
 -- the messages that the turns take
 abbrev pub taken_over : Connection → List Event → List Frame
 taken_over connection [] = []
-taken_over connection (bytes chunk ∷ later) = taken_over (add_bytes connection connection.fault chunk) later
-taken_over connection (turn ∷ later) = message_at (front_of connection) ++ taken_over (connection_after connection) later
+taken_over connection (bytes chunk ∷ later) =
+    taken_over (add_bytes connection connection.fault chunk) later
+taken_over connection (turn ∷ later) =
+    message_at (front_of connection) ++ taken_over (connection_after connection) later
 
 -- What follows the messages in the stream: the bytes that no message has taken, or those with the fault at their front.
 abbrev pub IsLeft : Option FrameFault → List ℕ → List ℕ → Type 0
@@ -44,5 +47,7 @@ IsLeft (Some fault) unread rest = front rest ≡ Err fault
 
 abbrev pub TakesTheStream : Type 0
 TakesTheStream = (connection : Connection) (events : List Event) → connection.fault ≡ None →
-    (rest : List ℕ) × Begins (connection.frames ++ stream_of events) (taken_over connection events) rest
-    × IsLeft (connection_over connection events).fault (connection_over connection events).frames rest
+    (rest : List ℕ)
+        × Begins (connection.frames ++ stream_of events) (taken_over connection events) rest
+    × IsLeft (connection_over connection events).fault
+        (connection_over connection events).frames rest

@@ -20,8 +20,10 @@ use Rattle.server.specs.declared.connection.Taken.{Taken}
 use Rattle.server.specs.declared.connection.Taken.TheVariants as takes
 
 -- the frame that an undone turn hands out for a link, by what stands at its front
-abbrev pub refused_at : Refusal → Connection → Result (Option (Frame × List ℕ)) FrameFault → List (ℕ × List ℕ)
-refused_at refusal connection front = frames_of (call_at connection front) (refused_calls refusal (call_at connection front))
+abbrev pub refused_at : Refusal → Connection → Result (Option (Frame × List ℕ)) FrameFault
+    → List (ℕ × List ℕ)
+refused_at refusal connection front =
+    frames_of (call_at connection front) (refused_calls refusal (call_at connection front))
 
 -- the fault at the front of a link, if one is there
 abbrev pub fault_in : Result (Option (Frame × List ℕ)) FrameFault → Option FrameFault
@@ -63,15 +65,18 @@ abbrev pub HaveRoom : List (ℕ × List ℕ) → Type 0
 HaveRoom frames = All (λ f. length full_body + 21 ≤ length f.1) frames
 
 -- The message at the front is taken, if there is one.
-abbrev pub IsTaken : Connection → Result (Option (Frame × List ℕ)) FrameFault → Taken → Connection → Type 0
+abbrev pub IsTaken : Connection → Result (Option (Frame × List ℕ)) FrameFault → Taken → Connection
+    → Type 0
 IsTaken old (Ok None) takes.Nothing new = new ≡ old
 IsTaken old (Err fault) takes.Nothing new = new ≡ old
 IsTaken old (Ok (Some x)) (takes.Call number request) new =
-    (number ≡ next_number old.last_reply) × IsRequest x.0 request × (new ≡ taken_at old (Ok (Some x)))
+    (number ≡ next_number old.last_reply) × IsRequest x.0 request
+        × (new ≡ taken_at old (Ok (Some x)))
 IsTaken old front other new = ⊥
 
 -- The calls were answered so, and at ok each frame was put at the end.
-pub record Serves (beside : Refusal → Type 0) (calls : List Call) (old new : World) (ok : Bool) (given now : List (ℕ × List ℕ)) : Type 0 where
+pub record Serves (beside : Refusal → Type 0) (calls : List Call) (old new : World) (ok : Bool)
+    (given now : List (ℕ × List ℕ)) : Type 0 where
   pub replies : List Pairs
   pub runs : Runs beside old calls replies new
   pub frames : ok ≡ true → now ≡ given ++ frames_of calls replies
@@ -79,19 +84,24 @@ pub record Serves (beside : Refusal → Type 0) (calls : List Call) (old new : W
 -- a request with this body, whatever frame it came in
 abbrev pub IsAnswer : (Refusal → Type 0) → World → ℕ → Request → World → Pairs → Type 0
 IsAnswer beside old id request new reply =
-    (read : Result Pairs BsonFault) → Gives bson_faults.Memory (λ d. d) request.body read → Answers beside old id read new reply
+    (read : Result Pairs BsonFault) → Gives bson_faults.Memory (λ d. d) request.body read
+        → Answers beside old id read new reply
 
 -- The messages of the links ran. The turn kept what they changed and hands out these replies, or it took back what they changed
 -- and hands out refusals: for want of room only where there is none in the last world.
-pub record EndsTurn (beside : Refusal → Type 0) (NoRoom : World → Type 0) (old : World) (connections : List Connection) (given : List (ℕ × List ℕ)) (new : World) : Type 0 where
+pub record EndsTurn (beside : Refusal → Type 0) (NoRoom : World → Type 0) (old : World)
+    (connections : List Connection) (given : List (ℕ × List ℕ)) (new : World) : Type 0 where
   pub replies : List Pairs
   pub last : World
   pub runs : Runs beside old (calls connections) replies last
   pub ends : ((given ≡ frames_of (calls connections) replies) × (new ≡ after_commit last))
-      ⊎ (((given ≡ refused_frames refusals.OutOfMemory connections) ⊎ ((given ≡ refused_frames refusals.Full connections) × NoRoom last)) × (new ≡ after_undo old last))
+      ⊎ (((given ≡ refused_frames refusals.OutOfMemory connections)
+          ⊎ ((given ≡ refused_frames refusals.Full connections) × NoRoom last))
+          × (new ≡ after_undo old last))
 
 -- The messages of the links ran, and the device failed when what they changed was to be made durable.
-pub record BreaksTurn (beside : Refusal → Type 0) (old : World) (connections : List Connection) (new : World) : Type 0 where
+pub record BreaksTurn (beside : Refusal → Type 0) (old : World) (connections : List Connection)
+    (new : World) : Type 0 where
   pub replies : List Pairs
   pub last : World
   pub runs : Runs beside old (calls connections) replies last

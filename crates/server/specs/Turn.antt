@@ -43,7 +43,8 @@ calls [] = []
 calls (l ∷ ls) = call_at l (front_of l) ++ calls ls
 
 -- a fault of a frame closes its connection
-abbrev pub fault_at : Connection → Result (Option (Frame × List ℕ)) FrameFault → List (ℕ × FrameFault)
+abbrev pub fault_at : Connection → Result (Option (Frame × List ℕ)) FrameFault
+    → List (ℕ × FrameFault)
 fault_at connection (Ok x) = []
 fault_at connection (Err fault) = (connection.id, fault) ∷ []
 
@@ -62,7 +63,8 @@ number_after false last = next_number last
 
 -- a link after the turn
 abbrev pub connection_at : Connection → Result (Option (Frame × List ℕ)) FrameFault → Connection
-connection_at connection (Ok (Some x)) = record connection { frames = x.1; last_reply = number_after x.0.more_to_come connection.last_reply }
+connection_at connection (Ok (Some x)) = record connection {
+  frames = x.1; last_reply = number_after x.0.more_to_come connection.last_reply }
 connection_at connection (Ok None) = connection
 connection_at connection (Err fault) = record connection { fault = Some fault }
 
@@ -75,7 +77,8 @@ frame_unless true id number request reply = []
 frame_unless false id number request reply = (id, reply_bytes number request reply) ∷ []
 
 abbrev pub frame_for : Call → Pairs → List (ℕ × List ℕ)
-frame_for call reply = frame_unless call.frame.more_to_come call.connection.id (next_number call.connection.last_reply) call.frame.number reply
+frame_for call reply = frame_unless call.frame.more_to_come call.connection.id
+    (next_number call.connection.last_reply) call.frame.number reply
 
 abbrev pub frames_of : List Call → List Pairs → List (ℕ × List ℕ)
 frames_of [] replies = []
@@ -88,7 +91,8 @@ Runs beside world [] [] new = new ≡ world
 Runs beside world [] (r ∷ rs) new = ⊥
 Runs beside world (c ∷ cs) [] new = ⊥
 Runs beside world (c ∷ cs) (r ∷ rs) new =
-    (mid : World) × Answers beside world c.connection.id (body_of c.frame) mid r × Runs beside mid cs rs new
+    (mid : World) × Answers beside world c.connection.id (body_of c.frame) mid r
+        × Runs beside mid cs rs new
 
 -- However the messages are answered, none of them changes the collections.
 abbrev pub ChangeNothing : (Refusal → Type 0) → World → List Call → Type 0
@@ -132,36 +136,49 @@ refused_calls refusal (c ∷ cs) = refusal_reply refusal ∷ refused_calls refus
 
 -- the frames of a turn that is undone
 abbrev pub refused_frames : Refusal → List Connection → List (ℕ × List ℕ)
-refused_frames refusal connections = frames_of (calls connections) (refused_calls refusal (calls connections))
+refused_frames refusal connections =
+    frames_of (calls connections) (refused_calls refusal (calls connections))
 
 -- The messages are taken, and answered so. Done: the world is the last step's.
-pub record Done (beside : Refusal → Type 0) (state : ServerState) (out : Out) (new : ServerState) : Type 0 where
+pub record Done (beside : Refusal → Type 0) (state : ServerState) (out : Out)
+    (new : ServerState) : Type 0 where
   pub replies : List Pairs
   pub last : World
   pub runs : Runs beside state.world (calls state.connections) replies last
-  pub hands_out : out ≡ record { replies = frames_of (calls state.connections) replies; closed = faults state.connections }
-  pub leaves : new ≡ record { world = forget_all (after_commit last) (faults state.connections); connections = connections_after state.connections }
+  pub hands_out : out ≡ record {
+      replies = frames_of (calls state.connections) replies;
+      closed = faults state.connections }
+  pub leaves : new ≡ record {
+      world = forget_all (after_commit last) (faults state.connections);
+      connections = connections_after state.connections }
 
 -- Undone: the state is the one before, and each reply is this refusal.
-pub record Undone (beside : Refusal → Type 0) (state : ServerState) (refusal : Refusal) (out : Out) (new : ServerState) : Type 0 where
+pub record Undone (beside : Refusal → Type 0) (state : ServerState) (refusal : Refusal) (out : Out)
+    (new : ServerState) : Type 0 where
   pub replies : List Pairs
   pub last : World
   pub runs : Runs beside state.world (calls state.connections) replies last
-  pub hands_out : out ≡ record { replies = refused_frames refusal state.connections; closed = faults state.connections }
-  pub leaves : new ≡ record { world = forget_all (after_undo state.world last) (faults state.connections); connections = connections_after state.connections }
+  pub hands_out : out ≡ record {
+      replies = refused_frames refusal state.connections;
+      closed = faults state.connections }
+  pub leaves : new ≡ record {
+      world = forget_all (after_undo state.world last) (faults state.connections);
+      connections = connections_after state.connections }
 
 -- A turn that answers: done, or undone for want of memory, or for want of room, by its cause.
 abbrev pub Turns : (Refusal → Type 0) → Type 0 → ServerState → Out → ServerState → Type 0
 Turns beside no_room state out new =
     Done beside state out new
-    ⊎ (Undone beside state refusals.OutOfMemory out new ⊎ (no_room × Undone beside state refusals.Full out new))
+    ⊎ (Undone beside state refusals.OutOfMemory out new
+        ⊎ (no_room × Undone beside state refusals.Full out new))
 
 -- Cut: the messages are taken and ran, no reply is handed out, and no connection is closed.
 pub record Cut (beside : Refusal → Type 0) (state new : ServerState) : Type 0 where
   pub replies : List Pairs
   pub last : World
   pub runs : Runs beside state.world (calls state.connections) replies last
-  pub leaves : new ≡ record { world = after_commit last; connections = connections_taken state.connections }
+  pub leaves : new
+      ≡ record { world = after_commit last; connections = connections_taken state.connections }
 
 -- A turn that answers no messages, by its fault and whether the server had stopped before. A server that had stopped changes
 -- nothing. One that had not stops where the turn is cut, and changes nothing where memory runs out before a message is taken.

@@ -14,30 +14,34 @@ use Rattle.server.specs.Durable.{disk_history, is_stopped, IsRunning, store_of, 
 use Rattle.server.specs.declared.turn.Core.{Core}
 use Rattle.server.specs.declared.turn.TurnOut.{TurnOut}
 use Rattle.server.specs.declared.turn.TurnFault.{TurnFault}
-use Rattle.server.specs.declared.turn.TurnFault.TheVariants as turns
+use Rattle.server.specs.declared.turn.TurnFault.TheVariants as turn_faults
 
-pub record TakesTurn {D : Type 0} (history : D → History) (old : Core D) (result : Result TurnOut TurnFault) (new : Core D) : Type 0 where
+pub record TakesTurn {D : Type 0} (history : D → History) (old : Core D)
+    (result : Result TurnOut TurnFault) (new : Core D) : Type 0 where
   pub sound : IsSound history new
   -- it is done, or undone, or it answers no message
   pub turns : IfOk result (λ out.
-      Turns ForMemory (RoomRanOut (moment_of history old) (moment_of history new)) (state old) (out_of out) (state new))
+      Turns ForMemory (RoomRanOut (moment_of history old) (moment_of history new)) (state old)
+          (out_of out) (state new))
   pub full : IfOk result (λ out. Done ForMemory (state old) (out_of out) (state new)
       ⊎ (Undone ForMemory (state old) refusals.OutOfMemory (out_of out) (state new)
       ⊎ FindsNoRoom old (out_of out) (state new)))
-  pub fails : IfErr result (λ fault. TurnFails ForMemory (state old) fault (is_stopped old) (state new))
+  pub fails : IfErr result
+      (λ fault. TurnFails ForMemory (state old) fault (is_stopped old) (state new))
   pub on : GoesOn (disk_history history old) (disk_history history new)
   -- a crash at any moment of the call leaves the collections as they were before the turn or as they are after it
   pub any_moment : IsRunning old → LeavesOnly (disk_history history old) (disk_history history new)
       (HoldsEither (collections_of old) (collections_of new))
   -- at Ok it leaves them as they are after it, and nothing else
   pub acknowledged : IsRunning old
-      → OnOk result (LeavesNow (disk_history history new) (λ image. Holds image (collections_of new)))
+      → OnOk result
+          (LeavesNow (disk_history history new) (λ image. Holds image (collections_of new)))
   -- a server that had stopped answers so, and leaves the disk as it is; another stops only where the device failed
-  pub running : result ≢ Err turns.Stopped → is_stopped new ≡ is_stopped old
-  pub stops : result ≡ Err turns.Stopped → is_stopped new ≡ true
+  pub running : result ≢ Err turn_faults.Stopped → is_stopped new ≡ is_stopped old
+  pub stops : result ≡ Err turn_faults.Stopped → is_stopped new ≡ true
   pub idle : is_stopped old ≡ true
-      → (result ≡ Err turns.Stopped) × (disk_history history new ≡ disk_history history old)
-  pub device : result ≡ Err turns.Stopped → KeepsWord (disk_history history new)
+      → (result ≡ Err turn_faults.Stopped) × (disk_history history new ≡ disk_history history old)
+  pub device : result ≡ Err turn_faults.Stopped → KeepsWord (disk_history history new)
       → (is_stopped old ≡ true)
       ⊎ ((disk_history history old).failures < (disk_history history new).failures)
   pub limit : limit_of (store_of new) ≡ limit_of (store_of old)

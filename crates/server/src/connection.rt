@@ -43,7 +43,8 @@ impl FeedFault {
 /// Where the connection's link stands, or would stand.
 fn place_of(connections: &[Connection], id: ConnId) -> Result<usize, usize>
     ensures place { result ≡ place_in connections.now id }
-    ensures within { MatchResult result (λ i. i < length connections.now) (λ i. i ≤ length connections.now) }
+    ensures within { MatchResult result (λ i. i < length connections.now)
+        (λ i. i ≤ length connections.now) }
 {
     'connections: for (i, connection) in connections.iter().enumerate() {
         match id.number().cmp(&connection.id.number()) {

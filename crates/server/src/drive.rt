@@ -42,9 +42,12 @@ impl<D: Disk> Core<D> {
         ensures does { Does (instant_of D.history self.old) step.now out.old result
             (is_stopped self.old) out.new (instant_of D.history self.new) }
         ensures disk { GoesSafely D.history self.old self.new }
-        ensures device { result ≡ Err (DriveFault.Turn TurnFault.Stopped) → KeepsWord (disk_history D.history self.new)
-            → (is_stopped self.old ≡ true) ⊎ ((disk_history D.history self.old).failures < (disk_history D.history self.new).failures) }
-        ensures running { result ≢ Err (DriveFault.Turn TurnFault.Stopped) → is_stopped self.new ≡ is_stopped self.old }
+        ensures device { result ≡ Err (DriveFault.Turn TurnFault.Stopped)
+            → KeepsWord (disk_history D.history self.new)
+            → (is_stopped self.old ≡ true) ⊎ ((disk_history D.history self.old).failures
+                < (disk_history D.history self.new).failures) }
+        ensures running { result ≢ Err (DriveFault.Turn TurnFault.Stopped)
+            → is_stopped self.new ≡ is_stopped self.old }
     {
         match step {
             Step::Bytes(id, chunk) => match self.feed(*id, chunk) {

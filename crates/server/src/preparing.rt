@@ -35,7 +35,8 @@ fn head_at(connection: &Connection) -> Result<Option<Head>, FrameFault>
 
 /// The frame that says that memory ran out. Its body is ready-made, so a turn that goes well pays for a copy and no more.
 fn no_memory_frame(alloc: Global, number: u32, request_id: u32) -> Result<Vec<u8>, NoMemory>
-    ensures { IfOk result (λ v. v.items ≡ reply_bytes number request_id (refusal_reply OutOfMemory)) }
+    ensures { IfOk result
+        (λ v. v.items ≡ reply_bytes number request_id (refusal_reply OutOfMemory)) }
 {
     spelled_reply(alloc, number, request_id, out_of_memory_bytes())
 }
@@ -62,7 +63,8 @@ fn push_refusal(
 /// Puts a link's part at the end: the refusal of the message at its front, or its fault.
 fn prepare_connection(prepared: &mut Prepared, connection: &Connection) -> Result<(), NoMemory>
     ensures refusals { OnOk result (frames_in prepared.new.refusals.items
-        ≡ frames_in prepared.old.refusals.items ++ refused_at OutOfMemory connection.now (front_of connection.now)) }
+        ≡ frames_in prepared.old.refusals.items
+            ++ refused_at OutOfMemory connection.now (front_of connection.now)) }
     ensures closed { OnOk result (prepared.new.closed.items
         ≡ prepared.old.closed.items ++ fault_at connection.now (front_of connection.now)) }
     ensures faults { OnOk result (prepared.new.faults.items
@@ -83,7 +85,8 @@ fn prepare_connection(prepared: &mut Prepared, connection: &Connection) -> Resul
 
 /// Makes ready what an undone turn hands out, and the lists of what the turn closes.
 pub(crate) fn prepare(alloc: Global, connections: &[Connection]) -> Result<Prepared, NoMemory>
-    ensures refusals { IfOk result (λ p. frames_in p.refusals.items ≡ refused_frames OutOfMemory connections.now) }
+    ensures refusals { IfOk result
+        (λ p. frames_in p.refusals.items ≡ refused_frames OutOfMemory connections.now) }
     ensures closed { IfOk result (λ p. p.closed.items ≡ faults connections.now) }
     ensures faults { IfOk result (λ p. p.faults.items ≡ faults_in connections.now) }
 {

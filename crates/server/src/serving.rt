@@ -49,9 +49,11 @@ fn answer<D: Disk>(engine: &mut Engine<D>, id: ConnId, request: &Request) -> Rep
     ensures disk { disk_history D.history engine.new ≡ disk_history D.history engine.old }
     ensures running { is_stopped engine.new ≡ is_stopped engine.old }
     ensures store { store_of engine.new ≡ store_of engine.old }
-    ensures answer { IsAnswer ForMemory (world engine.old) id request.now (world engine.new) (reply_of result) }
+    ensures answer { IsAnswer ForMemory (world engine.old) id request.now (world engine.new)
+        (reply_of result) }
     ensures turn_start { turn_start engine.new ≡ turn_start engine.old }
-    ensures has_changes { (world engine.new).collections ≡ (world engine.old).collections → has_changes engine.new ≡ has_changes engine.old }
+    ensures has_changes { (world engine.new).collections ≡ (world engine.old).collections
+        → has_changes engine.new ≡ has_changes engine.old }
     ensures sendable { IsSendable (reply_of result) }
 {
     match &request.body {
@@ -72,11 +74,13 @@ fn serve_connection<D: Disk>(
     ensures disk { disk_history D.history engine.new ≡ disk_history D.history engine.old }
     ensures running { is_stopped engine.new ≡ is_stopped engine.old }
     ensures store { store_of engine.new ≡ store_of engine.old }
-    ensures serves { Serves ForMemory (call_at connection.old (front_of connection.old)) (world engine.old) (world engine.new) result
+    ensures serves { Serves ForMemory (call_at connection.old (front_of connection.old))
+        (world engine.old) (world engine.new) result
         (frames_in frames.old.items) (frames_in frames.new.items) }
     ensures connection { connection.new ≡ taken_at connection.old (front_of connection.old) }
     ensures turn_start { turn_start engine.new ≡ turn_start engine.old }
-    ensures has_changes { (world engine.new).collections ≡ (world engine.old).collections → has_changes engine.new ≡ has_changes engine.old }
+    ensures has_changes { (world engine.new).collections ≡ (world engine.old).collections
+        → has_changes engine.new ≡ has_changes engine.old }
 {
     let id = connection.id;
     let Taken::Call(number, request) = take_call(connection) else {
@@ -103,11 +107,13 @@ fn serve_connections<D: Disk>(
     ensures disk { disk_history D.history engine.new ≡ disk_history D.history engine.old }
     ensures running { is_stopped engine.new ≡ is_stopped engine.old }
     ensures store { store_of engine.new ≡ store_of engine.old }
-    ensures serves { Serves ForMemory (calls connections.old) (world engine.old) (world engine.new) result
+    ensures serves { Serves ForMemory (calls connections.old) (world engine.old)
+        (world engine.new) result
         (frames_in frames.old.items) (frames_in frames.new.items) }
     ensures connections { connections.new ≡ connections_taken connections.old }
     ensures turn_start { turn_start engine.new ≡ turn_start engine.old }
-    ensures quiet { ChangeNothing ForMemory (world engine.old) (calls connections.old) → has_changes engine.new ≡ has_changes engine.old }
+    ensures quiet { ChangeNothing ForMemory (world engine.old) (calls connections.old)
+        → has_changes engine.new ≡ has_changes engine.old }
 {
     let mut all = true;
     'connections: for connection in connections.iter_mut() {
@@ -128,24 +134,32 @@ pub(crate) fn run_messages<D: Disk>(
     requires sound { IsSound D.history engine.old }
     requires idle { turn_start engine.old ≡ world engine.old }
     requires rests { has_changes engine.old ≡ false }
-    requires refusals { frames_in refusals.items ≡ refused_frames OutOfMemory connections.old.items }
+    requires refusals { frames_in refusals.items
+        ≡ refused_frames OutOfMemory connections.old.items }
     ensures sound { IsSound D.history engine.new }
     ensures settles { IfSome result (λ given. EndsTurn ForMemory
-        (NoRoomFor (store_of engine.old) (store_of engine.new)) (world engine.old) connections.old.items (frames_in given.items) (world engine.new)) }
-    ensures breaks { result ≡ None → BreaksTurn ForMemory (world engine.old) connections.old.items (world engine.new) }
+        (NoRoomFor (store_of engine.old) (store_of engine.new))
+        (world engine.old) connections.old.items (frames_in given.items) (world engine.new)) }
+    ensures breaks { result ≡ None
+        → BreaksTurn ForMemory (world engine.old) connections.old.items (world engine.new) }
     ensures connections { connections.new.items ≡ connections_taken connections.old.items }
     ensures idle { turn_start engine.new ≡ world engine.new }
     ensures rests { has_changes engine.new ≡ false }
     ensures on { GoesOn (disk_history D.history engine.old) (disk_history D.history engine.new) }
-    ensures any_moment { IsRunning engine.old → LeavesOnly (disk_history D.history engine.old) (disk_history D.history engine.new)
-        (λ image. Holds image (world engine.old).collections ⊎ Holds image (world engine.new).collections) }
+    ensures any_moment { IsRunning engine.old
+        → LeavesOnly (disk_history D.history engine.old) (disk_history D.history engine.new)
+        (λ image. Holds image (world engine.old).collections
+            ⊎ Holds image (world engine.new).collections) }
     ensures running { IfSome result (λ _. is_stopped engine.new ≡ is_stopped engine.old) }
     ensures stops { result ≡ None → is_stopped engine.new ≡ true }
     ensures device { result ≡ None → KeepsWord (disk_history D.history engine.new)
-        → (is_stopped engine.old ≡ true) ⊎ ((disk_history D.history engine.old).failures < (disk_history D.history engine.new).failures) }
-    ensures unchanged { is_stopped engine.old ≡ true → disk_history D.history engine.new ≡ disk_history D.history engine.old }
+        → (is_stopped engine.old ≡ true) ⊎ ((disk_history D.history engine.old).failures
+            < (disk_history D.history engine.new).failures) }
+    ensures unchanged { is_stopped engine.old ≡ true
+        → disk_history D.history engine.new ≡ disk_history D.history engine.old }
     ensures limit { limit_of (store_of engine.new) ≡ limit_of (store_of engine.old) }
-    ensures quiet { ChangeNothing ForMemory (world engine.old) (calls connections.old.items) → store_of engine.new ≡ store_of engine.old }
+    ensures quiet { ChangeNothing ForMemory (world engine.old) (calls connections.old.items)
+        → store_of engine.new ≡ store_of engine.old }
 {
     let mut replies = Vec::new(*connections.allocator());
     if !serve_connections(engine, connections, &mut replies) {

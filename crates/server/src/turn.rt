@@ -64,9 +64,11 @@ pub struct Core<D> {
     pub(crate) engine: Engine<D>,
     pub(crate) connections: Vec<Connection>,
     // in ascending order of their numbers
-    ghost ascending: { are_ascending connections.items ≡ true } by { bool_set (are_ascending connections.items) true },
+    ghost ascending: { are_ascending connections.items
+        ≡ true } by { bool_set (are_ascending connections.items) true },
     // no turn is open between calls
-    ghost idle: { turn_start engine ≡ world engine } by { world_set (turn_start engine) (world engine) },
+    ghost idle: { turn_start engine
+        ≡ world engine } by { world_set (turn_start engine) (world engine) },
     ghost rests: { has_changes engine ≡ false } by { bool_set (has_changes engine) false },
 }
 

@@ -23,7 +23,8 @@ no_more ts (pair name t ps) = Err refusals.BadValue
 
 abbrev pub items_of_each : List ℕ → Tree → Pairs → Result Items Refusal
 items_of_each name t ps =
-    if bytes_eq name (codes "$each") then if_ok (array_in t) (λ ts. no_more ts ps) else Err refusals.BadValue
+    if bytes_eq name (codes "$each") then if_ok (array_in t) (λ ts. no_more ts ps)
+        else Err refusals.BadValue
 
 abbrev pub each_items : Pairs → Result Items Refusal
 each_items no_pairs = Err refusals.BadValue
@@ -31,7 +32,8 @@ each_items (pair name t ps) = items_of_each name t ps
 
 -- the values that are to be put there: all of `{$each: [..]}`, else the operand itself
 abbrev pub items_to_push : Tree → Result Items Refusal
-items_to_push (document ps) = if has_operators ps then each_items ps else Ok (only_one (document ps))
+items_to_push (document ps) =
+    if has_operators ps then each_items ps else Ok (only_one (document ps))
 items_to_push (array ts) = Ok (only_one (array ts))
 items_to_push (scalar s) = Ok (only_one (scalar s))
 
@@ -47,7 +49,8 @@ pushed new (Some (scalar s)) = Err refusals.BadValue
 abbrev pub items_without : Condition → Items → Items
 items_without condition no_items = no_items
 items_without condition (item t ts) =
-    if element_matches condition t then items_without condition ts else item t (items_without condition ts)
+    if element_matches condition t then items_without condition ts
+        else item t (items_without condition ts)
 
 abbrev pub pulled : Condition → Option Tree → Result Tree Refusal
 pulled condition (Some (array ts)) = Ok (array (items_without condition ts))
@@ -59,4 +62,5 @@ if_there (Some t) changed ps = changed
 
 -- where the path isn't there nothing changes
 abbrev pub pull_at : Path → Condition → Pairs → Result Pairs Refusal
-pull_at path condition ps = if_there (value_at path (document ps)) (write_at (pulled condition) path ps) ps
+pull_at path condition ps =
+    if_there (value_at path (document ps)) (write_at (pulled condition) path ps) ps

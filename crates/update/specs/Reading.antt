@@ -29,16 +29,20 @@ conflicts earlier e = list_any (edits_meet e) earlier || meets_itself e.path e.a
 -- ---- edits
 
 abbrev pub without_conflict : List Edit → Edit → Result (List Edit) Refusal
-without_conflict earlier e = if conflicts earlier e then Err refusals.ConflictingUpdateOperators else Ok (earlier ++ e ∷ [])
+without_conflict earlier e =
+    if conflicts earlier e then Err refusals.ConflictingUpdateOperators else Ok (earlier ++ e ∷ [])
 
 -- the edits before, and one more
 abbrev pub read_edit : Operator → List ℕ → Tree → List Edit → Result (List Edit) Refusal
 read_edit operator name t earlier =
-    if_ok (editable_path name) (λ where_to. if_ok (read_action operator t) (λ does. without_conflict earlier (record { path = where_to; action = does })))
+    if_ok (editable_path name)
+        (λ where_to. if_ok (read_action operator t)
+        (λ does. without_conflict earlier (record { path = where_to; action = does })))
 
 abbrev pub read_edits : Operator → Pairs → List Edit → Result (List Edit) Refusal
 read_edits operator no_pairs earlier = Ok earlier
-read_edits operator (pair name t ps) earlier = if_ok (read_edit operator name t earlier) (read_edits operator ps)
+read_edits operator (pair name t ps) earlier =
+    if_ok (read_edit operator name t earlier) (read_edits operator ps)
 
 abbrev pub known_operator : Option Operator → Result Operator Refusal
 known_operator None = Err refusals.BadValue
@@ -50,7 +54,8 @@ operands_in t = Err refusals.TypeMismatch
 
 abbrev pub read_operator : List ℕ → Tree → List Edit → Result (List Edit) Refusal
 read_operator name t earlier =
-    if_ok (known_operator (operator_of name)) (λ operator. if_ok (operands_in t) (λ ps. read_edits operator ps earlier))
+    if_ok (known_operator (operator_of name))
+        (λ operator. if_ok (operands_in t) (λ ps. read_edits operator ps earlier))
 
 abbrev pub read_operators : Pairs → List Edit → Result (List Edit) Refusal
 read_operators no_pairs earlier = Ok earlier
@@ -58,4 +63,5 @@ read_operators (pair name t ps) earlier = if_ok (read_operator name t earlier) (
 
 -- operators, where the first name begins with `$`, else a replacement
 abbrev pub read_update : Pairs → Result Update Refusal
-read_update ps = if has_operators ps then if_ok (read_operators ps []) (λ es. Ok (edits es)) else Ok (replacement ps)
+read_update ps = if has_operators ps then if_ok (read_operators ps []) (λ es. Ok (edits es))
+    else Ok (replacement ps)

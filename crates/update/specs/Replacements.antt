@@ -12,7 +12,8 @@ use Rattle.update.specs.Stored.{id_name, without, id_first}
 abbrev pub with_id : Tree → Option Tree → Pairs → Result Pairs Refusal
 with_id old None new = Ok (pair id_name old (without new id_name))
 with_id old (Some id) new =
-    if is_equal (compare old id) then Ok (pair id_name old (without new id_name)) else Err refusals.ImmutableField
+    if is_equal (compare old id) then Ok (pair id_name old (without new id_name))
+        else Err refusals.ImmutableField
 
 abbrev pub in_place_of : Option Tree → Pairs → Result Pairs Refusal
 in_place_of None new = Ok (id_first new)

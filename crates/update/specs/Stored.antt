@@ -59,7 +59,8 @@ id_fault None = Some refusals.BadValue
 -- the pairs of other names
 abbrev pub without : Pairs → List ℕ → Pairs
 without no_pairs name = no_pairs
-without (pair other t ps) name = if bytes_eq name other then without ps name else pair other t (without ps name)
+without (pair other t ps) name =
+    if bytes_eq name other then without ps name else pair other t (without ps name)
 
 abbrev pub first_pair : List ℕ → Option Tree → Pairs → Pairs
 first_pair name None ps = ps
@@ -77,12 +78,14 @@ fault_if test refusal = if test then Some refusal else None
 -- over so many bytes, or over 90 levels, the document itself among them
 abbrev pub limits_fault : ℕ → Pairs → Option Refusal
 limits_fault limit ps =
-    or_else (fault_if (nat_lt limit (length (frame_of (pairs_bytes ps)))) refusals.BSONObjectTooLarge)
+    or_else (fault_if (nat_lt limit
+        (length (frame_of (pairs_bytes ps)))) refusals.BSONObjectTooLarge)
     (fault_if (nat_lt 90 (suc (pairs_levels ps))) refusals.BadValue)
 
 -- why a document may not be stored, if it may not: the first of these
 unfoldable pub stored_fault : ℕ → Pairs → Option Refusal
-stored_fault limit ps = or_else (limits_fault limit ps) (or_else (pairs_fault ps) (id_fault (id_of ps)))
+stored_fault limit ps =
+    or_else (limits_fault limit ps) (or_else (pairs_fault ps) (id_fault (id_of ps)))
 
 abbrev pub unless : {X : Type 0} → Option Refusal → X → Result X Refusal
 unless None x = Ok x

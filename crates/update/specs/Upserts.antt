@@ -13,7 +13,8 @@ abbrev pub is_below_id : Path → Bool
 is_below_id path = if is_id path then false else begins_with_id path
 
 abbrev pub with_equal : Path → Predicate → Pairs → Result Pairs Refusal
-with_equal path (equal t) ps = if is_below_id path then Err refusals.ImmutableField else set_at path t ps
+with_equal path (equal t) ps =
+    if is_below_id path then Err refusals.ImmutableField else set_at path t ps
 with_equal path other ps = Ok ps
 
 abbrev pub with_equality : Path → Condition → Pairs → Result Pairs Refusal

@@ -47,7 +47,8 @@ abbrev pub scalar_leaf : Scalar → Leaf
 scalar_leaf (int32 z) = record alike { signed = z }
 scalar_leaf (int64 z) = record alike { signed = z }
 scalar_leaf (text s) = record alike { bytes = s }
-scalar_leaf (binary kind content) = record { signed = pos 0; unsigned = length content; subtype = kind; bytes = content }
+scalar_leaf (binary kind content) =
+    record { signed = pos 0; unsigned = length content; subtype = kind; bytes = content }
 scalar_leaf (object_id content) = record alike { bytes = content }
 scalar_leaf (boolean b) = record alike { unsigned = if b then 1 else 0 }
 scalar_leaf (date z) = record alike { signed = z }
@@ -80,14 +81,16 @@ abbrev mutual
   pairs_cmp no_pairs (pair m u qs) = Less
   pairs_cmp (pair n t ps) no_pairs = Greater
   pairs_cmp (pair n t ps) (pair m u qs) =
-      ordering_then (nat_cmp (class t) (class u)) (ordering_then (bytes_cmp n m) (ordering_then (content_cmp t u) (pairs_cmp ps qs)))
+      ordering_then (nat_cmp (class t) (class u))
+          (ordering_then (bytes_cmp n m) (ordering_then (content_cmp t u) (pairs_cmp ps qs)))
 
   pub items_cmp : Items → Items → Ordering
   items_cmp no_items no_items = Equal
   items_cmp no_items (item u us) = Less
   items_cmp (item t ts) no_items = Greater
   items_cmp (item t ts) (item u us) =
-      ordering_then (nat_cmp (class t) (class u)) (ordering_then (content_cmp t u) (items_cmp ts us))
+      ordering_then (nat_cmp (class t) (class u))
+          (ordering_then (content_cmp t u) (items_cmp ts us))
 
 -- by class, then by content
 abbrev pub compare : Tree → Tree → Ordering

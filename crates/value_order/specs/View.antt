@@ -7,7 +7,8 @@ use Rattle.value_order.specs.declared.texts.KeyPart.{KeyPart}
 use Rattle.value_order.specs.declared.texts.KeyPart.TheVariants as keys
 
 abbrev pub leaf_of : Parts → Leaf
-leaf_of a = record { signed = a.signed; unsigned = a.unsigned; subtype = a.subtype; bytes = a.bytes.now }
+leaf_of a =
+    record { signed = a.signed; unsigned = a.unsigned; subtype = a.subtype; bytes = a.bytes.now }
 
 abbrev pub key_of : KeyPart → Key
 key_of keys.Nothing = value (scalar null)

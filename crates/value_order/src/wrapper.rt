@@ -30,7 +30,8 @@ impl Ord for Order<'_> {
 impl PartialOrd for Order<'_> {
     ghost partial_cmp = { as_partial_cmp order_cmp };
 
-    ghost laws = { partial_order_from_agreeing_total order_cmp order_total (λ a b. refl) (λ a b. refl) };
+    ghost laws = { partial_order_from_agreeing_total order_cmp order_total (λ a b. refl)
+        (λ a b. refl) };
 
     fn partial_cmp(&self, other: &Self) -> Option<Ordering> {
         Some(self.cmp(other))
