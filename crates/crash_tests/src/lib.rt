@@ -1,4 +1,4 @@
-//! What happens where something fails: `tests/each_growth faults` refuses each growth in turn, and each test passes then
+//! What happens where something fails: `tests/each_growth crash_tests` refuses each growth in turn, and each test passes then
 //! too, since it follows what was answered.
 #![tactic(auto)]
 

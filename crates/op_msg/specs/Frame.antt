@@ -5,7 +5,7 @@
 -- NoBody is the one. Bytes that are no whole message and have no fault are nothing yet.
 use Rattle.std.specs.Prelude.{ℕ, zero, suc, ◌%◌, ◌^◌, Bool, false, not, ◌||◌, ◌==◌, nat_lt, if◌then◌else◌, List, [], ◌∷◌, length, take, drop, Result, Ok, Err, Option, Some, None, is_some}
 use Rattle.std.specs.Int.{w32, from_le_bytes}
-use Rattle.bson.specs.declared.TheConstants.{MESSAGE_LIMIT}
+use Rattle.bson.specs.Limits.{message_limit}
 use Rattle.op_msg.specs.declared.fault.FrameFault.{FrameFault}
 use Rattle.op_msg.specs.declared.fault.FrameFault.TheVariants as faults
 
@@ -89,7 +89,7 @@ frame_of bytes =
 
 -- the length is that of no message
 abbrev pub is_no_length : ℕ → Bool
-is_no_length len = nat_lt len 26 || nat_lt MESSAGE_LIMIT len
+is_no_length len = nat_lt len 26 || nat_lt message_limit len
 
 -- The message at the front with the bytes after it, or nothing where it isn't whole yet. A length that is wrong is a
 -- fault as soon as its four bytes are there, any other fault comes with the whole message.
