@@ -69,11 +69,11 @@ pub data WrongElement (value : Kind → List ℕ → ℕ → ℕ → BsonFault �
       → name_at bytes ≡ Err fault → WrongElement value wrong named type bytes place seen fault
   wrong_here :
       place ≡ 1 → (name rest : List ℕ) → seen ≡ length name + 2 → (k : Kind) → kind_of type ≡ Ok k
-          → IsName name → bytes ≡ name ++ 0 ∷ rest → wrong name ≡ true → fault ≡ named
+      → IsName name → bytes ≡ name ++ 0 ∷ rest → wrong name ≡ true → fault ≡ named
       → WrongElement value wrong named type bytes place seen fault
   wrong_value :
       (name rest : List ℕ) (k : Kind) → kind_of type ≡ Ok k → IsName name → bytes ≡ name ++ 0 ∷ rest
-          → wrong name ≡ false → Behind (length name + 2) (value k rest) place seen fault
+      → wrong name ≡ false → Behind (length name + 2) (value k rest) place seen fault
       → WrongElement value wrong named type bytes place seen fault
 
 -- ---- what stands before it

@@ -10,9 +10,11 @@ abbrev pub name_of : Result Kind BsonFault → List ℕ → Option (List ℕ × 
 name_of (Err e) bytes = None
 name_of (Ok k) bytes =
     if nat_lt (zero_at bytes) (length bytes)
-      then Some (take (zero_at bytes) bytes,
-        drop (len_at k (drop (zero_at bytes + 1) bytes)) (drop (zero_at bytes + 1) bytes))
-      else None
+    then Some (
+      take (zero_at bytes) bytes,
+      drop (len_at k (drop (zero_at bytes + 1) bytes)) (drop (zero_at bytes + 1) bytes),
+    )
+    else None
 
 -- the first name, and the elements behind its own
 abbrev pub next_name : List ℕ → Option (List ℕ × List ℕ)

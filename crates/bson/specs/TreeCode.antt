@@ -101,7 +101,7 @@ mutual
   pairs_one (pair n t ps) no_pairs e = absurd cc
   pairs_one (pair n t ps) (pair m u qs) e =
       λ i. pair (coded_bytes.inj n m (ap head e) i) (tree_one t u (ap (λ g. head (tail g)) e) i)
-          (pairs_one ps qs (ap (λ g. tail (tail g)) e) i)
+      (pairs_one ps qs (ap (λ g. tail (tail g)) e) i)
 
   pub items_one : (x y : Items) → items_number x ≡ items_number y → x ≡ y
   items_one no_items no_items e = refl

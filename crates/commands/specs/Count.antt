@@ -38,8 +38,8 @@ count_field found name t =
     if bytes_eq name (codes "limit") then (do
       n ← count_in t
       Ok (record found { limit = Some n })) else (do
-      common ← common_field found.common name t
-      Ok (record found { common = common }))
+        common ← common_field found.common name t
+        Ok (record found { common = common }))
 
 abbrev pub read_count : Tree → Pairs → Result Count Refusal
 read_count t ps = do

@@ -78,8 +78,8 @@ delete_field found name t =
     if bytes_eq name (codes "deletes") then (do
       deletions ← deletions_in t
       Ok (record found { deletions = Some deletions })) else (do
-      common ← common_field found.common name t
-      Ok (record found { common = common }))
+        common ← common_field found.common name t
+        Ok (record found { common = common }))
 
 abbrev pub read_delete : Tree → Pairs → Result Delete Refusal
 read_delete t ps = do

@@ -69,8 +69,8 @@ find_field found name t =
     if bytes_eq name (codes "batchSize") then (do
       n ← count_in t
       Ok (record found { batch_size = Some n })) else (do
-      common ← common_field found.common name t
-      Ok (record found { common = common }))
+        common ← common_field found.common name t
+        Ok (record found { common = common }))
 
 -- A missing filter is met by all, a missing sort changes no order, and a missing projection leaves all.
 abbrev pub query_of : FindFields → Query

@@ -31,8 +31,8 @@ insert_field found name t =
     if bytes_eq name (codes "documents") then (do
       documents ← documents_in t
       Ok (record found { documents = Some documents })) else (do
-      common ← common_field found.common name t
-      Ok (record found { common = common }))
+        common ← common_field found.common name t
+        Ok (record found { common = common }))
 
 abbrev pub read_insert : Tree → Pairs → Result Insert Refusal
 read_insert t ps = do

@@ -17,7 +17,7 @@ is_bad_database name = length name == 0 || nat_lt 63 (length name) || list_any i
 abbrev pub is_bad_collection : List ℕ → Bool
 is_bad_collection name =
     length name == 0 || list_any (λ b. b == 36 || b == 0) name
-        || starts_with nat_eq name (codes "system.")
+    || starts_with nat_eq name (codes "system.")
 
 -- the database, a dot and the collection: at most 255 bytes
 abbrev pub is_too_long : List ℕ → List ℕ → Bool
@@ -26,5 +26,5 @@ is_too_long database name = nat_lt 255 (length database + 1 + length name)
 abbrev pub namespace_of : List ℕ → List ℕ → Result (List ℕ) Refusal
 namespace_of database name =
     unless (is_bad_database database || is_bad_collection name || is_too_long database name)
-        refusals.InvalidNamespace
+    refusals.InvalidNamespace
     (Ok (database ++ 46 ∷ name))

@@ -27,7 +27,11 @@ find_read c =
 
 abbrev pub count_read : Count → counts.Count
 count_read c = record {
-  namespace = string_bytes c.namespace; filter = c.filter; skip = c.skip; limit = c.limit }
+  namespace = string_bytes c.namespace;
+  filter = c.filter;
+  skip = c.skip;
+  limit = c.limit;
+}
 
 abbrev pub delete_read : Delete → deletes.Delete
 delete_read c = record { namespace = string_bytes c.namespace; deletions = c.deletions.items }

@@ -45,7 +45,11 @@ impl<'a> Model for CountFields<'a> {
     ghost coded = { Prim.hlevel (codes, coded_conditions) };
 
     ghost view = { λ a. record {
-        common = a.common; filter = a.filter; skip = a.skip; limit = a.limit } };
+      common = a.common;
+      filter = a.filter;
+      skip = a.skip;
+      limit = a.limit;
+    } };
 }
 
 impl<'a> Fields<'a> for CountFields<'a> {

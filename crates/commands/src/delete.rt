@@ -141,8 +141,11 @@ impl<'a> Model for DeleteFields<'a> {
 
     ghost coded = { Prim.hlevel (codes, coded_conditions) };
 
-    ghost view = { λ a. record { common = a.common; deletions = option_map
-        (λ v. v.items) a.deletions } };
+    ghost view = { λ a. record {
+      common = a.common;
+      deletions = option_map
+          (λ v. v.items) a.deletions;
+    } };
 }
 
 impl<'a> Fields<'a> for DeleteFields<'a> {

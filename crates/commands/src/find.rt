@@ -38,8 +38,12 @@ impl Model for Query {
     ghost coded = { Prim.hlevel (codes, coded_conditions) };
 
     ghost view = { λ a. record {
-        filter = a.filter; sort = a.sort; skip = a.skip; limit = a.limit;
-        projection = a.projection } };
+      filter = a.filter;
+      sort = a.sort;
+      skip = a.skip;
+      limit = a.limit;
+      projection = a.projection;
+    } };
 }
 
 /// A query over a collection, and how many documents may go into the first batch.

@@ -53,7 +53,7 @@ pub record Commits {D : Type 0} (history : D → History) (result : Result (Unit
   pub memory : result ≡ Err faults.Memory → world new ≡ after_undo (turn_start old) (world old)
   pub full : result ≡ Err faults.Full → (world new ≡ after_undo (turn_start old) (world old))
       × HasNoRoom (store_of old) (world old).collections
-          × stores.HasFullCause (store_of old) (store_of new)
+      × stores.HasFullCause (store_of old) (store_of new)
   pub ended : turn_start new ≡ world new
   pub limit : stores.limit_of (store_of new) ≡ stores.limit_of (store_of old)
   pub takes : full_takes_of old ≤ full_takes_of new
@@ -68,10 +68,10 @@ pub record Commits {D : Type 0} (history : D → History) (result : Result (Unit
   -- at Ok it leaves them as they are after it, and nothing else
   pub acknowledged : IsRunning old
       → OnOk result
-          (LeavesNow (disk_history history new) (λ image. Holds image (world old).collections))
+      (LeavesNow (disk_history history new) (λ image. Holds image (world old).collections))
   pub device : result ≡ Err faults.Device → KeepsWord (disk_history history new)
       → (is_stopped old ≡ true)
-          ⊎ ((disk_history history old).failures < (disk_history history new).failures)
+      ⊎ ((disk_history history old).failures < (disk_history history new).failures)
   pub idle : is_stopped old ≡ true → disk_history history new ≡ disk_history history old
   -- where the commands changed nothing, there is nothing to write
   pub quiet : has_changes old ≡ false → (result ≡ Ok tt) × (store_of new ≡ store_of old)

@@ -10,5 +10,8 @@ use Rattle.engine.specs.Refusals.{total}
 unfoldable pub run_count : World → Count → Result (World × Pairs) Refusal
 run_count world c =
     let documents = documents_of world.collections c.namespace in
-    Ok (world, pair (codes "n")
-        (total (length (window c.skip c.limit (matching c.filter documents)))) no_pairs)
+    Ok (
+      world,
+      pair (codes "n")
+          (total (length (window c.skip c.limit (matching c.filter documents)))) no_pairs,
+    )

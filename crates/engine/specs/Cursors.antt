@@ -19,7 +19,7 @@ batch_len i most room [] = 0
 batch_len i zero room (ps ∷ rest) = 0
 batch_len i (suc most) room (ps ∷ rest) =
     if i == 0 || nat_le (item_size i ps) room
-        then suc (batch_len (i + 1) most (room - item_size i ps) rest) else 0
+    then suc (batch_len (i + 1) most (room - item_size i ps) rest) else 0
 
 -- an array of a batch has at most 900,000 bytes, five of which are its own
 abbrev pub batch_of : ℕ → List Pairs → ℕ
@@ -58,6 +58,6 @@ open_cursor world connection namespace rest =
 abbrev pub first_batch : World → ℕ → List ℕ → List Pairs → ℕ → Result (World × Pairs) Refusal
 first_batch world connection namespace documents n =
     if nat_le (length documents) n
-      then Ok (world, cursor_reply (codes "firstBatch") documents 0 namespace) else (do
+    then Ok (world, cursor_reply (codes "firstBatch") documents 0 namespace) else (do
       opened ← open_cursor world connection namespace (drop n documents)
       Ok (opened, cursor_reply (codes "firstBatch") (take n documents) world.next namespace))

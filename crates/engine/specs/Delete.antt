@@ -40,7 +40,8 @@ run_delete world c =
     Ok (
       record world {
         collections =
-          deleted_in (find_collection world.collections c.namespace) c.deletions world.collections
+            deleted_in (find_collection world.collections c.namespace) c.deletions
+            world.collections;
       },
       pair (codes "n")
           (total (length documents - length (after_deletions c.deletions documents))) no_pairs,

@@ -45,10 +45,10 @@ pub record IsSound {D : Type 0} (history : D → History) (engine : Engine D) : 
   pub readable : All IsReadable (turn_start engine).collections
   pub holds : IsRunning engine
       → LeavesNow (disk_history history engine)
-          (λ image. Holds image (turn_start engine).collections)
+      (λ image. Holds image (turn_start engine).collections)
   pub committed : KeepsWord (disk_history history engine) → IsRunning engine
       → stores.committed_entries history engine.store
-          ≡ database_entries (turn_start engine).collections
+      ≡ database_entries (turn_start engine).collections
 
 -- No commit of these collections finds room: they are too long for the free pages, or no greater generation is left.
 abbrev pub HasNoRoom : {D : Type 0} → Store D → List Collection → Type 0

@@ -34,9 +34,9 @@ query_result q ds = map (project q.projection) (selection q ds)
 unfoldable pub run_find : World → ℕ → Find → Result (World × Pairs) Refusal
 run_find world connection c =
     first_batch world connection c.namespace
-        (query_result c.query (documents_of world.collections c.namespace))
+    (query_result c.query (documents_of world.collections c.namespace))
     (batch_of (unwrap_or c.batch_size 101)
-        (query_result c.query (documents_of world.collections c.namespace)))
+    (query_result c.query (documents_of world.collections c.namespace)))
 
 -- Of so many documents that match, the first ones up to this number are enough.
 abbrev pub Suffices : Query → ℕ → ℕ → Type 0

@@ -13,12 +13,13 @@ use Rattle.engine.specs.Refusals.{int}
 unfoldable pub run_insert : World → Insert → Result (World × Pairs) Refusal
 run_insert world c =
     unless (nat_le 1000 (length world.collections)
-        && not (is_some (find_collection world.collections c.namespace))) refusals.TooMany (do
+    && not (is_some (find_collection world.collections c.namespace))) refusals.TooMany (do
       stored ← insert_all (documents_of world.collections c.namespace) c.documents
       Ok (
         record world {
           collections =
-            put_collection (with_documents world.collections c.namespace stored) world.collections
+              put_collection (with_documents world.collections c.namespace stored)
+              world.collections;
         },
         pair (codes "n") (int (length c.documents)) no_pairs,
       ))

@@ -22,7 +22,8 @@ catalogue_value number = pair (codes "n") (int number) (pair (codes "x") (array 
 abbrev pub catalogue_entry : Collection → Entry
 catalogue_entry c = record {
   key = key_under 0 0 (tree_text (words c.name));
-  value = frame_of (pairs_bytes (catalogue_value c.number)) }
+  value = frame_of (pairs_bytes (catalogue_value c.number));
+}
 
 abbrev pub document_entry : ℕ → Pairs → Entry
 document_entry number ps =

@@ -58,7 +58,8 @@ abbrev pub with_documents : List Collection → List ℕ → List Pairs → Coll
 with_documents collections name stored = record {
   name = name;
   number = number_or (unused collections) (find_collection collections name);
-  documents = stored }
+  documents = stored;
+}
 
 -- a missing collection reads as empty
 abbrev pub documents_or_none : Option Collection → List Pairs
@@ -78,7 +79,7 @@ abbrev pub put_collection : Collection → List Collection → List Collection
 put_collection new [] = new ∷ []
 put_collection new (c ∷ cs) =
     by_order (slice_cmp nat_cmp new.name c.name)
-      (new ∷ c ∷ cs) (new ∷ cs) (c ∷ put_collection new cs)
+    (new ∷ c ∷ cs) (new ∷ cs) (c ∷ put_collection new cs)
 
 -- the cursors of a connection
 abbrev pub count_of : ℕ → List Cursor → ℕ
@@ -90,7 +91,7 @@ count_of connection (c ∷ cs) =
 abbrev pub without_cursors : ℕ → List Cursor → List Cursor
 without_cursors connection [] = []
 without_cursors connection (c ∷ cs) = if c.connection == connection
-  then without_cursors connection cs else c ∷ without_cursors connection cs
+    then without_cursors connection cs else c ∷ without_cursors connection cs
 
 -- a connection has ended
 abbrev pub forget : World → ℕ → World
@@ -115,4 +116,5 @@ after_undo before now = record {
   collections = before.collections;
   cursors = untouched now.touched before.cursors;
   next = now.next;
-  touched = [] }
+  touched = [];
+}

@@ -30,7 +30,10 @@ impl Model for Collection {
     ghost coded = { collection_code };
 
     ghost view = { λ a. record {
-        name = string_bytes a.namespace; number = a.number; documents = a.documents.items } };
+      name = string_bytes a.namespace;
+      number = a.number;
+      documents = a.documents.items;
+    } };
 
     ghost invariant = { λ a. IsHeld (record {
       name = string_bytes a.namespace;

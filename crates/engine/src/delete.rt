@@ -82,7 +82,7 @@ impl<D: Disk> Engine<D> {
         ensures disk { self.new.store ≡ self.old.store }
         ensures runs { Runs (world self.old)
             (run_delete (world self.old)
-                (record { namespace = namespace.now; deletions = deletions.now }))
+            (record { namespace = namespace.now; deletions = deletions.now }))
             (world self.new) result }
         ensures turn_start { turn_start self.new ≡ turn_start self.old }
         ensures has_changes { (world self.new).collections ≡ (world self.old).collections

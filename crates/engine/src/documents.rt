@@ -94,7 +94,7 @@ fn check_key(alloc: Global, id: &Value) -> Result<(), Refusal>
     ensures { MatchResult result
         (λ _. length (tree_text (tree id.now)) ≤ KEY_LIMIT)
         (λ e. e ≢ Refusal.OutOfMemory
-            → (e ≡ Refusal.KeyTooLong) × (KEY_LIMIT < length (tree_text (tree id.now)))) }
+        → (e ≡ Refusal.KeyTooLong) × (KEY_LIMIT < length (tree_text (tree id.now)))) }
 {
     match id {
         Value::String(_)

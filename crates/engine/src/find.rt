@@ -139,7 +139,7 @@ impl<D: Disk> Engine<D> {
         ensures within { IfOk result (λ v. All IsWithin v.items) }
         ensures over { IfErr result (λ e. e ≢ Refusal.OutOfMemory → (e ≡ Refusal.TooMany)
             × (most < length (query_result query.now
-                (documents_of (world self.now).collections namespace.now)))) }
+            (documents_of (world self.now).collections namespace.now)))) }
     {
         let documents = self.collections.documents(namespace);
         let ordered = ordered(self.alloc, query, documents)?;

@@ -24,7 +24,7 @@ impl<D: Disk> Engine<D> {
         ensures disk { self.new.store ≡ self.old.store }
         ensures runs { Runs (world self.old)
             (run_insert (world self.old)
-                (record { namespace = namespace.now; documents = documents_at documents.now }))
+            (record { namespace = namespace.now; documents = documents_at documents.now }))
             (world self.new) result }
         ensures turn_start { turn_start self.new ≡ turn_start self.old }
         ensures has_changes { (world self.new).collections ≡ (world self.old).collections

@@ -56,7 +56,7 @@ with_field path b seen =
     if list_any (meets path) seen.paths then Err refusals.BadValue else
     if is_id path then Ok (record { fields = seen.fields; id = Some b; paths = seen.paths }) else
     if agrees seen.fields b
-      then Ok (record { fields = Some b; id = seen.id; paths = seen.paths ++ path ∷ [] }) else
+    then Ok (record { fields = Some b; id = seen.id; paths = seen.paths ++ path ∷ [] }) else
     Err refusals.BadValue
 
 abbrev pub read_field : List ℕ → Tree → Seen → Result Seen Refusal
@@ -81,9 +81,10 @@ names_id false (Some b) paths = not b
 names_id false None paths = false
 
 abbrev pub projection_of : Bool → Seen → Projection
-projection_of includes seen =
-    (includes,
-      if names_id includes seen.id seen.paths then seen.paths ++ id_path ∷ [] else seen.paths)
+projection_of includes seen = (
+  includes,
+  if names_id includes seen.id seen.paths then seen.paths ++ id_path ∷ [] else seen.paths,
+)
 
 abbrev pub read_projection : Pairs → Result Projection Refusal
 read_projection ps =

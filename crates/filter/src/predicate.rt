@@ -83,7 +83,7 @@ fn candidate_passes(predicate: &Predicate, value: &Value) -> bool
 fn item_passes(predicate: &Predicate, items: &[Value]) -> bool
     ensures { result
         ≡ list_any (candidate_passes (predicate_of predicate.now))
-            (items_list (items_of items.now)) }
+        (items_list (items_of items.now)) }
 {
     'items: for item in items {
         if candidate_passes(predicate, item) {

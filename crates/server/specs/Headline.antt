@@ -102,17 +102,17 @@ pub record Drives {D : Type 0} (history : D → History) (first : Core D) (all :
   -- from each turn's end to the next one's, a crash leaves the collections of the one or of the other
   pub in_order : IsRunning first → KeepsWord (disk_history history last)
       → LeavesInOrder (disk_history history last) (clock_of history first)
-          (collections_of first) ends (collections_of last)
+      (collections_of first) ends (collections_of last)
   -- at the end, those after all turns that answered, or after one more in which the device failed
   pub at_end : IsRunning first → (IsStopped out.stopped → ⊥)
       → LeavesNow (disk_history history last)
-          (λ image. Holds image (last_collections (collections_of first) ends))
+      (λ image. Holds image (last_collections (collections_of first) ends))
   pub at_stop : IsRunning first
       → LeavesNow (disk_history history last)
-          (HoldsEither (last_collections (collections_of first) ends) (collections_of last))
+      (HoldsEither (last_collections (collections_of first) ends) (collections_of last))
   pub idle : is_stopped first ≡ true → disk_history history last ≡ disk_history history first
   pub running : (IsStopped out.stopped → ⊥) → is_stopped last ≡ is_stopped first
   pub limit : limit_of (store_of last) ≡ limit_of (store_of first)
   pub device : IsStopped out.stopped → KeepsWord (disk_history history last)
       → (is_stopped first ≡ true)
-          ⊎ ((disk_history history first).failures < (disk_history history last).failures)
+      ⊎ ((disk_history history first).failures < (disk_history history last).failures)

@@ -15,7 +15,7 @@ use Rattle.server.specs.declared.step.Step.TheVariants as steps
 abbrev pub RoomRanOut : Moment → Moment → Type 0
 RoomRanOut old new =
     (old.generation ≡ 2 ^ 64 - 1)
-        ⊎ ((old.full_takes < new.full_takes) ⊎ (new.full_takes ≡ 2 ^ 64 - 1))
+    ⊎ ((old.full_takes < new.full_takes) ⊎ (new.full_takes ≡ 2 ^ 64 - 1))
 
 -- From this moment and state on, after these steps the server may be this one, the frames that were handed out these, each with
 -- its connection, in order, and the turns' ends these.
@@ -28,11 +28,11 @@ Happens at state (steps.Gone id ∷ later) given ends new =
     Happens at (ended state id) later given ends new
 Happens at state (steps.Turn ∷ later) given ends new =
     (mid : ServerState) × (out : Out) × (others : List (ℕ × List ℕ)) × (end : TurnEnd)
-        × (more : List TurnEnd)
+    × (more : List TurnEnd)
     × Turns ForMemory (RoomRanOut at end.at) state out mid
-        × (end.collections ≡ mid.world.collections)
+    × (end.collections ≡ mid.world.collections)
     × (given ≡ out.replies ++ others) × (ends ≡ end ∷ more)
-        × Happens end.at mid later others more new
+    × Happens end.at mid later others more new
 
 -- the bytes for a connection
 abbrev pub bytes_to : ℕ → List (ℕ × List ℕ) → List ℕ

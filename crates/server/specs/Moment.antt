@@ -51,5 +51,5 @@ LeavesInOrder h from before [] now =
     (from ≤ h.clock) × LeavesBetween h from h.clock (HoldsEither before now)
 LeavesInOrder h from before (e ∷ later) now =
     (from ≤ e.at.clock) × (e.at.clock ≤ h.clock)
-        × LeavesBetween h from e.at.clock (HoldsEither before e.collections)
+    × LeavesBetween h from e.at.clock (HoldsEither before e.collections)
     × LeavesInOrder h e.at.clock e.collections later now

@@ -46,9 +46,9 @@ abbrev pub Does : Instant → Step → DriveOut → Result (Unit {0}) DriveFault
 Does first step old (Ok _) was_stopped new last = Goes first step old new last
 Does first step old (Err (stops.Feed feeds.Memory)) was_stopped new last =
     ((id : ℕ) × (chunk : Vec ℕ Global) × (step ≡ steps.Bytes id chunk)) × Adds [] 0 old new
-        × (last.state ≡ first.state)
+    × (last.state ≡ first.state)
 Does first step old (Err (stops.Feed feeds.Closed)) was_stopped new last = ⊥
 Does first step old (Err (stops.Turn fault)) was_stopped new last =
     (step ≡ steps.Turn) × Adds [] 0 old new
-        × TurnFails ForMemory first.state fault was_stopped last.state
+    × TurnFails ForMemory first.state fault was_stopped last.state
 Does first step old (Err (stops.Gather)) was_stopped new last = Loses first step old new last

@@ -33,7 +33,7 @@ abbrev pub feed_connections : List Connection → ℕ → List ℕ → List Conn
 feed_connections [] id bytes = new_connection id bytes ∷ []
 feed_connections (l ∷ ls) id bytes =
     by_order (nat_cmp id l.id) (new_connection id bytes ∷ l ∷ ls) (add_bytes l l.fault bytes ∷ ls)
-        (l ∷ feed_connections ls id bytes)
+    (l ∷ feed_connections ls id bytes)
 
 -- Bytes came on a connection. The first ones open it.
 abbrev pub fed : ServerState → ℕ → List ℕ → ServerState

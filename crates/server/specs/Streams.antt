@@ -48,6 +48,6 @@ IsLeft (Some fault) unread rest = front rest ≡ Err fault
 abbrev pub TakesTheStream : Type 0
 TakesTheStream = (connection : Connection) (events : List Event) → connection.fault ≡ None →
     (rest : List ℕ)
-        × Begins (connection.frames ++ stream_of events) (taken_over connection events) rest
+    × Begins (connection.frames ++ stream_of events) (taken_over connection events) rest
     × IsLeft (connection_over connection events).fault
-        (connection_over connection events).frames rest
+    (connection_over connection events).frames rest

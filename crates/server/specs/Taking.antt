@@ -71,7 +71,7 @@ IsTaken old (Ok None) takes.Nothing new = new ≡ old
 IsTaken old (Err fault) takes.Nothing new = new ≡ old
 IsTaken old (Ok (Some x)) (takes.Call number request) new =
     (number ≡ next_number old.last_reply) × IsRequest x.0 request
-        × (new ≡ taken_at old (Ok (Some x)))
+    × (new ≡ taken_at old (Ok (Some x)))
 IsTaken old front other new = ⊥
 
 -- The calls were answered so, and at ok each frame was put at the end.
@@ -85,7 +85,7 @@ pub record Serves (beside : Refusal → Type 0) (calls : List Call) (old new : W
 abbrev pub IsAnswer : (Refusal → Type 0) → World → ℕ → Request → World → Pairs → Type 0
 IsAnswer beside old id request new reply =
     (read : Result Pairs BsonFault) → Gives bson_faults.Memory (λ d. d) request.body read
-        → Answers beside old id read new reply
+    → Answers beside old id read new reply
 
 -- The messages of the links ran. The turn kept what they changed and hands out these replies, or it took back what they changed
 -- and hands out refusals: for want of room only where there is none in the last world.
@@ -96,8 +96,8 @@ pub record EndsTurn (beside : Refusal → Type 0) (NoRoom : World → Type 0) (o
   pub runs : Runs beside old (calls connections) replies last
   pub ends : ((given ≡ frames_of (calls connections) replies) × (new ≡ after_commit last))
       ⊎ (((given ≡ refused_frames refusals.OutOfMemory connections)
-          ⊎ ((given ≡ refused_frames refusals.Full connections) × NoRoom last))
-          × (new ≡ after_undo old last))
+      ⊎ ((given ≡ refused_frames refusals.Full connections) × NoRoom last))
+      × (new ≡ after_undo old last))
 
 -- The messages of the links ran, and the device failed when what they changed was to be made durable.
 pub record BreaksTurn (beside : Refusal → Type 0) (old : World) (connections : List Connection)

@@ -64,7 +64,9 @@ number_after false last = next_number last
 -- a link after the turn
 abbrev pub connection_at : Connection → Result (Option (Frame × List ℕ)) FrameFault → Connection
 connection_at connection (Ok (Some x)) = record connection {
-  frames = x.1; last_reply = number_after x.0.more_to_come connection.last_reply }
+  frames = x.1;
+  last_reply = number_after x.0.more_to_come connection.last_reply;
+}
 connection_at connection (Ok None) = connection
 connection_at connection (Err fault) = record connection { fault = Some fault }
 
@@ -92,7 +94,7 @@ Runs beside world [] (r ∷ rs) new = ⊥
 Runs beside world (c ∷ cs) [] new = ⊥
 Runs beside world (c ∷ cs) (r ∷ rs) new =
     (mid : World) × Answers beside world c.connection.id (body_of c.frame) mid r
-        × Runs beside mid cs rs new
+    × Runs beside mid cs rs new
 
 -- However the messages are answered, none of them changes the collections.
 abbrev pub ChangeNothing : (Refusal → Type 0) → World → List Call → Type 0
@@ -146,11 +148,13 @@ pub record Done (beside : Refusal → Type 0) (state : ServerState) (out : Out)
   pub last : World
   pub runs : Runs beside state.world (calls state.connections) replies last
   pub hands_out : out ≡ record {
-      replies = frames_of (calls state.connections) replies;
-      closed = faults state.connections }
+    replies = frames_of (calls state.connections) replies;
+    closed = faults state.connections;
+  }
   pub leaves : new ≡ record {
-      world = forget_all (after_commit last) (faults state.connections);
-      connections = connections_after state.connections }
+    world = forget_all (after_commit last) (faults state.connections);
+    connections = connections_after state.connections;
+  }
 
 -- Undone: the state is the one before, and each reply is this refusal.
 pub record Undone (beside : Refusal → Type 0) (state : ServerState) (refusal : Refusal) (out : Out)
@@ -159,18 +163,20 @@ pub record Undone (beside : Refusal → Type 0) (state : ServerState) (refusal :
   pub last : World
   pub runs : Runs beside state.world (calls state.connections) replies last
   pub hands_out : out ≡ record {
-      replies = refused_frames refusal state.connections;
-      closed = faults state.connections }
+    replies = refused_frames refusal state.connections;
+    closed = faults state.connections;
+  }
   pub leaves : new ≡ record {
-      world = forget_all (after_undo state.world last) (faults state.connections);
-      connections = connections_after state.connections }
+    world = forget_all (after_undo state.world last) (faults state.connections);
+    connections = connections_after state.connections;
+  }
 
 -- A turn that answers: done, or undone for want of memory, or for want of room, by its cause.
 abbrev pub Turns : (Refusal → Type 0) → Type 0 → ServerState → Out → ServerState → Type 0
 Turns beside no_room state out new =
     Done beside state out new
     ⊎ (Undone beside state refusals.OutOfMemory out new
-        ⊎ (no_room × Undone beside state refusals.Full out new))
+    ⊎ (no_room × Undone beside state refusals.Full out new))
 
 -- Cut: the messages are taken and ran, no reply is handed out, and no connection is closed.
 pub record Cut (beside : Refusal → Type 0) (state new : ServerState) : Type 0 where

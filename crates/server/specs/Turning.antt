@@ -22,7 +22,7 @@ pub record TakesTurn {D : Type 0} (history : D → History) (old : Core D)
   -- it is done, or undone, or it answers no message
   pub turns : IfOk result (λ out.
       Turns ForMemory (RoomRanOut (moment_of history old) (moment_of history new)) (state old)
-          (out_of out) (state new))
+      (out_of out) (state new))
   pub full : IfOk result (λ out. Done ForMemory (state old) (out_of out) (state new)
       ⊎ (Undone ForMemory (state old) refusals.OutOfMemory (out_of out) (state new)
       ⊎ FindsNoRoom old (out_of out) (state new)))
@@ -35,7 +35,7 @@ pub record TakesTurn {D : Type 0} (history : D → History) (old : Core D)
   -- at Ok it leaves them as they are after it, and nothing else
   pub acknowledged : IsRunning old
       → OnOk result
-          (LeavesNow (disk_history history new) (λ image. Holds image (collections_of new)))
+      (LeavesNow (disk_history history new) (λ image. Holds image (collections_of new)))
   -- a server that had stopped answers so, and leaves the disk as it is; another stops only where the device failed
   pub running : result ≢ Err turn_faults.Stopped → is_stopped new ≡ is_stopped old
   pub stops : result ≡ Err turn_faults.Stopped → is_stopped new ≡ true

@@ -45,7 +45,7 @@ impl<D: Disk> Core<D> {
         ensures device { result ≡ Err (DriveFault.Turn TurnFault.Stopped)
             → KeepsWord (disk_history D.history self.new)
             → (is_stopped self.old ≡ true) ⊎ ((disk_history D.history self.old).failures
-                < (disk_history D.history self.new).failures) }
+            < (disk_history D.history self.new).failures) }
         ensures running { result ≢ Err (DriveFault.Turn TurnFault.Stopped)
             → is_stopped self.new ≡ is_stopped self.old }
     {

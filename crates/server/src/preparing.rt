@@ -64,7 +64,7 @@ fn push_refusal(
 fn prepare_connection(prepared: &mut Prepared, connection: &Connection) -> Result<(), NoMemory>
     ensures refusals { OnOk result (frames_in prepared.new.refusals.items
         ≡ frames_in prepared.old.refusals.items
-            ++ refused_at OutOfMemory connection.now (front_of connection.now)) }
+        ++ refused_at OutOfMemory connection.now (front_of connection.now)) }
     ensures closed { OnOk result (prepared.new.closed.items
         ≡ prepared.old.closed.items ++ fault_at connection.now (front_of connection.now)) }
     ensures faults { OnOk result (prepared.new.faults.items

@@ -149,12 +149,12 @@ pub(crate) fn run_messages<D: Disk>(
     ensures any_moment { IsRunning engine.old
         → LeavesOnly (disk_history D.history engine.old) (disk_history D.history engine.new)
         (λ image. Holds image (world engine.old).collections
-            ⊎ Holds image (world engine.new).collections) }
+        ⊎ Holds image (world engine.new).collections) }
     ensures running { IfSome result (λ _. is_stopped engine.new ≡ is_stopped engine.old) }
     ensures stops { result ≡ None → is_stopped engine.new ≡ true }
     ensures device { result ≡ None → KeepsWord (disk_history D.history engine.new)
         → (is_stopped engine.old ≡ true) ⊎ ((disk_history D.history engine.old).failures
-            < (disk_history D.history engine.new).failures) }
+        < (disk_history D.history engine.new).failures) }
     ensures unchanged { is_stopped engine.old ≡ true
         → disk_history D.history engine.new ≡ disk_history D.history engine.old }
     ensures limit { limit_of (store_of engine.new) ≡ limit_of (store_of engine.old) }

@@ -2,9 +2,9 @@
 #![tactic(auto)]
 
 #[cfg(test)]
-mod chunks;
-#[cfg(test)]
 mod by_command;
+#[cfg(test)]
+mod chunks;
 #[cfg(test)]
 mod first_path;
 #[cfg(test)]

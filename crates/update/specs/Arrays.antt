@@ -24,7 +24,7 @@ no_more ts (pair name t ps) = Err refusals.BadValue
 abbrev pub items_of_each : List ℕ → Tree → Pairs → Result Items Refusal
 items_of_each name t ps =
     if bytes_eq name (codes "$each") then if_ok (array_in t) (λ ts. no_more ts ps)
-        else Err refusals.BadValue
+    else Err refusals.BadValue
 
 abbrev pub each_items : Pairs → Result Items Refusal
 each_items no_pairs = Err refusals.BadValue
@@ -50,7 +50,7 @@ abbrev pub items_without : Condition → Items → Items
 items_without condition no_items = no_items
 items_without condition (item t ts) =
     if element_matches condition t then items_without condition ts
-        else item t (items_without condition ts)
+    else item t (items_without condition ts)
 
 abbrev pub pulled : Condition → Option Tree → Result Tree Refusal
 pulled condition (Some (array ts)) = Ok (array (items_without condition ts))

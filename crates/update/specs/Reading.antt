@@ -36,8 +36,8 @@ without_conflict earlier e =
 abbrev pub read_edit : Operator → List ℕ → Tree → List Edit → Result (List Edit) Refusal
 read_edit operator name t earlier =
     if_ok (editable_path name)
-        (λ where_to. if_ok (read_action operator t)
-        (λ does. without_conflict earlier (record { path = where_to; action = does })))
+    (λ where_to. if_ok (read_action operator t)
+    (λ does. without_conflict earlier (record { path = where_to; action = does })))
 
 abbrev pub read_edits : Operator → Pairs → List Edit → Result (List Edit) Refusal
 read_edits operator no_pairs earlier = Ok earlier
@@ -55,7 +55,7 @@ operands_in t = Err refusals.TypeMismatch
 abbrev pub read_operator : List ℕ → Tree → List Edit → Result (List Edit) Refusal
 read_operator name t earlier =
     if_ok (known_operator (operator_of name))
-        (λ operator. if_ok (operands_in t) (λ ps. read_edits operator ps earlier))
+    (λ operator. if_ok (operands_in t) (λ ps. read_edits operator ps earlier))
 
 abbrev pub read_operators : Pairs → List Edit → Result (List Edit) Refusal
 read_operators no_pairs earlier = Ok earlier

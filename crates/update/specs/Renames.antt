@@ -13,9 +13,9 @@ abbrev pub moved : Path → Path → Option Tree → Pairs → Result Pairs Refu
 moved old new None ps = Ok ps
 moved old new (Some t) ps =
     if passes_array new (document ps) then Err refusals.BadValue
-        else set_at new t (cut_at new (cut_at old ps))
+    else set_at new t (cut_at new (cut_at old ps))
 
 abbrev pub rename_at : Path → Path → Pairs → Result Pairs Refusal
 rename_at old new ps =
     if passes_array old (document ps) then Err refusals.BadValue
-        else moved old new (value_at old (document ps)) ps
+    else moved old new (value_at old (document ps)) ps

@@ -13,7 +13,7 @@ abbrev pub with_id : Tree → Option Tree → Pairs → Result Pairs Refusal
 with_id old None new = Ok (pair id_name old (without new id_name))
 with_id old (Some id) new =
     if is_equal (compare old id) then Ok (pair id_name old (without new id_name))
-        else Err refusals.ImmutableField
+    else Err refusals.ImmutableField
 
 abbrev pub in_place_of : Option Tree → Pairs → Result Pairs Refusal
 in_place_of None new = Ok (id_first new)

@@ -79,7 +79,7 @@ fault_if test refusal = if test then Some refusal else None
 abbrev pub limits_fault : ℕ → Pairs → Option Refusal
 limits_fault limit ps =
     or_else (fault_if (nat_lt limit
-        (length (frame_of (pairs_bytes ps)))) refusals.BSONObjectTooLarge)
+    (length (frame_of (pairs_bytes ps)))) refusals.BSONObjectTooLarge)
     (fault_if (nat_lt 90 (suc (pairs_levels ps))) refusals.BadValue)
 
 -- why a document may not be stored, if it may not: the first of these

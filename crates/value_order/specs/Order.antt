@@ -82,7 +82,7 @@ abbrev mutual
   pairs_cmp (pair n t ps) no_pairs = Greater
   pairs_cmp (pair n t ps) (pair m u qs) =
       ordering_then (nat_cmp (class t) (class u))
-          (ordering_then (bytes_cmp n m) (ordering_then (content_cmp t u) (pairs_cmp ps qs)))
+      (ordering_then (bytes_cmp n m) (ordering_then (content_cmp t u) (pairs_cmp ps qs)))
 
   pub items_cmp : Items → Items → Ordering
   items_cmp no_items no_items = Equal
@@ -90,7 +90,7 @@ abbrev mutual
   items_cmp (item t ts) no_items = Greater
   items_cmp (item t ts) (item u us) =
       ordering_then (nat_cmp (class t) (class u))
-          (ordering_then (content_cmp t u) (items_cmp ts us))
+      (ordering_then (content_cmp t u) (items_cmp ts us))
 
 -- by class, then by content
 abbrev pub compare : Tree → Tree → Ordering

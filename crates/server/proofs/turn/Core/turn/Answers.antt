@@ -61,10 +61,10 @@ returns-in_default g c = record {
       let runs : is_stopped core ≡ false = sym c.is_stopped.ensures ∙ c.if-is_stopped.false in
       let broke = c.in_default.ensures.breaks refl in
       let cut : Cut ForMemory (state core) (record { world = world c.run_messages.new.engine; connections = c.run_messages.new.connections.items }) = record {
-      replies = broke.replies;
-      last = broke.last;
-      runs = broke.runs;
-      leaves = λ i. record { world = broke.ends i; connections = c.run_messages.ensures.connections i };
+        replies = broke.replies;
+        last = broke.last;
+        runs = broke.runs;
+        leaves = λ i. record { world = broke.ends i; connections = c.run_messages.ensures.connections i };
       } in
       subst (λ (b : Bool). TurnFails ForMemory (state core) turns.Stopped b (record { world = world c.run_messages.new.engine; connections = c.run_messages.new.connections.items })) (sym runs) cut;
   on = search rules;
