@@ -2,9 +2,11 @@
 #![tactic(auto)]
 
 #[cfg(test)]
+mod by_command;
+#[cfg(test)]
 mod chunks;
 #[cfg(test)]
-mod by_command;
+mod connections;
 #[cfg(test)]
 mod first_path;
 #[cfg(test)]
