@@ -1,10 +1,15 @@
 //! Bytes of BSON documents and OP_MSG frames put together by hand, for tests: nothing here knows of crate `bson`.
 #![tactic(auto)]
 
+mod command;
 mod document;
 mod message;
 mod refusals;
 
+pub use command::{
+    batch_reply, batch_reply_in, count, count_reply, delete, delete_statement, find, find_in,
+    find_with, id_document, insert, insert_one, ok_reply, ping,
+};
 pub use document::Bytes;
 pub use message::{REPLY_HEADER, frame};
 pub use refusals::refusal;

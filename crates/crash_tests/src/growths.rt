@@ -80,116 +80,81 @@ fn three(alloc: Global) -> [Bytes; 3] {
     ]
 }
 
-fn insert(alloc: Global, documents: &[Bytes]) -> Bytes {
-    Bytes::new(alloc)
-        .text("insert", "c")
-        .documents("documents", documents)
-        .text("$db", "t")
+fn ping_step(alloc: Global) -> Result<Step, AllocError> {
+    make_step(alloc, ping(alloc))?.with(alloc, NOTHING, ok_reply(alloc), NOTHING)
 }
 
-/// What an insert, a delete or a count of so many is answered.
-fn counted(alloc: Global, count: i32) -> Bytes {
-    Bytes::new(alloc).int32("n", count).int32("ok", 1)
-}
-
-/// What a find of these documents is answered.
-fn found(alloc: Global, documents: &[Bytes]) -> Bytes {
-    let cursor = Bytes::new(alloc)
-        .documents("firstBatch", documents)
-        .int64("id", 0)
-        .text("ns", "t.c");
-    Bytes::new(alloc).document("cursor", &cursor).int32("ok", 1)
-}
-
-fn ping(alloc: Global) -> Result<Step, AllocError> {
-    let ok = Bytes::new(alloc).int32("ok", 1);
-    make_step(alloc, Bytes::new(alloc).int32("ping", 1).text("$db", "t"))?.with(
-        alloc, NOTHING, ok, NOTHING,
+fn insert_step(alloc: Global) -> Result<Step, AllocError> {
+    make_step(alloc, insert(alloc, &three(alloc)))?.with(
+        alloc,
+        NOTHING,
+        count_reply(alloc, 3),
+        THREE,
     )
 }
 
-fn first_insert(alloc: Global) -> Result<Step, AllocError> {
-    make_step(alloc, insert(alloc, &three(alloc)))?.with(alloc, NOTHING, counted(alloc, 3), THREE)
-}
-
 /// A find with a filter, a sort and a projection.
-fn query(alloc: Global) -> Result<Step, AllocError> {
-    let message = Bytes::new(alloc)
-        .text("find", "c")
-        .document("filter", &Bytes::new(alloc).int32("a", 5))
-        .document("sort", &Bytes::new(alloc).int32("_id", -1))
-        .document("projection", &Bytes::new(alloc).int32("_id", 1))
-        .text("$db", "t");
-    let falling = [
-        Bytes::new(alloc).int32("_id", 3),
-        Bytes::new(alloc).int32("_id", 1),
-    ];
+fn query_step(alloc: Global) -> Result<Step, AllocError> {
+    let filter = Bytes::new(alloc).int32("a", 5);
+    let sort = Bytes::new(alloc).int32("_id", -1);
+    let projection = Bytes::new(alloc).int32("_id", 1);
+    let message = find_with(alloc, &filter, &sort, &projection);
+    let falling = [id_document(alloc, 3), id_document(alloc, 1)];
     make_step(alloc, message)?
-        .with(alloc, NOTHING, found(alloc, &[]), NOTHING)?
-        .with(alloc, THREE, found(alloc, &falling), THREE)
+        .with(alloc, NOTHING, batch_reply(alloc, &[]), NOTHING)?
+        .with(alloc, THREE, batch_reply(alloc, &falling), THREE)
 }
 
 /// A delete of two statements, the first of which takes one of two documents.
-fn delete(alloc: Global) -> Result<Step, AllocError> {
+fn delete_step(alloc: Global) -> Result<Step, AllocError> {
     let statements = [
-        Bytes::new(alloc)
-            .document("q", &Bytes::new(alloc).int32("a", 5))
-            .int32("limit", 1),
-        Bytes::new(alloc)
-            .document("q", &Bytes::new(alloc).int32("a", 6))
-            .int32("limit", 0),
+        delete_statement(alloc, &Bytes::new(alloc).int32("a", 5), 1),
+        delete_statement(alloc, &Bytes::new(alloc).int32("a", 6), 0),
     ];
-    let message = Bytes::new(alloc)
-        .text("delete", "c")
-        .documents("deletes", &statements)
-        .text("$db", "t");
+    let message = delete(alloc, &statements);
     make_step(alloc, message)?
-        .with(alloc, NOTHING, counted(alloc, 0), NOTHING)?
-        .with(alloc, THREE, counted(alloc, 2), ONE_LEFT)
+        .with(alloc, NOTHING, count_reply(alloc, 0), NOTHING)?
+        .with(alloc, THREE, count_reply(alloc, 2), ONE_LEFT)
 }
 
-fn count(alloc: Global) -> Result<Step, AllocError> {
-    let message = Bytes::new(alloc)
-        .text("count", "c")
-        .document("query", &Bytes::new(alloc).int32("a", 5))
-        .text("$db", "t");
+fn count_step(alloc: Global) -> Result<Step, AllocError> {
+    let message = count(alloc, &Bytes::new(alloc).int32("a", 5));
     make_step(alloc, message)?
-        .with(alloc, NOTHING, counted(alloc, 0), NOTHING)?
-        .with(alloc, THREE, counted(alloc, 2), THREE)?
-        .with(alloc, ONE_LEFT, counted(alloc, 1), ONE_LEFT)
+        .with(alloc, NOTHING, count_reply(alloc, 0), NOTHING)?
+        .with(alloc, THREE, count_reply(alloc, 2), THREE)?
+        .with(alloc, ONE_LEFT, count_reply(alloc, 1), ONE_LEFT)
 }
 
 /// An insert of a number that is there already, where anything is.
-fn again(alloc: Global) -> Result<Step, AllocError> {
+fn again_step(alloc: Global) -> Result<Step, AllocError> {
     let documents = [Bytes::new(alloc).int64("_id", 3)];
     make_step(alloc, insert(alloc, &documents))?
-        .with(alloc, NOTHING, counted(alloc, 1), A_LONG)?
+        .with(alloc, NOTHING, count_reply(alloc, 1), A_LONG)?
         .with(alloc, THREE, refusal(alloc, 11000), THREE)?
         .with(alloc, ONE_LEFT, refusal(alloc, 11000), ONE_LEFT)
 }
 
-fn find(alloc: Global) -> Result<Step, AllocError> {
-    let message = Bytes::new(alloc).text("find", "c").text("$db", "t");
+fn find_step(alloc: Global) -> Result<Step, AllocError> {
     let left = [document(alloc, 3, 5)];
     let long = [Bytes::new(alloc).int64("_id", 3)];
-    make_step(alloc, message)?
-        .with(alloc, NOTHING, found(alloc, &[]), NOTHING)?
-        .with(alloc, THREE, found(alloc, &three(alloc)), THREE)?
-        .with(alloc, ONE_LEFT, found(alloc, &left), ONE_LEFT)?
-        .with(alloc, A_LONG, found(alloc, &long), A_LONG)
+    make_step(alloc, find(alloc))?
+        .with(alloc, NOTHING, batch_reply(alloc, &[]), NOTHING)?
+        .with(alloc, THREE, batch_reply(alloc, &three(alloc)), THREE)?
+        .with(alloc, ONE_LEFT, batch_reply(alloc, &left), ONE_LEFT)?
+        .with(alloc, A_LONG, batch_reply(alloc, &long), A_LONG)
 }
 
 fn make_script(alloc: Global) -> Result<Script, AllocError> {
     let mut steps = Vec::new(alloc);
-    steps.push(ping(alloc)?)?;
-    steps.push(first_insert(alloc)?)?;
-    steps.push(query(alloc)?)?;
-    steps.push(delete(alloc)?)?;
-    steps.push(count(alloc)?)?;
-    steps.push(again(alloc)?)?;
+    steps.push(ping_step(alloc)?)?;
+    steps.push(insert_step(alloc)?)?;
+    steps.push(query_step(alloc)?)?;
+    steps.push(delete_step(alloc)?)?;
+    steps.push(count_step(alloc)?)?;
+    steps.push(again_step(alloc)?)?;
     Ok(Script {
         steps,
-        last: find(alloc)?,
+        last: find_step(alloc)?,
         no_memory: frame(alloc, 0, 7, &refusal(alloc, 9004))?,
     })
 }

@@ -46,66 +46,25 @@ fn documents(alloc: Global, numbers: &[i32]) -> Result<Vec<Bytes>, AllocError> {
     Ok(documents)
 }
 
-fn insert(alloc: Global, numbers: &[i32]) -> Result<Bytes, AllocError> {
-    Ok(
-        Bytes::new(alloc)
-            .text("insert", "c")
-            .documents("documents", &documents(alloc, numbers)?)
-            .text("$db", "t"),
-    )
-}
-
 /// A document in which this field is greater than a number.
 fn above(alloc: Global, name: &str, number: i32) -> Bytes {
     Bytes::new(alloc).document(name, &Bytes::new(alloc).int32("$gt", number))
 }
 
 /// A find of the documents above 0 in rising order of `a`, which gives that alone.
-fn query(alloc: Global) -> Bytes {
+fn query_above(alloc: Global) -> Bytes {
+    let sort = Bytes::new(alloc).int32("a", 1);
     let projection = Bytes::new(alloc).int32("a", 1).int32("_id", 0);
-    Bytes::new(alloc)
-        .text("find", "c")
-        .document("filter", &above(alloc, "_id", 0))
-        .document("sort", &Bytes::new(alloc).int32("a", 1))
-        .document("projection", &projection)
-        .text("$db", "t")
+    find_with(alloc, &above(alloc, "_id", 0), &sort, &projection)
 }
 
 /// A delete of document 0 by its `a`, and of those above 1.
-fn delete(alloc: Global) -> Bytes {
+fn delete_twice(alloc: Global) -> Bytes {
     let statements = [
-        Bytes::new(alloc)
-            .document("q", &Bytes::new(alloc).int32("a", 10))
-            .int32("limit", 1),
-        Bytes::new(alloc)
-            .document("q", &above(alloc, "_id", 1))
-            .int32("limit", 0),
+        delete_statement(alloc, &Bytes::new(alloc).int32("a", 10), 1),
+        delete_statement(alloc, &above(alloc, "_id", 1), 0),
     ];
-    Bytes::new(alloc)
-        .text("delete", "c")
-        .documents("deletes", &statements)
-        .text("$db", "t")
-}
-
-fn count(alloc: Global) -> Bytes {
-    Bytes::new(alloc)
-        .text("count", "c")
-        .document("query", &above(alloc, "a", 0))
-        .text("$db", "t")
-}
-
-/// What an insert, a delete or a count of so many is answered.
-fn counted(alloc: Global, count: i32) -> Bytes {
-    Bytes::new(alloc).int32("n", count).int32("ok", 1)
-}
-
-/// What a find of these documents is answered.
-fn given(alloc: Global, documents: &[Bytes]) -> Bytes {
-    let cursor = Bytes::new(alloc)
-        .documents("firstBatch", documents)
-        .int64("id", 0)
-        .text("ns", "t.c");
-    Bytes::new(alloc).document("cursor", &cursor).int32("ok", 1)
+    delete(alloc, &statements)
 }
 
 /// The turn with this number, counted from 1.
@@ -128,19 +87,24 @@ fn make_turns(alloc: Global) -> Result<Vec<Turn>, AllocError> {
         Bytes::new(alloc).int32("a", 8),
         Bytes::new(alloc).int32("a", 9),
     ];
+    let three = insert(alloc, &documents(alloc, &[0, 1, 2])?);
+    let one_more = insert(alloc, &documents(alloc, &[3])?);
+    let count_left = count(alloc, &above(alloc, "a", 0));
+    let first_again = insert(alloc, &documents(alloc, &[0])?);
     let mut turns = Vec::new(alloc);
-    turns.push(make_turn(alloc, 1, insert(alloc, &[0, 1, 2])?, counted(alloc, 3), 1)?)?;
-    turns.push(make_turn(alloc, 2, query(alloc), given(alloc, &rising), 1)?)?;
-    turns.push(make_turn(alloc, 3, insert(alloc, &[3])?, counted(alloc, 1), 2)?)?;
-    turns.push(make_turn(alloc, 4, delete(alloc), counted(alloc, 3), 3)?)?;
-    turns.push(make_turn(alloc, 5, count(alloc), counted(alloc, 1), 3)?)?;
-    turns.push(make_turn(alloc, 6, insert(alloc, &[0])?, counted(alloc, 1), 4)?)?;
+    turns.push(make_turn(alloc, 1, three, count_reply(alloc, 3), 1)?)?;
+    turns.push(make_turn(alloc, 2, query_above(alloc), batch_reply(alloc, &rising), 1)?)?;
+    turns.push(make_turn(alloc, 3, one_more, count_reply(alloc, 1), 2)?)?;
+    turns.push(make_turn(alloc, 4, delete_twice(alloc), count_reply(alloc, 3), 3)?)?;
+    turns.push(make_turn(alloc, 5, count_left, count_reply(alloc, 1), 3)?)?;
+    turns.push(make_turn(alloc, 6, first_again, count_reply(alloc, 1), 4)?)?;
     Ok(turns)
 }
 
 /// The first reply of a connection, to a find of these documents.
 fn found(alloc: Global, numbers: &[i32]) -> Result<Vec<u8>, AllocError> {
-    frame(alloc, 1, 7, &given(alloc, &documents(alloc, numbers)?))
+    let reply = batch_reply(alloc, &documents(alloc, numbers)?);
+    frame(alloc, 1, 7, &reply)
 }
 
 /// What a find answers before all changes, and after each.
@@ -155,11 +119,10 @@ fn make_founds(alloc: Global) -> Result<Vec<Vec<u8>>, AllocError> {
 }
 
 fn make_script(alloc: Global) -> Result<Script, Fail> {
-    let find = Bytes::new(alloc).text("find", "c").text("$db", "t");
     Ok(Script {
         connection: ConnId::new(0).ok_or("connection 0")?,
         turns: make_turns(alloc)?,
-        find: frame(alloc, 7, 0, &find)?,
+        find: frame(alloc, 7, 0, &find(alloc))?,
         founds: make_founds(alloc)?,
     })
 }

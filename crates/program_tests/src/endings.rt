@@ -47,45 +47,25 @@ fn new_file(rt: &HostRuntime, file: &str, input: &[u8]) -> Result<Ending, AllocE
     all
 }
 
-/// A frame of `ping`.
-fn ping(alloc: Global) -> Result<Vec<u8>, AllocError> {
-    let body = Bytes::new(alloc).int32("ping", 1).text("$db", "t");
-    frame(alloc, 7, 0, &body)
+/// A message with this body.
+fn message(alloc: Global, body: &Bytes) -> Result<Vec<u8>, AllocError> {
+    frame(alloc, 7, 0, body)
 }
 
-/// The reply to it, the first of its connection.
+/// The first reply of a connection, with this body.
+fn reply(alloc: Global, body: &Bytes) -> Result<Vec<u8>, AllocError> {
+    frame(alloc, 1, 7, body)
+}
+
+/// The first reply, to a ping.
 fn pong(alloc: Global) -> Result<Vec<u8>, AllocError> {
-    frame(alloc, 1, 7, &Bytes::new(alloc).int32("ok", 1))
-}
-
-fn insert(alloc: Global) -> Result<Vec<u8>, AllocError> {
-    let documents = [Bytes::new(alloc).int32("_id", 1)];
-    let body = Bytes::new(alloc)
-        .text("insert", "c")
-        .documents("documents", &documents)
-        .text("$db", "t");
-    frame(alloc, 7, 0, &body)
-}
-
-fn find(alloc: Global) -> Result<Vec<u8>, AllocError> {
-    let body = Bytes::new(alloc).text("find", "c").text("$db", "t");
-    frame(alloc, 7, 0, &body)
-}
-
-/// The first reply, to a find of these documents.
-fn found(alloc: Global, documents: &[Bytes]) -> Result<Vec<u8>, AllocError> {
-    let cursor = Bytes::new(alloc)
-        .documents("firstBatch", documents)
-        .int64("id", 0)
-        .text("ns", "t.c");
-    let body = Bytes::new(alloc).document("cursor", &cursor).int32("ok", 1);
-    frame(alloc, 1, 7, &body)
+    reply(alloc, &ok_reply(alloc))
 }
 
 #[test]
 fn the_end_of_the_input(rt: HostRuntime) -> Result<(), Fail> {
     let alloc = rt.alloc();
-    let all = new_file(&rt, "end.docpage", &ping(alloc)?)?;
+    let all = new_file(&rt, "end.docpage", &message(alloc, &ping(alloc))?)?;
     assert_eq!(rt; all.status, 0);
     assert_eq!(rt; all.output.as_slice(), pong(alloc)?.as_slice());
     assert!(rt; all.errors.is_empty());
@@ -95,7 +75,7 @@ fn the_end_of_the_input(rt: HostRuntime) -> Result<(), Fail> {
 #[test]
 fn the_end_within_a_message(rt: HostRuntime) -> Result<(), Fail> {
     let alloc = rt.alloc();
-    let mut input = ping(alloc)?;
+    let mut input = message(alloc, &ping(alloc))?;
     input.extend_from_slice(&[60, 0, 0, 0, 1])?;
     let all = new_file(&rt, "within.docpage", &input)?;
     assert_eq!(rt; all.status, 0);
@@ -109,13 +89,15 @@ fn documents_stay_in_the_file(rt: HostRuntime) -> Result<(), Fail> {
     let alloc = rt.alloc();
     let file = "stay.docpage";
     let _ = fs::remove_file(&rt, file);
-    let first = ended(&rt, &["docpage", "exec", file], &insert(alloc)?)?;
+    let input = message(alloc, &insert_one(alloc, id_document(alloc, 1)))?;
+    let first = ended(&rt, &["docpage", "exec", file], &input)?;
     assert_eq!(rt; first.status, 0);
     assert_eq!(rt; first.output.len(), 41);
-    let second = ended(&rt, &["docpage", "exec", file], &find(alloc)?)?;
+    let input = message(alloc, &find(alloc))?;
+    let second = ended(&rt, &["docpage", "exec", file], &input)?;
     let _ = fs::remove_file(&rt, file);
     assert_eq!(rt; second.status, 0);
-    let wanted = found(alloc, &[Bytes::new(alloc).int32("_id", 1)])?;
+    let wanted = reply(alloc, &batch_reply(alloc, &[id_document(alloc, 1)]))?;
     assert_eq!(rt; second.output.as_slice(), wanted.as_slice());
     Ok(())
 }
@@ -126,12 +108,14 @@ fn an_empty_file(rt: HostRuntime) -> Result<(), Fail> {
     let file = "empty.docpage";
     let none: [u8; 0] = [];
     fs::write(&rt, file, none.as_slice())?;
-    let all = ended(&rt, &["docpage", "exec", file], &find(alloc)?)?;
+    let input = message(alloc, &find(alloc))?;
+    let all = ended(&rt, &["docpage", "exec", file], &input)?;
     let left = fs::metadata(&rt, file)?.len();
     let _ = fs::remove_file(&rt, file);
     assert_eq!(rt; all.status, 0);
     let nothing: [Bytes; 0] = [];
-    assert_eq!(rt; all.output.as_slice(), found(alloc, &nothing)?.as_slice());
+    let wanted = reply(alloc, &batch_reply(alloc, &nothing))?;
+    assert_eq!(rt; all.output.as_slice(), wanted.as_slice());
     assert_eq!(rt; left, 0);
     Ok(())
 }
@@ -187,7 +171,7 @@ fn words_of_no_program(rt: HostRuntime) -> Result<(), Fail> {
 #[test]
 fn a_fault_after_a_message(rt: HostRuntime) -> Result<(), Fail> {
     let alloc = rt.alloc();
-    let mut input = ping(alloc)?;
+    let mut input = message(alloc, &ping(alloc))?;
     input.extend_from_slice(&[25, 0, 0, 0])?;
     let all = new_file(&rt, "fault.docpage", &input)?;
     assert_eq!(rt; all.status, 1);
@@ -214,7 +198,7 @@ fn an_input_that_fails(rt: HostRuntime) -> Result<(), Fail> {
 fn an_output_that_fails(rt: HostRuntime) -> Result<(), Fail> {
     let alloc = rt.alloc();
     let words = words(alloc, &["docpage", "exec", "output.docpage"])?;
-    let input = ping(alloc)?;
+    let input = message(alloc, &ping(alloc))?;
     let mut errors = Vec::new(alloc);
     let status = run(&rt, &words, &mut input.as_slice(), &mut Broken, &mut errors);
     let _ = fs::remove_file(&rt, "output.docpage");

@@ -2,37 +2,7 @@
 
 use crate::session::Session;
 use by_hand::*;
-use std::alloc::{AllocError, Global};
 use std::test::*;
-
-/// An insert of these documents into `t.c`.
-fn insert(alloc: Global, documents: &[Bytes]) -> Bytes {
-    Bytes::new(alloc)
-        .text("insert", "c")
-        .documents("documents", documents)
-        .text("$db", "t")
-}
-
-fn inserted(alloc: Global, count: i32) -> Bytes {
-    Bytes::new(alloc).int32("n", count).int32("ok", 1)
-}
-
-fn find(alloc: Global) -> Bytes {
-    Bytes::new(alloc).text("find", "c").text("$db", "t")
-}
-
-/// What a find of everything in `t.c` is answered.
-fn found(alloc: Global, documents: &[Bytes]) -> Bytes {
-    let cursor = Bytes::new(alloc)
-        .documents("firstBatch", documents)
-        .int64("id", 0)
-        .text("ns", "t.c");
-    Bytes::new(alloc).document("cursor", &cursor).int32("ok", 1)
-}
-
-fn id(alloc: Global, number: i32) -> Bytes {
-    Bytes::new(alloc).int32("_id", number)
-}
 
 #[test]
 fn what_is_no_command(rt: HostRuntime) -> Result<(), Fail> {
@@ -52,7 +22,7 @@ fn fields(rt: HostRuntime) -> Result<(), Fail> {
     assert!(rt; session.refuses(&ping(), 9));
     assert!(rt; session.refuses(&ping().int32("$db", 1), 14));
     assert!(rt; session.refuses(&ping().text("$db", "t").null("more"), 9));
-    let ok = Bytes::new(alloc).int32("ok", 1);
+    let ok = ok_reply(alloc);
     assert!(rt; session.answers(&ping().null("comment").text("$db", "t"), &ok));
     assert!(rt; session.answers(&Bytes::new(alloc).null("ping").text("$db", "t"), &ok));
     let find = || Bytes::new(alloc).text("find", "c");
@@ -88,16 +58,21 @@ fn documents_in_rising_order(rt: HostRuntime) -> Result<(), Fail> {
     let alloc = rt.alloc();
     let mut session = Session::new(alloc).ok_or("no session")?;
     let mixed = [
-        id(alloc, 7),
+        id_document(alloc, 7),
         Bytes::new(alloc).null("v").int64("_id", -3),
-        id(alloc, 5),
+        id_document(alloc, 5),
     ];
-    assert!(rt; session.answers(&insert(alloc, &mixed), &inserted(alloc, 3)));
-    let more = [id(alloc, 6)];
-    assert!(rt; session.answers(&insert(alloc, &more), &inserted(alloc, 1)));
+    assert!(rt; session.answers(&insert(alloc, &mixed), &count_reply(alloc, 3)));
+    let more = [id_document(alloc, 6)];
+    assert!(rt; session.answers(&insert(alloc, &more), &count_reply(alloc, 1)));
     let first = Bytes::new(alloc).int64("_id", -3).null("v");
-    let all = [first, id(alloc, 5), id(alloc, 6), id(alloc, 7)];
-    assert!(rt; session.answers(&find(alloc), &found(alloc, &all)));
+    let all = [
+        first,
+        id_document(alloc, 5),
+        id_document(alloc, 6),
+        id_document(alloc, 7),
+    ];
+    assert!(rt; session.answers(&find(alloc), &batch_reply(alloc, &all)));
     Ok(())
 }
 
@@ -105,15 +80,19 @@ fn documents_in_rising_order(rt: HostRuntime) -> Result<(), Fail> {
 fn a_refused_insert_leaves_nothing(rt: HostRuntime) -> Result<(), Fail> {
     let alloc = rt.alloc();
     let mut session = Session::new(alloc).ok_or("no session")?;
-    let twice = [id(alloc, 1), id(alloc, 2), id(alloc, 1)];
+    let twice = [
+        id_document(alloc, 1),
+        id_document(alloc, 2),
+        id_document(alloc, 1),
+    ];
     assert!(rt; session.refuses(&insert(alloc, &twice), 11000));
     let none: [Bytes; 0] = [];
-    assert!(rt; session.answers(&find(alloc), &found(alloc, &none)));
-    let three = [id(alloc, 3)];
-    assert!(rt; session.answers(&insert(alloc, &three), &inserted(alloc, 1)));
-    let bad = [id(alloc, 1), id(alloc, 2).null("$v")];
+    assert!(rt; session.answers(&find(alloc), &batch_reply(alloc, &none)));
+    let three = [id_document(alloc, 3)];
+    assert!(rt; session.answers(&insert(alloc, &three), &count_reply(alloc, 1)));
+    let bad = [id_document(alloc, 1), id_document(alloc, 2).null("$v")];
     assert!(rt; session.refuses(&insert(alloc, &bad), 52));
-    assert!(rt; session.answers(&find(alloc), &found(alloc, &three)));
+    assert!(rt; session.answers(&find(alloc), &batch_reply(alloc, &three)));
     Ok(())
 }
 
@@ -133,24 +112,19 @@ fn an_id_has_to_be_there(rt: HostRuntime) -> Result<(), Fail> {
 fn a_batch_has_to_hold_all(rt: HostRuntime) -> Result<(), Fail> {
     let alloc = rt.alloc();
     let mut session = Session::new(alloc).ok_or("no session")?;
-    let two = [id(alloc, 1), id(alloc, 2)];
-    assert!(rt; session.answers(&insert(alloc, &two), &inserted(alloc, 2)));
+    let two = [id_document(alloc, 1), id_document(alloc, 2)];
+    assert!(rt; session.answers(&insert(alloc, &two), &count_reply(alloc, 2)));
     let sized = |size: i64| find(alloc).int64("batchSize", size);
     assert!(rt; session.refuses(&sized(0), 9002));
     assert!(rt; session.refuses(&sized(1), 9002));
-    assert!(rt; session.answers(&sized(2), &found(alloc, &two)));
-    assert!(rt; session.answers(&sized(i64::MAX), &found(alloc, &two)));
+    assert!(rt; session.answers(&sized(2), &batch_reply(alloc, &two)));
+    assert!(rt; session.answers(&sized(i64::MAX), &batch_reply(alloc, &two)));
     let empty = Bytes::new(alloc)
         .text("find", "d")
         .int32("batchSize", 0)
         .text("$db", "t");
     let none: [Bytes; 0] = [];
-    let cursor = Bytes::new(alloc)
-        .documents("firstBatch", &none)
-        .int64("id", 0)
-        .text("ns", "t.d");
-    let wanted = Bytes::new(alloc).document("cursor", &cursor).int32("ok", 1);
-    assert!(rt; session.answers(&empty, &wanted));
+    assert!(rt; session.answers(&empty, &batch_reply_in(alloc, "t.d", &none)));
     Ok(())
 }
 

@@ -8,9 +8,8 @@ use server::*;
 use std::alloc::{AllocError, Global};
 use std::test::*;
 
-fn find(alloc: Global) -> Result<Vec<u8>, AllocError> {
-    let body = Bytes::new(alloc).text("find", "c").text("$db", "t");
-    frame(alloc, 9, 0, &body)
+fn find_frame(alloc: Global) -> Result<Vec<u8>, AllocError> {
+    frame(alloc, 9, 0, &find(alloc))
 }
 
 /// Whether a message in two chunks, with a turn between them, is answered by this frame alone.
@@ -43,13 +42,8 @@ fn answers_cut(alloc: Global, message: &[u8], at: usize, wanted: &[u8]) -> Resul
 fn every_cut(rt: HostRuntime) -> Result<(), Fail> {
     let alloc = rt.alloc();
     let none: [Bytes; 0] = [];
-    let cursor = Bytes::new(alloc)
-        .documents("firstBatch", &none)
-        .int64("id", 0)
-        .text("ns", "t.c");
-    let body = Bytes::new(alloc).document("cursor", &cursor).int32("ok", 1);
-    let wanted = frame(alloc, 1, 9, &body)?;
-    let message = find(alloc)?;
+    let wanted = frame(alloc, 1, 9, &batch_reply(alloc, &none))?;
+    let message = find_frame(alloc)?;
     for at in 0..message.len() {
         assert!(rt; answers_cut(alloc, &message, at, &wanted)?, "cut at {at}");
     }
@@ -63,7 +57,7 @@ fn a_turn_takes_one_message(rt: HostRuntime) -> Result<(), Fail> {
     let Ok(mut core) = Core::open(alloc, MemDisk::new(alloc), CONFIG) else {
         return Err(Fail::from("zeros don't open"));
     };
-    let message = find(alloc)?;
+    let message = find_frame(alloc)?;
     core.feed(connection, &message)?;
     core.feed(connection, &message)?;
     for left in [true, false] {
@@ -85,7 +79,7 @@ fn a_fault_closes_until_the_end(rt: HostRuntime) -> Result<(), Fail> {
     assert!(rt; core.waiting(connection));
     assert_eq!(rt; core.turn()?.closed.len(), 1);
     assert!(rt; !core.waiting(connection));
-    let message = find(alloc)?;
+    let message = find_frame(alloc)?;
     assert!(rt; core.feed(connection, &message) == Err(FeedFault::Closed));
     assert_eq!(rt; core.turn()?.closed.len(), 0);
     core.gone(connection);

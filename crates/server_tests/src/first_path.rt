@@ -15,41 +15,28 @@ const PING: [u8; 47] =
 const PING_REPLY: [u8; 34] =
     *b"\x22\0\0\0\x01\0\0\0\x07\0\0\0\xdd\x07\0\0\0\0\0\0\0\x0d\0\0\0\x10ok\0\x01\0\0\0\0";
 
-fn insert(alloc: Global) -> Result<Vec<u8>, AllocError> {
-    let documents = [Bytes::new(alloc).int32("_id", 1)];
-    let body = Bytes::new(alloc)
-        .text("insert", "c")
-        .documents("documents", &documents)
-        .text("$db", "t");
-    frame(alloc, 8, 0, &body)
+fn insert_frame(alloc: Global) -> Result<Vec<u8>, AllocError> {
+    frame(alloc, 8, 0, &insert_one(alloc, id_document(alloc, 1)))
 }
 
-fn find(alloc: Global) -> Result<Vec<u8>, AllocError> {
-    let body = Bytes::new(alloc).text("find", "c").text("$db", "t");
-    frame(alloc, 9, 0, &body)
+fn find_frame(alloc: Global) -> Result<Vec<u8>, AllocError> {
+    frame(alloc, 9, 0, &find(alloc))
 }
 
 fn insert_reply(alloc: Global) -> Result<Vec<u8>, AllocError> {
-    let body = Bytes::new(alloc).int32("n", 1).int32("ok", 1);
-    frame(alloc, 2, 8, &body)
+    frame(alloc, 2, 8, &count_reply(alloc, 1))
 }
 
 fn find_reply(alloc: Global) -> Result<Vec<u8>, AllocError> {
-    let batch = [Bytes::new(alloc).int32("_id", 1)];
-    let cursor = Bytes::new(alloc)
-        .documents("firstBatch", &batch)
-        .int64("id", 0)
-        .text("ns", "t.c");
-    let body = Bytes::new(alloc).document("cursor", &cursor).int32("ok", 1);
-    frame(alloc, 3, 9, &body)
+    frame(alloc, 3, 9, &batch_reply(alloc, &[id_document(alloc, 1)]))
 }
 
 /// Drives the three frames in chunks of this size, and then four turns: one has no message left.
 fn driven(rt: &HostRuntime, size: usize) -> Result<DriveOut, Fail> {
     let connection = ConnId::new(0).ok_or("connection 0")?;
     let mut bytes = PING.to_vec(rt.alloc())?;
-    bytes.extend_from_slice(&insert(rt.alloc())?)?;
-    bytes.extend_from_slice(&find(rt.alloc())?)?;
+    bytes.extend_from_slice(&insert_frame(rt.alloc())?)?;
+    bytes.extend_from_slice(&find_frame(rt.alloc())?)?;
     if bytes.len() != 180 {
         return Err(Fail::from("other frames"));
     }
@@ -79,8 +66,8 @@ fn is_first_path(rt: &HostRuntime, out: &DriveOut) -> Result<bool, Fail> {
 
 #[test]
 fn frames_in_one_chunk(rt: HostRuntime) -> Result<(), Fail> {
-    assert_eq!(rt; insert(rt.alloc())?.len(), 84);
-    assert_eq!(rt; find(rt.alloc())?.len(), 49);
+    assert_eq!(rt; insert_frame(rt.alloc())?.len(), 84);
+    assert_eq!(rt; find_frame(rt.alloc())?.len(), 49);
     assert_eq!(rt; insert_reply(rt.alloc())?.len(), 41);
     assert_eq!(rt; find_reply(rt.alloc())?.len(), 105);
     let out = driven(&rt, 180)?;
@@ -107,17 +94,9 @@ fn ping(rt: HostRuntime) -> Result<(), Fail> {
 fn the_same_number_as_a_long(rt: HostRuntime) -> Result<(), Fail> {
     let alloc = rt.alloc();
     let mut session = Session::new(alloc).ok_or("no session")?;
-    let one = [Bytes::new(alloc).int32("_id", 1)];
-    let long = [Bytes::new(alloc).int64("_id", 1)];
-    let first = Bytes::new(alloc)
-        .text("insert", "c")
-        .documents("documents", &one)
-        .text("$db", "t");
-    let second = Bytes::new(alloc)
-        .text("insert", "c")
-        .documents("documents", &long)
-        .text("$db", "t");
-    assert!(rt; session.answers(&first, &Bytes::new(alloc).int32("n", 1).int32("ok", 1)));
+    let first = insert_one(alloc, id_document(alloc, 1));
+    let second = insert_one(alloc, Bytes::new(alloc).int64("_id", 1));
+    assert!(rt; session.answers(&first, &count_reply(alloc, 1)));
     assert!(rt; session.refuses(&second, 11000));
     Ok(())
 }

@@ -5,19 +5,6 @@ use by_hand::*;
 use std::alloc::Global;
 use std::test::*;
 
-/// An insert of one document.
-fn one(alloc: Global, document: Bytes) -> Bytes {
-    let all = [document];
-    Bytes::new(alloc)
-        .text("insert", "c")
-        .documents("documents", &all)
-        .text("$db", "t")
-}
-
-fn inserted(alloc: Global) -> Bytes {
-    Bytes::new(alloc).int32("n", 1).int32("ok", 1)
-}
-
 static ZEROS: [u8; 500] = [0; 500];
 
 static LETTERS: [u8; 500] = [b'x'; 500];
@@ -45,7 +32,7 @@ fn longest_keys(rt: HostRuntime) -> Result<(), Fail> {
         binary(494),
     ];
     for document in taken {
-        assert!(rt; session.answers(&one(alloc, document), &inserted(alloc)));
+        assert!(rt; session.answers(&insert_one(alloc, document), &count_reply(alloc, 1)));
     }
     let refused = [
         string_id(alloc, front(&LETTERS, 498)),
@@ -53,7 +40,7 @@ fn longest_keys(rt: HostRuntime) -> Result<(), Fail> {
         binary(495),
     ];
     for document in refused {
-        assert!(rt; session.refuses(&one(alloc, document), 9001));
+        assert!(rt; session.refuses(&insert_one(alloc, document), 9001));
     }
     Ok(())
 }
@@ -63,9 +50,9 @@ fn equal_numbers_of_two_kinds(rt: HostRuntime) -> Result<(), Fail> {
     let alloc = rt.alloc();
     let mut session = Session::new(alloc).ok_or("no session")?;
     let short = Bytes::new(alloc).int32("_id", 5);
-    assert!(rt; session.answers(&one(alloc, short), &inserted(alloc)));
+    assert!(rt; session.answers(&insert_one(alloc, short), &count_reply(alloc, 1)));
     let long = Bytes::new(alloc).int64("_id", 5);
-    assert!(rt; session.refuses(&one(alloc, long), 11000));
+    assert!(rt; session.refuses(&insert_one(alloc, long), 11000));
     Ok(())
 }
 
@@ -74,9 +61,9 @@ fn equal_documents(rt: HostRuntime) -> Result<(), Fail> {
     let alloc = rt.alloc();
     let mut session = Session::new(alloc).ok_or("no session")?;
     let short = Bytes::new(alloc).document("_id", &Bytes::new(alloc).int32("a", 5));
-    assert!(rt; session.answers(&one(alloc, short), &inserted(alloc)));
+    assert!(rt; session.answers(&insert_one(alloc, short), &count_reply(alloc, 1)));
     let long = Bytes::new(alloc).document("_id", &Bytes::new(alloc).int64("a", 5));
-    assert!(rt; session.refuses(&one(alloc, long), 11000));
+    assert!(rt; session.refuses(&insert_one(alloc, long), 11000));
     Ok(())
 }
 
@@ -86,7 +73,7 @@ fn no_array(rt: HostRuntime) -> Result<(), Fail> {
     let mut session = Session::new(alloc).ok_or("no session")?;
     let none: [Bytes; 0] = [];
     let array = Bytes::new(alloc).documents("_id", &none);
-    assert!(rt; session.refuses(&one(alloc, array), 2));
+    assert!(rt; session.refuses(&insert_one(alloc, array), 2));
     Ok(())
 }
 
@@ -116,14 +103,9 @@ fn found_in_the_order_of_values(rt: HostRuntime) -> Result<(), Fail> {
     let mut session = Session::new(alloc).ok_or("no session")?;
     // the greatest comes first
     for document in of_each_type(alloc).into_iter().rev() {
-        assert!(rt; session.answers(&one(alloc, document), &inserted(alloc)));
+        assert!(rt; session.answers(&insert_one(alloc, document), &count_reply(alloc, 1)));
     }
-    let cursor = Bytes::new(alloc)
-        .documents("firstBatch", &of_each_type(alloc))
-        .int64("id", 0)
-        .text("ns", "t.c");
-    let wanted = Bytes::new(alloc).document("cursor", &cursor).int32("ok", 1);
-    let find = Bytes::new(alloc).text("find", "c").text("$db", "t");
-    assert!(rt; session.answers(&find, &wanted));
+    let wanted = batch_reply(alloc, &of_each_type(alloc));
+    assert!(rt; session.answers(&find(alloc), &wanted));
     Ok(())
 }

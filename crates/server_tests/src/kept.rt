@@ -16,29 +16,12 @@ const FIRST: [u8; 77] =
     *b"\x0e\0\x14\0\0\0\0\0\0\0\0\0\0\0\x40t.c\0\0\x14\0\0\0\x10n\0\x01\0\0\0\x04x\0\x05\0\0\0\0\0\x11\0\x0e\0\0\0\0\0\0\x01\0\0\0\0\x30\x80\0\0\0\0\0\0\x01\x0e\0\0\0\x10_id\0\x01\0\0\0\0";
 
 /// Inserts a document with this number, and nothing else.
-fn insert(alloc: Global, session: &mut Session, number: i32) -> bool
+fn takes(alloc: Global, session: &mut Session, number: i32) -> bool
     requires { IsSound memory_history session.old.core }
     ensures { IsSound memory_history session.new.core }
 {
-    let documents = [Bytes::new(alloc).int32("_id", number)];
-    let body = Bytes::new(alloc)
-        .text("insert", "c")
-        .documents("documents", &documents)
-        .text("$db", "t");
-    session.answers(&body, &Bytes::new(alloc).int32("n", 1).int32("ok", 1))
-}
-
-fn find(alloc: Global) -> Bytes {
-    Bytes::new(alloc).text("find", "c").text("$db", "t")
-}
-
-/// What a find answers for these documents.
-fn found(alloc: Global, documents: &[Bytes]) -> Bytes {
-    let cursor = Bytes::new(alloc)
-        .documents("firstBatch", documents)
-        .int64("id", 0)
-        .text("ns", "t.c");
-    Bytes::new(alloc).document("cursor", &cursor).int32("ok", 1)
+    let body = insert_one(alloc, id_document(alloc, number));
+    session.answers(&body, &count_reply(alloc, 1))
 }
 
 fn sector(rt: &impl Abort, disk: &mut MemDisk, number: u64) -> [u8; 512] {
@@ -64,7 +47,7 @@ fn is_root(bytes: &[u8; 512], generation: u8, tree: u8, pages: u8) -> bool {
 fn the_first_insert(rt: HostRuntime) -> Result<(), Fail> {
     let alloc = rt.alloc();
     let mut session = Session::new(alloc).ok_or("no session")?;
-    assert!(rt; insert(alloc, &mut session, 1));
+    assert!(rt; takes(alloc, &mut session, 1));
     let mut disk = session.into_disk();
     // two reads and a sync opened it; the turn wrote a page and a root, and synced twice
     assert_eq!(rt; disk.calls(), 3 + 9 + 2);
@@ -83,9 +66,9 @@ fn the_first_insert(rt: HostRuntime) -> Result<(), Fail> {
 fn one_insert_a_turn(rt: HostRuntime) -> Result<(), Fail> {
     let alloc = rt.alloc();
     let mut session = Session::new(alloc).ok_or("no session")?;
-    assert!(rt; insert(alloc, &mut session, 1));
-    assert!(rt; insert(alloc, &mut session, 2));
-    assert!(rt; insert(alloc, &mut session, 3));
+    assert!(rt; takes(alloc, &mut session, 1));
+    assert!(rt; takes(alloc, &mut session, 2));
+    assert!(rt; takes(alloc, &mut session, 3));
     let mut disk = session.into_disk();
     assert!(rt; is_root(&sector(&rt, &mut disk, 0), 2, 2, 3));
     assert!(rt; is_root(&sector(&rt, &mut disk, 1), 3, 1, 3));
@@ -96,18 +79,9 @@ fn one_insert_a_turn(rt: HostRuntime) -> Result<(), Fail> {
 fn turns_that_change_nothing(rt: HostRuntime) -> Result<(), Fail> {
     let alloc = rt.alloc();
     let mut session = Session::new(alloc).ok_or("no session")?;
-    assert!(rt; insert(alloc, &mut session, 1));
-    assert!(rt;
-        session.answers(
-            &find(alloc),
-            &found(alloc, &[Bytes::new(alloc).int32("_id", 1)])
-        )
-    );
-    let documents = [Bytes::new(alloc).int32("_id", 1)];
-    let again = Bytes::new(alloc)
-        .text("insert", "c")
-        .documents("documents", &documents)
-        .text("$db", "t");
+    assert!(rt; takes(alloc, &mut session, 1));
+    assert!(rt; session.answers(&find(alloc), &batch_reply(alloc, &[id_document(alloc, 1)])));
+    let again = insert_one(alloc, id_document(alloc, 1));
     assert!(rt; session.refuses(&again, 11000));
     assert_eq!(rt; session.into_disk().calls(), 3 + 9 + 2);
     Ok(())
@@ -117,21 +91,13 @@ fn turns_that_change_nothing(rt: HostRuntime) -> Result<(), Fail> {
 fn opened_again(rt: HostRuntime) -> Result<(), Fail> {
     let alloc = rt.alloc();
     let mut session = Session::new(alloc).ok_or("no session")?;
-    assert!(rt; insert(alloc, &mut session, 1));
+    assert!(rt; takes(alloc, &mut session, 1));
     let mut session = Session::over(alloc, session.into_disk()).ok_or("no session")?;
-    assert!(rt;
-        session.answers(
-            &find(alloc),
-            &found(alloc, &[Bytes::new(alloc).int32("_id", 1)])
-        )
-    );
-    assert!(rt; insert(alloc, &mut session, 2));
-    let documents = [
-        Bytes::new(alloc).int32("_id", 1),
-        Bytes::new(alloc).int32("_id", 2),
-    ];
+    assert!(rt; session.answers(&find(alloc), &batch_reply(alloc, &[id_document(alloc, 1)])));
+    assert!(rt; takes(alloc, &mut session, 2));
+    let documents = [id_document(alloc, 1), id_document(alloc, 2)];
     let mut session = Session::over(alloc, session.into_disk()).ok_or("no session")?;
-    assert!(rt; session.answers(&find(alloc), &found(alloc, &documents)));
+    assert!(rt; session.answers(&find(alloc), &batch_reply(alloc, &documents)));
     Ok(())
 }
 
@@ -153,14 +119,10 @@ fn no_greater_generation(rt: HostRuntime) -> Result<(), Fail> {
     assert!(rt; disk.write(1, &last_root(255)).is_ok());
     let mut session = Session::over(alloc, disk).ok_or("no session")?;
     let none: [Bytes; 0] = [];
-    assert!(rt; session.answers(&find(alloc), &found(alloc, &none)));
-    let documents = [Bytes::new(alloc).int32("_id", 1)];
-    let body = Bytes::new(alloc)
-        .text("insert", "c")
-        .documents("documents", &documents)
-        .text("$db", "t");
+    assert!(rt; session.answers(&find(alloc), &batch_reply(alloc, &none)));
+    let body = insert_one(alloc, id_document(alloc, 1));
     assert!(rt; session.refuses(&body, 9003));
-    assert!(rt; session.answers(&find(alloc), &found(alloc, &none)));
+    assert!(rt; session.answers(&find(alloc), &batch_reply(alloc, &none)));
     Ok(())
 }
 

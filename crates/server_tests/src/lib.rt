@@ -6,6 +6,8 @@ mod by_command;
 #[cfg(test)]
 mod chunks;
 #[cfg(test)]
+mod connections;
+#[cfg(test)]
 mod first_path;
 #[cfg(test)]
 mod ids;

@@ -9,17 +9,6 @@ use server::*;
 use std::alloc::{AllocError, Global};
 use std::test::*;
 
-fn insert(alloc: Global, documents: &[Bytes]) -> Bytes {
-    Bytes::new(alloc)
-        .text("insert", "c")
-        .documents("documents", documents)
-        .text("$db", "t")
-}
-
-fn inserted(alloc: Global, count: i32) -> Bytes {
-    Bytes::new(alloc).int32("n", count).int32("ok", 1)
-}
-
 /// A document of so many levels inside `{_id: 1, a: ..}`.
 fn nested(alloc: Global, levels: usize) -> Bytes {
     let mut inner = Bytes::new(alloc);
@@ -36,7 +25,7 @@ fn levels(rt: HostRuntime) -> Result<(), Fail> {
     let deeper = [nested(alloc, 91)];
     assert!(rt; session.refuses(&insert(alloc, &deeper), 2));
     let deep = [nested(alloc, 90)];
-    assert!(rt; session.answers(&insert(alloc, &deep), &inserted(alloc, 1)));
+    assert!(rt; session.answers(&insert(alloc, &deep), &count_reply(alloc, 1)));
     Ok(())
 }
 
@@ -56,7 +45,7 @@ fn sizes(rt: HostRuntime) -> Result<(), Fail> {
     let mut session = Session::new(alloc).ok_or("no session")?;
     let most = [sized(alloc, 1, 65_513)];
     assert_eq!(rt; sized(alloc, 1, 65_513).whole()?.len(), 65_535);
-    assert!(rt; session.answers(&insert(alloc, &most), &inserted(alloc, 1)));
+    assert!(rt; session.answers(&insert(alloc, &most), &count_reply(alloc, 1)));
     let more = [sized(alloc, 2, 65_514)];
     assert!(rt; session.refuses(&insert(alloc, &more), 10334));
     // the size comes before levels and names
@@ -73,14 +62,13 @@ fn documents_of_a_command(rt: HostRuntime) -> Result<(), Fail> {
     let mut session = Session::new(alloc).ok_or("no session")?;
     let mut documents = Vec::new(alloc);
     for number in 0..1_000 {
-        documents.push(Bytes::new(alloc).int32("_id", number))?;
+        documents.push(id_document(alloc, number))?;
     }
-    assert!(rt; session.answers(&insert(alloc, &documents), &inserted(alloc, 1_000)));
+    assert!(rt; session.answers(&insert(alloc, &documents), &count_reply(alloc, 1_000)));
     documents.push(Bytes::new(alloc).null("$"))?;
     assert!(rt; session.refuses(&insert(alloc, &documents), 9002));
     // 101 documents are a first batch, and no cursor may be opened for the others
-    let find = Bytes::new(alloc).text("find", "c").text("$db", "t");
-    assert!(rt; session.refuses(&find, 9002));
+    assert!(rt; session.refuses(&find(alloc), 9002));
     Ok(())
 }
 
@@ -91,15 +79,14 @@ fn bytes_of_a_batch(rt: HostRuntime) -> Result<(), Fail> {
     // fourteen documents of 64,000 bytes, in one-digit and two-digit places: 5 + 10 * 64,003 + 4 * 64,004 = 896,051
     for number in 0..14 {
         let one = [sized(alloc, number, 63_978)];
-        assert!(rt; session.answers(&insert(alloc, &one), &inserted(alloc, 1)));
+        assert!(rt; session.answers(&insert(alloc, &one), &count_reply(alloc, 1)));
     }
-    let find = || Bytes::new(alloc).text("find", "c").text("$db", "t");
     // the cursor's document ends the frame: 896,051 of the array, and what is about it
-    assert!(rt; session.answer_len(&find()) > 896_051);
+    assert!(rt; session.answer_len(&find(alloc)) > 896_051);
     // 3,949 bytes are left: an element of 3,949 fits, one of 3,950 doesn't
     let last = [sized(alloc, 14, 3_949 - 4 - 22)];
-    assert!(rt; session.answers(&insert(alloc, &last), &inserted(alloc, 1)));
-    assert!(rt; session.answer_len(&find()) > 900_000);
+    assert!(rt; session.answers(&insert(alloc, &last), &count_reply(alloc, 1)));
+    assert!(rt; session.answer_len(&find(alloc)) > 900_000);
     Ok(())
 }
 
@@ -109,12 +96,11 @@ fn one_byte_past_a_batch(rt: HostRuntime) -> Result<(), Fail> {
     let mut session = Session::new(alloc).ok_or("no session")?;
     for number in 0..14 {
         let one = [sized(alloc, number, 63_978)];
-        assert!(rt; session.answers(&insert(alloc, &one), &inserted(alloc, 1)));
+        assert!(rt; session.answers(&insert(alloc, &one), &count_reply(alloc, 1)));
     }
     let last = [sized(alloc, 14, 3_950 - 4 - 22)];
-    assert!(rt; session.answers(&insert(alloc, &last), &inserted(alloc, 1)));
-    let find = Bytes::new(alloc).text("find", "c").text("$db", "t");
-    assert!(rt; session.refuses(&find, 9002));
+    assert!(rt; session.answers(&insert(alloc, &last), &count_reply(alloc, 1)));
+    assert!(rt; session.refuses(&find(alloc), 9002));
     Ok(())
 }
 
@@ -139,7 +125,7 @@ fn the_longest_message(rt: HostRuntime) -> Result<(), Fail> {
     let message = long_ping(alloc, 1_048_576)?;
     assert_eq!(rt; message.len(), 1_048_576);
     let reply = session.send(&message).ok_or("no reply")?;
-    let wanted = frame(alloc, 1, 1, &Bytes::new(alloc).int32("ok", 1))?;
+    let wanted = frame(alloc, 1, 1, &ok_reply(alloc))?;
     assert_eq!(rt; reply.as_slice(), wanted.as_slice());
     Ok(())
 }
@@ -173,8 +159,7 @@ fn lengths_of_no_message(rt: HostRuntime) -> Result<(), Fail> {
 
 /// A ping's frame with other bytes from a place on.
 fn patched(alloc: Global, place: usize, bytes: &[u8]) -> Result<Vec<u8>, Fail> {
-    let body = Bytes::new(alloc).int32("ping", 1).text("$db", "t");
-    let message = frame(alloc, 1, 0, &body)?;
+    let message = frame(alloc, 1, 0, &ping(alloc))?;
     let mut out = Vec::new(alloc);
     for (i, byte) in message.iter().enumerate() {
         let other = i.checked_sub(place).and_then(|at| bytes.get(at));

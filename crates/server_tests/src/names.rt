@@ -8,12 +8,6 @@ use by_hand::*;
 use std::alloc::{AllocError, Global};
 use std::test::*;
 
-fn find(alloc: Global, database: &str, collection: &str) -> Bytes {
-    Bytes::new(alloc)
-        .text("find", collection)
-        .text("$db", database)
-}
-
 fn repeated(alloc: Global, unit: &str, times: usize) -> Result<String, AllocError> {
     let mut out = String::new(alloc);
     for _ in 0..times {
@@ -40,12 +34,19 @@ fn databases(rt: HostRuntime) -> Result<(), Fail> {
     let alloc = rt.alloc();
     let mut session = Session::new(alloc).ok_or("no session")?;
     for name in ["", "a/b", "a\\b", "a.b", "a\"b", "a$b", "a b", "a\0b"] {
-        assert_eq!(rt; code(&mut session, &find(alloc, name, "c")), 73, "{name:?}");
+        assert_eq!(rt;
+            code(&mut session, &find_in(alloc, name, "c")),
+            73,
+            "{name:?}"
+        );
     }
     let long = repeated(alloc, "a", 63)?;
-    assert_eq!(rt; code(&mut session, &find(alloc, long.as_str(), "c")), 0);
+    assert_eq!(rt; code(&mut session, &find_in(alloc, long.as_str(), "c")), 0);
     let longer = repeated(alloc, "a", 64)?;
-    assert_eq!(rt; code(&mut session, &find(alloc, longer.as_str(), "c")), 73);
+    assert_eq!(rt;
+        code(&mut session, &find_in(alloc, longer.as_str(), "c")),
+        73
+    );
     let ping = Bytes::new(alloc).int32("ping", 1).text("$db", "a.b");
     assert_eq!(rt; code(&mut session, &ping), 73);
     Ok(())
@@ -56,32 +57,35 @@ fn collections(rt: HostRuntime) -> Result<(), Fail> {
     let alloc = rt.alloc();
     let mut session = Session::new(alloc).ok_or("no session")?;
     for name in ["", "a$b", "a\0b", "system.c"] {
-        assert_eq!(rt; code(&mut session, &find(alloc, "t", name)), 73, "{name:?}");
+        assert_eq!(rt;
+            code(&mut session, &find_in(alloc, "t", name)),
+            73,
+            "{name:?}"
+        );
     }
     for name in ["a.b", "system", "a b", "/"] {
-        assert_eq!(rt; code(&mut session, &find(alloc, "t", name)), 0, "{name:?}");
+        assert_eq!(rt;
+            code(&mut session, &find_in(alloc, "t", name)),
+            0,
+            "{name:?}"
+        );
     }
     // a namespace has at most 255 bytes
     let fits = repeated(alloc, "a", 253)?;
-    assert_eq!(rt; code(&mut session, &find(alloc, "t", fits.as_str())), 0);
+    assert_eq!(rt; code(&mut session, &find_in(alloc, "t", fits.as_str())), 0);
     let longer = repeated(alloc, "a", 254)?;
-    assert_eq!(rt; code(&mut session, &find(alloc, "t", longer.as_str())), 73);
+    assert_eq!(rt;
+        code(&mut session, &find_in(alloc, "t", longer.as_str())),
+        73
+    );
     Ok(())
-}
-
-fn insert(alloc: Global, document: Bytes) -> Bytes {
-    let documents = [document];
-    Bytes::new(alloc)
-        .text("insert", "c")
-        .documents("documents", &documents)
-        .text("$db", "t")
 }
 
 #[test]
 fn fields(rt: HostRuntime) -> Result<(), Fail> {
     let alloc = rt.alloc();
     let mut session = Session::new(alloc).ok_or("no session")?;
-    let with = |name: &str| insert(alloc, Bytes::new(alloc).int32("_id", 1).null(name));
+    let with = |name: &str| insert_one(alloc, id_document(alloc, 1).null(name));
     assert_eq!(rt; code(&mut session, &with("")), 56);
     assert_eq!(rt; code(&mut session, &with("$a")), 52);
     assert_eq!(rt; code(&mut session, &with("a.b")), 57);
@@ -89,10 +93,7 @@ fn fields(rt: HostRuntime) -> Result<(), Fail> {
     let nested = |name: &str| {
         let inner = Bytes::new(alloc).null(name);
         let middle = [Bytes::new(alloc).document("d", &inner)];
-        insert(
-            alloc,
-            Bytes::new(alloc).int32("_id", 1).documents("a", &middle),
-        )
+        insert_one(alloc, id_document(alloc, 1).documents("a", &middle))
     };
     assert_eq!(rt; code(&mut session, &nested("")), 56);
     assert_eq!(rt; code(&mut session, &nested("$")), 52);
@@ -106,12 +107,9 @@ fn the_first_name_as_stored(rt: HostRuntime) -> Result<(), Fail> {
     let mut session = Session::new(alloc).ok_or("no session")?;
     let inner = Bytes::new(alloc).null("");
     // `_id` is stored first, so its empty name is met before `$a`
-    let body = insert(alloc, Bytes::new(alloc).null("$a").document("_id", &inner));
+    let body = insert_one(alloc, Bytes::new(alloc).null("$a").document("_id", &inner));
     assert_eq!(rt; code(&mut session, &body), 56);
-    let left = insert(
-        alloc,
-        Bytes::new(alloc).int32("_id", 1).null("a.b").null("$a"),
-    );
+    let left = insert_one(alloc, id_document(alloc, 1).null("a.b").null("$a"));
     assert_eq!(rt; code(&mut session, &left), 57);
     Ok(())
 }

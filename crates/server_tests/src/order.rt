@@ -5,14 +5,9 @@ use by_hand::*;
 use std::alloc::Global;
 use std::test::*;
 
-fn insert(alloc: Global) -> Bytes {
+/// The front of an insert: its collection alone.
+fn front(alloc: Global) -> Bytes {
     Bytes::new(alloc).text("insert", "c")
-}
-
-/// An insert of one document.
-fn one(alloc: Global, document: Bytes) -> Bytes {
-    let all = [document];
-    insert(alloc).documents("documents", &all).text("$db", "t")
 }
 
 #[test]
@@ -21,10 +16,10 @@ fn fields_in_the_order_written(rt: HostRuntime) -> Result<(), Fail> {
     let mut session = Session::new(alloc).ok_or("no session")?;
     let none: [Bytes; 0] = [];
     let cases = [
-        (insert(alloc).null("more").null("documents"), 9),
-        (insert(alloc).null("documents").null("more"), 14),
-        (insert(alloc).documents("documents", &none).null("$db"), 2),
-        (insert(alloc).null("$db").documents("documents", &none), 14),
+        (front(alloc).null("more").null("documents"), 9),
+        (front(alloc).null("documents").null("more"), 14),
+        (front(alloc).documents("documents", &none).null("$db"), 2),
+        (front(alloc).null("$db").documents("documents", &none), 14),
         // the command's own value comes before its fields
         (Bytes::new(alloc).null("insert").null("more"), 14),
     ];
@@ -58,20 +53,16 @@ fn fields_before_the_namespace(rt: HostRuntime) -> Result<(), Fail> {
 fn misuses_of_one_document(rt: HostRuntime) -> Result<(), Fail> {
     let alloc = rt.alloc();
     let mut session = Session::new(alloc).ok_or("no session")?;
-    let id = |number: i32| Bytes::new(alloc).int32("_id", number);
-    let inserted = Bytes::new(alloc).int32("n", 1).int32("ok", 1);
-    assert!(rt; session.answers(&one(alloc, id(1)), &inserted));
+    let id = |number: i32| id_document(alloc, number);
+    assert!(rt; session.answers(&insert_one(alloc, id(1)), &count_reply(alloc, 1)));
     let two = [id(1), id(2).null("")];
     let cases = [
         // a name before the missing `_id`
-        (one(alloc, Bytes::new(alloc).null("a.b")), 57),
+        (insert_one(alloc, Bytes::new(alloc).null("a.b")), 57),
         // a name before the duplicate
-        (one(alloc, id(1).null("$a")), 52),
+        (insert_one(alloc, id(1).null("$a")), 52),
         // the first document before a later one
-        (
-            insert(alloc).documents("documents", &two).text("$db", "t"),
-            11000,
-        ),
+        (insert(alloc, &two), 11000),
     ];
     for (body, code) in &cases {
         assert!(rt; session.refuses(body, *code), "{code}");

@@ -1,6 +1,6 @@
 use Rattle.page.specs.Memory.{memory_history}
 use Rattle.server.specs.Durable.{IsSound}
-use Rattle.rows.proofs.names.collections.Given as goal
+use Rattle.server_tests.proofs.names.collections.Given as goal
 
 abbrev pub invariant-loop-name : goal.invariant-loop-name
 invariant-loop-name g l = IsSound memory_history l.session.core

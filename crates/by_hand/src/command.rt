@@ -1,0 +1,94 @@
+//! Commands over the collection `t.c`, and what they are answered.
+
+use crate::document::Bytes;
+use std::alloc::Global;
+
+/// `{_id: <number>}`
+pub fn id_document(alloc: Global, number: i32) -> Bytes {
+    Bytes::new(alloc).int32("_id", number)
+}
+
+/// `{ping: 1, $db: "t"}`
+pub fn ping(alloc: Global) -> Bytes {
+    Bytes::new(alloc).int32("ping", 1).text("$db", "t")
+}
+
+/// `{insert: "c", documents: [..], $db: "t"}`
+pub fn insert(alloc: Global, documents: &[Bytes]) -> Bytes {
+    Bytes::new(alloc)
+        .text("insert", "c")
+        .documents("documents", documents)
+        .text("$db", "t")
+}
+
+/// An insert of one document.
+pub fn insert_one(alloc: Global, document: Bytes) -> Bytes {
+    insert(alloc, &[document])
+}
+
+/// `{find: "c", $db: "t"}`
+pub fn find(alloc: Global) -> Bytes {
+    find_in(alloc, "t", "c")
+}
+
+/// A find of everything in a collection of a database.
+pub fn find_in(alloc: Global, database: &str, collection: &str) -> Bytes {
+    Bytes::new(alloc)
+        .text("find", collection)
+        .text("$db", database)
+}
+
+/// `{find: "c", filter: .., sort: .., projection: .., $db: "t"}`
+pub fn find_with(alloc: Global, filter: &Bytes, sort: &Bytes, projection: &Bytes) -> Bytes {
+    Bytes::new(alloc)
+        .text("find", "c")
+        .document("filter", filter)
+        .document("sort", sort)
+        .document("projection", projection)
+        .text("$db", "t")
+}
+
+/// `{count: "c", query: .., $db: "t"}`
+pub fn count(alloc: Global, query: &Bytes) -> Bytes {
+    Bytes::new(alloc)
+        .text("count", "c")
+        .document("query", query)
+        .text("$db", "t")
+}
+
+/// `{delete: "c", deletes: [..], $db: "t"}`
+pub fn delete(alloc: Global, statements: &[Bytes]) -> Bytes {
+    Bytes::new(alloc)
+        .text("delete", "c")
+        .documents("deletes", statements)
+        .text("$db", "t")
+}
+
+/// A statement of a delete: `{q: .., limit: <limit>}`
+pub fn delete_statement(alloc: Global, query: &Bytes, limit: i32) -> Bytes {
+    Bytes::new(alloc).document("q", query).int32("limit", limit)
+}
+
+/// `{ok: 1}`, which a ping is answered.
+pub fn ok_reply(alloc: Global) -> Bytes {
+    Bytes::new(alloc).int32("ok", 1)
+}
+
+/// `{n: <number>, ok: 1}`, which an insert, a delete or a count of so many is answered.
+pub fn count_reply(alloc: Global, number: i32) -> Bytes {
+    Bytes::new(alloc).int32("n", number).int32("ok", 1)
+}
+
+/// What a find of these documents in `t.c` is answered.
+pub fn batch_reply(alloc: Global, documents: &[Bytes]) -> Bytes {
+    batch_reply_in(alloc, "t.c", documents)
+}
+
+/// `{cursor: {firstBatch: [..], id: <0 in eight bytes>, ns: <namespace>}, ok: 1}`
+pub fn batch_reply_in(alloc: Global, namespace: &str, documents: &[Bytes]) -> Bytes {
+    let cursor = Bytes::new(alloc)
+        .documents("firstBatch", documents)
+        .int64("id", 0)
+        .text("ns", namespace);
+    Bytes::new(alloc).document("cursor", &cursor).int32("ok", 1)
+}
