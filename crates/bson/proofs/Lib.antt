@@ -8,6 +8,7 @@ pub mod WriteLoopLaws
 pub mod FaultLaws
 pub mod RawLaws
 pub mod DistinctLaws
+pub mod TableLaws
 pub mod CheckLaws
 pub mod FirstFaultLaws
 pub mod SeenLaws

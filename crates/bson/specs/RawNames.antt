@@ -38,3 +38,13 @@ names_in bytes = names_by (length bytes) bytes
 abbrev pub AreNew : ℕ → List (List ℕ) → Type 0
 AreNew n names = (earlier : List (List ℕ)) (name : List ℕ) (later : List (List ℕ))
     → names ≡ earlier ++ name ∷ later → length earlier < n → stands_in earlier name ≡ false
+
+-- none of the first so many of these names is one of the others
+abbrev pub AreOthers : ℕ → List (List ℕ) → List (List ℕ) → Type 0
+AreOthers n others names = (earlier : List (List ℕ)) (name : List ℕ) (later : List (List ℕ))
+    → names ≡ earlier ++ name ∷ later → length earlier < n → stands_in others name ≡ false
+
+-- none of the first n names stood among the first m of those before it
+abbrev pub AreApart : ℕ → ℕ → List (List ℕ) → Type 0
+AreApart m n names = (earlier : List (List ℕ)) (name : List ℕ) (later : List (List ℕ))
+    → names ≡ earlier ++ name ∷ later → length earlier < n → stands_in (take m earlier) name ≡ false

@@ -121,8 +121,8 @@ fn check_item(more: u32, i: usize, type_byte: u8, bytes: &[u8]) -> Result<&[u8],
     check_value(more, kind, rest)
 }
 
-/// The elements of a document. Where their names don't ascend, each is looked for among the elements before it,
-/// which takes time in proportion to the square of their number.
+/// The elements of a document. A name that isn't known to be new is looked for among the elements before it: one of a few
+/// dozen, or the first that stands twice.
 #[cycle(checking)]
 fn check_pairs(more: u32, content: &[u8]) -> Result<(), BsonFault>
     requires more { more ≤ 99 }

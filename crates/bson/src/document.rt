@@ -51,14 +51,16 @@ fn check_all(alloc: Global, pairs: &[Pair]) -> Result<u32, BuildFault>
         if first_zero(name.as_bytes()).is_some() {
             return Err(BuildFault::Name);
         }
-        if names.contains(name) {
-            return Err(BuildFault::Repeated);
-        }
         let value_levels = pair.value.levels();
         if MOST_LEVELS <= value_levels {
+            if names.contains(name) {
+                return Err(BuildFault::Repeated);
+            }
             return Err(BuildFault::Deep);
         }
-        names.insert(name)?;
+        if !names.insert(name)? {
+            return Err(BuildFault::Repeated);
+        }
         levels = levels.max(value_levels);
     }
     Ok(levels)

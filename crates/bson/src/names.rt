@@ -1,6 +1,6 @@
 //! Names that stood before.
 
-ghost use Rattle.std.specs.Prelude.{◌≡◌, ◌||◌, ◌≤◌, ℕ, List, [], map, OnOk};
+ghost use Rattle.std.specs.Prelude.{◌≡◌, ◌||◌, ◌≤◌, ℕ, List, [], true, false, not, map, IfOk, OnErr};
 ghost use Rattle.std.specs.Str.{bytes_eq};
 ghost use Rattle.bson.specs.View.{names_of};
 ghost use Rattle.bson.specs.Reading.{stands_in};
@@ -37,13 +37,14 @@ pub(crate) struct Names<'a> {
 }
 
 impl<'a> Model for Names<'a> {
-    ghost use Rattle.std.specs.Prelude.{◌≤◌, ◌≡◌, ℕ, List, ◌++◌, map, take, length};
+    ghost use Rattle.std.specs.Prelude.{◌≤◌, ◌<◌, ◌≡◌, ℕ, List, [], ◌++◌, map, take, length};
 
     ghost Value = { List (List ℕ) };
 
     ghost view = { λ a. map (λ n. n.now) (take a.count a.few) ++ map (λ n. n.now) a.later.keys };
 
-    ghost invariant = { λ a. (a.count ≤ 24) × (length a.few ≡ 24) };
+    ghost invariant = { λ a. (a.count ≤ 24) × (length a.few ≡ 24)
+        × (a.count < 24 → a.later.keys ≡ []) };
 }
 
 impl<'a> Names<'a> {
@@ -65,18 +66,22 @@ impl<'a> Names<'a> {
         is_among(&self.few[..self.count], name) || self.later.contains(name)
     }
 
-    /// Takes one more name in.
-    pub(crate) fn insert(&mut self, name: &'a str) -> Result<(), NoMemory>
-        ensures { OnOk result ((other : List ℕ)
+    /// Takes a name in and gives whether it is new. It is looked for once.
+    pub(crate) fn insert(&mut self, name: &'a str) -> Result<bool, NoMemory>
+        ensures new { IfOk result (λ is_new. is_new ≡ not (stands_in self.old name.now)) }
+        ensures absent { OnErr result (stands_in self.old name.now ≡ false) }
+        ensures names { IfOk result (λ is_new. is_new ≡ true → (other : List ℕ)
             → stands_in self.new other ≡ (bytes_eq other name.now || stands_in self.old other)) }
     {
-        if self.count < FEW {
-            self.few[self.count] = name;
-            self.count += 1;
-        } else {
-            self.later.insert(name)?;
+        if is_among(&self.few[..self.count], name) {
+            return Ok(false);
         }
-        Ok(())
+        if self.count == FEW {
+            return Ok(self.later.insert(name)?);
+        }
+        self.few[self.count] = name;
+        self.count += 1;
+        Ok(true)
     }
 }
 

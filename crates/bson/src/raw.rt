@@ -68,8 +68,8 @@ impl<'a> Model for RawValue<'a> {
 impl<'a> RawDoc<'a> {
     /// The document at the front of the input. It accepts exactly what `decode` accepts, with the same
     /// faults, and takes no memory, so it never answers `Memory`. Its time is in proportion to the bytes
-    /// where names ascend and for documents of a few dozen fields, and grows beyond that with the square
-    /// of the number of fields of one document, since each name is looked for among those before it.
+    /// where names ascend and for documents of a few dozen fields. Other names are compared by sorting some
+    /// thousands of them at a time, on the stack (128 KiB).
     pub fn new(bytes: &'a [u8]) -> Result<RawDoc<'a>, BsonFault>
         // What the reading definition gives.
         ensures gives { result ≡ only_document (document_at bytes.now) }

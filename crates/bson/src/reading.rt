@@ -1,6 +1,6 @@
 //! Documents from bytes.
 
-ghost use Rattle.std.specs.Prelude.{◌≡◌, ℕ, ◌<◌, ◌≤◌, ◌-◌, ◌≢◌, ◌++◌, List, length, take, IfOk, IfErr, Ok};
+ghost use Rattle.std.specs.Prelude.{◌≡◌, ℕ, ◌<◌, ◌≤◌, ◌-◌, ◌≢◌, ◌++◌, ◌||◌, List, length, take, IfOk, IfErr, Ok};
 ghost use Rattle.std.specs.Str.{bytes_eq};
 ghost use Rattle.std.specs.Fmt.{decimal};
 ghost use Rattle.bson.specs.View.{tree};
@@ -64,23 +64,25 @@ pub(crate) fn is_index(name: &str, i: usize) -> bool
     name == buffer.format(i)
 }
 
-/// An element of a document, after its type byte: its name and its value.
+/// An element of a document, after its type byte: its name, which is taken in, and its value.
 #[cycle(reading)]
 #[tactic(auto, unfolding(crate::specs::Reading::element_by))]
 fn read_pair<'a>(
     alloc: Global,
     more: u32,
-    earlier: &Names<'a>,
+    earlier: &mut Names<'a>,
     type_byte: u8,
     bytes: &'a [u8],
 ) -> Result<((&'a str, Value), &'a [u8]), BsonFault>
     requires { more ≤ 99 }
-    ensures { Gives faults.Memory (λ x. ((x.0.0.now, tree x.0.1), x.1.now)) result
-        (element_by (value_at more) (stands_in earlier.now) faults.Repeated type_byte bytes.now) }
+    ensures gives { Gives faults.Memory (λ x. ((x.0.0.now, tree x.0.1), x.1.now)) result
+        (element_by (value_at more) (stands_in earlier.old) faults.Repeated type_byte bytes.now) }
+    ensures names { IfOk result (λ x. (other : List ℕ) → stands_in earlier.new other
+        ≡ (bytes_eq other x.0.0.now || stands_in earlier.old other)) }
 {
     let kind = read_kind(type_byte)?;
     let (name, rest) = read_name(bytes)?;
-    if earlier.contains(name) {
+    if !earlier.insert(name)? {
         return Err(BsonFault::Repeated);
     }
     let (value, rest) = read_value(alloc, more, kind, rest)?;
@@ -119,8 +121,7 @@ fn read_pairs(alloc: Global, more: u32, content: &[u8]) -> Result<Document, Bson
     let mut levels = 0u32;
     let mut rest = content;
     'pairs: while let Some((type_byte, after)) = rest.split_first() {
-        let ((name, value), after) = read_pair(alloc, more, &names, *type_byte, after)?;
-        names.insert(name)?;
+        let ((name, value), after) = read_pair(alloc, more, &mut names, *type_byte, after)?;
         levels = levels.max(value.levels());
         let name = Text::from_str(alloc, name)?;
         pairs.push(Pair { name, value })?;

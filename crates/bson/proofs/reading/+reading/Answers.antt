@@ -67,7 +67,7 @@ module _ (t : ℕ) (c : read_pairs-In_ok-push t) where
 
   is_read : element_by (value_at c.args.more) (stands_in (names_of c.pairs.pairs.items)) faults.Repeated c.in-Some.type_byte.now c.in-Some.after.now ≡ Ok ((pair_read.name, tree pair_read.value), c.in_ok-name.after.now)
   is_read =
-      sym (element_named c.args.more c.in-Some.type_byte.now c.in-Some.after.now c.pairs.names (names_of c.pairs.pairs.items) c.pairs.invariant.2) ∙ c.in_ok-name.ensures
+      sym (element_named c.args.more c.in-Some.type_byte.now c.in-Some.after.now c.pairs.names (names_of c.pairs.pairs.items) c.pairs.invariant.2) ∙ c.in_ok-name.ensures.gives
       ∙ ap (λ (name : List ℕ). Ok ((name, tree c.in_ok-name.value), c.in_ok-name.after.now)) (sym c.in_ok-name-2.ensures)
 
 pub read_pairs-pairs-smaller : goal.read_pairs-pairs-smaller
@@ -79,13 +79,13 @@ read_pairs-pairs-preserved t c =
     let next = pairs_pushed c.args.more c.pairs.pairs.items c.pairs.rest.now c.in-Some.type_byte.now c.in-Some.after.now (pairs_in (value_at c.args.more) c.args.content.now) c.in-Some.ensures.cases.0 c.pairs.invariant.0 (pair_read t c) c.in_ok-name.after.now (is_read t c) in (
       subst (λ (ws : List Pair). PairsSoFar c.args.more (pairs_of ws) (names_of ws) c.in_ok-name.after.now (pairs_in (value_at c.args.more) c.args.content.now)) (sym c.in_ok-push.ensures.items) next,
       omega (arith, c.max-levels.ensures, c.levels.ensures.levels, c.pairs.invariant.1, ap (λ (ws : List Pair). pairs_levels (pairs_of ws)) c.in_ok-push.ensures.items, pairs_levels-push c.pairs.pairs.items (pair_read t c)),
-      λ other. names_pushed c.pairs.pairs.items (pair_read t c) c.insert.new.self c.pairs.names c.in_ok-name.name.now c.in_ok-insert.ensures c.pairs.invariant.2 c.in_ok-name-2.ensures other ∙ ap (λ (ws : List Pair). stands_in (names_of ws) other) (sym c.in_ok-push.ensures.items),
+      λ other. names_pushed c.pairs.pairs.items (pair_read t c) c.read_pair.new.earlier c.pairs.names c.in_ok-name.name.now c.in_ok-name.ensures.names c.pairs.invariant.2 c.in_ok-name-2.ensures other ∙ ap (λ (ws : List Pair). stands_in (names_of ws) other) (sym c.in_ok-push.ensures.items),
     )
 
 pub read_pairs-returns-in_err-name : goal.read_pairs-returns-in_err-name
 read_pairs-returns-in_err-name t c =
     let p = err_from_is_err_and c.from_residual.result c.from_residual.ensures.1 in
-    let e = subst (λ (read : Read (List ℕ × Tree)). Fails faults.Memory c.in_err-name.field-0.0 read) (element_named c.args.more c.in-Some.type_byte.now c.in-Some.after.now c.pairs.names (names_of c.pairs.pairs.items) c.pairs.invariant.2) c.in_err-name.ensures in
+    let e = subst (λ (read : Read (List ℕ × Tree)). Fails faults.Memory c.in_err-name.field-0.0 read) (element_named c.args.more c.in-Some.type_byte.now c.in-Some.after.now c.pairs.names (names_of c.pairs.pairs.items) c.pairs.invariant.2) c.in_err-name.ensures.gives in
     rw (p.1, p.2) (pairs_fail c.args.more c.pairs.pairs.items c.pairs.rest.now c.in-Some.type_byte.now c.in-Some.after.now (pairs_in (value_at c.args.more) c.args.content.now) c.in-Some.ensures.cases.0 c.pairs.invariant.0 c.in_err-name.field-0.0 e)
 
 pub read_pairs-returns : goal.read_pairs-returns
