@@ -12,7 +12,7 @@ use Rattle.commands.specs.declared.insert.Insert.{Insert}
 use Rattle.commands.specs.declared.find.Find.{Find}
 use Rattle.commands.specs.declared.count.Count.{Count}
 use Rattle.commands.specs.declared.delete.Delete.{Delete}
-use Rattle.commands.specs.declared.update.Update.{Update}
+use Rattle.commands.specs.declared.updates.Update.{Update}
 use Rattle.commands.specs.declared.command.Command.{Command}
 use Rattle.commands.specs.declared.command.Command.TheVariants as cases
 

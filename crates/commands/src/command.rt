@@ -10,7 +10,7 @@ use crate::delete::{Delete, read_delete};
 use crate::find::{Find, read_find};
 use crate::insert::{Insert, read_insert};
 use crate::ping::read_ping;
-use crate::update::{Update, read_update};
+use crate::updates::{Update, read_update};
 use bson::Document;
 use path::Refusal;
 use std::alloc::Global;

@@ -10,12 +10,13 @@ mod insert;
 mod names;
 mod ping;
 mod statements;
-mod update;
+mod updates;
 mod values;
 
 pub use command::Command;
 pub use count::Count;
 pub use delete::{Delete, Deletion};
 pub use find::{Find, Query};
-pub use crate::update::{Update, UpdateStatement};
 pub use insert::Insert;
+pub use names::NAMESPACE_LIMIT;
+pub use updates::{Update, UpdateStatement};

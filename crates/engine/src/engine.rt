@@ -9,7 +9,7 @@ ghost use Rattle.roots.specs.Store as stores;
 ghost use Rattle.engine.specs.Committing.{Saves, Commits};
 ghost use Rattle.engine.specs.Opening.{IsOpened, IsRefused};
 ghost use Rattle.engine.specs.World.{Collection, after_commit, after_undo, forget};
-ghost use Rattle.engine.specs.Step.{Answers, ForMemory, read_and_run};
+ghost use Rattle.engine.specs.Step.{Answers, ForMemory, WroteNothing, read_and_run};
 ghost use Rattle.engine.specs.View.{world, turn_start, reply_of, IsSendable, Runs};
 ghost use Rattle.engine.specs.Durable.{Holds, disk_history, has_changes, is_stopped, IsRunning, store_of, IsSound, HasNoRoom, full_takes_of};
 
@@ -98,7 +98,7 @@ impl<D: Disk> Engine<D> {
         ensures runs { Runs (world self.old) (read_and_run (world self.old) connection body.now)
             (world self.new) result }
         ensures turn_start { turn_start self.new ≡ turn_start self.old }
-        ensures has_changes { (world self.new).collections ≡ (world self.old).collections
+        ensures has_changes { WroteNothing (world self.old) (Ok body.now) (world self.new)
             → has_changes self.new ≡ has_changes self.old }
         ensures sendable { IfOk result (λ d. IsSendable d) }
     {
@@ -111,6 +111,7 @@ impl<D: Disk> Engine<D> {
             }
             Command::Count(c) => self.count(c.namespace.as_str(), &c.filter, c.skip, c.limit),
             Command::Delete(c) => self.delete(c.namespace.as_str(), &c.deletions),
+            Command::Update(c) => self.update(c.namespace.as_str(), &c.statements),
         }
     }
 
@@ -125,7 +126,7 @@ impl<D: Disk> Engine<D> {
         ensures answers { Answers ForMemory (world self.old) connection (Ok body.now)
             (world self.new) (reply_of result) }
         ensures turn_start { turn_start self.new ≡ turn_start self.old }
-        ensures has_changes { (world self.new).collections ≡ (world self.old).collections
+        ensures has_changes { WroteNothing (world self.old) (Ok body.now) (world self.new)
             → has_changes self.new ≡ has_changes self.old }
         ensures sendable { IsSendable (reply_of result) }
     {

@@ -11,7 +11,6 @@ ghost use Rattle.engine.specs.Lawful.{IsWithin};
 ghost use Rattle.engine.specs.Refusals.{int, total, words, ok_reply, refusal_reply};
 ghost use Rattle.engine.specs.Cursors.{items_of_documents, cursor_reply};
 
-use crate::MOST_STATEMENTS;
 use bson::{Array, BuildFault, Document, NoMemory, Text, Value};
 use path::Refusal;
 use std::alloc::{AllocError, Global};
@@ -33,7 +32,7 @@ pub(crate) fn put(reply: &mut Document, name: &str, value: Value) -> Result<(), 
 }
 
 /// Adds an item to an array of a reply, which is not nested too deep, so only memory can be wanting.
-fn add(array: &mut Array, value: Value) -> Result<(), NoMemory>
+pub(crate) fn add(array: &mut Array, value: Value) -> Result<(), NoMemory>
     requires { levels (tree value) ≤ 98 }
     ensures { OnOk result (array.new ≡ append_items array.old (item (tree value) no_items)) }
 {
@@ -52,7 +51,7 @@ fn text_value(alloc: Global, text: &str) -> Result<Value, NoMemory>
 }
 
 /// Ends the reply of a command that was done.
-fn done(mut reply: Document) -> Result<Document, NoMemory>
+pub(crate) fn done(mut reply: Document) -> Result<Document, NoMemory>
     requires { lookup reply (codes "ok") ≡ None }
     ensures { IfOk result (λ d. d ≡ ok_reply reply) }
 {
@@ -69,7 +68,7 @@ pub(crate) fn ping_reply(alloc: Global) -> Result<Document, NoMemory>
 
 /// The reply of an insert of so many documents.
 pub(crate) fn insert_reply(alloc: Global, count: usize) -> Result<Document, NoMemory>
-    requires { count ≤ MOST_STATEMENTS }
+    requires { count ≤ 1000 }
     ensures { IfOk result (λ d. d ≡ ok_reply (pair (codes "n") (int count) no_pairs)) }
 {
     let mut reply = Document::new(alloc);
