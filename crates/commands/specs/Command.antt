@@ -1,6 +1,6 @@
 -- The command that a body spells, or its first refusal. The body's first name says which command it is: an unknown one goes
 -- first, then the value of that name, then the fields in the order written, then a missing field, then the namespace.
-use Rattle.std.specs.Prelude.{ℕ, ◌≤◌, if◌then◌else◌, List, codes, length, Result, Ok, Err}
+use Rattle.std.specs.Prelude.{ℕ, ◌≤◌, if◌then◌else◌, List, All, codes, length, Result, Ok, Err}
 use Rattle.std.specs.Str.{bytes_eq}
 use Rattle.bson.specs.Tree.{Pairs, no_pairs, pair}
 use Rattle.path.specs.Outcomes.{◌>>=◌}
@@ -11,6 +11,7 @@ use Rattle.commands.specs.Insert.{Insert, read_insert}
 use Rattle.commands.specs.Find.{Find, read_find}
 use Rattle.commands.specs.Count.{Count, read_count}
 use Rattle.commands.specs.Delete.{Delete, read_delete}
+use Rattle.commands.specs.Update.{UpdateStatement, Update, read_update_command, IsRead}
 
 pub data Command : Type 0 where
   ping : Command
@@ -18,6 +19,7 @@ pub data Command : Type 0 where
   find : Find → Command
   count : Count → Command
   delete : Delete → Command
+  update : Update → Command
 
 -- what was read, as a command
 abbrev pub as_command : {X : Type 0} → (X → Command) → Result X Refusal → Result Command Refusal
@@ -32,9 +34,10 @@ command_of (pair name t ps) =
     if bytes_eq name (codes "find") then as_command find (read_find t ps) else
     if bytes_eq name (codes "count") then as_command count (read_count t ps) else
     if bytes_eq name (codes "delete") then as_command delete (read_delete t ps) else
+    if bytes_eq name (codes "update") then as_command update (read_update_command t ps) else
     Err refusals.CommandNotFound
 
--- What a command that was read keeps: a namespace of at most 255 bytes, and from 1 to 1,000 documents.
+-- What a command that was read keeps: a namespace of at most 255 bytes, and from 1 to 1,000 documents or statements.
 abbrev pub IsBounded : Command → Type 0
 IsBounded ping = Unit {0}
 IsBounded (insert c) =
@@ -42,3 +45,6 @@ IsBounded (insert c) =
 IsBounded (find c) = length c.namespace ≤ 255
 IsBounded (count c) = Unit {0}
 IsBounded (delete c) = Unit {0}
+IsBounded (update c) =
+    (length c.namespace ≤ 255) × (length c.statements ≤ 1000)
+    × All (λ (s : UpdateStatement). IsRead s.change) c.statements

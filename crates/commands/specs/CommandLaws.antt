@@ -1,8 +1,13 @@
 -- A command that was read has a namespace and documents within their limits.
 use Rattle.std.proofs.Common.{◌≡◌, ℕ, ◌+◌, ◌≤◌, Bool, true, false, List, [], ◌∷◌, ◌++◌, length, Option, Some, None, Result, Ok, Err, refl, ap, subst, arith, length-append}
-use Rattle.std.specs.Prelude.{◌||◌, ◌==◌, nat_lt, if◌then◌else◌, codes, unwrap_or, IfOk}
+use Rattle.std.specs.Prelude.{◌||◌, ◌&&◌, All, ◌==◌, nat_lt, if◌then◌else◌, codes, unwrap_or, IfOk}
 use Rattle.std.specs.Str.{bytes_eq}
 use Rattle.std.proofs.lemmas.Bool.{ltb-false, eqb-false}
+use Rattle.std.proofs.lemmas.List.Elements.{All-cons}
+use Rattle.filter.specs.Condition.{Conditions}
+use Rattle.filter.specs.Reading.{read_filter}
+use Rattle.update.specs.Update.{Update as Change, is_replacement}
+use Rattle.update.specs.Reading.{read_update}
 use Rattle.bson.specs.Tree.{Tree, scalar, document, array, Pairs, no_pairs, pair, Items, no_items, item}
 use Rattle.bson.specs.Edits.{items_len}
 use Rattle.path.specs.Outcomes.{◌>>=◌, unless, or_refused}
@@ -10,7 +15,7 @@ use Rattle.path.specs.View.{Gives}
 use Rattle.path.specs.declared.refusal.Refusal.{Refusal}
 use Rattle.path.specs.declared.refusal.Refusal.TheVariants as refusals
 use Rattle.commands.specs.OutcomeLaws.{step_of, passed}
-use Rattle.commands.specs.Values.{text_in, items_of, document_in}
+use Rattle.commands.specs.Values.{text_in, bool_in, items_of, document_in, spelled_in}
 use Rattle.commands.specs.Fields.{CommonFields, read_fields, common_field, no_common}
 use Rattle.commands.specs.Statements.{statements_in, each_of}
 use Rattle.commands.specs.Names.{is_bad_database, is_bad_collection, is_too_long, namespace_of}
@@ -19,7 +24,8 @@ use Rattle.commands.specs.Insert.{Insert, InsertFields, no_insert_fields, docume
 use Rattle.commands.specs.Find.{Find, no_find_fields, find_field, query_of, read_find}
 use Rattle.commands.specs.Count.{Count, read_count}
 use Rattle.commands.specs.Delete.{Delete, read_delete}
-use Rattle.commands.specs.Command.{Command, ping, insert, find, count, delete, as_command, command_of, IsBounded}
+use Rattle.commands.specs.Update.{UpdateStatement, UpdateStatementFields, no_statement_fields, statement_field, read_statement, Update, UpdateFields, no_update_fields, update_statements_in, update_field, read_update_command, IsRead}
+use Rattle.commands.specs.Command.{Command, ping, insert, find, count, delete, update, as_command, command_of, IsBounded}
 
 later_false : (a b : Bool) → (a || b) ≡ false → b ≡ false
 later_false true b e = absurd cc
@@ -92,6 +98,118 @@ few_there : (o : Option (List Pairs)) (ds : List Pairs) → FewAt o → or_refus
 few_there None ds h e = absurd cc
 few_there (Some es) ds h e = let same : es ≡ ds = cc in subst AreFew same h
 
+-- ---- updates
+
+-- what each field keeps, all fields keep
+fields_keep : {F : Type 0} (P : F → Type 0) (read : F → List ℕ → Tree → Result F Refusal) → ((found next : F) (name : List ℕ) (t : Tree) → P found → read found name t ≡ Ok next → P next)
+    → (ps : Pairs) (found next : F) → P found → read_fields read found ps ≡ Ok next → P next
+fields_keep P read one no_pairs found next h e = let same : found ≡ next = cc in subst P same h
+fields_keep P read one (pair name t ps) found next h e =
+    let s = step_of (read found name t) (λ mid. read_fields read mid ps) next e in
+    fields_keep P read one ps s.0 next (one found s.0 name t h s.1) s.2
+
+-- what holds of whatever is read holds of all that are read
+each_has : {X : Type 0} (P : X → Type 0) (read : Tree → Result X Refusal) → ((t : Tree) (x : X) → read t ≡ Ok x → P x) → (ts : Items) (xs : List X) → each_of read ts ≡ Ok xs → All P xs
+each_has {X} P read one no_items xs e = let none : [] ≡ xs = cc in subst (λ (ys : List X). All P ys) none (λ k d below. absurd (omega arith))
+each_has {X} P read one (item t ts) xs e =
+    let s = step_of (read t) (λ x. each_of read ts >>= (λ others. let r : Result (List X) Refusal = Ok (x ∷ others) in r)) xs e in
+    let more : List X → Result (List X) Refusal = λ others. Ok (s.0 ∷ others) in
+    let o = step_of (each_of read ts) more xs s.2 in
+    let same : s.0 ∷ o.0 ≡ xs = cc in
+    subst (λ (ys : List X). All P ys) same (All-cons P s.0 o.0 (one t s.0 s.1) (each_has P read one ts o.0 o.1))
+
+there : {X : Type 0} (o : Option X) (x : X) → or_refused o refusals.FailedToParse ≡ Ok x → o ≡ Some x
+there None x e = absurd cc
+there {X} (Some y) x e = let same : y ≡ x = cc in ap (λ (z : X). Some z) same
+
+abbrev ReadAt : Option Change → Type 0
+ReadAt None = Unit {0}
+ReadAt (Some u) = IsRead u
+
+module _ (found next : UpdateStatementFields) (t : Tree) (h : ReadAt found.change) where
+  abbrev with_filter : Conditions → Result UpdateStatementFields Refusal
+  with_filter rules = Ok (record found { filter = Some rules })
+
+  abbrev with_change : Change → Result UpdateStatementFields Refusal
+  with_change change = Ok (record found { change = Some change })
+
+  abbrev with_upsert : Bool → Result UpdateStatementFields Refusal
+  with_upsert upsert = Ok (record found { upsert = upsert })
+
+  abbrev with_multi : Bool → Result UpdateStatementFields Refusal
+  with_multi multi = Ok (record found { multi = multi })
+
+  read_by_field : (is_q is_u is_upsert is_multi : Bool)
+      → (if is_q then (spelled_in read_filter t >>= with_filter) else (if is_u then (spelled_in read_update t >>= with_change) else (if is_upsert then (bool_in t >>= with_upsert) else (if is_multi then (bool_in t >>= with_multi) else Err refusals.FailedToParse)))) ≡ Ok next
+      → ReadAt next.change
+  read_by_field true is_u is_upsert is_multi e =
+      let s = step_of (spelled_in read_filter t) with_filter next e in
+      let same : record found { filter = Some s.0 } ≡ next = cc in
+      subst (λ (f : UpdateStatementFields). ReadAt f.change) same h
+  read_by_field false true is_upsert is_multi e =
+      let s = step_of (spelled_in read_update t) with_change next e in
+      let d = step_of (document_in t) read_update s.0 s.1 in
+      let same : record found { change = Some s.0 } ≡ next = cc in
+      subst (λ (f : UpdateStatementFields). ReadAt f.change) same (record { source = d.0; reads = d.2 })
+  read_by_field false false true is_multi e =
+      let s = step_of (bool_in t) with_upsert next e in
+      let same : record found { upsert = s.0 } ≡ next = cc in
+      subst (λ (f : UpdateStatementFields). ReadAt f.change) same h
+  read_by_field false false false true e =
+      let s = step_of (bool_in t) with_multi next e in
+      let same : record found { multi = s.0 } ≡ next = cc in
+      subst (λ (f : UpdateStatementFields). ReadAt f.change) same h
+  read_by_field false false false false e = absurd cc
+
+statement_read : (ps : Pairs) (s : UpdateStatement) → read_statement ps ≡ Ok s → IsRead s.change
+statement_read ps s e =
+    let f = step_of (read_fields statement_field no_statement_fields ps) _ s e in
+    let q = step_of (or_refused f.0.filter refusals.FailedToParse) _ s f.2 in
+    let u = step_of (or_refused f.0.change refusals.FailedToParse) _ s q.2 in
+    let made : UpdateStatement = record { filter = q.0; change = u.0; upsert = f.0.upsert; multi = f.0.multi } in
+    let p = passed (is_replacement u.0 && f.0.multi) refusals.FailedToParse (Ok made) s u.2 in
+    let same : made ≡ s = cc in
+    let read = fields_keep (λ f. ReadAt f.change) statement_field
+    (λ found next name t h e. read_by_field found next t h (bytes_eq name (codes "q")) (bytes_eq name (codes "u")) (bytes_eq name (codes "upsert")) (bytes_eq name (codes "multi")) e)
+    ps no_statement_fields f.0 tt f.1 in
+    subst (λ (x : UpdateStatement). IsRead x.change) same (subst ReadAt (there f.0.change u.0 u.1) read)
+
+-- some statements, not too many, each with an update that was read
+pub record AreRead (ss : List UpdateStatement) : Type 0 where
+  pub few : length ss ≤ 1000
+  pub each : All (λ (s : UpdateStatement). IsRead s.change) ss
+
+are_read : (t : Tree) (ss : List UpdateStatement) → update_statements_in t ≡ Ok ss → AreRead ss
+are_read t ss e =
+    let s = step_of (statements_in t) (each_of (spelled_in read_statement)) ss e in
+    let items = few_items t s.0 s.1 in
+    record {
+      few = omega (arith, as_many (spelled_in read_statement) s.0 ss s.2, items.0);
+      each = each_has (λ (s : UpdateStatement). IsRead s.change) (spelled_in read_statement)
+          (λ t s e. let d = step_of (document_in t) read_statement s e in statement_read d.0 s d.2) s.0 ss s.2;
+    }
+
+abbrev ReadsAt : Option (List UpdateStatement) → Type 0
+ReadsAt None = Unit {0}
+ReadsAt (Some ss) = AreRead ss
+
+module _ (found next : UpdateFields) (name : List ℕ) (t : Tree) (h : ReadsAt found.statements) where
+  abbrev with_statements : List UpdateStatement → Result UpdateFields Refusal
+  with_statements statements = Ok (record found { statements = Some statements })
+
+  abbrev with_common : CommonFields → Result UpdateFields Refusal
+  with_common common = Ok (record found { common = common })
+
+  reads_by_field : (b : Bool) → (if b then (update_statements_in t >>= with_statements) else (common_field found.common name t >>= with_common)) ≡ Ok next → ReadsAt next.statements
+  reads_by_field true e =
+      let s = step_of (update_statements_in t) with_statements next e in
+      let same : record found { statements = Some s.0 } ≡ next = cc in
+      subst (λ (f : UpdateFields). ReadsAt f.statements) same (are_read t s.0 s.1)
+  reads_by_field false e =
+      let s = step_of (common_field found.common name t) with_common next e in
+      let same : record found { common = s.0 } ≡ next = cc in
+      subst (λ (f : UpdateFields). ReadsAt f.statements) same h
+
 -- ---- commands
 
 pub insert_bounded : (t : Tree) (ps : Pairs) (c : Insert) → read_insert t ps ≡ Ok c → (length c.namespace ≤ 255) × (length c.documents ≤ 1000) × (1 ≤ length c.documents)
@@ -116,6 +234,20 @@ find_bounded t ps c e =
     let same : made ≡ c = cc in
     subst (λ (x : Find). length x.namespace ≤ 255) same (short b.0 n.0 m.0 m.1)
 
+pub update_bounded : (t : Tree) (ps : Pairs) (c : Update) → read_update_command t ps ≡ Ok c → IsBounded (update c)
+update_bounded t ps c e =
+    let n = step_of (text_in t) _ c e in
+    let s = step_of (read_fields update_field no_update_fields ps) _ c n.2 in
+    let b = step_of (or_refused s.0.common.database refusals.FailedToParse) _ c s.2 in
+    let d = step_of (or_refused s.0.statements refusals.FailedToParse) _ c b.2 in
+    let m = step_of (namespace_of b.0 n.0) _ c d.2 in
+    let made : Update = record { namespace = m.0; statements = d.0 } in
+    let same : made ≡ c = cc in
+    let read = fields_keep (λ (f : UpdateFields). ReadsAt f.statements) update_field
+    (λ found next name t h e. reads_by_field found next name t h (bytes_eq name (codes "updates")) e) ps no_update_fields s.0 tt s.1 in
+    let all : AreRead d.0 = subst ReadsAt (there s.0.statements d.0 d.1) read in
+    subst (λ (x : Update). IsBounded (update x)) same (short b.0 n.0 m.0 m.1, all.few, all.each)
+
 -- what was read is bounded, so the command is
 made_bounded : {X : Type 0} (make : X → Command) (read : Result X Refusal) (c : Command) → ((x : X) → read ≡ Ok x → IsBounded (make x)) → as_command make read ≡ Ok c → IsBounded c
 made_bounded {X} make read c keeps e =
@@ -127,16 +259,17 @@ made_bounded {X} make read c keeps e =
 pub bounded : (ps : Pairs) (c : Command) → command_of ps ≡ Ok c → IsBounded c
 unfolding command_of
 bounded no_pairs c e = absurd cc
-bounded (pair name t ps) c e = at (bytes_eq name (codes "ping")) (bytes_eq name (codes "insert")) (bytes_eq name (codes "find")) (bytes_eq name (codes "count")) (bytes_eq name (codes "delete")) e
+bounded (pair name t ps) c e = at (bytes_eq name (codes "ping")) (bytes_eq name (codes "insert")) (bytes_eq name (codes "find")) (bytes_eq name (codes "count")) (bytes_eq name (codes "delete")) (bytes_eq name (codes "update")) e
   where
-    at : (is_ping is_insert is_find is_count is_delete : Bool)
-        → (if is_ping then as_command (λ _. ping) (read_ping t ps) else (if is_insert then as_command insert (read_insert t ps) else (if is_find then as_command find (read_find t ps) else (if is_count then as_command count (read_count t ps) else (if is_delete then as_command delete (read_delete t ps) else Err refusals.CommandNotFound))))) ≡ Ok c → IsBounded c
-    at true is_insert is_find is_count is_delete e = made_bounded (λ _. ping) (read_ping t ps) c (λ x h. tt) e
-    at false true is_find is_count is_delete e = made_bounded insert (read_insert t ps) c (insert_bounded t ps) e
-    at false false true is_count is_delete e = made_bounded find (read_find t ps) c (find_bounded t ps) e
-    at false false false true is_delete e = made_bounded count (read_count t ps) c (λ x h. tt) e
-    at false false false false true e = made_bounded delete (read_delete t ps) c (λ x h. tt) e
-    at false false false false false e = absurd cc
+    at : (is_ping is_insert is_find is_count is_delete is_update : Bool)
+        → (if is_ping then as_command (λ _. ping) (read_ping t ps) else (if is_insert then as_command insert (read_insert t ps) else (if is_find then as_command find (read_find t ps) else (if is_count then as_command count (read_count t ps) else (if is_delete then as_command delete (read_delete t ps) else (if is_update then as_command update (read_update_command t ps) else Err refusals.CommandNotFound)))))) ≡ Ok c → IsBounded c
+    at true is_insert is_find is_count is_delete is_update e = made_bounded (λ _. ping) (read_ping t ps) c (λ x h. tt) e
+    at false true is_find is_count is_delete is_update e = made_bounded insert (read_insert t ps) c (insert_bounded t ps) e
+    at false false true is_count is_delete is_update e = made_bounded find (read_find t ps) c (find_bounded t ps) e
+    at false false false true is_delete is_update e = made_bounded count (read_count t ps) c (λ x h. tt) e
+    at false false false false true is_update e = made_bounded delete (read_delete t ps) c (λ x h. tt) e
+    at false false false false false true e = made_bounded update (read_update_command t ps) c (update_bounded t ps) e
+    at false false false false false false e = absurd cc
 
 -- a reader that gives what was planned gives a bounded command
 pub gives-bounded : {X : Type 0} (view : X → Command) (planned : Result Command Refusal) (r : Result X Refusal) → Gives view planned r → ((c : Command) → planned ≡ Ok c → IsBounded c) → IfOk r (λ x. IsBounded (view x))

@@ -7,6 +7,7 @@ pub mod Insert
 pub mod Find
 pub mod Count
 pub mod Delete
+pub mod Update
 pub mod Command
 pub mod View
 pub mod OutcomeLaws

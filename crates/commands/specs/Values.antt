@@ -1,6 +1,6 @@
 -- The values that fields take.
-use Rattle.std.specs.Prelude.{ℕ, ℤ, pos, negsuc, List, Option, Some, None, Result, Ok, Err}
-use Rattle.bson.specs.Tree.{Tree, scalar, document, array, text, int32, int64, Pairs, Items}
+use Rattle.std.specs.Prelude.{ℕ, ℤ, pos, negsuc, Bool, List, Option, Some, None, Result, Ok, Err}
+use Rattle.bson.specs.Tree.{Tree, scalar, document, array, text, boolean, int32, int64, Pairs, Items}
 use Rattle.path.specs.Outcomes.{◌>>=◌, or_refused}
 use Rattle.path.specs.declared.refusal.Refusal.{Refusal}
 use Rattle.path.specs.declared.refusal.Refusal.TheVariants as refusals
@@ -17,12 +17,19 @@ abbrev pub pairs_of : Tree → Option Pairs
 pairs_of (document ps) = Some ps
 pairs_of other = None
 
+abbrev pub bool_of : Tree → Option Bool
+bool_of (scalar (boolean b)) = Some b
+bool_of other = None
+
 -- a value of another type is refused
 abbrev pub text_in : Tree → Result (List ℕ) Refusal
 text_in t = or_refused (text_of t) refusals.TypeMismatch
 
 abbrev pub document_in : Tree → Result Pairs Refusal
 document_in t = or_refused (pairs_of t) refusals.TypeMismatch
+
+abbrev pub bool_in : Tree → Result Bool Refusal
+bool_in t = or_refused (bool_of t) refusals.TypeMismatch
 
 -- a number that is not negative; a negative one is out of range
 abbrev pub count_of : ℤ → Result ℕ Refusal

@@ -7,10 +7,12 @@ use Rattle.commands.specs.Insert as inserts
 use Rattle.commands.specs.Find as finds
 use Rattle.commands.specs.Count as counts
 use Rattle.commands.specs.Delete as deletes
+use Rattle.commands.specs.Update as updates
 use Rattle.commands.specs.declared.insert.Insert.{Insert}
 use Rattle.commands.specs.declared.find.Find.{Find}
 use Rattle.commands.specs.declared.count.Count.{Count}
 use Rattle.commands.specs.declared.delete.Delete.{Delete}
+use Rattle.commands.specs.declared.updates.Update.{Update}
 use Rattle.commands.specs.declared.command.Command.{Command}
 use Rattle.commands.specs.declared.command.Command.TheVariants as cases
 
@@ -36,9 +38,13 @@ count_read c = record {
 abbrev pub delete_read : Delete → deletes.Delete
 delete_read c = record { namespace = string_bytes c.namespace; deletions = c.deletions.items }
 
+abbrev pub update_read : Update → updates.Update
+update_read c = record { namespace = string_bytes c.namespace; statements = c.statements.items }
+
 abbrev pub command_read : Command → commands.Command
 command_read cases.Ping = commands.ping
 command_read (cases.Insert c) = commands.insert (insert_read c)
 command_read (cases.Find c) = commands.find (find_read c)
 command_read (cases.Count c) = commands.count (count_read c)
 command_read (cases.Delete c) = commands.delete (delete_read c)
+command_read (cases.Update c) = commands.update (update_read c)

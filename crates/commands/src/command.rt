@@ -10,6 +10,7 @@ use crate::delete::{Delete, read_delete};
 use crate::find::{Find, read_find};
 use crate::insert::{Insert, read_insert};
 use crate::ping::read_ping;
+use crate::updates::{Update, read_update};
 use bson::Document;
 use path::Refusal;
 use std::alloc::Global;
@@ -22,6 +23,7 @@ pub enum Command<'a> {
     Find(Find),
     Count(Count),
     Delete(Delete),
+    Update(Update),
 }
 
 impl<'a> Command<'a> {
@@ -51,6 +53,8 @@ impl<'a> Command<'a> {
             Ok(Command::Count(read_count(alloc, value, rest)?))
         } else if name == "delete" {
             Ok(Command::Delete(read_delete(alloc, value, rest)?))
+        } else if name == "update" {
+            Ok(Command::Update(read_update(alloc, value, rest)?))
         } else {
             Err(Refusal::CommandNotFound)
         }

@@ -10,6 +10,7 @@ mod insert;
 mod names;
 mod ping;
 mod statements;
+mod updates;
 mod values;
 
 pub use command::Command;
@@ -17,3 +18,5 @@ pub use count::Count;
 pub use delete::{Delete, Deletion};
 pub use find::{Find, Query};
 pub use insert::Insert;
+pub use names::NAMESPACE_LIMIT;
+pub use updates::{Update, UpdateStatement};

@@ -11,7 +11,7 @@ use std::alloc::Global;
 /// The most bytes of a database's name.
 const DATABASE_LIMIT: usize = 63;
 /// The most bytes of a namespace.
-const NAMESPACE_LIMIT: usize = 255;
+pub const NAMESPACE_LIMIT: usize = 255;
 
 /// No database's name has this byte.
 fn is_bad_byte(byte: u8) -> bool

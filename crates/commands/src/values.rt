@@ -3,7 +3,7 @@
 ghost use Rattle.std.specs.Prelude.{◌≡◌};
 ghost use Rattle.bson.specs.View.{tree};
 ghost use Rattle.path.specs.View.{Gives};
-ghost use Rattle.commands.specs.Values.{text_in, count_in, document_in};
+ghost use Rattle.commands.specs.Values.{text_in, bool_in, count_in, document_in};
 
 use bson::{Document, Value};
 use path::Refusal;
@@ -14,6 +14,16 @@ pub(crate) fn text_in(value: &Value) -> Result<&str, Refusal>
 {
     match value {
         Value::String(text) => Ok(text.as_str()),
+        _ => Err(Refusal::TypeMismatch),
+    }
+}
+
+/// The boolean that a value is; `TypeMismatch` where it is none.
+pub(crate) fn bool_in(value: &Value) -> Result<bool, Refusal>
+    ensures { Gives (λ b. b) (bool_in (tree value.now)) result }
+{
+    match value {
+        Value::Bool(boolean) => Ok(*boolean),
         _ => Err(Refusal::TypeMismatch),
     }
 }

@@ -11,11 +11,12 @@ use Rattle.bson.specs.SizingLaws.{frame_of-length, pairs_size-pair}
 use Rattle.bson.specs.Spelling.{tree_bytes, pairs_bytes, frame_of}
 use Rattle.value_order.specs.KeyText.{tree_text}
 use Rattle.path.specs.Outcomes.{◌>>=◌, unless, or_refused}
-use Rattle.engine.specs.Documents.{refused_if, pairs_fault, without, first_pair, id_name, id_first, no_array, id_of, key_of, checked}
+use Rattle.engine.specs.Documents.{refused_if, key_of, checked}
+use Rattle.update.specs.Stored.{or_else, fault_if, pairs_fault, without, first_pair, id_name, id_first, no_array, id_of}
 use Rattle.engine.specs.Lawful.{IsStored}
 use Rattle.path.specs.declared.refusal.Refusal.{Refusal}
 use Rattle.path.specs.declared.refusal.Refusal.TheVariants as refusals
-use Rattle.engine.proofs.IdFirst.{pairs_levels-without}
+use Rattle.update.proofs.IdLemmas.{pairs_levels-without}
 
 -- ---- a document without a name, twice
 
@@ -131,7 +132,7 @@ of_key u t true e = absurd cc
 of_key u t false e = (cc, refl)
 
 passed : (large deep : Bool) (fault : Option Refusal) (id : Option Tree) (t : Tree)
-    → unless large refusals.BSONObjectTooLarge (unless deep refusals.BadValue (refused_if fault (keyed id))) ≡ Ok t → Passed large deep fault id t
+    → refused_if (or_else (fault_if large refusals.BSONObjectTooLarge) (fault_if deep refusals.BadValue)) (refused_if fault (keyed id)) ≡ Ok t → Passed large deep fault id t
 passed true deep fault id t e = absurd cc
 passed false true fault id t e = absurd cc
 passed false false (Some r) id t e = absurd cc

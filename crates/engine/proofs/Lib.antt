@@ -1,5 +1,4 @@
 pub mod Steps
-pub mod IdFirst
 pub mod Ordered
 pub mod Rewinding
 pub mod Checked
@@ -26,5 +25,6 @@ pub mod Located
 pub mod Growing
 pub mod Deleting
 pub mod Finding
+pub mod Applied
 pub mod ReadingLaws
 pub mod EmptyImage

@@ -8,7 +8,7 @@ use Rattle.path.specs.declared.refusal.Refusal.{Refusal}
 use Rattle.path.specs.declared.refusal.Refusal.TheVariants as refusals
 use Rattle.commands.specs.Find.{Find}
 use Rattle.commands.specs.Count.{Count}
-use Rattle.commands.specs.Command.{Command, ping, insert, find, count, delete, command_of}
+use Rattle.commands.specs.Command.{Command, ping, insert, find, count, delete, update, command_of}
 use Rattle.engine.specs.World.{World, Collection, documents_of}
 use Rattle.engine.specs.Cursors.{batch_of, cursor_reply, open_cursor, is_refused, next_cursor, first_batch}
 use Rattle.engine.specs.Find.{query_result, run_find}
@@ -51,6 +51,7 @@ module _ (w : World) (connection : ℕ) where
   ran (Ok ping) h = refl
   ran (Ok (insert c)) h = absurd h
   ran (Ok (delete c)) h = absurd h
+  ran (Ok (update c)) h = absurd h
   ran (Ok (count c)) h = counted c
   ran (Ok (find c)) h = found c
 

@@ -10,12 +10,13 @@ use Rattle.std.proofs.lemmas.Grind.{get_or-set_at}
 use Rattle.std.proofs.lemmas.List.{append-nil, get_or_default, get_or-set_other, set-set, set-get_or, length-set}
 use Rattle.std.proofs.lemmas.List.Edits.{length-insert, length-remove, get_or-insert_at}
 use Rattle.std.proofs.lemmas.Cmp.{nat_list_cmp_total}
-use Rattle.bson.specs.Tree.{Tree, Pairs}
+use Rattle.bson.specs.Tree.{Tree, Pairs, no_pairs}
 use Rattle.engine.specs.World.{Collection, documents_or_none, number_or, unused, with_documents}
 use Rattle.engine.specs.Lawful.{IsHeld, AreNamedApart}
 use Rattle.engine.specs.Places.{IsGap, IsMissing, by_name, collection_at, no_collection}
-use Rattle.engine.specs.Documents.{id_first, checked, place, insert_one}
-use Rattle.engine.specs.Progress.{Progress, IsProgress, without_document, undo, rewind, has_any, is_changed, turn_start_of, CanUndo, CanRewind, Extends, is_full, Stands, with_document}
+use Rattle.engine.specs.Documents.{checked, place, insert_one}
+use Rattle.update.specs.Stored.{id_first}
+use Rattle.engine.specs.Progress.{Progress, IsProgress, without_document, with_document_at, undo, rewind, has_any, is_changed, turn_start_of, CanUndo, CanRewind, Extends, is_full, Stands, with_document}
 use Rattle.path.specs.declared.refusal.Refusal.{Refusal}
 use Rattle.path.specs.declared.refusal.Refusal.TheVariants as refusals
 use Rattle.engine.specs.declared.collections.UndoEntry.{UndoEntry}
@@ -169,6 +170,39 @@ module _ (cs : List Collection) (at : ℕ) (left : List Pairs) (within : at < le
   pub apart-deleted : AreNamedApart cs → AreNamedApart (set cs at cut)
   apart-deleted h = apart_set cs at cut within refl h
 
+-- a document is put in the place of another
+module _ (cs : List Collection) (at place : ℕ) (d : Pairs) (within : at < length cs) (there : place < length (collection_at cs at).documents) where
+  abbrev pub changed : Collection
+  changed = with_document_at place d (collection_at cs at)
+
+  abbrev pub before_change : Pairs
+  before_change = get_or (collection_at cs at).documents place no_pairs
+
+  there-changed : collection_at (set cs at changed) at ≡ changed
+  there-changed = get_or-set_at cs at at changed no_collection refl within
+
+  documents_back : set (set (collection_at cs at).documents place d) place before_change ≡ (collection_at cs at).documents
+  documents_back = set-set (collection_at cs at).documents place d before_change ∙ set-get_or (collection_at cs at).documents place no_pairs
+
+  pub undo-changed : undo (entries.Changed at place before_change) (set cs at changed) ≡ cs
+  undo-changed =
+      ap (λ (c : Collection). set (set cs at changed) at (with_document_at place before_change c)) there-changed
+      ∙ set-set cs at changed (with_document_at place before_change changed)
+      ∙ ap (λ (ds : List Pairs). set cs at (record (collection_at cs at) { documents = ds })) documents_back
+      ∙ set-get_or cs at no_collection
+
+  pub CanUndo-changed : IsHeld (collection_at cs at) → CanUndo (entries.Changed at place before_change) (set cs at changed)
+  CanUndo-changed held =
+      let long : place < length changed.documents = omega (arith, length-set (collection_at cs at).documents place d, there) in
+      let back = subst (λ (ds : List Pairs). IsHeld (record (collection_at cs at) { documents = ds })) (sym documents_back) held in (
+        omega (arith, length-set cs at changed),
+        subst (λ (c : Collection). place < length c.documents) (sym there-changed) long,
+        subst (λ (c : Collection). IsHeld (with_document_at place before_change c)) (sym there-changed) back,
+      )
+
+  pub apart-changed : AreNamedApart cs → AreNamedApart (set cs at changed)
+  apart-changed h = apart_set cs at changed within refl h
+
 -- a collection is made
 module _ (cs : List Collection) (at : ℕ) (c : Collection) (gap : IsGap (by_name c.name) cs at) where
   pub undo-made : undo (entries.Made at) (insert cs at c) ≡ cs
@@ -185,10 +219,6 @@ module _ (cs : List Collection) (at : ℕ) (c : Collection) (gap : IsGap (by_nam
 pub with_refused : (c : Collection) (ps : Pairs) (e : Refusal) → checked ps ≡ Err e → with_document c ps ≡ Err e
 unfolding insert_one
 with_refused c ps e is = rw is refl
-
-pub with_there : (c : Collection) (ps : Pairs) (id : Tree) → checked ps ≡ Ok id → place id (id_first ps) c.documents ≡ None → with_document c ps ≡ Err refusals.DuplicateKey
-unfolding insert_one
-with_there c ps id is none = rw (is, none) refl
 
 pub with_placed : (c : Collection) (ps : Pairs) (id : Tree) (ds : List Pairs) → checked ps ≡ Ok id → place id (id_first ps) c.documents ≡ Some ds → with_document c ps ≡ Ok (record c { documents = ds })
 unfolding insert_one

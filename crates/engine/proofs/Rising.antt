@@ -24,7 +24,8 @@ use Rattle.value_order.proofs.KeyLaws.{texts_order}
 use Rattle.value_order.proofs.NumberLaws.{SortsAs-bytes}
 use Rattle.roots.specs.Entries.{Entry, IsFit, IsBelow, Ascend, AreAscending}
 use Rattle.engine.specs.World.{Collection}
-use Rattle.engine.specs.Documents.{id_name, key_of}
+use Rattle.engine.specs.Documents.{key_of}
+use Rattle.update.specs.Stored.{id_name}
 use Rattle.engine.specs.Refusals.{words}
 use Rattle.engine.specs.Lawful.{IsStored, IsRising, IsReadable, IsKept, IsLawfulState}
 use Rattle.engine.specs.Stored.{key_under, catalogue_entry, document_entry, documents_numbered, documents_to, database_entries}

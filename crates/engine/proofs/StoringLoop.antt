@@ -3,10 +3,12 @@ use Rattle.std.proofs.Common.{◌≡◌, ℕ, ◌+◌, ◌<◌, ◌≤◌, true,
 use Rattle.std.proofs.lemmas.List.{set-set, set-get_or, length-set, drop_all}
 use Rattle.bson.specs.Tree.{Pairs}
 use Rattle.engine.specs.World.{Collection, documents_of, with_documents, put_collection}
-use Rattle.path.specs.Outcomes.{◌>>=◌, unless}
-use Rattle.engine.specs.Documents.{insert_one, insert_all}
+use Rattle.path.specs.Outcomes.{◌>>=◌, unless, or_refused}
+use Rattle.engine.specs.Documents.{key_of, checked, place, insert_one, insert_all}
+use Rattle.update.specs.Stored.{id_first}
+use Rattle.engine.proofs.Checked.{keeps}
 use Rattle.engine.specs.Places.{collection_at, no_collection}
-use Rattle.engine.specs.Progress.{Progress, Extends, Stands, is_full, inserted, with_document}
+use Rattle.engine.specs.Progress.{Progress, Extends, Stands, is_full, inserted, placed_in, with_document}
 use Rattle.path.specs.declared.refusal.Refusal.{Refusal}
 use Rattle.path.specs.declared.refusal.Refusal.TheVariants as refusals
 use Rattle.engine.proofs.Rewinding.{Extends-refl, Extends-trans}
@@ -30,6 +32,14 @@ begins start at all within = record {
   numbered = refl;
   same = refl;
 }
+
+-- a document that passed is put in as it is stored
+pub stored_placed : (c : Collection) (ps d : Pairs) → checked ps ≡ Ok (key_of ps) → d ≡ id_first ps → with_document c ps ≡ placed_in c d
+unfolding insert_one
+stored_placed c ps d passed is =
+    let key : key_of ps ≡ key_of d = sym (keeps ps (key_of ps) passed).key ∙ ap key_of (sym is) in
+    let put : List Pairs → Result Collection Refusal = λ stored. Ok (record c { documents = stored }) in
+    rw passed (λ i. or_refused (place (key i) (sym is i) c.documents) refusals.DuplicateKey >>= put)
 
 record Done (c d : Collection) (ps : Pairs) : Type 0 where
   named : d.name ≡ c.name

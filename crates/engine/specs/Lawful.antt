@@ -12,7 +12,8 @@ use Rattle.bson.specs.TreeCode.{coded_pairs}
 use Rattle.bson.specs.Lawful.{pairs_levels, IsDocument}
 use Rattle.bson.specs.Spelling.{frame_of, pairs_bytes}
 use Rattle.engine.specs.World.{World, Collection, uses}
-use Rattle.engine.specs.Documents.{pairs_fault, id_first, id_of, key_of}
+use Rattle.engine.specs.Documents.{key_of}
+use Rattle.update.specs.Stored.{pairs_fault, id_first, id_of}
 
 -- A document that may be stored: within the limits, each name good, its `_id` first, with a key text within the limit.
 pub record IsStored (ps : Pairs) : Type 0 where

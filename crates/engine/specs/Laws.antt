@@ -6,7 +6,7 @@ use Rattle.engine.specs.World.{World, Collection, new_world}
 use Rattle.engine.specs.Lawful.{IsLawful}
 use Rattle.engine.specs.Durable.{Holds}
 use Rattle.path.specs.declared.refusal.Refusal.{Refusal}
-use Rattle.commands.specs.Command.{Command, ping, insert, find, count, delete, command_of}
+use Rattle.commands.specs.Command.{Command, ping, insert, find, count, delete, update, command_of}
 use Rattle.engine.specs.Step.{step, Answers, ForMemory}
 use Rattle.engine.specs.View.{IsSendable}
 
@@ -34,6 +34,7 @@ OnlyReads (Ok (find c)) = Unit {0}
 OnlyReads (Ok (count c)) = Unit {0}
 OnlyReads (Ok (insert c)) = ⊥
 OnlyReads (Ok (delete c)) = ⊥
+OnlyReads (Ok (update c)) = ⊥
 OnlyReads (Err e) = Unit {0}
 
 abbrev pub BodyOnlyReads : Result Pairs BsonFault → Type 0

@@ -6,10 +6,12 @@ pub mod Insert
 pub mod Find
 pub mod Count
 pub mod Delete
+pub mod Update
 pub mod Step
 pub mod Lawful
 pub mod Places
 pub mod Progress
+pub mod Updating
 pub mod View
 pub mod Laws
 pub mod Stored

@@ -5,8 +5,8 @@ use Rattle.std.specs.Coded.{Coded, code_by, coded×, coded⊎, coded_ℕ, coded_
 use Rattle.bson.specs.Tree.{Pairs}
 use Rattle.bson.specs.TreeCode.{coded_pairs}
 use Rattle.engine.specs.World.{Collection, find_collection, documents_of, with_documents, put_collection}
-use Rattle.path.specs.Outcomes.{◌>>=◌, unless}
-use Rattle.engine.specs.Documents.{insert_one, insert_all}
+use Rattle.path.specs.Outcomes.{◌>>=◌, unless, or_refused}
+use Rattle.engine.specs.Documents.{key_of, place, insert_one, insert_all}
 use Rattle.commands.specs.Delete.{Deletion}
 use Rattle.engine.specs.Delete.{after_deletions, deleted_in}
 use Rattle.engine.specs.Lawful.{IsHeld, AreNamedApart, collection_code}
@@ -20,12 +20,18 @@ use Rattle.engine.specs.declared.collections.UndoEntry.TheVariants as entries
 abbrev pub without_document : Collection → ℕ → Collection
 without_document c i = record c { documents = remove c.documents i }
 
+-- the collection with another document at a place
+abbrev pub with_document_at : ℕ → Pairs → Collection → Collection
+with_document_at i d c = record c { documents = slice_set c.documents i d }
+
 -- the collections as they were before a change
 abbrev pub undo : UndoEntry → List Collection → List Collection
 undo (entries.Made at) cs = remove cs at
 undo (entries.Stored at place) cs = slice_set cs at (without_document (collection_at cs at) place)
 undo (entries.Replaced at before) cs =
     slice_set cs at (record (collection_at cs at) { documents = before })
+undo (entries.Changed at place before) cs =
+    slice_set cs at (with_document_at place before (collection_at cs at))
 
 -- the collections as they were before these changes, of which the last is undone first
 abbrev pub rewind : List UndoEntry → List Collection → List Collection
@@ -39,6 +45,9 @@ CanUndo (entries.Stored at place) cs =
     (at < length cs) × (place < length (collection_at cs at).documents)
 CanUndo (entries.Replaced at before) cs =
     (at < length cs) × IsHeld (record (collection_at cs at) { documents = before })
+CanUndo (entries.Changed at place before) cs =
+    (at < length cs) × (place < length (collection_at cs at).documents)
+    × IsHeld (with_document_at place before (collection_at cs at))
 
 abbrev pub CanRewind : List UndoEntry → List Collection → Type 0
 CanRewind [] cs = Unit {0}
@@ -95,6 +104,12 @@ pub record Stands (name : List ℕ) (before now : List Collection) (at : ℕ) : 
 abbrev pub IsFull : List Collection → List ℕ → Refusal → Type 0
 IsFull cs name e = e ≢ refusals.OutOfMemory → (e ≡ refusals.TooMany) × (is_full cs name ≡ true)
 
+-- what a document that may be stored makes of a collection; its `_id` may be there
+abbrev pub placed_in : Collection → Pairs → Result Collection Refusal
+placed_in c d = do
+  stored ← or_refused (place (key_of d) d c.documents) refusals.DuplicateKey
+  Ok (record c { documents = stored })
+
 -- what a document makes of a collection, or its refusal
 abbrev pub with_document : Collection → Pairs → Result Collection Refusal
 with_document c ps = do
@@ -122,24 +137,31 @@ pub record LeavesAll (name : List ℕ) (deletions : List Deletion)
 
 -- ---- a progress is told apart by its collections and its changes
 
-abbrev pub change_sum : UndoEntry → ℕ ⊎ ((ℕ × ℕ) ⊎ (ℕ × List Pairs))
+abbrev pub ChangeSum : Type 0
+ChangeSum = ℕ ⊎ ((ℕ × ℕ) ⊎ ((ℕ × List Pairs) ⊎ ((ℕ × ℕ) × Pairs)))
+
+abbrev pub change_sum : UndoEntry → ChangeSum
 change_sum (entries.Made at) = inl at
 change_sum (entries.Stored at place) = inr (inl (at, place))
-change_sum (entries.Replaced at before) = inr (inr (at, before))
+change_sum (entries.Replaced at before) = inr (inr (inl (at, before)))
+change_sum (entries.Changed at place before) = inr (inr (inr ((at, place), before)))
 
-abbrev pub sum_change : ℕ ⊎ ((ℕ × ℕ) ⊎ (ℕ × List Pairs)) → UndoEntry
+abbrev pub sum_change : ChangeSum → UndoEntry
 sum_change (inl at) = entries.Made at
 sum_change (inr (inl x)) = entries.Stored x.0 x.1
-sum_change (inr (inr x)) = entries.Replaced x.0 x.1
+sum_change (inr (inr (inl x))) = entries.Replaced x.0 x.1
+sum_change (inr (inr (inr x))) = entries.Changed x.0.0 x.0.1 x.1
 
 pub sum_change-change_sum : (change : UndoEntry) → sum_change (change_sum change) ≡ change
 sum_change-change_sum (entries.Made at) = refl
 sum_change-change_sum (entries.Stored at place) = refl
 sum_change-change_sum (entries.Replaced at before) = refl
+sum_change-change_sum (entries.Changed at place before) = refl
 
 abbrev pub change_code : Coded UndoEntry
-change_code = code_by (ℕ ⊎ ((ℕ × ℕ) ⊎ (ℕ × List Pairs)))
-    (coded⊎ coded_ℕ (coded⊎ (coded× coded_ℕ coded_ℕ) (coded× coded_ℕ (coded_list coded_pairs))))
+change_code = code_by ChangeSum
+    (coded⊎ coded_ℕ (coded⊎ (coded× coded_ℕ coded_ℕ) (coded⊎
+    (coded× coded_ℕ (coded_list coded_pairs)) (coded× (coded× coded_ℕ coded_ℕ) coded_pairs))))
     change_sum sum_change sum_change-change_sum
 
 abbrev pub progress_code : Coded Progress

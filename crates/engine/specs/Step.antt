@@ -1,17 +1,18 @@
 -- What a command does to the world, and its reply.
 use Rattle.std.specs.Prelude.{◌≡◌, ◌⊎◌, ℕ, Result, Ok, Err}
-use Rattle.bson.specs.Tree.{Pairs, no_pairs}
+use Rattle.bson.specs.Tree.{Pairs, no_pairs, no_items}
 use Rattle.bson.specs.declared.fault.BsonFault.{BsonFault}
 use Rattle.path.specs.Outcomes.{◌>>=◌}
 use Rattle.path.specs.declared.refusal.Refusal.{Refusal}
 use Rattle.path.specs.declared.refusal.Refusal.TheVariants as refusals
-use Rattle.commands.specs.Command.{Command, ping, insert, find, count, delete, command_of}
+use Rattle.commands.specs.Command.{Command, ping, insert, find, count, delete, update, command_of}
 use Rattle.engine.specs.World.{World}
 use Rattle.engine.specs.Refusals.{refusal_reply, ok_reply}
 use Rattle.engine.specs.Insert.{run_insert}
 use Rattle.engine.specs.Find.{run_find}
 use Rattle.engine.specs.Count.{run_count}
 use Rattle.engine.specs.Delete.{run_delete}
+use Rattle.engine.specs.Update.{Updated, not_updated, run_statements, run_update}
 
 -- the table of what commands do
 abbrev pub run : World → ℕ → Command → Result (World × Pairs) Refusal
@@ -20,6 +21,7 @@ run world connection (insert c) = run_insert world c
 run world connection (find c) = run_find world connection c
 run world connection (count c) = run_count world c
 run world connection (delete c) = run_delete world c
+run world connection (update c) = run_update world c
 
 -- a refusal leaves the world as it was
 abbrev pub answered : World → Result (World × Pairs) Refusal → World × Pairs
@@ -53,3 +55,19 @@ Answers beside world connection body new reply =
 -- Want of memory may always be answered.
 abbrev pub ForMemory : Refusal → Type 0
 ForMemory refusal = refusal ≡ refusals.OutOfMemory
+
+-- A command that is an update changes no document and makes none, not even to change it back.
+abbrev pub ChangesNone : World → Command → Type 0
+ChangesNone world (update c) = (u : Updated)
+    → run_statements c.namespace 0 c.statements (not_updated world.collections) ≡ Ok u
+    → (u.modified ≡ 0) × (u.upserted ≡ no_items)
+ChangesNone world other = Unit {0}
+
+abbrev pub BodyChangesNone : World → Result Pairs BsonFault → Type 0
+BodyChangesNone world (Ok body) = (c : Command) → command_of body ≡ Ok c → ChangesNone world c
+BodyChangesNone world (Err fault) = Unit {0}
+
+-- The command wrote nothing: the collections are as they were, and no update changed one on the way there.
+abbrev pub WroteNothing : World → Result Pairs BsonFault → World → Type 0
+WroteNothing old body new =
+    (new.collections ≡ old.collections) × BodyChangesNone old body

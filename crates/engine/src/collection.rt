@@ -1,9 +1,11 @@
 //! A namespace with its documents.
 
-ghost use Rattle.std.specs.Prelude.{◌≡◌, [], ◌<◌, IfOk, OnOk, OnErr, All, IsUtf8, length, insert, remove};
+ghost use Rattle.std.specs.Prelude.{◌≡◌, [], ◌<◌, IfOk, OnOk, OnErr, All, IsUtf8, length, insert, remove, slice_index_or};
 ghost use Rattle.bson.specs.Lawful.{IsDocument};
 ghost use Rattle.engine.specs.Documents.{key_of};
 ghost use Rattle.engine.specs.Lawful.{IsStored, IsHeld};
+ghost use Rattle.bson.specs.Tree.{no_pairs};
+ghost use Rattle.engine.specs.Progress.{with_document_at};
 ghost use Rattle.engine.specs.Places.{IsPlace, IsGap, by_key};
 
 use crate::documents::compare_ids;
@@ -103,6 +105,17 @@ impl Collection {
         ensures { self.new ≡ record self.old { documents = remove self.old.documents place } }
     {
         let _document = self.documents.remove(place);
+    }
+
+    /// Puts a document in the place of another, which is handed out.
+    pub(crate) fn put_at(&mut self, place: usize, document: SharedDocument) -> SharedDocument
+        requires within { place < length self.old.documents }
+        requires held { IsHeld (with_document_at place document self.old) }
+        ensures new { self.new ≡ with_document_at place document self.old }
+        ensures old { result ≡ slice_index_or self.old.documents place no_pairs }
+        ensures held { IsHeld self.old }
+    {
+        std::mem::replace(&mut self.documents[place], document)
     }
 
     /// Gives it other documents, and hands out those that it had.

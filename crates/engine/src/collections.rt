@@ -11,7 +11,8 @@ ghost use Rattle.engine.specs.Stored.{documents_numbered};
 ghost use Rattle.engine.specs.Places.{IsNamedAt, collection_at};
 ghost use Rattle.path.specs.Outcomes.{Does};
 ghost use Rattle.commands.specs.View.{documents_at};
-ghost use Rattle.engine.specs.Progress.{turn_start_of, is_changed, Extends, Stands, IsFull, with_document, inserted, Leaves, LeavesAll};
+ghost use Rattle.bson.specs.Lawful.{IsDocument};
+ghost use Rattle.engine.specs.Progress.{turn_start_of, is_changed, Extends, Stands, IsFull, placed_in, with_document_at, with_document, inserted, Leaves, LeavesAll};
 
 use crate::MOST_COLLECTIONS;
 use crate::collection::Collection;
@@ -47,11 +48,25 @@ impl Model for Before {
 #[derive(Drop)]
 enum UndoEntry {
     /// A collection was made at this place.
-    Made { at: usize },
+    Made {
+        at: usize,
+    },
     /// A document was stored at a place of the collection at another.
-    Stored { at: usize, place: usize },
+    Stored {
+        at: usize,
+        place: usize,
+    },
     /// Documents of the collection at this place were deleted.
-    Replaced { at: usize, before: Before },
+    Replaced {
+        at: usize,
+        before: Before,
+    },
+    /// Another document was put at a place of the collection at another.
+    Changed {
+        at: usize,
+        place: usize,
+        before: SharedDocument,
+    },
 }
 
 /// What a delete leaves the collection at a place.
@@ -114,7 +129,7 @@ impl Collections {
     }
 
     /// Where the collection of a namespace stands, or where it would stand.
-    fn place_of(&self, namespace: &str) -> Result<usize, usize>
+    pub(crate) fn place_of(&self, namespace: &str) -> Result<usize, usize>
         ensures { IsNamedAt namespace.now self.now.now result }
     {
         self.list
@@ -161,7 +176,7 @@ impl Collections {
 
     /// Where the collection of a namespace stands, which is made where it is missing; `TooMany` where it
     /// would be one too many.
-    fn find_or_make(&mut self, namespace: &str) -> Result<usize, Refusal>
+    pub(crate) fn find_or_make(&mut self, namespace: &str) -> Result<usize, Refusal>
         ensures extends { Extends self.old self.new }
         ensures ok { IfOk result (λ at. Stands namespace.now self.old.now self.new.now at) }
         ensures err { IfErr result (λ e. IsFull self.old.now namespace.now e) }
@@ -214,6 +229,30 @@ impl Collections {
         Ok(Some(()))
     }
 
+    /// Puts a document that may be stored into the collection at a place; `DuplicateKey` where its `_id` is there.
+    pub(crate) fn put(&mut self, at: usize, document: Document) -> Result<(), Refusal>
+        requires within { at < length self.old.now }
+        requires stored { IsStored document }
+        requires readable { IsDocument document }
+        ensures extends { Extends self.old self.new }
+        ensures does { Does (placed_in (collection_at self.old.now at) document)
+            (collection_at self.new.now at) result }
+        ensures ok { OnOk result
+            (self.new.now ≡ slice_set self.old.now at (collection_at self.new.now at)) }
+    {
+        let alloc = *self.list.allocator();
+        self.changes.reserve(1)?;
+        let collection = &mut self.list[at];
+        match collection.place_of(&document) {
+            Ok(_) => Err(Refusal::DuplicateKey),
+            Err(place) => {
+                collection.insert(place, SharedDocument::new(alloc, document)?)?;
+                self.changes.push(UndoEntry::Stored { at, place }).unwrap();
+                Ok(())
+            }
+        }
+    }
+
     /// Stores a document in the collection at a place; the first refusal of the document otherwise, or
     /// `DuplicateKey`.
     pub(crate) fn store(&mut self, at: usize, document: &Document) -> Result<(), Refusal>
@@ -226,16 +265,7 @@ impl Collections {
     {
         let alloc = *self.list.allocator();
         let document = stored(alloc, document)?;
-        self.changes.reserve(1)?;
-        let collection = &mut self.list[at];
-        match collection.place_of(&document) {
-            Ok(_) => Err(Refusal::DuplicateKey),
-            Err(place) => {
-                collection.insert(place, SharedDocument::new(alloc, document)?)?;
-                self.changes.push(UndoEntry::Stored { at, place }).unwrap();
-                Ok(())
-            }
-        }
+        self.put(at, document)
     }
 
     /// Stores documents in a collection, up to the first that is refused.
@@ -249,6 +279,43 @@ impl Collections {
             self.store(at, document)?;
         }
         Ok(())
+    }
+
+    /// Puts another document at a place of the collection at another. An `Err` leaves all as it was.
+    pub(crate) fn change(
+        &mut self,
+        at: usize,
+        place: usize,
+        document: Document,
+    ) -> Result<(), NoMemory>
+        requires within { at < length self.old.now }
+        requires there { place < length (collection_at self.old.now at).documents }
+        requires held { IsHeld (with_document_at place document (collection_at self.old.now at)) }
+        ensures extends { Extends self.old self.new }
+        ensures ok { OnOk result (self.new.now ≡ slice_set self.old.now at
+            (with_document_at place document (collection_at self.old.now at))) }
+        ensures err { OnErr result (self.new ≡ self.old) }
+    {
+        let document = SharedDocument::new(*self.list.allocator(), document)?;
+        self.changes.reserve(1)?;
+        let collection = &mut self.list[at];
+        let before = collection.put_at(place, document);
+        self.changes
+            .push(UndoEntry::Changed { at, place, before })
+            .unwrap();
+        Ok(())
+    }
+
+    /// How many changes the turn has made.
+    pub(crate) fn mark(&self) -> usize
+        ensures { result ≡ length self.now.changes }
+    {
+        self.changes.len()
+    }
+
+    /// Where its memory comes from.
+    pub(crate) fn alloc(&self) -> Global {
+        *self.list.allocator()
     }
 
     /// Takes back the last change.
@@ -269,12 +336,16 @@ impl Collections {
                 let collection = &mut self.list[at];
                 let _documents = collection.replace(before.documents);
             }
+            Some(UndoEntry::Changed { at, place, before }) => {
+                let collection = &mut self.list[at];
+                let _document = collection.put_at(place, before);
+            }
             None => unreachable!(),
         }
     }
 
     /// Takes back the changes after so many.
-    fn undo_to(&mut self, mark: usize)
+    pub(crate) fn undo_to(&mut self, mark: usize)
         requires { mark ≤ length self.old.changes }
         ensures extends { Extends self.new self.old }
         ensures len { length self.new.changes ≡ mark }
@@ -292,7 +363,7 @@ impl Collections {
         ensures turn_start { turn_start_of self.new ≡ turn_start_of self.old }
         ensures err { OnErr result (self.new ≡ self.old) }
     {
-        let mark = self.changes.len();
+        let mark = self.mark();
         let outcome = self.store_each(namespace, documents);
         if outcome.is_err() {
             self.undo_to(mark);

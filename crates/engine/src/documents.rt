@@ -1,74 +1,25 @@
 //! What is asked of a document that is to be stored, and how it is stored.
 
-ghost use Rattle.std.specs.Prelude.{◌≡◌, ◌≢◌, Ok, Err, Some, None, IfOk, MatchResult, ◌≤◌, ◌<◌, length, option_map};
+ghost use Rattle.std.specs.Prelude.{◌≡◌, ◌≢◌, Ok, Err, IfOk, MatchResult, ◌≤◌, ◌<◌, length};
 ghost use Rattle.bson.specs.Lawful.{IsDocument};
 ghost use Rattle.bson.specs.Tree.{scalar, null};
-ghost use Rattle.bson.specs.View.{tree, pairs_of, items_of};
-ghost use Rattle.engine.specs.Documents.{name_fault, tree_fault, pairs_fault, items_fault, id_first, id_of, key_of, checked};
+ghost use Rattle.bson.specs.View.{tree};
+ghost use Rattle.engine.specs.Documents.{key_of, checked};
+ghost use Rattle.update.specs.Stored.{id_first};
 ghost use Rattle.value_order.specs.Order.{compare};
 ghost use Rattle.value_order.specs.KeyText.{tree_text};
 ghost use Rattle.value_order.specs.declared.TheConstants.{KEY_LIMIT};
 
-use crate::{STORED_LEVELS, STORED_LIMIT};
-use bson::{Document, NoMemory, Pair, Text, Value};
+use crate::STORED_LIMIT;
+use bson::{Document, Value};
 use path::Refusal;
 use std::alloc::Global;
 use std::cmp::Ordering;
+use update::{id_first, id_of, limits_fault, names_fault};
 use value_order::{Direction, KeyFault, KeyPart, compare, key_text};
 
 /// The name of the field that documents are found by, which is stored first.
 const ID: &str = "_id";
-
-/// Why a name is not stored, if it is not.
-fn name_fault(name: &str) -> Option<Refusal>
-    ensures { result ≡ name_fault name.now }
-{
-    match name.as_bytes() {
-        [] => Some(Refusal::EmptyFieldName),
-        [b'$', ..] => Some(Refusal::DollarPrefixedFieldName),
-        bytes if bytes.contains(&b'.') => Some(Refusal::DottedFieldName),
-        _ => None,
-    }
-}
-
-#[cycle(names)]
-fn value_fault(value: &Value) -> Option<Refusal>
-    ensures { result ≡ tree_fault (tree value.now) }
-{
-    match value {
-        Value::Document(document) => pairs_fault(document.pairs()),
-        Value::Array(array) => items_fault(array.items()),
-        _ => None,
-    }
-}
-
-/// Why the first name from the left that is not stored is not, at any depth.
-#[cycle(names)]
-fn pairs_fault(pairs: &[Pair]) -> Option<Refusal>
-    ensures { result ≡ pairs_fault (pairs_of pairs.now) }
-{
-    'pairs: for pair in pairs {
-        if let Some(refusal) = name_fault(pair.name.as_str()) {
-            return Some(refusal);
-        }
-        if let Some(refusal) = value_fault(&pair.value) {
-            return Some(refusal);
-        }
-    }
-    None
-}
-
-#[cycle(names)]
-fn items_fault(items: &[Value]) -> Option<Refusal>
-    ensures { result ≡ items_fault (items_of items.now) }
-{
-    'items: for item in items {
-        if let Some(refusal) = value_fault(item) {
-            return Some(refusal);
-        }
-    }
-    None
-}
 
 /// The `_id` of a document, or null in its place.
 fn id_or<'a>(document: &'a Document, none: &'a Value) -> &'a Value
@@ -90,7 +41,7 @@ pub(crate) fn compare_ids(a: &Document, b: &Document) -> Ordering
 }
 
 /// Refuses an `_id` whose key text is too long. Those of a fixed length aren't.
-fn check_key(alloc: Global, id: &Value) -> Result<(), Refusal>
+pub(crate) fn check_key(alloc: Global, id: &Value) -> Result<(), Refusal>
     ensures { MatchResult result
         (λ _. length (tree_text (tree id.now)) ≤ KEY_LIMIT)
         (λ e. e ≢ Refusal.OutOfMemory
@@ -114,42 +65,11 @@ fn check_key(alloc: Global, id: &Value) -> Result<(), Refusal>
     }
 }
 
-/// The `_id` of a document, where it has one that may be stored.
-pub(crate) fn id_of(document: &Document) -> Option<&Value>
-    ensures { option_map (λ v. tree v.now) result ≡ id_of document.now }
-{
-    match document.get(ID) {
-        Some(Value::Array(_)) => None,
-        Some(id) => Some(id),
-        None => None,
-    }
-}
-
-/// A copy with `_id` first.
-fn copy_id_first(alloc: Global, document: &Document) -> Result<Document, NoMemory>
-    ensures { IfOk result (λ d. d ≡ id_first document.now) }
-{
-    let mut pairs = Vec::with_capacity(alloc, document.len())?;
-    if let Some(id) = document.get(ID) {
-        let name = Text::from_str(alloc, ID)?;
-        let value = id.copy()?;
-        pairs.push(Pair { name, value })?;
-    }
-    'pairs: for pair in document.pairs() {
-        if ID != pair.name.as_str() {
-            let name = pair.name.copy()?;
-            let value = pair.value.copy()?;
-            pairs.push(Pair { name, value })?;
-        }
-    }
-    Ok(Document::from_pairs(pairs))
-}
-
 /// The document as it is stored.
 ///
-/// The first of these refusals: `BSONObjectTooLarge` over `STORED_LIMIT` bytes, `BadValue` over
-/// `STORED_LEVELS` levels, a name as `name_fault` judges it, `BadValue` where `_id` is missing or an array,
-/// `KeyTooLong` where its key text has more than 500 bytes.
+/// The first of these refusals: `BSONObjectTooLarge` over `STORED_LIMIT` bytes, `BadValue` over 90 levels, a name as
+/// `names_fault` judges it, `BadValue` where `_id` is missing or an array, `KeyTooLong` where its key text has more than
+/// 500 bytes.
 #[tactic(auto, unfolding(crate::specs::Documents::checked))]
 pub(crate) fn stored(alloc: Global, document: &Document) -> Result<Document, Refusal>
     ensures checked { MatchResult result
@@ -157,19 +77,17 @@ pub(crate) fn stored(alloc: Global, document: &Document) -> Result<Document, Ref
         (λ e. e ≢ Refusal.OutOfMemory → checked document.now ≡ Err e) }
     ensures readable { IfOk result (λ d. IsDocument d) }
 {
-    if STORED_LIMIT < document.encoded_len() {
-        return Err(Refusal::BSONObjectTooLarge);
+    if let Some(refusal) = limits_fault(document, STORED_LIMIT) {
+        return Err(refusal);
     }
-    if STORED_LEVELS < document.levels() {
-        return Err(Refusal::BadValue);
-    }
-    let copy = copy_id_first(alloc, document)?;
-    if let Some(refusal) = pairs_fault(copy.pairs()) {
+    let copy = id_first(document.copy()?)?;
+    if let Some(refusal) = names_fault(&copy) {
         return Err(refusal);
     }
     let Some(id) = id_of(document) else {
         return Err(Refusal::BadValue);
     };
     check_key(alloc, id)?;
+    let _levels = copy.levels();
     Ok(copy)
 }

@@ -9,8 +9,8 @@ ghost use Rattle.roots.specs.Store as stores;
 ghost use Rattle.engine.specs.Committing.{Saves, Commits};
 ghost use Rattle.engine.specs.Opening.{IsOpened, IsRefused};
 ghost use Rattle.engine.specs.World.{Collection, after_commit, after_undo, forget};
-ghost use Rattle.engine.specs.Step.{Answers, ForMemory, read_and_run};
 ghost use Rattle.engine.specs.View.{world, turn_start, reply_of, answer_of, outcome_of, IsSendable, Runs};
+ghost use Rattle.engine.specs.Step.{Answers, ForMemory, WroteNothing, read_and_run};
 ghost use Rattle.engine.specs.Durable.{Holds, disk_history, has_changes, is_stopped, IsRunning, store_of, IsSound, HasNoRoom, full_takes_of};
 
 use crate::FIRST_BATCH;
@@ -98,7 +98,7 @@ impl<D: Disk> Engine<D> {
         ensures runs { Runs (world self.old) (read_and_run (world self.old) connection body.now)
             (world self.new) (outcome_of result) }
         ensures turn_start { turn_start self.new ≡ turn_start self.old }
-        ensures has_changes { (world self.new).collections ≡ (world self.old).collections
+        ensures has_changes { WroteNothing (world self.old) (Ok body.now) (world self.new)
             → has_changes self.new ≡ has_changes self.old }
         ensures sendable { IfOk result (λ a. IsSendable (answer_of a)) }
     {
@@ -113,6 +113,7 @@ impl<D: Disk> Engine<D> {
                 built(self.count(c.namespace.as_str(), &c.filter, c.skip, c.limit))
             }
             Command::Delete(c) => built(self.delete(c.namespace.as_str(), &c.deletions)),
+            Command::Update(c) => built(self.update(c.namespace.as_str(), &c.statements)),
         }
     }
 
@@ -127,7 +128,7 @@ impl<D: Disk> Engine<D> {
         ensures answers { Answers ForMemory (world self.old) connection (Ok body.now)
             (world self.new) (reply_of result) }
         ensures turn_start { turn_start self.new ≡ turn_start self.old }
-        ensures has_changes { (world self.new).collections ≡ (world self.old).collections
+        ensures has_changes { WroteNothing (world self.old) (Ok body.now) (world self.new)
             → has_changes self.new ≡ has_changes self.old }
         ensures sendable { IsSendable (reply_of result) }
     {

@@ -10,15 +10,15 @@ ghost use Rattle.engine.specs.Lawful.{IsStored, IsReadable, IsKept, IsLawfulStat
 ghost use Rattle.engine.specs.Refusals.{words};
 ghost use Rattle.engine.specs.Stored.{key_under, catalogue_value, catalogue_entry, document_entry, documents_numbered, documents_to, database_entries};
 
+use crate::MOST_COLLECTIONS;
 use crate::collection::Collection;
 use crate::collections::Collections;
-use crate::documents::id_of;
 use crate::reply::put;
 use crate::shared_document::SharedDocument;
-use crate::{MOST_COLLECTIONS, NAMESPACE_LIMIT, STORED_LIMIT};
 use bson::{Array, Document, EncodeFault, NoMemory, Text, Value, encode};
 use roots::EntryList;
 use std::alloc::{AllocError, Global};
+use update::id_of;
 use value_order::group_text;
 
 /// The key of a text under the number of a collection, or 0 for the catalogue.
@@ -33,8 +33,8 @@ fn key_under(alloc: Global, number: u32, text: &[u8]) -> Result<Vec<u8>, NoMemor
 }
 
 /// The bytes of a document that is no larger than a stored one.
-fn spelling(alloc: Global, document: &Document) -> Result<Vec<u8>, NoMemory>
-    requires { length (frame_of (pairs_bytes document.now)) ≤ STORED_LIMIT }
+pub(crate) fn spelling(alloc: Global, document: &Document) -> Result<Vec<u8>, NoMemory>
+    requires { length (frame_of (pairs_bytes document.now)) ≤ 65535 }
     ensures { IfOk result (λ bytes. Spells bytes.items document.now) }
 {
     match encode(alloc, document) {

@@ -18,6 +18,7 @@ mod loading;
 mod refusal;
 mod reply;
 mod shared_document;
+mod updates;
 
 pub use connection::{CONNECTIONS, ConnId};
 pub use engine::{Engine, Reply};
@@ -26,13 +27,7 @@ pub use refusal::body_refusal;
 pub use reply::{Answer, full_bytes, out_of_memory_bytes, refusal_document};
 
 /// The most bytes of a stored document.
-pub const STORED_LIMIT: usize = 65_535;
-/// The most levels of a stored document.
-pub const STORED_LEVELS: u32 = 90;
-/// The most documents in one command.
-pub const MOST_STATEMENTS: usize = 1_000;
-/// The most bytes of a namespace.
-pub const NAMESPACE_LIMIT: usize = 255;
+pub const STORED_LIMIT: u32 = 65_535;
 /// The most bytes of the array of a batch.
 pub const BATCH_LIMIT: usize = 900_000;
 /// The most bytes of a reply: those of a batch, a namespace and the names about them.

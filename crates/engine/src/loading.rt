@@ -14,10 +14,11 @@ ghost use Rattle.engine.specs.Refusals.{words};
 ghost use Rattle.engine.specs.Stored.{key_under, catalogue_value, database_entries};
 ghost use Rattle.engine.specs.Loading.{IsReadAs, IsNext, IsOfBytes, IsLoading, unescaped, Adds, AddsEntry, AddsDocument, Loads};
 
+use crate::MOST_COLLECTIONS;
 use crate::collections::Collections;
 use crate::image::image_of;
-use crate::{MOST_COLLECTIONS, NAMESPACE_LIMIT};
 use bson::{BsonFault, Document, NoMemory, Value, decode};
+use commands::NAMESPACE_LIMIT;
 use path::Refusal;
 use roots::{EntryList, OpenFault, split_entry};
 use std::alloc::Global;

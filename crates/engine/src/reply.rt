@@ -2,7 +2,7 @@
 
 ghost use Rattle.std.specs.Prelude.{◌≡◌, ◌==◌, ◌≤◌, None, OnOk, IfOk, codes, false};
 ghost use Rattle.std.specs.List.{list_any};
-ghost use Rattle.bson.specs.Tree.{pair, no_pairs, append};
+ghost use Rattle.bson.specs.Tree.{pair, no_pairs, append, append_items, item, no_items};
 ghost use Rattle.bson.specs.View.{tree};
 ghost use Rattle.bson.specs.Lookup.{lookup};
 ghost use Rattle.bson.specs.Spelling.{frame_of, pairs_bytes};
@@ -10,8 +10,7 @@ ghost use Rattle.bson.specs.Lawful.{levels};
 ghost use Rattle.engine.specs.View.{outcome_of};
 ghost use Rattle.engine.specs.Refusals.{int, total, words, ok_reply, refusal_reply};
 
-use crate::MOST_STATEMENTS;
-use bson::{BuildFault, Document, NoMemory, SpelledDocument, Text, Value};
+use bson::{Array, BuildFault, Document, NoMemory, SpelledDocument, Text, Value};
 use path::Refusal;
 use std::alloc::{AllocError, Global};
 
@@ -54,6 +53,18 @@ pub(crate) fn put(reply: &mut Document, name: &str, value: Value) -> Result<(), 
     }
 }
 
+/// Adds an item to an array of a reply, which is not nested too deep, so only memory can be wanting.
+pub(crate) fn add(array: &mut Array, value: Value) -> Result<(), NoMemory>
+    requires { levels (tree value) ≤ 98 }
+    ensures { OnOk result (array.new ≡ append_items array.old (item (tree value) no_items)) }
+{
+    match array.push(value) {
+        Ok(()) => Ok(()),
+        Err(BuildFault::Deep) => unreachable!("it is flat"),
+        Err(_) => Err(AllocError),
+    }
+}
+
 /// A text as a value.
 fn text_value(alloc: Global, text: &str) -> Result<Value, NoMemory>
     ensures { IfOk result (λ v. tree v ≡ words text.now) }
@@ -62,7 +73,7 @@ fn text_value(alloc: Global, text: &str) -> Result<Value, NoMemory>
 }
 
 /// Ends the reply of a command that was done.
-fn done(mut reply: Document) -> Result<Document, NoMemory>
+pub(crate) fn done(mut reply: Document) -> Result<Document, NoMemory>
     requires { lookup reply (codes "ok") ≡ None }
     ensures { IfOk result (λ d. d ≡ ok_reply reply) }
 {
@@ -79,7 +90,7 @@ pub(crate) fn ping_reply(alloc: Global) -> Result<Document, NoMemory>
 
 /// The reply of an insert of so many documents.
 pub(crate) fn insert_reply(alloc: Global, count: usize) -> Result<Document, NoMemory>
-    requires { count ≤ MOST_STATEMENTS }
+    requires { count ≤ 1000 }
     ensures { IfOk result (λ d. d ≡ ok_reply (pair (codes "n") (int count) no_pairs)) }
 {
     let mut reply = Document::new(alloc);

@@ -15,3 +15,4 @@ pub mod Laws
 pub mod UpdateLaws
 pub mod RefusalLaws
 pub mod View
+pub mod UpdateCode

@@ -1,4 +1,4 @@
-use Rattle.std.proofs.Common.{rules, ◌≡◌, length, arith, ap}
+use Rattle.std.proofs.Common.{rules, ◌≡◌, length, ap, ◌∙◌}
 use Rattle.engine.specs.Progress.{Progress, turn_start_of}
 use Rattle.engine.proofs.Rewinding.{Extends-same, turn_start-extends}
 use Rattle.engine.proofs.collections.Collections.insert.Goals as goal
@@ -6,8 +6,7 @@ use Rattle.engine.proofs.collections.Collections.insert.Goals.{After-undo_to}
 
 taken_back : (c : After-undo_to) → c.undo_to.new.self ≡ c.args.self.now
 taken_back c =
-    let opened = ap (λ (p : Progress). length p.changes) c.self.view_is in
-    let len : length c.undo_to.new.self.changes ≡ length c.args.self.now.changes = omega (arith, opened, c.undo_to.ensures.len, c.len-mark.ensures, c.self.inside.changes.ok) in
+    let len : length c.undo_to.new.self.changes ≡ length c.args.self.now.changes = c.undo_to.ensures.len ∙ c.mark.ensures in
     Extends-same c.undo_to.new.self c.args.self.now c.store_each-outcome.new.self c.undo_to.ensures.extends c.store_each-outcome.ensures.extends len
 
 pub returns-then-is_err-clause-turn_start : goal.returns-then-is_err-clause-turn_start

@@ -7,7 +7,7 @@ use Rattle.bson.specs.Tree.{Pairs}
 use Rattle.engine.specs.World.{Collection}
 use Rattle.engine.specs.Lawful.{IsHeld}
 use Rattle.engine.specs.Places.{collection_at}
-use Rattle.engine.specs.Progress.{IsProgress, without_document}
+use Rattle.engine.specs.Progress.{IsProgress, without_document, with_document_at}
 use Rattle.engine.specs.declared.collections.UndoEntry.{UndoEntry}
 use Rattle.engine.specs.declared.collections.UndoEntry.TheVariants as entries
 use Rattle.engine.proofs.Rewinding.{CanRewind-last, at_place, apart_set}
@@ -83,5 +83,42 @@ invariant_of-self-in-Some-Replaced c =
     ∙ ap (λ (ds : List Pairs). record (collection_at cs at) { documents = ds }) c.before-in-Some-Replaced.view_is in
     subst (λ (x : Collection). IsProgress (record { now = set cs at x; changes = c.pop.new.self.items })) (sym new) (record {
       apart = apart_set cs at back h.0.0 refl c.self.invariant.apart;
+      undoable = h.1;
+    })
+
+pub index_mut-collection-requires-in-Some-Changed : goal.index_mut-collection-requires-in-Some-Changed
+index_mut-collection-requires-in-Some-Changed c =
+    let e = c.in-Some-Changed in
+    let popped = e.ensures.items ∙ ap (λ (x : UndoEntry). c.pop.new.self.items ++ x ∷ []) e.field-0-is in
+    let h = CanRewind-last c.self.inside.changes.items c.pop.new.self.items (entries.Changed e.at e.place e.before) c.self.inside.list.items popped c.self.invariant.undoable in
+    omega (arith, h.0.0, c.self.inside.list.ok)
+
+pub put_at-document-requires-clause-within : goal.put_at-document-requires-clause-within
+put_at-document-requires-clause-within c =
+    let e = c.in-Some-Changed in
+    let popped = e.ensures.items ∙ ap (λ (x : UndoEntry). c.pop.new.self.items ++ x ∷ []) e.field-0-is in
+    let h = CanRewind-last c.self.inside.changes.items c.pop.new.self.items (entries.Changed e.at e.place e.before) c.self.inside.list.items popped c.self.invariant.undoable in
+    let is = at_place c.self.inside.list.items e.at c.index_mut-collection-in-Some-Changed.result.now h.0.0 c.index_mut-collection-in-Some-Changed.ensures.value in
+    subst (λ (x : Collection). e.place < length x.documents) (sym is) h.0.1
+
+pub put_at-document-requires-clause-held : goal.put_at-document-requires-clause-held
+put_at-document-requires-clause-held c =
+    let e = c.in-Some-Changed in
+    let popped = e.ensures.items ∙ ap (λ (x : UndoEntry). c.pop.new.self.items ++ x ∷ []) e.field-0-is in
+    let h = CanRewind-last c.self.inside.changes.items c.pop.new.self.items (entries.Changed e.at e.place e.before) c.self.inside.list.items popped c.self.invariant.undoable in
+    let is = at_place c.self.inside.list.items e.at c.index_mut-collection-in-Some-Changed.result.now h.0.0 c.index_mut-collection-in-Some-Changed.ensures.value in
+    subst (λ (x : Collection). IsHeld (with_document_at e.place e.before x)) (sym is) h.0.2
+
+pub invariant_of-self-in-Some-Changed : goal.invariant_of-self-in-Some-Changed
+invariant_of-self-in-Some-Changed c =
+    let e = c.in-Some-Changed in
+    let cs = c.self.inside.list.items in
+    let popped = e.ensures.items ∙ ap (λ (x : UndoEntry). c.pop.new.self.items ++ x ∷ []) e.field-0-is in
+    let h = CanRewind-last c.self.inside.changes.items c.pop.new.self.items (entries.Changed e.at e.place e.before) cs popped c.self.invariant.undoable in
+    let is = at_place cs e.at c.index_mut-collection-in-Some-Changed.result.now h.0.0 c.index_mut-collection-in-Some-Changed.ensures.value in
+    let back : Collection = with_document_at e.place e.before (collection_at cs e.at) in
+    let new : c.put_at-document.new.self ≡ back = c.put_at-document.ensures.new ∙ ap (λ (x : Collection). with_document_at e.place e.before x) is in
+    subst (λ (x : Collection). IsProgress (record { now = set cs e.at x; changes = c.pop.new.self.items })) (sym new) (record {
+      apart = apart_set cs e.at back h.0.0 refl c.self.invariant.apart;
       undoable = h.1;
     })

@@ -1,0 +1,129 @@
+-- What an update makes of a document may be stored, and keeps its `_id`.
+use Rattle.std.proofs.Common.{◌≡◌, ℕ, suc, ◌<◌, ◌≤◌, List, [], ◌++◌, length, get_or, set, true, false, Option, Some, None, Result, Ok, Err, refl, sym, ap, subst, ◌∙◌, arith, inl, inr}
+use Rattle.std.specs.Prelude.{nat_lt, option_and_then, unwrap_or}
+use Rattle.std.specs.Str.{bytes_eq}
+use Rattle.std.specs.declared.cmp.Ordering.TheVariants as orders
+use Rattle.std.proofs.lemmas.Bool.{cases_eq, ltb-false}
+use Rattle.std.proofs.lemmas.Grind.{get_or-set_at}
+use Rattle.std.proofs.lemmas.List.{get_or_default, get_or-set_other, length-set}
+use Rattle.std.proofs.lemmas.List.Elements.{All-set}
+use Rattle.std.proofs.lemmas.Slice.Eq.{bytes_eq-Decides}
+use Rattle.bson.specs.Tree.{Tree, scalar, null, document, array, Pairs, no_pairs}
+use Rattle.bson.specs.Lookup.{lookup}
+use Rattle.bson.specs.Lawful.{pairs_levels, IsDocument}
+use Rattle.bson.specs.Spelling.{frame_of, pairs_bytes}
+use Rattle.bson.proofs.TreeLaws.{one_spelling}
+use Rattle.value_order.specs.Order.{compare}
+use Rattle.value_order.specs.KeyText.{tree_text}
+use Rattle.path.specs.EditLaws.{if_ok_value}
+use Rattle.path.specs.Outcomes.{◌>>=◌}
+use Rattle.path.specs.declared.refusal.Refusal.{Refusal}
+use Rattle.path.specs.declared.refusal.Refusal.TheVariants as refusals
+use Rattle.filter.specs.Condition.{Conditions}
+use Rattle.update.specs.Update.{Update as Change}
+use Rattle.update.specs.Stored.{id_name, pairs_fault, no_array, id_of, id_first, stored_fault, unless, judged}
+use Rattle.update.specs.Applying.{changed, apply}
+use Rattle.update.specs.Upserts.{base_of}
+use Rattle.update.specs.UpdateLaws.{keeps_id, gives_stored}
+use Rattle.commands.specs.OutcomeLaws.{step_of, passed}
+use Rattle.commands.specs.Update.{UpdateStatement, IsRead}
+use Rattle.engine.specs.World.{Collection}
+use Rattle.engine.specs.Documents.{key_of, key_checked}
+use Rattle.engine.specs.Lawful.{IsStored, IsHeld, IsRising}
+use Rattle.engine.specs.Progress.{with_document_at}
+use Rattle.engine.specs.Update.{spelled, upsert_document}
+use Rattle.engine.specs.Updating.{IsChange}
+use Rattle.engine.proofs.Checked.{id_first-id_first}
+use Rattle.engine.proofs.LoadingSteps.{document_spells}
+
+-- what an update gives, but for the length of its key text
+pub record Applied (ps : Pairs) : Type 0 where
+  pub size : length (frame_of (pairs_bytes ps)) ≤ 65535
+  pub depth : suc (pairs_levels ps) ≤ 90
+  pub names : pairs_fault ps ≡ None
+  pub key : id_of ps ≡ Some (key_of ps)
+  pub first : id_first ps ≡ ps
+
+id_is_first : (limit : ℕ) (x qs : Pairs) → judged limit x ≡ Ok qs → id_first x ≡ qs
+id_is_first limit x qs e = at (stored_fault limit (id_first x)) e
+  where
+    at : (o : Option Refusal) → unless o (id_first x) ≡ Ok qs → id_first x ≡ qs
+    at None e = cc
+    at (Some r) e = absurd cc
+
+pub applied : (u : Change) (ps qs : Pairs) → apply u 65535 ps ≡ Ok qs → Applied qs
+applied u ps qs e =
+    let s = gives_stored u 65535 ps qs e in
+    let got = if_ok_value (changed u ps) (judged 65535) qs e in
+    let same = id_is_first 65535 got.0 qs got.2 in
+    let id : id_of qs ≡ Some s.id = ap id_of s.id_stands_first ∙ s.no_list in
+    let key : key_of qs ≡ s.id = ap key_of s.id_stands_first in
+    record {
+      size = s.size;
+      depth = s.levels;
+      names = s.names;
+      key = id ∙ ap (λ (t : Tree). Some t) (sym key);
+      first = ap id_first (sym same) ∙ id_first-id_first got.0 ∙ same;
+    }
+
+pub may_be_stored : (ps : Pairs) → Applied ps → length (tree_text (key_of ps)) ≤ 500 → IsStored ps
+may_be_stored ps a short = record { size = a.size; depth = a.depth; names = a.names; key = a.key; short = short; first = a.first }
+
+-- ---- a stored document
+
+lookup_of : (ps : Pairs) (t : Tree) → id_of ps ≡ Some t → lookup ps id_name ≡ Some t
+lookup_of ps t e = at (lookup ps id_name) e
+  where
+    at : (o : Option Tree) → option_and_then no_array o ≡ Some t → o ≡ Some t
+    at None e = absurd cc
+    at (Some (array ts)) e = absurd cc
+    at (Some (scalar s)) e = e
+    at (Some (document qs)) e = e
+
+module _ (u : Change) (ps qs : Pairs) (read : IsRead u) (stored : IsStored ps) (e : apply u 65535 ps ≡ Ok qs) where
+  pub kept_key : key_of qs ≡ key_of ps
+  kept_key = ap (λ (o : Option Tree). unwrap_or o (scalar null)) (keeps_id read.source u 65535 ps qs (key_of ps) read.reads e (lookup_of ps (key_of ps) stored.key))
+
+  pub kept_stored : IsStored qs
+  kept_stored = may_be_stored qs (applied u ps qs e) (subst (λ (t : Tree). length (tree_text t) ≤ 500) (sym kept_key) stored.short)
+
+  pub is_change : IsDocument qs → bytes_eq (spelled ps) (spelled qs) ≡ false → IsChange u ps qs
+  is_change readable other = record { is = e; differs = other; stored = kept_stored; readable = readable; key = kept_key }
+
+  -- the same bytes are the same document
+  pub same_document : IsDocument ps → IsDocument qs → bytes_eq (spelled ps) (spelled qs) ≡ true → apply u 65535 ps ≡ Ok ps
+  same_document d f same =
+      let one = one_spelling (spelled ps) (spelled qs) [] [] ps qs (document_spells ps stored d) (document_spells qs kept_stored f) (ap (λ (bs : List ℕ). bs ++ []) ((bytes_eq-Decides (spelled ps) (spelled qs)).0 same)) in
+      e ∙ ap (λ (x : Pairs). Ok x) (sym one.0)
+
+-- ---- a document of a collection
+
+pub rising_set : (ds : List Pairs) (i : ℕ) (new : Pairs) → i < length ds → key_of new ≡ key_of (get_or ds i no_pairs) → IsRising ds → IsRising (set ds i new)
+rising_set ds i new within same up a b d lt below =
+    let long : b < length ds = omega (arith, length-set ds i new) in
+    subst (λ (t : Tree). compare t (key_of (get_or (set ds i new) b d)) ≡ orders.Less) (sym (keyed a d (omega arith)))
+    (subst (λ (t : Tree). compare (key_of (get_or ds a d)) t ≡ orders.Less) (sym (keyed b d long)) (up a b d lt long))
+  where
+    keyed : (k : ℕ) (d : Pairs) → k < length ds → key_of (get_or (set ds i new) k d) ≡ key_of (get_or ds k d)
+    keyed k d k_in =
+        elim (cases_eq k i) [
+          | inl e ↦ ap key_of (get_or-set_at ds i k new d e within) ∙ same ∙ ap key_of (get_or_default ds i no_pairs d within ∙ ap (λ (j : ℕ). get_or ds j d) (sym e))
+          | inr other ↦ ap key_of (get_or-set_other ds i k new d other)
+        ]
+
+pub held_changed : (c : Collection) (i : ℕ) (new : Pairs) → IsHeld c → i < length c.documents → key_of new ≡ key_of (get_or c.documents i no_pairs) → IsStored new → IsDocument new → IsHeld (with_document_at i new c)
+held_changed c i new h within key stored readable = record {
+  lawful = record { rising = rising_set c.documents i new within key h.lawful.rising; stored = All-set IsStored c.documents i new stored h.lawful.stored };
+  readable = record { name = h.readable.name; documents = All-set IsDocument c.documents i new readable h.readable.documents };
+}
+
+-- ---- a document that an upsert makes
+
+pub upserted_stored : (s : UpdateStatement) (d : Pairs) → upsert_document s ≡ Ok d → IsStored d
+upserted_stored s d e =
+    let b = step_of (base_of s.filter) _ d e in
+    let n = step_of (apply s.change 65535 b.0) _ d b.2 in
+    let k = step_of (key_checked (key_of n.0)) (λ key. let r : Result Pairs Refusal = Ok n.0 in r) d n.2 in
+    let p = passed (nat_lt 500 (length (tree_text (key_of n.0)))) refusals.KeyTooLong (Ok (key_of n.0)) k.0 k.1 in
+    let same : n.0 ≡ d = cc in
+    subst IsStored same (may_be_stored n.0 (applied s.change b.0 n.0 n.1) (ltb-false 500 (length (tree_text (key_of n.0))) p.0))

@@ -1,0 +1,70 @@
+use Rattle.std.proofs.Common.{rules, ◌≡◌, ◌<◌, ℕ, List, ◌∷◌, [], ◌++◌, length, get_or, sym, ap, subst, ◌∙◌, set}
+use Rattle.bson.specs.Tree.{Pairs, no_pairs}
+use Rattle.engine.specs.World.{Collection}
+use Rattle.engine.specs.Lawful.{IsHeld}
+use Rattle.engine.specs.Places.{collection_at}
+use Rattle.engine.specs.Progress.{Progress, IsProgress, Extends, with_document_at}
+use Rattle.engine.specs.declared.collections.UndoEntry.{UndoEntry}
+use Rattle.engine.specs.declared.collections.UndoEntry.TheVariants as entries
+use Rattle.engine.proofs.Rewinding.{at_place, changed, before_change, undo-changed, CanUndo-changed, apart-changed, IsProgress-push, Extends-push}
+use Rattle.engine.proofs.collections.Collections.change.Goals as goal
+use Rattle.engine.proofs.collections.Collections.change.Goals.{After-unwrap}
+
+module _ (c : After-unwrap) where
+  abbrev cs : List Collection
+  cs = c.self.inside.list.items
+
+  abbrev at : ℕ
+  at = c.args.at
+
+  abbrev new : Pairs
+  new = c.args.document
+
+  within : at < length cs
+  within = subst (λ (p : Progress). at < length p.now) (sym c.self.view_is) c.requires.within
+
+  is : c.index_mut-collection.result.now ≡ collection_at cs at
+  is = at_place cs at c.index_mut-collection.result.now within c.index_mut-collection.ensures.value
+
+  there : c.args.place < length (collection_at cs at).documents
+  there = subst (λ (p : Progress). c.args.place < length (collection_at p.now at).documents) (sym c.self.view_is) c.requires.there
+
+  abbrev next : Collection
+  next = changed cs at c.args.place new within there
+
+  is_next : c.put_at-before.new.self ≡ next
+  is_next =
+      c.put_at-before.ensures.new ∙ ap (λ (d : Pairs). with_document_at c.args.place d c.index_mut-collection.result.now) c.in_ok-document.ensures
+      ∙ ap (λ (x : Collection). with_document_at c.args.place new x) is
+
+  before : c.put_at-before.result ≡ before_change cs at c.args.place new within there
+  before = c.put_at-before.ensures.old ∙ ap (λ (x : Collection). get_or x.documents c.args.place no_pairs) is
+
+  held : IsHeld (collection_at cs at)
+  held = subst IsHeld is c.put_at-before.ensures.held
+
+  abbrev change : UndoEntry
+  change = entries.Changed at c.args.place (before_change cs at c.args.place new within there)
+
+  pushed : c.push.new.self.items ≡ c.self.inside.changes.items ++ change ∷ []
+  pushed = search (rules, ap (λ (d : Pairs). let x : UndoEntry = entries.Changed at c.args.place d in x) before)
+
+  abbrev old : Progress
+  old = record { now = cs; changes = c.self.inside.changes.items }
+
+  abbrev made : Progress
+  made = record { now = set cs at next; changes = c.self.inside.changes.items ++ change ∷ [] }
+
+  same : made ≡ record { now = set cs at c.put_at-before.new.self; changes = c.push.new.self.items }
+  same = λ i. record { now = set cs at (sym is_next i); changes = sym pushed i }
+
+pub invariant_of-self-2 : goal.invariant_of-self-2
+invariant_of-self-2 c =
+    subst IsProgress (same c) (IsProgress-push (old c) (set (cs c) (at c) (next c)) (change c) (apart-changed (cs c) (at c) c.args.place (new c) (within c) (there c) c.self.invariant.apart)
+    (CanUndo-changed (cs c) (at c) c.args.place (new c) (within c) (there c) (held c)) (undo-changed (cs c) (at c) c.args.place (new c) (within c) (there c)) c.self.invariant.undoable)
+
+pub returns-clause-extends : goal.returns-clause-extends
+returns-clause-extends c =
+    let extended : Extends (old c) (made c) = Extends-push (old c) (set (cs c) (at c) (next c)) (change c) (apart-changed (cs c) (at c) c.args.place (new c) (within c) (there c) c.self.invariant.apart)
+    (CanUndo-changed (cs c) (at c) c.args.place (new c) (within c) (there c) (held c)) (undo-changed (cs c) (at c) c.args.place (new c) (within c) (there c)) in
+    subst (λ (p : Progress). Extends p (record { now = set (cs c) (at c) c.put_at-before.new.self; changes = c.push.new.self.items })) c.self.view_is (subst (Extends (old c)) (same c) extended)
