@@ -1,0 +1,12 @@
+pub mod Operands
+pub mod Names
+pub mod Fields
+pub mod Numbers
+pub mod Match
+pub mod Windows
+pub mod Count
+pub mod Stage
+pub mod Stages
+pub mod Limits
+pub mod Pipeline
+pub mod View
