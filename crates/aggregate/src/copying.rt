@@ -13,6 +13,8 @@ impl Stage {
     {
         match self {
             Stage::Match(filter) => Ok(Stage::Match(filter.copy()?)),
+            Stage::Project(projecting) => Ok(Stage::Project(projecting.copy()?)),
+            Stage::Unwind(path) => Ok(Stage::Unwind(path.copy()?)),
             Stage::Sort(sort) => Ok(Stage::Sort(sort.copy()?)),
             Stage::Skip(count) => Ok(Stage::Skip(*count)),
             Stage::Limit(count) => Ok(Stage::Limit(*count)),

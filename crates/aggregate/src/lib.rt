@@ -12,9 +12,12 @@ mod matching;
 mod names;
 mod numbers;
 mod operands;
+mod path_value;
 mod pipeline;
+mod projecting;
 mod stage;
 mod stages;
+mod unwinding;
 mod windows;
 
 pub use limits::RESULT_LEVELS;

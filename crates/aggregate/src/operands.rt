@@ -1,12 +1,14 @@
 //! What stages are given.
 
-ghost use Rattle.std.specs.Prelude.{◌≡◌};
+ghost use Rattle.std.specs.Prelude.{◌≡◌, option_map};
 ghost use Rattle.bson.specs.View.{tree};
 ghost use Rattle.path.specs.View.{Gives};
 ghost use Rattle.aggregate.specs.Operands.{document_in, text_in, no_less, number_in, only_pair, only_pair_in};
+ghost use Rattle.aggregate.specs.Operands.{dollar_path, source_path, dollar_path_in};
 
 use bson::{Document, Pair, Value};
-use path::Refusal;
+use path::{Path, PathFault, Refusal};
+use std::alloc::Global;
 
 /// The document that a stage is given.
 pub(crate) fn document_in(value: &Value) -> Result<&Document, Refusal>
@@ -69,4 +71,36 @@ pub(crate) fn only_pair_in(value: &Value) -> Result<(&str, &Value), Refusal>
 {
     let pair = only_pair(document_in(value)?)?;
     Ok((pair.name.as_str(), &pair.value))
+}
+
+/// What stands behind the `$` of a text that begins with it.
+pub(crate) fn dollar_path(text: &str) -> Option<&str>
+    ensures { option_map (λ t. t.now) result ≡ dollar_path text.now }
+{
+    text.strip_prefix('$')
+}
+
+/// The path that stands behind a `$`.
+pub(crate) fn source_path(alloc: Global, name: &str) -> Result<Path, Refusal>
+    ensures { Gives (λ p. p) (source_path name.now) result }
+{
+    match Path::parse(alloc, name) {
+        Ok(path) => Ok(path),
+        Err(PathFault::Memory) => Err(Refusal::OutOfMemory),
+        Err(PathFault::Empty) => Err(Refusal::FailedToParse),
+        Err(PathFault::EmptyPart) => Err(Refusal::FailedToParse),
+        Err(PathFault::Dollar) => Err(Refusal::FailedToParse),
+        Err(PathFault::TooLong) => Err(Refusal::FailedToParse),
+        Err(PathFault::Zero) => Err(Refusal::FailedToParse),
+    }
+}
+
+/// The path of a text that begins with `$`.
+pub(crate) fn dollar_path_in(alloc: Global, value: &Value) -> Result<Path, Refusal>
+    ensures { Gives (λ p. p) (dollar_path_in (tree value.now)) result }
+{
+    match dollar_path(text_in(value)?) {
+        Some(name) => source_path(alloc, name),
+        None => Err(Refusal::FailedToParse),
+    }
 }

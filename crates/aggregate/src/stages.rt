@@ -12,8 +12,10 @@ ghost use Rattle.aggregate.specs.View.{stage_of};
 use crate::count::counted;
 use crate::matching::matching;
 use crate::names::FieldName;
-use crate::operands::{document_in, number_in, text_in};
+use crate::operands::{document_in, dollar_path_in, number_in, text_in};
+use crate::projecting::{Projecting, all_projected};
 use crate::stage::Stage;
+use crate::unwinding::unwound;
 use crate::windows::{limited, skipped};
 use bson::{Document, Value};
 use filter::{Filter, Sort};
@@ -24,6 +26,8 @@ use std::alloc::Global;
 #[derive(Clone, Copy, Debug, PartialEq, Eq)]
 pub(crate) enum StageName {
     Match,
+    Project,
+    Unwind,
     Sort,
     Skip,
     Limit,
@@ -36,6 +40,8 @@ pub(crate) fn stage_named(name: &str) -> Option<StageName>
 {
     match name {
         _ if name == "$match" => Some(StageName::Match),
+        _ if name == "$project" => Some(StageName::Project),
+        _ if name == "$unwind" => Some(StageName::Unwind),
         _ if name == "$sort" => Some(StageName::Sort),
         _ if name == "$skip" => Some(StageName::Skip),
         _ if name == "$limit" => Some(StageName::Limit),
@@ -50,6 +56,8 @@ pub(crate) fn read_operand(alloc: Global, stage: StageName, value: &Value) -> Re
 {
     match stage {
         StageName::Match => Ok(Stage::Match(Filter::read(alloc, document_in(value)?)?)),
+        StageName::Project => Ok(Stage::Project(Projecting::read(alloc, document_in(value)?)?)),
+        StageName::Unwind => Ok(Stage::Unwind(dollar_path_in(alloc, value)?)),
         StageName::Sort => Ok(Stage::Sort(Sort::read(alloc, document_in(value)?)?)),
         StageName::Skip => Ok(Stage::Skip(number_in(0, value)?)),
         StageName::Limit => Ok(Stage::Limit(number_in(1, value)?)),
@@ -67,6 +75,8 @@ pub(crate) fn apply_stage(
 {
     match stage {
         Stage::Match(filter) => Ok(matching(filter, documents)),
+        Stage::Project(projecting) => all_projected(alloc, projecting, &documents),
+        Stage::Unwind(path) => unwound(alloc, path, documents),
         Stage::Sort(sort) => Ok(sort.order(documents)?),
         Stage::Skip(count) => Ok(skipped(alloc, *count, documents)?),
         Stage::Limit(count) => Ok(limited(*count, documents)),
