@@ -67,6 +67,16 @@ abbrev pub read_flags : Seen → Pairs → Result Seen Refusal
 read_flags seen no_pairs = Ok seen
 read_flags seen (pair name t ps) = if_ok (read_field name t seen) (λ more. read_flags more ps)
 
+-- a field that is computed and not taken from the document: an inclusion, `_id` too
+abbrev pub as_inclusion : Seen → Result Seen Refusal
+as_inclusion seen =
+    if agrees seen.fields true
+    then Ok (record { fields = Some true; id = seen.id; paths = seen.paths }) else
+    Err refusals.BadValue
+
+abbrev pub with_computed : Path → Seen → Result Seen Refusal
+with_computed path seen = if_ok (with_field path true seen) as_inclusion
+
 -- `_id` alone says for itself; an empty projection takes nothing away
 abbrev pub mode : Option Bool → Option Bool → Bool
 mode (Some b) id = b
@@ -86,6 +96,8 @@ projection_of includes seen = (
   if names_id includes seen.id seen.paths then seen.paths ++ id_path ∷ [] else seen.paths,
 )
 
+abbrev pub projection_seen : Seen → Projection
+projection_seen seen = projection_of (mode seen.fields seen.id) seen
+
 abbrev pub read_projection : Pairs → Result Projection Refusal
-read_projection ps =
-    if_ok (read_flags nothing_seen ps) (λ seen. Ok (projection_of (mode seen.fields seen.id) seen))
+read_projection ps = if_ok (read_flags nothing_seen ps) (λ seen. Ok (projection_seen seen))

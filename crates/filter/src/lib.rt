@@ -21,5 +21,5 @@ mod sorting;
 
 pub use condition::{Comparison, Condition, Filter, Predicate};
 pub use operands::{has_operators, path_in};
-pub use projection::Projection;
+pub use projection::{Projection, ProjectionFields};
 pub use sort::Sort;

@@ -7,8 +7,8 @@ ghost use Rattle.path.specs.Parts.{meets};
 ghost use Rattle.path.specs.View.{Gives};
 ghost use Rattle.filter.specs.ProjectionReading.{flag_of, flag_in, id_path, is_id, begins_with_id, nothing_seen};
 ghost use Rattle.filter.specs.ProjectionReading.{agrees, with_field, read_field, read_flags, mode, names_id};
-ghost use Rattle.filter.specs.ProjectionReading.{projection_of, read_projection};
 ghost use Rattle.filter.specs.Projection.{keeps_all};
+ghost use Rattle.filter.specs.ProjectionReading.{with_computed, projection_of, projection_seen, read_projection};
 ghost use Rattle.filter.specs.Seen.{seen_of};
 
 use crate::operands::path_in;
@@ -34,7 +34,7 @@ impl Model for Projection {
 
 /// What was read of a projection so far: what the fields but `_id` say, what `_id` says, and the paths of these fields.
 #[derive(Drop)]
-struct Seen {
+pub struct ProjectionFields {
     fields: Option<bool>,
     id: Option<bool>,
     paths: Vec<Path>,
@@ -105,7 +105,7 @@ fn agrees(fields: Option<bool>, flag: bool) -> bool
 }
 
 /// Takes one more field in.
-fn with_field(seen: Seen, path: Path, flag: bool) -> Result<Seen, Refusal>
+fn with_field(seen: ProjectionFields, path: Path, flag: bool) -> Result<ProjectionFields, Refusal>
     ensures { Gives seen_of (with_field path flag (seen_of seen)) result }
 {
     let mut seen = seen;
@@ -127,24 +127,12 @@ fn with_field(seen: Seen, path: Path, flag: bool) -> Result<Seen, Refusal>
     Ok(seen)
 }
 
-fn read_field(alloc: Global, seen: Seen, name: &str, value: &Value) -> Result<Seen, Refusal>
-    ensures { Gives seen_of (read_field name.now (tree value.now) (seen_of seen)) result }
-{
-    let path = path_in(alloc, name)?;
-    let flag = flag_in(value)?;
-    with_field(seen, path, flag)
-}
-
-fn read_fields(alloc: Global, document: &Document) -> Result<Seen, Refusal>
+fn read_fields(alloc: Global, document: &Document) -> Result<ProjectionFields, Refusal>
     ensures { Gives seen_of (read_flags nothing_seen document.now) result }
 {
-    let mut seen = Seen {
-        fields: None,
-        id: None,
-        paths: Vec::new(alloc),
-    };
+    let mut seen = ProjectionFields::new(alloc);
     'pairs: for pair in document.pairs() {
-        seen = read_field(alloc, seen, pair.name.as_str(), &pair.value)?;
+        seen = seen.with_pair(alloc, pair.name.as_str(), &pair.value)?;
     }
     Ok(seen)
 }
@@ -177,10 +165,14 @@ fn id_path(alloc: Global) -> Result<Path, Refusal>
     path_in(alloc, "_id")
 }
 
-fn projection_of(alloc: Global, includes: bool, seen: Seen) -> Result<Projection, Refusal>
+fn projection_of(
+    alloc: Global,
+    includes: bool,
+    seen: ProjectionFields,
+) -> Result<Projection, Refusal>
     ensures { Gives (λ p. p) (Ok (projection_of includes (seen_of seen))) result }
 {
-    let Seen {
+    let ProjectionFields {
         fields: _,
         id,
         paths,
@@ -190,6 +182,56 @@ fn projection_of(alloc: Global, includes: bool, seen: Seen) -> Result<Projection
         paths.push(id_path(alloc)?)?;
     }
     Ok(Projection { includes, paths })
+}
+
+impl ProjectionFields {
+    ghost use Rattle.filter.specs.Seen.{seen_of};
+
+    /// Those of a projection of which nothing was read.
+    pub fn new(alloc: Global) -> ProjectionFields
+        ensures { seen_of result ≡ nothing_seen }
+    {
+        ProjectionFields {
+            fields: None,
+            id: None,
+            paths: Vec::new(alloc),
+        }
+    }
+
+    /// One field more, or the refusal of what is wrong with it: of its path, of its value, `BadValue` where it meets an
+    /// earlier one or mixes taking and leaving.
+    pub fn with_pair(
+        self,
+        alloc: Global,
+        name: &str,
+        value: &Value,
+    ) -> Result<ProjectionFields, Refusal>
+        ensures { Gives seen_of (read_field name.now (tree value.now) (seen_of self)) result }
+    {
+        let path = path_in(alloc, name)?;
+        let flag = flag_in(value)?;
+        with_field(self, path, flag)
+    }
+
+    /// One field more that is computed and not taken from the document. It is an inclusion, `_id` too. `BadValue` where
+    /// it meets an earlier one or where others are left out.
+    pub fn with_computed(self, path: Path) -> Result<ProjectionFields, Refusal>
+        ensures { Gives seen_of (with_computed path (seen_of self)) result }
+    {
+        let mut seen = with_field(self, path, true)?;
+        if !agrees(seen.fields, true) {
+            return Err(Refusal::BadValue);
+        }
+        seen.fields = Some(true);
+        Ok(seen)
+    }
+
+    /// The projection of these fields.
+    pub fn projection(self, alloc: Global) -> Result<Projection, Refusal>
+        ensures { Gives (λ p. p) (Ok (projection_seen (seen_of self))) result }
+    {
+        projection_of(alloc, mode(self.fields, self.id), self)
+    }
 }
 
 impl Projection {
@@ -214,8 +256,7 @@ impl Projection {
     pub fn read(alloc: Global, document: &Document) -> Result<Projection, Refusal>
         ensures { Gives (λ p. p) (read_projection document.now) result }
     {
-        let seen = read_fields(alloc, document)?;
-        projection_of(alloc, mode(seen.fields, seen.id), seen)
+        read_fields(alloc, document)?.projection(alloc)
     }
 
     /// An equal projection of its own.

@@ -1,0 +1,11 @@
+-- What a path or an expression gives of a document.
+use Rattle.std.specs.Prelude.{Option, Some, None}
+use Rattle.bson.specs.Tree.{Tree}
+use Rattle.bson.specs.View.{tree}
+use Rattle.aggregate.specs.declared.path_value.Found.{Found}
+use Rattle.aggregate.specs.declared.path_value.Found.TheVariants as found
+
+abbrev pub found_of : Found → Option Tree
+found_of found.Missing = None
+found_of (found.There v) = Some (tree v.now)
+found_of (found.Made v) = Some (tree v)

@@ -1,0 +1,17 @@
+pub mod Operands
+pub mod Names
+pub mod Fields
+pub mod Numbers
+pub mod Each
+pub mod PathValue
+pub mod Match
+pub mod Project
+pub mod Unwind
+pub mod Windows
+pub mod Count
+pub mod Stage
+pub mod Stages
+pub mod Limits
+pub mod Pipeline
+pub mod Found
+pub mod View

@@ -1,0 +1,24 @@
+//! Aggregation pipelines: reading one, and what it makes of documents (MongoDB manual, "Aggregation Stages").
+//!
+//! `stages` is the table of the stages; each has a file that says what it does. `operands` and `names` read what stages
+//! are given, `limits` judges what they give, `pipeline` reads a pipeline and runs it.
+#![tactic(auto)]
+
+mod copying;
+mod count;
+mod fields;
+mod limits;
+mod matching;
+mod names;
+mod numbers;
+mod operands;
+mod path_value;
+mod pipeline;
+mod projecting;
+mod stage;
+mod stages;
+mod unwinding;
+mod windows;
+
+pub use limits::RESULT_LEVELS;
+pub use pipeline::{MOST_STAGES, Pipeline};

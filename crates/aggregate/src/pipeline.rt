@@ -1,0 +1,89 @@
+//! Pipelines: reading one and running it.
+
+ghost use Rattle.std.specs.Prelude.{◌≡◌, map};
+ghost use Rattle.bson.specs.View.{tree};
+ghost use Rattle.path.specs.View.{Gives};
+ghost use Rattle.aggregate.specs.Pipeline.{read_stage, read_pipeline, after_stage, run};
+ghost use Rattle.aggregate.specs.View.{stage_of, pipeline_of};
+
+use crate::limits::first_fault;
+use crate::operands::only_pair_in;
+use crate::stage::Stage;
+use crate::stages::{apply_stage, read_operand, stage_named};
+use bson::{Document, Value};
+use path::Refusal;
+use std::alloc::Global;
+
+/// The most stages of a pipeline.
+pub const MOST_STAGES: usize = 100;
+
+/// Stages, the first one first.
+#[derive(Debug, Drop)]
+pub struct Pipeline {
+    pub(crate) alloc: Global,
+    pub(crate) stages: Vec<Stage>,
+}
+
+/// The stage of a document with one pair, its name and its operand.
+fn read_stage(alloc: Global, value: &Value) -> Result<Stage, Refusal>
+    ensures { Gives stage_of (read_stage (tree value.now)) result }
+{
+    let (name, operand) = only_pair_in(value)?;
+    match stage_named(name) {
+        Some(stage) => read_operand(alloc, stage, operand),
+        None => Err(Refusal::FailedToParse),
+    }
+}
+
+/// What a stage makes of documents, where none of them is over a limit: the first one that is decides.
+fn after_stage(
+    alloc: Global,
+    stage: &Stage,
+    documents: Vec<Document>,
+    limit: u32,
+) -> Result<Vec<Document>, Refusal>
+    ensures { Gives (λ v. v.items) (after_stage (stage_of stage.now) limit documents.items) result }
+{
+    let given = apply_stage(alloc, stage, documents)?;
+    match first_fault(&given, limit) {
+        Some(refusal) => Err(refusal),
+        None => Ok(given),
+    }
+}
+
+impl Pipeline {
+    /// The pipeline that values spell, or the first misuse from the left. Of a 101st stage nothing is looked at.
+    ///
+    /// `FailedToParse` where a stage is no document of one pair, is unknown or is given what it doesn't take; a filter, a
+    /// sort or a projection in it is refused with its own refusals.
+    pub fn read(alloc: Global, stages: &[Value]) -> Result<Pipeline, Refusal>
+        ensures { Gives pipeline_of (read_pipeline (map tree stages.now)) result }
+    {
+        let mut read = Vec::new(alloc);
+        'stages: for value in stages {
+            if read.len() == MOST_STAGES {
+                return Err(Refusal::FailedToParse);
+            }
+            let stage = read_stage(alloc, value)?;
+            read.push(stage)?;
+        }
+        Ok(Pipeline {
+            alloc,
+            stages: read,
+        })
+    }
+
+    /// What the pipeline makes of documents.
+    ///
+    /// Refused by the first stage that can't be done, or after which a document is over a limit: the first such document
+    /// decides, with `BSONObjectTooLarge` over `limit` bytes, else with `BadValue` over 90 levels.
+    pub fn run(&self, documents: Vec<Document>, limit: u32) -> Result<Vec<Document>, Refusal>
+        ensures { Gives (λ v. v.items) (run (pipeline_of self.now) limit documents.items) result }
+    {
+        let mut documents = documents;
+        'stages: for stage in &self.stages {
+            documents = after_stage(self.alloc, stage, documents, limit)?;
+        }
+        Ok(documents)
+    }
+}

@@ -1,0 +1,85 @@
+//! The table of the stages.
+//!
+//! One more stage is one more entry here (its name, how its operand is read, what it does), a `Stage`, and a file that
+//! does it.
+
+ghost use Rattle.std.specs.Prelude.{◌≡◌};
+ghost use Rattle.bson.specs.View.{tree};
+ghost use Rattle.path.specs.View.{Gives};
+ghost use Rattle.aggregate.specs.Stages.{stage_named, read_operand, apply_stage};
+ghost use Rattle.aggregate.specs.View.{stage_of};
+
+use crate::count::counted;
+use crate::matching::matching;
+use crate::names::FieldName;
+use crate::operands::{document_in, dollar_path_in, number_in, text_in};
+use crate::projecting::{Projecting, all_projected};
+use crate::stage::Stage;
+use crate::unwinding::unwound;
+use crate::windows::{limited, skipped};
+use bson::{Document, Value};
+use filter::{Filter, Sort};
+use path::Refusal;
+use std::alloc::Global;
+
+/// The name of a stage.
+#[derive(Clone, Copy, Debug, PartialEq, Eq)]
+pub(crate) enum StageName {
+    Match,
+    Project,
+    Unwind,
+    Sort,
+    Skip,
+    Limit,
+    Count,
+}
+
+/// The stage that is called so.
+pub(crate) fn stage_named(name: &str) -> Option<StageName>
+    ensures { result ≡ stage_named name.now }
+{
+    match name {
+        _ if name == "$match" => Some(StageName::Match),
+        _ if name == "$project" => Some(StageName::Project),
+        _ if name == "$unwind" => Some(StageName::Unwind),
+        _ if name == "$sort" => Some(StageName::Sort),
+        _ if name == "$skip" => Some(StageName::Skip),
+        _ if name == "$limit" => Some(StageName::Limit),
+        _ if name == "$count" => Some(StageName::Count),
+        _ => None,
+    }
+}
+
+/// What a stage does with this operand.
+pub(crate) fn read_operand(alloc: Global, stage: StageName, value: &Value) -> Result<Stage, Refusal>
+    ensures { Gives stage_of (read_operand stage (tree value.now)) result }
+{
+    match stage {
+        StageName::Match => Ok(Stage::Match(Filter::read(alloc, document_in(value)?)?)),
+        StageName::Project => Ok(Stage::Project(Projecting::read(alloc, document_in(value)?)?)),
+        StageName::Unwind => Ok(Stage::Unwind(dollar_path_in(alloc, value)?)),
+        StageName::Sort => Ok(Stage::Sort(Sort::read(alloc, document_in(value)?)?)),
+        StageName::Skip => Ok(Stage::Skip(number_in(0, value)?)),
+        StageName::Limit => Ok(Stage::Limit(number_in(1, value)?)),
+        StageName::Count => Ok(Stage::Count(FieldName::read(alloc, text_in(value)?)?)),
+    }
+}
+
+/// What a stage makes of documents, which are moved and not copied where it changes none.
+pub(crate) fn apply_stage(
+    alloc: Global,
+    stage: &Stage,
+    documents: Vec<Document>,
+) -> Result<Vec<Document>, Refusal>
+    ensures { Gives (λ v. v.items) (apply_stage (stage_of stage.now) documents.items) result }
+{
+    match stage {
+        Stage::Match(filter) => Ok(matching(filter, documents)),
+        Stage::Project(projecting) => all_projected(alloc, projecting, &documents),
+        Stage::Unwind(path) => unwound(alloc, path, documents),
+        Stage::Sort(sort) => Ok(sort.order(documents)?),
+        Stage::Skip(count) => Ok(skipped(alloc, *count, documents)?),
+        Stage::Limit(count) => Ok(limited(*count, documents)),
+        Stage::Count(name) => counted(alloc, name, &documents),
+    }
+}
