@@ -10,8 +10,11 @@ pub mod Unwind
 pub mod Windows
 pub mod Count
 pub mod Stage
+pub mod StageCode
 pub mod Stages
 pub mod Limits
 pub mod Pipeline
+pub mod Taking
+pub mod TakingLaws
 pub mod Found
 pub mod View

@@ -8,7 +8,7 @@ use bson::Document;
 use filter::Filter;
 
 /// Whether a document matches a filter. It takes no memory.
-fn matches(filter: &Filter, document: &Document) -> bool
+pub(crate) fn matches(filter: &Filter, document: &Document) -> bool
     ensures { result ≡ matches filter.now document.now }
 {
     filter.matches(document).unwrap()

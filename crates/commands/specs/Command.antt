@@ -11,6 +11,7 @@ use Rattle.commands.specs.Insert.{Insert, read_insert}
 use Rattle.commands.specs.Find.{Find, read_find}
 use Rattle.commands.specs.Count.{Count, read_count}
 use Rattle.commands.specs.Delete.{Delete, read_delete}
+use Rattle.commands.specs.Aggregate.{Aggregate, read_aggregate}
 use Rattle.commands.specs.Update.{UpdateStatement, Update, read_update_command, IsRead}
 
 pub data Command : Type 0 where
@@ -20,6 +21,7 @@ pub data Command : Type 0 where
   count : Count → Command
   delete : Delete → Command
   update : Update → Command
+  aggregate : Aggregate → Command
 
 -- what was read, as a command
 abbrev pub as_command : {X : Type 0} → (X → Command) → Result X Refusal → Result Command Refusal
@@ -35,6 +37,7 @@ command_of (pair name t ps) =
     if bytes_eq name (codes "count") then as_command count (read_count t ps) else
     if bytes_eq name (codes "delete") then as_command delete (read_delete t ps) else
     if bytes_eq name (codes "update") then as_command update (read_update_command t ps) else
+    if bytes_eq name (codes "aggregate") then as_command aggregate (read_aggregate t ps) else
     Err refusals.CommandNotFound
 
 -- What a command that was read keeps: a namespace of at most 255 bytes, and from 1 to 1,000 documents or statements.
@@ -48,3 +51,4 @@ IsBounded (delete c) = Unit {0}
 IsBounded (update c) =
     (length c.namespace ≤ 255) × (length c.statements ≤ 1000)
     × All (λ (s : UpdateStatement). IsRead s.change) c.statements
+IsBounded (aggregate c) = length c.namespace ≤ 255

@@ -25,7 +25,8 @@ use Rattle.commands.specs.Find.{Find, no_find_fields, find_field, query_of, read
 use Rattle.commands.specs.Count.{Count, read_count}
 use Rattle.commands.specs.Delete.{Delete, read_delete}
 use Rattle.commands.specs.Update.{UpdateStatement, UpdateStatementFields, no_statement_fields, statement_field, read_statement, Update, UpdateFields, no_update_fields, update_statements_in, update_field, read_update_command, IsRead}
-use Rattle.commands.specs.Command.{Command, ping, insert, find, count, delete, update, as_command, command_of, IsBounded}
+use Rattle.commands.specs.Aggregate.{Aggregate, AggregateFields, no_aggregate_fields, aggregate_field, read_aggregate}
+use Rattle.commands.specs.Command.{Command, ping, insert, find, count, delete, update, aggregate, as_command, command_of, IsBounded}
 
 later_false : (a b : Bool) → (a || b) ≡ false → b ≡ false
 later_false true b e = absurd cc
@@ -248,6 +249,18 @@ update_bounded t ps c e =
     let all : AreRead d.0 = subst ReadsAt (there s.0.statements d.0 d.1) read in
     subst (λ (x : Update). IsBounded (update x)) same (short b.0 n.0 m.0 m.1, all.few, all.each)
 
+pub aggregate_bounded : (t : Tree) (ps : Pairs) (c : Aggregate) → read_aggregate t ps ≡ Ok c → length c.namespace ≤ 255
+aggregate_bounded t ps c e =
+    let n = step_of (text_in t) _ c e in
+    let s = step_of (read_fields aggregate_field no_aggregate_fields ps) _ c n.2 in
+    let b = step_of (or_refused s.0.common.database refusals.FailedToParse) _ c s.2 in
+    let p = step_of (or_refused s.0.pipeline refusals.FailedToParse) _ c b.2 in
+    let q = step_of (or_refused s.0.cursor refusals.FailedToParse) _ c p.2 in
+    let m = step_of (namespace_of b.0 n.0) _ c q.2 in
+    let made : Aggregate = record { namespace = m.0; pipeline = p.0; batch_size = q.0.batch_size } in
+    let same : made ≡ c = cc in
+    subst (λ (x : Aggregate). length x.namespace ≤ 255) same (short b.0 n.0 m.0 m.1)
+
 -- what was read is bounded, so the command is
 made_bounded : {X : Type 0} (make : X → Command) (read : Result X Refusal) (c : Command) → ((x : X) → read ≡ Ok x → IsBounded (make x)) → as_command make read ≡ Ok c → IsBounded c
 made_bounded {X} make read c keeps e =
@@ -259,17 +272,18 @@ made_bounded {X} make read c keeps e =
 pub bounded : (ps : Pairs) (c : Command) → command_of ps ≡ Ok c → IsBounded c
 unfolding command_of
 bounded no_pairs c e = absurd cc
-bounded (pair name t ps) c e = at (bytes_eq name (codes "ping")) (bytes_eq name (codes "insert")) (bytes_eq name (codes "find")) (bytes_eq name (codes "count")) (bytes_eq name (codes "delete")) (bytes_eq name (codes "update")) e
+bounded (pair name t ps) c e = at (bytes_eq name (codes "ping")) (bytes_eq name (codes "insert")) (bytes_eq name (codes "find")) (bytes_eq name (codes "count")) (bytes_eq name (codes "delete")) (bytes_eq name (codes "update")) (bytes_eq name (codes "aggregate")) e
   where
-    at : (is_ping is_insert is_find is_count is_delete is_update : Bool)
-        → (if is_ping then as_command (λ _. ping) (read_ping t ps) else (if is_insert then as_command insert (read_insert t ps) else (if is_find then as_command find (read_find t ps) else (if is_count then as_command count (read_count t ps) else (if is_delete then as_command delete (read_delete t ps) else (if is_update then as_command update (read_update_command t ps) else Err refusals.CommandNotFound)))))) ≡ Ok c → IsBounded c
-    at true is_insert is_find is_count is_delete is_update e = made_bounded (λ _. ping) (read_ping t ps) c (λ x h. tt) e
-    at false true is_find is_count is_delete is_update e = made_bounded insert (read_insert t ps) c (insert_bounded t ps) e
-    at false false true is_count is_delete is_update e = made_bounded find (read_find t ps) c (find_bounded t ps) e
-    at false false false true is_delete is_update e = made_bounded count (read_count t ps) c (λ x h. tt) e
-    at false false false false true is_update e = made_bounded delete (read_delete t ps) c (λ x h. tt) e
-    at false false false false false true e = made_bounded update (read_update_command t ps) c (update_bounded t ps) e
-    at false false false false false false e = absurd cc
+    at : (is_ping is_insert is_find is_count is_delete is_update is_aggregate : Bool)
+        → (if is_ping then as_command (λ _. ping) (read_ping t ps) else (if is_insert then as_command insert (read_insert t ps) else (if is_find then as_command find (read_find t ps) else (if is_count then as_command count (read_count t ps) else (if is_delete then as_command delete (read_delete t ps) else (if is_update then as_command update (read_update_command t ps) else (if is_aggregate then as_command aggregate (read_aggregate t ps) else Err refusals.CommandNotFound))))))) ≡ Ok c → IsBounded c
+    at true is_insert is_find is_count is_delete is_update is_aggregate e = made_bounded (λ _. ping) (read_ping t ps) c (λ x h. tt) e
+    at false true is_find is_count is_delete is_update is_aggregate e = made_bounded insert (read_insert t ps) c (insert_bounded t ps) e
+    at false false true is_count is_delete is_update is_aggregate e = made_bounded find (read_find t ps) c (find_bounded t ps) e
+    at false false false true is_delete is_update is_aggregate e = made_bounded count (read_count t ps) c (λ x h. tt) e
+    at false false false false true is_update is_aggregate e = made_bounded delete (read_delete t ps) c (λ x h. tt) e
+    at false false false false false true is_aggregate e = made_bounded update (read_update_command t ps) c (update_bounded t ps) e
+    at false false false false false false true e = made_bounded aggregate (read_aggregate t ps) c (aggregate_bounded t ps) e
+    at false false false false false false false e = absurd cc
 
 -- a reader that gives what was planned gives a bounded command
 pub gives-bounded : {X : Type 0} (view : X → Command) (planned : Result Command Refusal) (r : Result X Refusal) → Gives view planned r → ((c : Command) → planned ≡ Ok c → IsBounded c) → IfOk r (λ x. IsBounded (view x))

@@ -8,6 +8,7 @@ pub mod Find
 pub mod Count
 pub mod Delete
 pub mod Update
+pub mod Aggregate
 pub mod Command
 pub mod View
 pub mod OutcomeLaws

@@ -8,11 +8,14 @@ use Rattle.commands.specs.Find as finds
 use Rattle.commands.specs.Count as counts
 use Rattle.commands.specs.Delete as deletes
 use Rattle.commands.specs.Update as updates
+use Rattle.commands.specs.Aggregate as aggregates
+use Rattle.aggregate.specs.View.{pipeline_of}
 use Rattle.commands.specs.declared.insert.Insert.{Insert}
 use Rattle.commands.specs.declared.find.Find.{Find}
 use Rattle.commands.specs.declared.count.Count.{Count}
 use Rattle.commands.specs.declared.delete.Delete.{Delete}
 use Rattle.commands.specs.declared.updates.Update.{Update}
+use Rattle.commands.specs.declared.aggregation.Aggregate.{Aggregate}
 use Rattle.commands.specs.declared.command.Command.{Command}
 use Rattle.commands.specs.declared.command.Command.TheVariants as cases
 
@@ -41,6 +44,13 @@ delete_read c = record { namespace = string_bytes c.namespace; deletions = c.del
 abbrev pub update_read : Update → updates.Update
 update_read c = record { namespace = string_bytes c.namespace; statements = c.statements.items }
 
+abbrev pub aggregate_read : Aggregate → aggregates.Aggregate
+aggregate_read c = record {
+  namespace = string_bytes c.namespace;
+  pipeline = pipeline_of c.pipeline;
+  batch_size = c.batch_size;
+}
+
 abbrev pub command_read : Command → commands.Command
 command_read cases.Ping = commands.ping
 command_read (cases.Insert c) = commands.insert (insert_read c)
@@ -48,3 +58,4 @@ command_read (cases.Find c) = commands.find (find_read c)
 command_read (cases.Count c) = commands.count (count_read c)
 command_read (cases.Delete c) = commands.delete (delete_read c)
 command_read (cases.Update c) = commands.update (update_read c)
+command_read (cases.Aggregate c) = commands.aggregate (aggregate_read c)

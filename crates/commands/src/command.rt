@@ -5,6 +5,7 @@ ghost use Rattle.path.specs.View.{Gives};
 ghost use Rattle.commands.specs.Command.{command_of, IsBounded};
 ghost use Rattle.commands.specs.View.{command_read};
 
+use crate::aggregation::{Aggregate, read_aggregate};
 use crate::count::{Count, read_count};
 use crate::delete::{Delete, read_delete};
 use crate::find::{Find, read_find};
@@ -24,6 +25,7 @@ pub enum Command<'a> {
     Count(Count),
     Delete(Delete),
     Update(Update),
+    Aggregate(Aggregate),
 }
 
 impl<'a> Command<'a> {
@@ -55,6 +57,8 @@ impl<'a> Command<'a> {
             Ok(Command::Delete(read_delete(alloc, value, rest)?))
         } else if name == "update" {
             Ok(Command::Update(read_update(alloc, value, rest)?))
+        } else if name == "aggregate" {
+            Ok(Command::Aggregate(read_aggregate(alloc, value, rest)?))
         } else {
             Err(Refusal::CommandNotFound)
         }

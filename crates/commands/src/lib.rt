@@ -1,6 +1,7 @@
 //! Commands: what the body of a message asks for, or why it is refused.
 #![tactic(auto)]
 
+mod aggregation;
 mod command;
 mod count;
 mod delete;
@@ -13,6 +14,7 @@ mod statements;
 mod updates;
 mod values;
 
+pub use aggregation::Aggregate;
 pub use command::Command;
 pub use count::Count;
 pub use delete::{Delete, Deletion};

@@ -26,15 +26,19 @@ use Rattle.filter.specs.Condition.{Conditions}
 use Rattle.commands.specs.Insert.{Insert}
 use Rattle.commands.specs.Find.{Query, Find}
 use Rattle.commands.specs.Count.{Count}
+use Rattle.commands.specs.Aggregate.{Aggregate}
+use Rattle.aggregate.specs.Pipeline.{run as after_pipeline}
+use Rattle.engine.specs.Aggregate.{run_aggregate}
+use Rattle.engine.proofs.Piping.{piped_within}
 use Rattle.engine.specs.Find.{query_result as found_by, matching, window, run_find}
 use Rattle.commands.specs.Delete.{Deletion, Delete}
 use Rattle.engine.specs.Delete.{after_deletions, deleted_in, run_delete}
 use Rattle.engine.specs.Refusals.{int, total, ok_reply}
-use Rattle.commands.specs.Command.{Command, ping, insert as insert_of, find as find_of, count as count_of_all, delete, command_of, IsBounded}
+use Rattle.commands.specs.Command.{Command, ping, insert as insert_of, find as find_of, count as count_of_all, delete, aggregate, command_of, IsBounded}
 use Rattle.engine.specs.Lawful.{IsStored, IsWithin, IsRising, AreNamedApart, AreNumberedApart, IsKept, IsLawfulState, IsLawful}
 use Rattle.engine.specs.Places.{IsGap, collection_at, no_collection}
 use Rattle.engine.specs.Progress.{is_full, with_document}
-use Rattle.engine.specs.Cursors.{items_of_documents, batch_of, cursor_reply, open_cursor}
+use Rattle.engine.specs.Cursors.{items_of_documents, batch_of, cursor_reply, open_cursor, first_batch}
 use Rattle.engine.specs.Insert.{run_insert}
 use Rattle.engine.specs.Count.{run_count}
 use Rattle.engine.specs.Step.{run, answered, step}
@@ -213,25 +217,18 @@ module _ (w : World) (connection : ℕ) (name : List ℕ) (rest : List Pairs) wh
           let same : with_cursor ≡ opened = cc in
           subst IsLawful same (record { collections = h.collections; cursors = All-cons (λ (c : Cursor). All IsWithin c.rest) new_cursor w.cursors stored h.cursors })
 
-module _ (w : World) (connection : ℕ) (name : List ℕ) (query : Query) (batch_size : Option ℕ) where
-  abbrev ds : List Pairs
-  ds = found_by query (documents_of w.collections name)
-
+module _ (w : World) (connection : ℕ) (name : List ℕ) (ds : List Pairs) (most : ℕ) where
   abbrev n : ℕ
-  n = batch_of (unwrap_or batch_size 101) ds
+  n = batch_of most ds
 
   abbrev after_opening : Result World Refusal → Result (World × Pairs) Refusal
   after_opening r = r >>= (λ opened. let x : Result (World × Pairs) Refusal = Ok (opened, cursor_reply (codes "firstBatch") (take n ds) w.next name) in x)
 
-  good_find : IsLawful w → length name ≤ 255 → Good (run_find w connection (record { namespace = name; query = query; batch_size = batch_size }))
-  unfolding run_find
-  good_find h short = at (nat_le (length ds) n) refl
+  good_batch : IsLawful w → length name ≤ 255 → All IsWithin ds → Good (first_batch w connection name ds n)
+  good_batch h short within = at (nat_le (length ds) n) refl
     where
-      within : All IsWithin ds
-      within = found_within query (documents_of w.collections name) (stored_at w.collections name h.collections.kept).1
-
       small : fits_in (take n ds)
-      small = batch_items (unwrap_or batch_size 101) (900000 - 5) ds within
+      small = batch_items most (900000 - 5) ds within
 
       part : (r : Result World Refusal) → open_cursor w connection name (drop n ds) ≡ r → Good (after_opening r)
       part (Err e) is = λ x f. absurd cc
@@ -243,6 +240,19 @@ module _ (w : World) (connection : ℕ) (name : List ℕ) (query : Query) (batch
           let all : length ds ≤ n = grind (arith, nat_tests) in
           good_one w (cursor_reply (codes "firstBatch") ds 0 name) h (cursor-sendable ds 0 name (subst fits_in (take_all n ds all) small) short)
       at false over = part (open_cursor w connection name (drop n ds)) refl
+
+good_find : (w : World) (connection : ℕ) (name : List ℕ) (query : Query) (batch_size : Option ℕ) → IsLawful w → length name ≤ 255 → Good (run_find w connection (record { namespace = name; query = query; batch_size = batch_size }))
+unfolding run_find
+good_find w connection name query batch_size h short =
+    good_batch w connection name (found_by query (documents_of w.collections name)) (unwrap_or batch_size 101) h short (found_within query (documents_of w.collections name) (stored_at w.collections name h.collections.kept).1)
+
+good_aggregate : (w : World) (connection : ℕ) (c : Aggregate) → IsLawful w → length c.namespace ≤ 255 → Good (run_aggregate w connection c)
+unfolding run_aggregate
+good_aggregate w connection c h short = at (after_pipeline c.pipeline 65535 (documents_of w.collections c.namespace)) refl
+  where
+    at : (r : Result (List Pairs) Refusal) → after_pipeline c.pipeline 65535 (documents_of w.collections c.namespace) ≡ r → Good (r >>= (λ ds. first_batch w connection c.namespace ds (batch_of (unwrap_or c.batch_size 101) ds)))
+    at (Ok ds) is = good_batch w connection c.namespace ds (unwrap_or c.batch_size 101) h short (piped_within c.pipeline (documents_of w.collections c.namespace) ds (stored_at w.collections c.namespace h.collections.kept).1 is)
+    at (Err e) is = λ x f. absurd cc
 
 good_count : (w : World) (c : Count) → IsLawful w → Good (run_count w c)
 unfolding run_count
@@ -262,6 +272,7 @@ good_run w connection ping h b = good_one w no_pairs h ping-sendable
 good_run w connection (insert_of c) h b = good_insert w c.namespace c.documents h b.0
 good_run w connection (find_of c) h b = good_find w connection c.namespace c.query c.batch_size h b
 good_run w connection (count_of_all c) h b = good_count w c h
+good_run w connection (aggregate c) h b = good_aggregate w connection c h b
 good_run w connection (delete c) h b = good_delete w c.namespace c.deletions h
 
 -- the world after a step, and its reply

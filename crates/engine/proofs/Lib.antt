@@ -6,6 +6,7 @@ pub mod StoringLoop
 pub mod BatchLoop
 pub mod CursorSpelling
 pub mod Running
+pub mod Piping
 pub mod LawfulSteps
 pub mod SpelledSizes
 pub mod Replying

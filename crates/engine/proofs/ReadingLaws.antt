@@ -8,7 +8,10 @@ use Rattle.path.specs.declared.refusal.Refusal.{Refusal}
 use Rattle.path.specs.declared.refusal.Refusal.TheVariants as refusals
 use Rattle.commands.specs.Find.{Find}
 use Rattle.commands.specs.Count.{Count}
-use Rattle.commands.specs.Command.{Command, ping, insert, find, count, delete, update, command_of}
+use Rattle.commands.specs.Aggregate.{Aggregate}
+use Rattle.aggregate.specs.Pipeline.{run as after_pipeline}
+use Rattle.engine.specs.Aggregate.{run_aggregate}
+use Rattle.commands.specs.Command.{Command, ping, insert, find, count, delete, update, aggregate, command_of}
 use Rattle.engine.specs.World.{World, Collection, documents_of}
 use Rattle.engine.specs.Cursors.{batch_of, cursor_reply, open_cursor, is_refused, next_cursor, first_batch}
 use Rattle.engine.specs.Find.{query_result, run_find}
@@ -31,20 +34,27 @@ module _ (w : World) (connection : ℕ) where
   opened true name rest batch = refl
   opened false name rest batch = refl
 
+  batched : (name : List ℕ) (ds : List Pairs) (n : ℕ) → Leaves (first_batch w connection name ds n)
+  batched name ds n = at (nat_le (length ds) n)
+    where
+      at : (b : Bool) → Leaves (if b then Ok (w, cursor_reply (codes "firstBatch") ds 0 name) else (open_cursor w connection name (drop n ds)
+          >>= (λ world. let x : Result (World × Pairs) Refusal = Ok (world, cursor_reply (codes "firstBatch") (take n ds) w.next name) in x)))
+      at true = refl
+      at false = opened (is_refused w connection) name (drop n ds) (take n ds)
+
   found : (c : Find) → Leaves (run_find w connection c)
   unfolding run_find
-  found c = at (nat_le (length ds) n)
+  found c =
+      let ds = query_result c.query (documents_of w.collections c.namespace) in
+      batched c.namespace ds (batch_of (unwrap_or c.batch_size 101) ds)
+
+  aggregated : (c : Aggregate) → Leaves (run_aggregate w connection c)
+  unfolding run_aggregate
+  aggregated c = at (after_pipeline c.pipeline 65535 (documents_of w.collections c.namespace))
     where
-      ds : List Pairs
-      ds = query_result c.query (documents_of w.collections c.namespace)
-
-      n : ℕ
-      n = batch_of (unwrap_or c.batch_size 101) ds
-
-      at : (b : Bool) → Leaves (if b then Ok (w, cursor_reply (codes "firstBatch") ds 0 c.namespace) else (open_cursor w connection c.namespace (drop n ds)
-          >>= (λ world. let x : Result (World × Pairs) Refusal = Ok (world, cursor_reply (codes "firstBatch") (take n ds) w.next c.namespace) in x)))
-      at true = refl
-      at false = opened (is_refused w connection) c.namespace (drop n ds) (take n ds)
+      at : (r : Result (List Pairs) Refusal) → Leaves (r >>= (λ ds. first_batch w connection c.namespace ds (batch_of (unwrap_or c.batch_size 101) ds)))
+      at (Ok ds) = batched c.namespace ds (batch_of (unwrap_or c.batch_size 101) ds)
+      at (Err e) = refl
 
   ran : (r : Result Command Refusal) → OnlyReads r → Leaves (r >>= run w connection)
   ran (Err e) h = refl
@@ -54,6 +64,7 @@ module _ (w : World) (connection : ℕ) where
   ran (Ok (update c)) h = absurd h
   ran (Ok (count c)) h = counted c
   ran (Ok (find c)) h = found c
+  ran (Ok (aggregate c)) h = aggregated c
 
   stepped : (body : Result Pairs BsonFault) → BodyOnlyReads body → (step w connection body).0.collections ≡ w.collections
   stepped (Ok body) h = ran (command_of body) h

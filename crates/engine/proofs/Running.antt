@@ -1,5 +1,5 @@
 -- What running a command comes to.
-use Rattle.std.proofs.Common.{◌≡◌, ℕ, zero, suc, ◌+◌, ◌-◌, ◌<◌, ◌≤◌, Bool, true, false, List, [], ◌∷◌, length, Option, Some, Result, Ok, Err, refl, sym, ap, arith}
+use Rattle.std.proofs.Common.{◌≡◌, ℕ, zero, suc, ◌+◌, ◌-◌, ◌<◌, ◌≤◌, Bool, true, false, List, [], ◌∷◌, length, Option, Some, Result, Ok, Err, refl, sym, ap, ◌∙◌, arith}
 use Rattle.std.specs.Prelude.{◌==◌, ◌||◌, if◌then◌else◌, nat_le, codes, unwrap_or}
 use Rattle.std.proofs.lemmas.Bool.Decides.{nat_tests}
 use Rattle.bson.specs.Tree.{Pairs, pair, no_pairs}
@@ -7,6 +7,10 @@ use Rattle.filter.specs.Condition.{Conditions}
 use Rattle.commands.specs.Insert.{Insert}
 use Rattle.commands.specs.Find.{Query, Find}
 use Rattle.commands.specs.Count.{Count}
+use Rattle.commands.specs.Aggregate.{Aggregate}
+use Rattle.aggregate.specs.Stage.{Stage}
+use Rattle.aggregate.specs.Pipeline.{run as after_pipeline}
+use Rattle.engine.specs.Aggregate.{run_aggregate}
 use Rattle.engine.specs.Find.{query_result, matching, window, run_find}
 use Rattle.commands.specs.Delete.{Deletion, Delete}
 use Rattle.engine.specs.Delete.{after_deletions, deleted_in, run_delete}
@@ -14,7 +18,7 @@ use Rattle.engine.specs.World.{World, Collection, find_collection, documents_of,
 use Rattle.path.specs.Outcomes.{◌>>=◌, unless}
 use Rattle.engine.specs.Documents.{insert_all}
 use Rattle.engine.specs.Refusals.{int, total}
-use Rattle.engine.specs.Cursors.{item_size, batch_len, cursor_reply, open_cursor, batch_of}
+use Rattle.engine.specs.Cursors.{item_size, batch_len, cursor_reply, open_cursor, batch_of, first_batch}
 use Rattle.engine.specs.Insert.{run_insert}
 use Rattle.engine.specs.Count.{run_count}
 use Rattle.engine.specs.Progress.{is_full, inserted}
@@ -59,16 +63,9 @@ module _ (w : World) (name : List ℕ) (ds : List Pairs) where
 
 -- ---- find
 
-module _ (w : World) (connection : ℕ) (name : List ℕ) (query : Query) (most : ℕ) where
-  abbrev sought : Find
-  sought = record { namespace = name; query = query; batch_size = Some most }
-
-  abbrev documents : List Pairs
-  documents = query_result query (documents_of w.collections name)
-
-  pub run_find-whole : length documents ≤ batch_of most documents → run_find w connection sought ≡ Ok (w, cursor_reply (codes "firstBatch") documents 0 name)
-  unfolding run_find
-  run_find-whole fits =
+module _ (w : World) (connection : ℕ) (name : List ℕ) (documents : List Pairs) (most : ℕ) where
+  pub first_batch-whole : length documents ≤ batch_of most documents → first_batch w connection name documents (batch_of most documents) ≡ Ok (w, cursor_reply (codes "firstBatch") documents 0 name)
+  first_batch-whole fits =
       let whole : nat_le (length documents) (batch_of most documents) ≡ true = grind (arith, nat_tests) in
       rw whole refl
 
@@ -78,11 +75,51 @@ module _ (w : World) (connection : ℕ) (name : List ℕ) (query : Query) (most 
       let full : nat_le 0 (count_of connection w.cursors) ≡ true = grind (arith, nat_tests) in
       rw full refl
 
-  pub run_find-over : batch_of most documents < length documents → run_find w connection sought ≡ Err refusals.TooMany
-  unfolding run_find
-  run_find-over over =
+  pub first_batch-over : batch_of most documents < length documents → first_batch w connection name documents (batch_of most documents) ≡ Err refusals.TooMany
+  first_batch-over over =
       let part : nat_le (length documents) (batch_of most documents) ≡ false = grind (arith, nat_tests) in
       rw part (rw none_opened refl)
+
+module _ (w : World) (connection : ℕ) (name : List ℕ) (query : Query) (most : ℕ) where
+  abbrev sought : Find
+  sought = record { namespace = name; query = query; batch_size = Some most }
+
+  abbrev documents : List Pairs
+  documents = query_result query (documents_of w.collections name)
+
+  pub run_find-whole : length documents ≤ batch_of most documents → run_find w connection sought ≡ Ok (w, cursor_reply (codes "firstBatch") documents 0 name)
+  unfolding run_find
+  run_find-whole fits = first_batch-whole w connection name documents most fits
+
+  pub run_find-over : batch_of most documents < length documents → run_find w connection sought ≡ Err refusals.TooMany
+  unfolding run_find
+  run_find-over over = first_batch-over w connection name documents most over
+
+module _ (w : World) (connection : ℕ) (name : List ℕ) (stages : List Stage) (most : ℕ) where
+  abbrev asked_of : Aggregate
+  asked_of = record { namespace = name; pipeline = stages; batch_size = Some most }
+
+  abbrev piped : Result (List Pairs) Refusal
+  piped = after_pipeline stages 65535 (documents_of w.collections name)
+
+  abbrev batched : Result (List Pairs) Refusal → Result (World × Pairs) Refusal
+  batched r = r >>= (λ ds. first_batch w connection name ds (batch_of most ds))
+
+  pub run_aggregate-whole : (ds : List Pairs) → piped ≡ Ok ds → length ds ≤ batch_of most ds → run_aggregate w connection asked_of ≡ Ok (w, cursor_reply (codes "firstBatch") ds 0 name)
+  unfolding run_aggregate
+  run_aggregate-whole ds is fits = ap batched is ∙ first_batch-whole w connection name ds most fits
+
+  pub run_aggregate-over : (ds : List Pairs) → piped ≡ Ok ds → batch_of most ds < length ds → run_aggregate w connection asked_of ≡ Err refusals.TooMany
+  unfolding run_aggregate
+  run_aggregate-over ds is over = ap batched is ∙ first_batch-over w connection name ds most over
+
+  pub run_aggregate-refused : (e : Refusal) → piped ≡ Err e → run_aggregate w connection asked_of ≡ Err e
+  unfolding run_aggregate
+  run_aggregate-refused e is = ap batched is
+
+pub run_aggregate-default : (w : World) (connection : ℕ) (c : Aggregate) → run_aggregate w connection (record c { batch_size = Some (unwrap_or c.batch_size 101) }) ≡ run_aggregate w connection c
+unfolding run_aggregate
+run_aggregate-default w connection c = refl
 
 pub run_find-default : (w : World) (connection : ℕ) (c : Find) → run_find w connection (record c { batch_size = Some (unwrap_or c.batch_size 101) }) ≡ run_find w connection c
 unfolding run_find

@@ -7,6 +7,7 @@ pub mod Find
 pub mod Count
 pub mod Delete
 pub mod Update
+pub mod Aggregate
 pub mod Step
 pub mod Lawful
 pub mod Places

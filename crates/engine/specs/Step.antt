@@ -5,13 +5,14 @@ use Rattle.bson.specs.declared.fault.BsonFault.{BsonFault}
 use Rattle.path.specs.Outcomes.{◌>>=◌}
 use Rattle.path.specs.declared.refusal.Refusal.{Refusal}
 use Rattle.path.specs.declared.refusal.Refusal.TheVariants as refusals
-use Rattle.commands.specs.Command.{Command, ping, insert, find, count, delete, update, command_of}
+use Rattle.commands.specs.Command.{Command, ping, insert, find, count, delete, update, aggregate, command_of}
 use Rattle.engine.specs.World.{World}
 use Rattle.engine.specs.Refusals.{refusal_reply, ok_reply}
 use Rattle.engine.specs.Insert.{run_insert}
 use Rattle.engine.specs.Find.{run_find}
 use Rattle.engine.specs.Count.{run_count}
 use Rattle.engine.specs.Delete.{run_delete}
+use Rattle.engine.specs.Aggregate.{run_aggregate}
 use Rattle.engine.specs.Update.{Updated, not_updated, run_statements, run_update}
 
 -- the table of what commands do
@@ -22,6 +23,7 @@ run world connection (find c) = run_find world connection c
 run world connection (count c) = run_count world c
 run world connection (delete c) = run_delete world c
 run world connection (update c) = run_update world c
+run world connection (aggregate c) = run_aggregate world connection c
 
 -- a refusal leaves the world as it was
 abbrev pub answered : World → Result (World × Pairs) Refusal → World × Pairs

@@ -114,6 +114,10 @@ impl<D: Disk> Engine<D> {
             }
             Command::Delete(c) => built(self.delete(c.namespace.as_str(), &c.deletions)),
             Command::Update(c) => built(self.update(c.namespace.as_str(), &c.statements)),
+            Command::Aggregate(c) => {
+                let most = c.batch_size.unwrap_or(FIRST_BATCH);
+                spelled(self.aggregate(connection, c.namespace.as_str(), &c.pipeline, most))
+            }
         }
     }
 

@@ -1,6 +1,7 @@
 //! The engine: commands over collections of documents.
 #![tactic(auto)]
 
+mod aggregation;
 mod batch;
 mod collection;
 mod collections;

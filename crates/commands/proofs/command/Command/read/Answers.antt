@@ -2,8 +2,9 @@ use Rattle.bson.specs.View.{tree, pairs_of}
 use Rattle.commands.specs.Insert.{read_insert}
 use Rattle.commands.specs.Find.{read_find}
 use Rattle.commands.specs.Update.{read_update_command}
-use Rattle.commands.specs.View.{insert_read, find_read, update_read}
-use Rattle.commands.specs.CommandLaws.{insert_bounded, find_bounded, update_bounded}
+use Rattle.commands.specs.Aggregate.{read_aggregate}
+use Rattle.commands.specs.View.{insert_read, find_read, update_read, aggregate_read}
+use Rattle.commands.specs.CommandLaws.{insert_bounded, find_bounded, update_bounded, aggregate_bounded}
 use Rattle.commands.proofs.command.Command.read.Goals as goal
 
 pub returns-in_ok-read_insert-clause-bounded : goal.returns-in_ok-read_insert-clause-bounded
@@ -17,3 +18,7 @@ returns-in_ok-read_find-clause-bounded c =
 pub returns-in_ok-read_update-clause-bounded : goal.returns-in_ok-read_update-clause-bounded
 returns-in_ok-read_update-clause-bounded c =
     update_bounded (tree c.in-Some.first.now.value) (pairs_of c.in-Some.rest.now) (update_read c.in_ok-read_update.field-0) c.in_ok-read_update.ensures
+
+pub returns-in_ok-read_aggregate-clause-bounded : goal.returns-in_ok-read_aggregate-clause-bounded
+returns-in_ok-read_aggregate-clause-bounded c =
+    aggregate_bounded (tree c.in-Some.first.now.value) (pairs_of c.in-Some.rest.now) (aggregate_read c.in_ok-read_aggregate.field-0) c.in_ok-read_aggregate.ensures

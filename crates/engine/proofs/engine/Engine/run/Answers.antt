@@ -5,13 +5,15 @@ use Rattle.engine.specs.World.{World}
 use Rattle.path.specs.Outcomes.{◌>>=◌}
 use Rattle.commands.specs.Command as commands
 use Rattle.commands.specs.Find as finds
+use Rattle.commands.specs.Aggregate as aggregates
+use Rattle.engine.specs.Aggregate.{run_aggregate}
 use Rattle.engine.specs.Step.{run, read_and_run}
 use Rattle.engine.specs.Find.{run_find}
-use Rattle.commands.specs.View.{command_read, find_read}
+use Rattle.commands.specs.View.{command_read, find_read, aggregate_read}
 use Rattle.engine.specs.View.{world, IsSendable, Runs}
 use Rattle.commands.specs.declared.command.Command.{Command}
 use Rattle.path.specs.declared.refusal.Refusal.{Refusal}
-use Rattle.engine.proofs.Running.{run_find-default}
+use Rattle.engine.proofs.Running.{run_find-default, run_aggregate-default}
 use Rattle.engine.proofs.SpelledSizes.{ping-sendable}
 use Rattle.engine.proofs.engine.Engine.run.Goals as goal
 
@@ -29,3 +31,15 @@ returns-in-Find-clause-runs g c =
     λ i. run_find w c.args.connection (record { namespace = c.as_str-in-Find.ensures.value i; query = asked.query; batch_size = Some (c.unwrap_or-most.ensures i) }) in
     subst (λ (r : Result Pairs Refusal). Runs w (read_and_run w c.args.connection c.args.body.now) w r) (sym c.spelled.ensures)
     (subst (λ (planned : Result (World × Pairs) Refusal). Runs w planned w c.find.result) (called ∙ run_find-default w c.args.connection asked ∙ sym spelled) c.find.ensures.runs)
+
+pub returns-in-Aggregate-clause-runs : goal.returns-in-Aggregate-clause-runs
+returns-in-Aggregate-clause-runs g c =
+    let w = world c.args.self.now in
+    let asked : aggregates.Aggregate = aggregate_read c.in-Aggregate.c in
+    let read : Result commands.Command Refusal → Result (World × Pairs) Refusal = λ r. r >>= run w c.args.connection in
+    let spelled : read_and_run w c.args.connection c.args.body.now ≡ run_aggregate w c.args.connection asked =
+    ap read (c.in_ok-read.ensures.gives ∙ ap (λ (x : Command). Ok (command_read x)) c.in-Aggregate.is) in
+    let called : run_aggregate w c.args.connection (record { namespace = c.as_str-in-Aggregate.result.now; pipeline = asked.pipeline; batch_size = Some c.unwrap_or-most-2.result }) ≡ run_aggregate w c.args.connection (record asked { batch_size = Some (unwrap_or asked.batch_size 101) }) =
+    λ i. run_aggregate w c.args.connection (record { namespace = c.as_str-in-Aggregate.ensures.value i; pipeline = asked.pipeline; batch_size = Some (c.unwrap_or-most-2.ensures i) }) in
+    subst (λ (r : Result Pairs Refusal). Runs w (read_and_run w c.args.connection c.args.body.now) w r) (sym c.spelled-2.ensures)
+    (subst (λ (planned : Result (World × Pairs) Refusal). Runs w planned w c.aggregate.result) (called ∙ run_aggregate-default w c.args.connection asked ∙ sym spelled) c.aggregate.ensures.runs)
