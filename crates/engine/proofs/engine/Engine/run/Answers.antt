@@ -5,13 +5,14 @@ use Rattle.engine.specs.World.{World}
 use Rattle.path.specs.Outcomes.{◌>>=◌}
 use Rattle.commands.specs.Command as commands
 use Rattle.commands.specs.Find as finds
-use Rattle.engine.specs.Step.{run, read_and_run}
+use Rattle.commands.specs.Update as updates
+use Rattle.engine.specs.Step.{run, read_and_run, ChangesNone}
 use Rattle.engine.specs.Find.{run_find}
-use Rattle.commands.specs.View.{command_read, find_read}
+use Rattle.commands.specs.View.{command_read, find_read, update_read}
 use Rattle.engine.specs.View.{world, IsSendable, Runs}
 use Rattle.commands.specs.declared.command.Command.{Command}
 use Rattle.path.specs.declared.refusal.Refusal.{Refusal}
-use Rattle.engine.proofs.Running.{run_find-default}
+use Rattle.engine.proofs.Running.{run_find-default, whichever}
 use Rattle.engine.proofs.SpelledSizes.{ping-sendable}
 use Rattle.engine.proofs.engine.Engine.run.Goals as goal
 
@@ -28,3 +29,13 @@ returns-in-Find-clause-runs g c =
     let called : run_find w c.args.connection (record { namespace = c.as_str-in-Find.result.now; query = asked.query; batch_size = Some c.unwrap_or-most.result }) ≡ run_find w c.args.connection (record asked { batch_size = Some (unwrap_or asked.batch_size 101) }) =
     λ i. run_find w c.args.connection (record { namespace = c.as_str-in-Find.ensures.value i; query = asked.query; batch_size = Some (c.unwrap_or-most.ensures i) }) in
     subst (λ (planned : Result (World × Pairs) Refusal). Runs w planned w c.find.result) (called ∙ run_find-default w c.args.connection asked ∙ sym spelled) c.find.ensures.runs
+
+pub returns-in-Update-clause-has_changes : goal.returns-in-Update-clause-has_changes
+returns-in-Update-clause-has_changes g c = λ wrote.
+    let w = world c.args.self.now in
+    let asked : updates.Update = update_read c.in-Update.c in
+    let called : updates.Update = record { namespace = c.as_str-in-Update.result.now; statements = c.deref-in-Update.result.now } in
+    let same : asked ≡ called = λ i. record { namespace = sym c.as_str-in-Update.ensures.value i; statements = sym c.deref-in-Update.ensures.value i } in
+    let spelled = c.in_ok-read.ensures.gives ∙ ap (λ (x : Command). Ok (command_read x)) c.in-Update.is in
+    let none = subst (λ (u : updates.Update). ChangesNone w (commands.update u)) same (wrote.1 (commands.update asked) spelled) in
+    whichever c.update.result (c.update.ensures.has_changes none) c.update.ensures.refused
