@@ -11,7 +11,7 @@ use Rattle.std.proofs.lemmas.Slice.Eq.{bytes_eq-Decides}
 use Rattle.bson.specs.Tree.{Tree, scalar, null, document, array, Pairs, no_pairs}
 use Rattle.bson.specs.Lookup.{lookup}
 use Rattle.bson.specs.Lawful.{pairs_levels, IsDocument}
-use Rattle.bson.specs.Spelling.{frame_of, pairs_bytes}
+use Rattle.bson.specs.Spelling.{frame_of, pairs_bytes, Spells}
 use Rattle.bson.proofs.TreeLaws.{one_spelling}
 use Rattle.value_order.specs.Order.{compare}
 use Rattle.value_order.specs.KeyText.{tree_text}
@@ -34,7 +34,6 @@ use Rattle.engine.specs.Progress.{with_document_at}
 use Rattle.engine.specs.Update.{spelled, upsert_document}
 use Rattle.engine.specs.Updating.{IsChange}
 use Rattle.engine.proofs.Checked.{id_first-id_first}
-use Rattle.engine.proofs.LoadingSteps.{document_spells}
 
 -- what an update gives, but for the length of its key text
 pub record Applied (ps : Pairs) : Type 0 where
@@ -71,6 +70,9 @@ may_be_stored ps a short = record { size = a.size; depth = a.depth; names = a.na
 
 -- ---- a stored document
 
+spells : (d : Pairs) → IsStored d → IsDocument d → Spells (spelled d) d
+spells d stored h = record { lawful = h; spelled = refl; size = omega (arith, stored.size) }
+
 lookup_of : (ps : Pairs) (t : Tree) → id_of ps ≡ Some t → lookup ps id_name ≡ Some t
 lookup_of ps t e = at (lookup ps id_name) e
   where
@@ -93,7 +95,7 @@ module _ (u : Change) (ps qs : Pairs) (read : IsRead u) (stored : IsStored ps) (
   -- the same bytes are the same document
   pub same_document : IsDocument ps → IsDocument qs → bytes_eq (spelled ps) (spelled qs) ≡ true → apply u 65535 ps ≡ Ok ps
   same_document d f same =
-      let one = one_spelling (spelled ps) (spelled qs) [] [] ps qs (document_spells ps stored d) (document_spells qs kept_stored f) (ap (λ (bs : List ℕ). bs ++ []) ((bytes_eq-Decides (spelled ps) (spelled qs)).0 same)) in
+      let one = one_spelling (spelled ps) (spelled qs) [] [] ps qs (spells ps stored d) (spells qs kept_stored f) (ap (λ (bs : List ℕ). bs ++ []) ((bytes_eq-Decides (spelled ps) (spelled qs)).0 same)) in
       e ∙ ap (λ (x : Pairs). Ok x) (sym one.0)
 
 -- ---- a document of a collection

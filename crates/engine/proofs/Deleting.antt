@@ -176,7 +176,7 @@ module _ (name : List ℕ) (deletions : List Deletion) (cs : List Collection) (a
 
 -- ---- laws
 
-there_at : (cs : List Collection) (name : List ℕ) (i : ℕ) → AreNamedApart cs → i < length cs → ((d : Collection) → slice_cmp nat_cmp (get_or cs i d).name name ≡ orders.Equal) → IsThere name cs i
+pub there_at : (cs : List Collection) (name : List ℕ) (i : ℕ) → AreNamedApart cs → i < length cs → ((d : Collection) → slice_cmp nat_cmp (get_or cs i d).name name ≡ orders.Equal) → IsThere name cs i
 there_at cs name i apart within same = record {
   within = within;
   named = exact_bytes (collection_at cs i).name name (same no_collection);

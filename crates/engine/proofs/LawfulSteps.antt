@@ -33,8 +33,13 @@ use Rattle.engine.proofs.Piping.{piped_within}
 use Rattle.engine.specs.Find.{query_result as found_by, matching, window, run_find}
 use Rattle.commands.specs.Delete.{Deletion, Delete}
 use Rattle.engine.specs.Delete.{after_deletions, deleted_in, run_delete}
+use Rattle.commands.specs.Update.{UpdateStatement, Update, IsRead}
+use Rattle.engine.specs.Update.{Changed, update_from, Updated, not_updated, not_changed, updated_to, upsert_document, with_upserted, upsert, run_statement, run_statements, update_reply, run_update}
+use Rattle.engine.specs.Laws.{IsNoUpdate, BodyIsNoUpdate}
+use Rattle.engine.proofs.Applied.{upserted_stored}
+use Rattle.engine.proofs.LawfulUpdates.{SameKeys, from_kept, changed_lawful}
 use Rattle.engine.specs.Refusals.{int, total, ok_reply}
-use Rattle.commands.specs.Command.{Command, ping, insert as insert_of, find as find_of, count as count_of_all, delete, aggregate, command_of, IsBounded}
+use Rattle.commands.specs.Command.{Command, ping, insert as insert_of, find as find_of, count as count_of_all, delete, update, aggregate, command_of, IsBounded}
 use Rattle.engine.specs.Lawful.{IsStored, IsWithin, IsRising, AreNamedApart, AreNumberedApart, IsKept, IsLawfulState, IsLawful}
 use Rattle.engine.specs.Places.{IsGap, collection_at, no_collection}
 use Rattle.engine.specs.Progress.{is_full, with_document}
@@ -45,7 +50,7 @@ use Rattle.engine.specs.Step.{run, answered, step}
 use Rattle.engine.specs.View.{IsSendable}
 use Rattle.path.specs.declared.refusal.Refusal.{Refusal}
 use Rattle.path.specs.declared.refusal.Refusal.TheVariants as refusals
-use Rattle.commands.specs.OutcomeLaws.{step_of}
+use Rattle.commands.specs.OutcomeLaws.{step_of, passed}
 use Rattle.commands.specs.CommandLaws.{bounded}
 use Rattle.engine.proofs.Checked.{keeps}
 use Rattle.engine.proofs.Located.{Gap, There, located}
@@ -267,27 +272,91 @@ good_delete w name deletions h =
     let collections = deleted_lawful w.collections name deletions h.collections in
     good_one (record w { collections = deleted_in (find_collection w.collections name) deletions w.collections }) (pair (codes "n") (total n) no_pairs) (record { collections = collections; cursors = h.cursors }) (insert-sendable (min n (2 ^ 31 - 1)))
 
-good_run : (w : World) (connection : ℕ) (command : Command) → IsLawful w → IsBounded command → Good (run w connection command)
-good_run w connection ping h b = good_one w no_pairs h ping-sendable
-good_run w connection (insert_of c) h b = good_insert w c.namespace c.documents h b.0
-good_run w connection (find_of c) h b = good_find w connection c.namespace c.query c.batch_size h b
-good_run w connection (count_of_all c) h b = good_count w c h
-good_run w connection (aggregate c) h b = good_aggregate w connection c h b
-good_run w connection (delete c) h b = good_delete w c.namespace c.deletions h
+-- ---- updates
+
+-- what statements come to is lawful
+statement_lawful : (name : List ℕ) (index : ℕ) (s : UpdateStatement) (u v : Updated) → length name ≤ 255 → IsRead s.change → IsLawfulState u.collections → run_statement name index s u ≡ Ok v → IsLawfulState v.collections
+statement_lawful name index s u v short read h e =
+    let cs = u.collections in
+    let kept = stored_at cs name h.kept in
+    let c = step_of (update_from s (not_changed u) (documents_of cs name)) _ v e in
+    at (not c.0.found && s.upsert) c.0 (from_kept s read (not_changed u) (documents_of cs name) c.0 (λ k d below. absurd (omega arith)) kept.1 refl c.1) c.2
+  where
+    made : (stored : List Pairs) (new : Pairs) → is_full u.collections name ≡ false → upsert_document s ≡ Ok new → place (key_of new) new (documents_of u.collections name) ≡ Some stored
+        → IsLawfulState (put_collection (with_documents u.collections name stored) u.collections)
+    made stored new free is there =
+        let cs = u.collections in
+        let kept = kept_place (documents_of cs name) new stored (stored_at cs name h.kept) (upserted_stored s new is) there in
+        let bounds = number_bounds cs name h.kept (room cs name free) in
+        let one : IsKept (with_documents cs name stored) = record { lawful = record { rising = kept.0; stored = kept.1 }; short = short; least = bounds.least; most = bounds.most } in
+        put_kept (with_documents cs name stored) cs h one free refl
+
+    placed : (o : Option (List Pairs)) (stored : List Pairs) → or_refused o refusals.DuplicateKey ≡ Ok stored → o ≡ Some stored
+    placed None stored e = absurd cc
+    placed (Some xs) stored e = let same : xs ≡ stored = cc in ap (λ (ys : List Pairs). Some ys) same
+
+    at : (b : Bool) (changed : Changed) → SameKeys changed.documents (documents_of u.collections name) × All IsStored changed.documents
+        → (if b then upsert name index s u else Ok (updated_to name u changed)) ≡ Ok v → IsLawfulState v.collections
+    at true changed k e =
+        let p = passed (is_full u.collections name) refusals.TooMany _ v e in
+        let n = step_of (upsert_document s) _ v p.1 in
+        let t = step_of (or_refused (place (key_of n.0) n.0 (documents_of u.collections name)) refusals.DuplicateKey) _ v n.2 in
+        let same : with_upserted name index n.0 t.0 u ≡ v = cc in
+        subst (λ (x : Updated). IsLawfulState x.collections) same (made t.0 n.0 p.0 n.1 (placed (place (key_of n.0) n.0 (documents_of u.collections name)) t.0 t.1))
+    at false changed k e =
+        let same : updated_to name u changed ≡ v = cc in
+        subst (λ (x : Updated). IsLawfulState x.collections) same (changed_lawful u.collections name changed.documents h k.0 k.1)
+
+statements_lawful : (name : List ℕ) (index : ℕ) (ss : List UpdateStatement) (u v : Updated) → length name ≤ 255 → All (λ (s : UpdateStatement). IsRead s.change) ss → IsLawfulState u.collections
+    → run_statements name index ss u ≡ Ok v → IsLawfulState v.collections
+statements_lawful name index [] u v short read h e = let same : u ≡ v = cc in subst (λ (x : Updated). IsLawfulState x.collections) same h
+statements_lawful name index (s ∷ ss) u v short read h e =
+    let m = step_of (run_statement name index s u) (run_statements name (suc index) ss) v e in
+    statements_lawful name (suc index) ss m.0 v short (λ k d below. read (suc k) d (omega arith)) (statement_lawful name index s u m.0 short (read 0 s (omega arith)) h m.1) m.2
+
+-- what running a command comes to: a lawful world
+abbrev Lawful : Result (World × Pairs) Refusal → Type 0
+Lawful r = (x : World × Pairs) → r ≡ Ok x → IsLawful x.0
+
+lawful_update : (w : World) (c : Update) → IsLawful w → IsBounded (update c) → Lawful (run_update w c)
+unfolding run_update
+lawful_update w c h b = λ x e.
+    let u = step_of (run_statements c.namespace 0 c.statements (not_updated w.collections)) (λ u. let r : Result (World × Pairs) Refusal = Ok (record w { collections = u.collections }, update_reply u) in r) x e in
+    let same : (record w { collections = u.0.collections }, update_reply u.0) ≡ x = cc in
+    subst (λ (y : World × Pairs). IsLawful y.0) same (record { collections = statements_lawful c.namespace 0 c.statements (not_updated w.collections) u.0 b.0 b.2 h.collections u.1; cursors = h.cursors })
+
+-- ---- any command
+
+-- a lawful world, and a reply within the limit where it is no update
+record Runs (command : Command) (r : Result (World × Pairs) Refusal) : Type 0 where
+  lawful : Lawful r
+  sendable : IsNoUpdate (Ok command) → (x : World × Pairs) → r ≡ Ok x → IsSendable (ok_reply x.1)
+
+of_good : (command : Command) (r : Result (World × Pairs) Refusal) → Good r → Runs command r
+of_good command r good = record { lawful = λ x e. (good x e).0; sendable = λ other x e. (good x e).1 }
+
+good_run : (w : World) (connection : ℕ) (command : Command) → IsLawful w → IsBounded command → Runs command (run w connection command)
+good_run w connection ping h b = of_good ping _ (good_one w no_pairs h ping-sendable)
+good_run w connection (insert_of c) h b = of_good (insert_of c) _ (good_insert w c.namespace c.documents h b.0)
+good_run w connection (find_of c) h b = of_good (find_of c) _ (good_find w connection c.namespace c.query c.batch_size h b)
+good_run w connection (count_of_all c) h b = of_good (count_of_all c) _ (good_count w c h)
+good_run w connection (delete c) h b = of_good (delete c) _ (good_delete w c.namespace c.deletions h)
+good_run w connection (aggregate c) h b = of_good (aggregate c) _ (good_aggregate w connection c h b)
+good_run w connection (update c) h b = record { lawful = lawful_update w c h b; sendable = λ other. absurd other }
 
 -- the world after a step, and its reply
-pub record Steps (x : World × Pairs) : Type 0 where
+pub record Steps (body : Result Pairs BsonFault) (x : World × Pairs) : Type 0 where
   pub lawful : IsLawful x.0
-  pub sendable : IsSendable x.1
+  pub sendable : BodyIsNoUpdate body → IsSendable x.1
 
-pub steps : (w : World) (connection : ℕ) (body : Result Pairs BsonFault) → IsLawful w → Steps (step w connection body)
-steps w connection (Err fault) h = record { lawful = h; sendable = refusal-sendable refusals.InvalidBSON }
+pub steps : (w : World) (connection : ℕ) (body : Result Pairs BsonFault) → IsLawful w → Steps body (step w connection body)
+steps w connection (Err fault) h = record { lawful = h; sendable = λ other. refusal-sendable refusals.InvalidBSON }
 steps w connection (Ok body) h = at (command_of body) refl
   where
-    ran : (c : Command) (r : Result (World × Pairs) Refusal) → Good r → Steps (answered w r)
-    ran c (Err e) good = record { lawful = h; sendable = refusal-sendable e }
-    ran c (Ok x) good = let g = good x refl in record { lawful = g.0; sendable = g.1 }
+    ran : (c : Command) (r : Result (World × Pairs) Refusal) → command_of body ≡ Ok c → Runs c r → Steps (Ok body) (answered w r)
+    ran c (Err e) is good = record { lawful = h; sendable = λ other. refusal-sendable e }
+    ran c (Ok x) is good = record { lawful = good.lawful x refl; sendable = λ other. good.sendable (subst IsNoUpdate is other) x refl }
 
-    at : (r : Result Command Refusal) → command_of body ≡ r → Steps (answered w (r >>= run w connection))
-    at (Err e) is = record { lawful = h; sendable = refusal-sendable e }
-    at (Ok c) is = ran c (run w connection c) (good_run w connection c h (bounded body c is))
+    at : (r : Result Command Refusal) → command_of body ≡ r → Steps (Ok body) (answered w (r >>= run w connection))
+    at (Err e) is = record { lawful = h; sendable = λ other. refusal-sendable e }
+    at (Ok c) is = ran c (run w connection c) is (good_run w connection c h (bounded body c is))

@@ -27,5 +27,7 @@ pub mod Growing
 pub mod Deleting
 pub mod Finding
 pub mod Applied
+pub mod UpdatingLoop
+pub mod LawfulUpdates
 pub mod ReadingLaws
 pub mod EmptyImage

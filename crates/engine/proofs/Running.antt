@@ -1,6 +1,6 @@
 -- What running a command comes to.
 use Rattle.std.proofs.Common.{◌≡◌, ℕ, zero, suc, ◌+◌, ◌-◌, ◌<◌, ◌≤◌, Bool, true, false, List, [], ◌∷◌, length, Option, Some, Result, Ok, Err, refl, sym, ap, ◌∙◌, arith}
-use Rattle.std.specs.Prelude.{◌==◌, ◌||◌, if◌then◌else◌, nat_le, codes, unwrap_or}
+use Rattle.std.specs.Prelude.{◌==◌, ◌||◌, if◌then◌else◌, nat_le, codes, unwrap_or, IfOk, IfErr}
 use Rattle.std.proofs.lemmas.Bool.Decides.{nat_tests}
 use Rattle.bson.specs.Tree.{Pairs, pair, no_pairs}
 use Rattle.filter.specs.Condition.{Conditions}
@@ -13,6 +13,10 @@ use Rattle.aggregate.specs.Pipeline.{run as after_pipeline}
 use Rattle.engine.specs.Aggregate.{run_aggregate}
 use Rattle.engine.specs.Find.{query_result, matching, window, run_find}
 use Rattle.commands.specs.Delete.{Deletion, Delete}
+use Rattle.commands.specs.Update.{UpdateStatement}
+use Rattle.engine.specs.Update.{Updated, update_reply, run_update}
+use Rattle.engine.specs.Updating.{RunsAll}
+use Rattle.engine.specs.View.{with_ok, Runs}
 use Rattle.engine.specs.Delete.{after_deletions, deleted_in, run_delete}
 use Rattle.engine.specs.World.{World, Collection, find_collection, documents_of, with_documents, put_collection, count_of}
 use Rattle.path.specs.Outcomes.{◌>>=◌, unless}
@@ -21,7 +25,7 @@ use Rattle.engine.specs.Refusals.{int, total}
 use Rattle.engine.specs.Cursors.{item_size, batch_len, cursor_reply, open_cursor, batch_of, first_batch}
 use Rattle.engine.specs.Insert.{run_insert}
 use Rattle.engine.specs.Count.{run_count}
-use Rattle.engine.specs.Progress.{is_full, inserted}
+use Rattle.engine.specs.Progress.{Progress, is_full, inserted}
 use Rattle.path.specs.declared.refusal.Refusal.{Refusal}
 use Rattle.path.specs.declared.refusal.Refusal.TheVariants as refusals
 
@@ -135,3 +139,24 @@ pub run_delete-is : (w : World) (c : Delete) (cs : List Collection) (n : ℕ) �
     → n ≡ length (documents_of w.collections c.namespace) - length (after_deletions c.deletions (documents_of w.collections c.namespace)) → run_delete w c ≡ Ok (record w { collections = cs }, pair (codes "n") (total n) no_pairs)
 unfolding run_delete
 run_delete-is w c cs n same e = λ i. Ok (record w { collections = sym same i }, pair (codes "n") (total (sym e i)) no_pairs)
+
+-- ---- update
+
+abbrev world_at : Progress → World
+world_at p = record { collections = p.now; cursors = []; next = 1; touched = [] }
+
+pub run_update-runs : (name : List ℕ) (ss : List UpdateStatement) (old next : Progress) (r : Result Pairs Refusal) → RunsAll name ss old next r → IfErr r (λ _. next ≡ old)
+    → Runs (world_at old) (run_update (world_at old) (record { namespace = name; statements = ss })) (world_at next) r
+unfolding run_update
+run_update-runs name ss old next (Ok reply) up same =
+    ap (λ (r : Result Updated Refusal). with_ok (r >>= (λ u. let x : Result (World × Pairs) Refusal = Ok (record (world_at old) { collections = u.collections }, update_reply u) in x))) up.planned
+    ∙ (λ k. Ok (record (world_at old) { collections = up.is k }, sym up.says k))
+run_update-runs name ss old next (Err e) is same = (
+  ap world_at same,
+  λ other. ap (λ (r : Result Updated Refusal). r >>= (λ u. let x : Result (World × Pairs) Refusal = Ok (record (world_at old) { collections = u.collections }, update_reply u) in x)) (is other),
+)
+
+-- what holds of either answer holds
+pub whichever : {X : Type 0} {P : Type 0} (r : Result X Refusal) → IfOk r (λ _. P) → IfErr r (λ _. P) → P
+whichever (Ok x) ok err = ok
+whichever (Err e) ok err = err

@@ -1,7 +1,8 @@
 -- `update`: what its statements make of the documents of a collection, one statement after the other.
-use Rattle.std.specs.Prelude.{ℕ, suc, ◌-◌, ◌^◌, Bool, true, false, not, ◌&&◌, nat_le, nat_lt, if◌then◌else◌, List, [], ◌∷◌, ◌++◌, length, codes, is_some, Option, Some, None, Result, Ok}
+use Rattle.std.specs.Prelude.{ℕ, suc, ◌-◌, ◌^◌, Bool, true, false, not, ◌&&◌, ◌==◌, nat_le, nat_lt, if◌then◌else◌, List, [], ◌∷◌, ◌++◌, length, codes, is_some, Option, Some, None, Result, Ok}
 use Rattle.std.specs.Str.{bytes_eq}
 use Rattle.bson.specs.Tree.{Tree, document, array, Pairs, no_pairs, pair, Items, no_items, item, append_items}
+use Rattle.bson.specs.Edits.{items_len}
 use Rattle.bson.specs.Spelling.{frame_of, pairs_bytes}
 use Rattle.filter.specs.Matches.{matches}
 use Rattle.update.specs.Applying.{apply}
@@ -138,8 +139,8 @@ run_statements name index (s ∷ ss) u = do
 
 -- named only where a document was made
 abbrev pub upserted_pairs : Items → Pairs
-upserted_pairs no_items = no_pairs
-upserted_pairs (item t ts) = pair (codes "upserted") (array (item t ts)) no_pairs
+upserted_pairs ts =
+    if items_len ts == 0 then no_pairs else pair (codes "upserted") (array ts) no_pairs
 
 abbrev pub counts_reply : ℕ → ℕ → Items → Pairs
 counts_reply matched modified upserted =

@@ -43,9 +43,9 @@ abbrev pub turn_start : {D : Type 0} → Engine D → World
 turn_start engine =
     record { collections = turn_start_of engine.collections; cursors = []; next = 1; touched = [] }
 
--- the reply is within the limit of replies
+-- the reply is within the limit of replies: a message without its frame
 abbrev pub IsSendable : Pairs → Type 0
-IsSendable ps = length (frame_of (pairs_bytes ps)) ≤ 901000
+IsSendable ps = length (frame_of (pairs_bytes ps)) ≤ 1048555
 
 -- what is planned, with the end of its reply
 abbrev pub with_ok : Result (World × Pairs) Refusal → Result (World × Pairs) Refusal

@@ -31,8 +31,8 @@ pub use reply::{Answer, full_bytes, out_of_memory_bytes, refusal_document};
 pub const STORED_LIMIT: u32 = 65_535;
 /// The most bytes of the array of a batch.
 pub const BATCH_LIMIT: usize = 900_000;
-/// The most bytes of a reply: those of a batch, a namespace and the names about them.
-pub const REPLY_LIMIT: usize = 901_000;
+/// The most bytes of a reply: those of a message without its frame.
+pub const REPLY_LIMIT: usize = 1_048_555;
 /// The documents of a first batch where the command names no number.
 pub const FIRST_BATCH: usize = 101;
 /// The most cursors of one connection: none is opened yet.

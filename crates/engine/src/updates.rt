@@ -19,10 +19,10 @@ ghost use Rattle.engine.specs.Refusals.{total, ok_reply};
 ghost use Rattle.engine.specs.Step.{ChangesNone};
 ghost use Rattle.engine.specs.Update.{counted, spelled, upsert_document, upserted_entry, upsert, run_statement, run_statements, counts_reply, run_update};
 ghost use Rattle.engine.specs.Updating.{updated_of, HasNone, IsQuiet, IsChange, UpdatesAt, document_at, RunsMatching, RunsFound, RunsAll};
-ghost use Rattle.engine.specs.View.{world, turn_start, Runs};
+ghost use Rattle.engine.specs.View.{world, turn_start, IsSendable, Runs};
 ghost use Rattle.engine.specs.Durable.{has_changes};
 
-use crate::STORED_LIMIT;
+use crate::{REPLY_LIMIT, STORED_LIMIT};
 use crate::collections::Collections;
 use crate::documents::check_key;
 use crate::engine::Engine;
@@ -84,10 +84,11 @@ fn changed(alloc: Global, change: &Update, document: &Document) -> Result<Option
         (Refuses (apply (update_of change.now) 65535 document.now)) }
 {
     let new = change.apply(document, STORED_LIMIT)?;
-    if is_same(alloc, document, &new)? {
+    let _levels = new.levels();
+    let same = is_same(alloc, document, &new)?;
+    if same {
         return Ok(None);
     }
-    let _levels = new.levels();
     Ok(Some(new))
 }
 
@@ -141,9 +142,10 @@ fn update_reply(alloc: Global, tally: Tally) -> Result<Document, NoMemory>
     let mut reply = Document::new(alloc);
     put(&mut reply, "n", total_value(tally.matched))?;
     put(&mut reply, "nModified", total_value(tally.modified))?;
-    if !tally.upserted.is_empty() {
-        put(&mut reply, "upserted", Value::Array(tally.upserted))?;
+    if tally.upserted.is_empty() {
+        return done(reply);
     }
+    put(&mut reply, "upserted", Value::Array(tally.upserted))?;
     done(reply)
 }
 
@@ -294,7 +296,10 @@ impl Collections {
         ensures quiet { OnOk result (IsQuiet tally.old tally.new self.old self.new) }
     {
         let found = self.update_found(namespace, statement, tally)?;
-        if !found && statement.upsert {
+        if found {
+            return Ok(());
+        }
+        if statement.upsert {
             return self.upsert(namespace, index, statement, tally);
         }
         Ok(())
@@ -321,7 +326,8 @@ impl Collections {
         Ok(())
     }
 
-    /// Runs statements, and makes the reply.
+    /// Runs statements, and makes the reply. What it says of each document that was made is shorter than the statement
+    /// that made it, so a reply to a message has room in one.
     fn update_each(
         &mut self,
         namespace: &str,
@@ -331,6 +337,7 @@ impl Collections {
         requires read { All (λ (s : UpdateStatement). IsRead s.change) statements.now }
         ensures extends { Extends self.old self.new }
         ensures runs { RunsAll namespace.now statements.now self.old self.new result }
+        ensures sendable { IfOk result (λ d. IsSendable d) }
     {
         let alloc = self.alloc();
         let mut tally = Tally {
@@ -339,7 +346,11 @@ impl Collections {
             upserted: Array::new(alloc),
         };
         self.run_statements(namespace, statements, &mut tally)?;
-        Ok(update_reply(alloc, tally)?)
+        let reply = update_reply(alloc, tally)?;
+        if REPLY_LIMIT < reply.encoded_len() {
+            return Err(Refusal::OutOfMemory);
+        }
+        Ok(reply)
     }
 
     /// Runs statements, all or none.
@@ -353,6 +364,7 @@ impl Collections {
         ensures runs { RunsAll namespace.now statements.now self.old self.new result }
         ensures turn_start { turn_start_of self.new ≡ turn_start_of self.old }
         ensures err { IfErr result (λ _. self.new ≡ self.old) }
+        ensures sendable { IfOk result (λ d. IsSendable d) }
     {
         let mark = self.mark();
         let outcome = self.update_each(namespace, statements);
@@ -382,6 +394,7 @@ impl<D: Disk> Engine<D> {
             (update (record { namespace = namespace.now; statements = statements.now }))
             → IfOk result (λ _. has_changes self.new ≡ has_changes self.old) }
         ensures refused { IfErr result (λ _. has_changes self.new ≡ has_changes self.old) }
+        ensures sendable { IfOk result (λ d. IsSendable d) }
     {
         self.collections.update(namespace, statements)
     }

@@ -6,7 +6,7 @@ use Rattle.engine.proofs.collections.Collections.insert.Goals.{After-undo_to}
 
 taken_back : (c : After-undo_to) → c.undo_to.new.self ≡ c.args.self.now
 taken_back c =
-    let len : length c.undo_to.new.self.changes ≡ length c.args.self.now.changes = c.undo_to.ensures.len ∙ c.mark.ensures in
+    let len : length c.undo_to.new.self.changes ≡ length c.args.self.now.changes = c.undo_to.ensures.len ∙ c.mark-mark.ensures in
     Extends-same c.undo_to.new.self c.args.self.now c.store_each-outcome.new.self c.undo_to.ensures.extends c.store_each-outcome.ensures.extends len
 
 pub returns-then-is_err-clause-turn_start : goal.returns-then-is_err-clause-turn_start

@@ -7,13 +7,14 @@ use Rattle.commands.specs.Command as commands
 use Rattle.commands.specs.Find as finds
 use Rattle.commands.specs.Aggregate as aggregates
 use Rattle.engine.specs.Aggregate.{run_aggregate}
-use Rattle.engine.specs.Step.{run, read_and_run}
+use Rattle.commands.specs.Update as updates
+use Rattle.engine.specs.Step.{run, read_and_run, ChangesNone}
 use Rattle.engine.specs.Find.{run_find}
-use Rattle.commands.specs.View.{command_read, find_read, aggregate_read}
+use Rattle.commands.specs.View.{command_read, find_read, update_read, aggregate_read}
 use Rattle.engine.specs.View.{world, IsSendable, Runs}
 use Rattle.commands.specs.declared.command.Command.{Command}
 use Rattle.path.specs.declared.refusal.Refusal.{Refusal}
-use Rattle.engine.proofs.Running.{run_find-default, run_aggregate-default}
+use Rattle.engine.proofs.Running.{run_find-default, run_aggregate-default, whichever}
 use Rattle.engine.proofs.SpelledSizes.{ping-sendable}
 use Rattle.engine.proofs.engine.Engine.run.Goals as goal
 
@@ -39,7 +40,17 @@ returns-in-Aggregate-clause-runs g c =
     let read : Result commands.Command Refusal → Result (World × Pairs) Refusal = λ r. r >>= run w c.args.connection in
     let spelled : read_and_run w c.args.connection c.args.body.now ≡ run_aggregate w c.args.connection asked =
     ap read (c.in_ok-read.ensures.gives ∙ ap (λ (x : Command). Ok (command_read x)) c.in-Aggregate.is) in
-    let called : run_aggregate w c.args.connection (record { namespace = c.as_str-in-Aggregate.result.now; pipeline = asked.pipeline; batch_size = Some c.unwrap_or-most-2.result }) ≡ run_aggregate w c.args.connection (record asked { batch_size = Some (unwrap_or asked.batch_size 101) }) =
-    λ i. run_aggregate w c.args.connection (record { namespace = c.as_str-in-Aggregate.ensures.value i; pipeline = asked.pipeline; batch_size = Some (c.unwrap_or-most-2.ensures i) }) in
-    subst (λ (r : Result Pairs Refusal). Runs w (read_and_run w c.args.connection c.args.body.now) w r) (sym c.spelled-2.ensures)
+    let called : run_aggregate w c.args.connection (record { namespace = c.as_str-in-Aggregate.result.now; pipeline = asked.pipeline; batch_size = Some c.unwrap_or-most-in-Aggregate.result }) ≡ run_aggregate w c.args.connection (record asked { batch_size = Some (unwrap_or asked.batch_size 101) }) =
+    λ i. run_aggregate w c.args.connection (record { namespace = c.as_str-in-Aggregate.ensures.value i; pipeline = asked.pipeline; batch_size = Some (c.unwrap_or-most-in-Aggregate.ensures i) }) in
+    subst (λ (r : Result Pairs Refusal). Runs w (read_and_run w c.args.connection c.args.body.now) w r) (sym c.spelled-in-Aggregate.ensures)
     (subst (λ (planned : Result (World × Pairs) Refusal). Runs w planned w c.aggregate.result) (called ∙ run_aggregate-default w c.args.connection asked ∙ sym spelled) c.aggregate.ensures.runs)
+
+pub returns-in-Update-clause-has_changes : goal.returns-in-Update-clause-has_changes
+returns-in-Update-clause-has_changes g c = λ wrote.
+    let w = world c.args.self.now in
+    let asked : updates.Update = update_read c.in-Update.c in
+    let called : updates.Update = record { namespace = c.as_str-in-Update.result.now; statements = c.deref-in-Update.result.now } in
+    let same : asked ≡ called = λ i. record { namespace = sym c.as_str-in-Update.ensures.value i; statements = sym c.deref-in-Update.ensures.value i } in
+    let spelled = c.in_ok-read.ensures.gives ∙ ap (λ (x : Command). Ok (command_read x)) c.in-Update.is in
+    let none = subst (λ (u : updates.Update). ChangesNone w (commands.update u)) same (wrote.1 (commands.update asked) spelled) in
+    whichever c.update.result (c.update.ensures.has_changes none) c.update.ensures.refused
