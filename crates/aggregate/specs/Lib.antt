@@ -7,6 +7,9 @@ pub mod PathValue
 pub mod Match
 pub mod Project
 pub mod Unwind
+pub mod Expression
+pub mod Accumulators
+pub mod Group
 pub mod Windows
 pub mod Count
 pub mod Stage
@@ -15,3 +18,6 @@ pub mod Limits
 pub mod Pipeline
 pub mod Found
 pub mod View
+pub mod GroupView
+pub mod Table
+pub mod Groups
