@@ -2,3 +2,8 @@ pub mod NameLemmas
 pub mod ReadingLemmas
 pub mod PathLemmas
 pub mod EachLemmas
+pub mod SplitLemmas
+pub mod ArrayLemmas
+pub mod TextLemmas
+pub mod GroupLemmas
+pub mod PlaceLemmas

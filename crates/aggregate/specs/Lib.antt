@@ -7,6 +7,9 @@ pub mod PathValue
 pub mod Match
 pub mod Project
 pub mod Unwind
+pub mod Expression
+pub mod Accumulators
+pub mod Group
 pub mod Windows
 pub mod Count
 pub mod Stage
@@ -18,3 +21,6 @@ pub mod Taking
 pub mod TakingLaws
 pub mod Found
 pub mod View
+pub mod GroupView
+pub mod Table
+pub mod Groups

@@ -2,6 +2,7 @@
 use Rattle.std.specs.Prelude.{ℕ, List}
 use Rattle.filter.specs.Condition.{Conditions}
 use Rattle.filter.specs.Sort.{SortField}
+use Rattle.aggregate.specs.Group.{Grouping}
 use Rattle.aggregate.specs.Project.{Projecting}
 
 pub data Stage : Type 0 where
@@ -10,6 +11,7 @@ pub data Stage : Type 0 where
   project_stage : Projecting → Stage
   -- for each element of the array at the path
   unwind_stage : List (List ℕ) → Stage
+  group_stage : Grouping → Stage
   sort_stage : List SortField → Stage
   skip_stage : ℕ → Stage
   limit_stage : ℕ → Stage

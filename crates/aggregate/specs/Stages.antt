@@ -10,8 +10,9 @@ use Rattle.filter.specs.Sort.{order}
 use Rattle.filter.specs.SortReading.{read_sort}
 use Rattle.aggregate.specs.Operands.{document_in, text_in, number_in, dollar_path_in}
 use Rattle.aggregate.specs.Names.{field_name}
-use Rattle.aggregate.specs.Stage.{Stage, match_stage, project_stage, unwind_stage, sort_stage, skip_stage, limit_stage, count_stage}
+use Rattle.aggregate.specs.Stage.{Stage, match_stage, project_stage, unwind_stage, group_stage, sort_stage, skip_stage, limit_stage, count_stage}
 use Rattle.aggregate.specs.Match.{matching}
+use Rattle.aggregate.specs.Group.{read_grouping, grouped}
 use Rattle.aggregate.specs.Project.{read_projecting, all_projected}
 use Rattle.aggregate.specs.Unwind.{unwound}
 use Rattle.aggregate.specs.Windows.{skipped, limited}
@@ -24,6 +25,7 @@ stage_named name =
     if bytes_eq name (codes "$match") then Some names.Match else
     if bytes_eq name (codes "$project") then Some names.Project else
     if bytes_eq name (codes "$unwind") then Some names.Unwind else
+    if bytes_eq name (codes "$group") then Some names.Group else
     if bytes_eq name (codes "$sort") then Some names.Sort else
     if bytes_eq name (codes "$skip") then Some names.Skip else
     if bytes_eq name (codes "$limit") then Some names.Limit else
@@ -35,6 +37,8 @@ read_operand names.Match t = document_in t >>= (λ ps. read_filter ps >>= (λ f.
 read_operand names.Project t =
     document_in t >>= (λ ps. read_projecting ps >>= (λ p. Ok (project_stage p)))
 read_operand names.Unwind t = dollar_path_in t >>= (λ path. Ok (unwind_stage path))
+read_operand names.Group t =
+    document_in t >>= (λ ps. read_grouping ps >>= (λ g. Ok (group_stage g)))
 read_operand names.Sort t = document_in t >>= (λ ps. read_sort ps >>= (λ s. Ok (sort_stage s)))
 read_operand names.Skip t = number_in 0 t >>= (λ n. Ok (skip_stage n))
 read_operand names.Limit t = number_in 1 t >>= (λ n. Ok (limit_stage n))
@@ -46,6 +50,7 @@ abbrev pub apply_stage : Stage → List Pairs → Result (List Pairs) Refusal
 apply_stage (match_stage rules) documents = Ok (matching rules documents)
 apply_stage (project_stage p) documents = all_projected p documents
 apply_stage (unwind_stage path) documents = unwound path documents
+apply_stage (group_stage g) documents = grouped g documents
 apply_stage (sort_stage fields) documents = Ok (order fields documents)
 apply_stage (skip_stage n) documents = Ok (skipped n documents)
 apply_stage (limit_stage n) documents = Ok (limited n documents)

@@ -1,9 +1,10 @@
 -- What the types of the crate stand for.
 use Rattle.std.specs.Prelude.{List, map}
-use Rattle.aggregate.specs.Stage.{Stage, match_stage, project_stage, unwind_stage, sort_stage, skip_stage, limit_stage, count_stage}
+use Rattle.aggregate.specs.Stage.{Stage, match_stage, project_stage, unwind_stage, group_stage, sort_stage, skip_stage, limit_stage, count_stage}
 use Rattle.aggregate.specs.declared.stage.Stage.{Stage as Made}
 use Rattle.aggregate.specs.declared.stage.Stage.TheVariants as stages
 use Rattle.filter.specs.Seen.{seen_of}
+use Rattle.aggregate.specs.GroupView.{grouping_of}
 use Rattle.aggregate.specs.Project.{Computed, Fields, Projecting}
 use Rattle.aggregate.specs.declared.projecting.Computed.{Computed as Added}
 use Rattle.aggregate.specs.declared.projecting.Fields.{Fields as Read}
@@ -23,6 +24,7 @@ abbrev pub stage_of : Made → Stage
 stage_of (stages.Match f) = match_stage f
 stage_of (stages.Project p) = project_stage (projecting_of p)
 stage_of (stages.Unwind path) = unwind_stage path
+stage_of (stages.Group g) = group_stage (grouping_of g)
 stage_of (stages.Sort s) = sort_stage s
 stage_of (stages.Skip n) = skip_stage n
 stage_of (stages.Limit n) = limit_stage n

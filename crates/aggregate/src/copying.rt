@@ -15,6 +15,7 @@ impl Stage {
             Stage::Match(filter) => Ok(Stage::Match(filter.copy()?)),
             Stage::Project(projecting) => Ok(Stage::Project(projecting.copy()?)),
             Stage::Unwind(path) => Ok(Stage::Unwind(path.copy()?)),
+            Stage::Group(grouping) => Ok(Stage::Group(grouping.copy()?)),
             Stage::Sort(sort) => Ok(Stage::Sort(sort.copy()?)),
             Stage::Skip(count) => Ok(Stage::Skip(*count)),
             Stage::Limit(count) => Ok(Stage::Limit(*count)),

@@ -4,9 +4,13 @@
 //! are given, `limits` judges what they give, `pipeline` reads a pipeline and runs it.
 #![tactic(auto)]
 
+mod accumulators;
 mod copying;
 mod count;
+mod expression;
 mod fields;
+mod grouping;
+mod groups;
 mod limits;
 mod matching;
 mod names;

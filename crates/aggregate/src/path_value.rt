@@ -20,6 +20,17 @@ pub(crate) enum Found<'a> {
 }
 
 impl Found<'_> {
+    /// The value, if there is one.
+    pub(crate) fn get(&self) -> Option<&Value>
+        ensures { option_map (λ v. tree v.now) result ≡ found_of self.now }
+    {
+        match self {
+            Found::Missing => None,
+            Found::There(value) => Some(value),
+            Found::Made(value) => Some(value),
+        }
+    }
+
     /// A value of its own, if there is one.
     pub(crate) fn into_value(self) -> Result<Option<Value>, NoMemory>
         ensures { IfOk result (λ o. option_map tree o ≡ found_of self.entry) }

@@ -1,5 +1,6 @@
 //! Stages as they were read.
 
+use crate::grouping::Grouping;
 use crate::names::FieldName;
 use crate::projecting::Projecting;
 use filter::{Filter, Sort};
@@ -14,6 +15,8 @@ pub(crate) enum Stage {
     Project(Projecting),
     /// Gives each once for each element of the array at the path.
     Unwind(Path),
+    /// Splits them, and gives a document for each group.
+    Group(Grouping),
     /// Puts them in order.
     Sort(Sort),
     /// Leaves out the first ones.

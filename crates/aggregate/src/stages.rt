@@ -10,6 +10,8 @@ ghost use Rattle.aggregate.specs.Stages.{stage_named, read_operand, apply_stage}
 ghost use Rattle.aggregate.specs.View.{stage_of};
 
 use crate::count::counted;
+use crate::grouping::Grouping;
+use crate::groups::grouped;
 use crate::matching::matching;
 use crate::names::FieldName;
 use crate::operands::{document_in, dollar_path_in, number_in, text_in};
@@ -28,6 +30,7 @@ pub(crate) enum StageName {
     Match,
     Project,
     Unwind,
+    Group,
     Sort,
     Skip,
     Limit,
@@ -42,6 +45,7 @@ pub(crate) fn stage_named(name: &str) -> Option<StageName>
         _ if name == "$match" => Some(StageName::Match),
         _ if name == "$project" => Some(StageName::Project),
         _ if name == "$unwind" => Some(StageName::Unwind),
+        _ if name == "$group" => Some(StageName::Group),
         _ if name == "$sort" => Some(StageName::Sort),
         _ if name == "$skip" => Some(StageName::Skip),
         _ if name == "$limit" => Some(StageName::Limit),
@@ -58,6 +62,7 @@ pub(crate) fn read_operand(alloc: Global, stage: StageName, value: &Value) -> Re
         StageName::Match => Ok(Stage::Match(Filter::read(alloc, document_in(value)?)?)),
         StageName::Project => Ok(Stage::Project(Projecting::read(alloc, document_in(value)?)?)),
         StageName::Unwind => Ok(Stage::Unwind(dollar_path_in(alloc, value)?)),
+        StageName::Group => Ok(Stage::Group(Grouping::read(alloc, document_in(value)?)?)),
         StageName::Sort => Ok(Stage::Sort(Sort::read(alloc, document_in(value)?)?)),
         StageName::Skip => Ok(Stage::Skip(number_in(0, value)?)),
         StageName::Limit => Ok(Stage::Limit(number_in(1, value)?)),
@@ -77,6 +82,7 @@ pub(crate) fn apply_stage(
         Stage::Match(filter) => Ok(matching(filter, documents)),
         Stage::Project(projecting) => all_projected(alloc, projecting, &documents),
         Stage::Unwind(path) => unwound(alloc, path, documents),
+        Stage::Group(grouping) => grouped(grouping, &documents),
         Stage::Sort(sort) => Ok(sort.order(documents)?),
         Stage::Skip(count) => Ok(skipped(alloc, *count, documents)?),
         Stage::Limit(count) => Ok(limited(*count, documents)),

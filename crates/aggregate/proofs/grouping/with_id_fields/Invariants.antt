@@ -1,0 +1,10 @@
+use Rattle.std.proofs.Common.{◌≡◌, drop, map}
+use Rattle.bson.specs.Tree.{no_pairs}
+use Rattle.aggregate.specs.Group.{with_id_fields}
+use Rattle.aggregate.specs.GroupView.{id_field_of}
+use Rattle.aggregate.proofs.grouping.with_id_fields.Given as goal
+
+abbrev pub invariant-fields : goal.invariant-fields
+invariant-fields l =
+    with_id_fields (map id_field_of (drop l.field-index l.fields)) l.whole l.document
+    ≡ with_id_fields (map id_field_of l.fields) l.whole no_pairs

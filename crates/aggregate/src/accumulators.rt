@@ -1,0 +1,255 @@
+//! The table of the accumulators.
+//!
+//! One more accumulator is one more entry here (its name, where it starts, what one value more makes of it, what it gives in
+//! the end) and a `State`.
+
+ghost use Rattle.std.specs.Prelude.{◌≡◌, ◌+ℤ◌, IfOk, Ok, option_map};
+ghost use Rattle.bson.specs.Tree.{array};
+ghost use Rattle.bson.specs.View.{tree, items_of};
+ghost use Rattle.path.specs.Edits.{within};
+ghost use Rattle.path.specs.View.{Gives};
+ghost use Rattle.filter.specs.Matches.{is_null};
+ghost use Rattle.value_order.specs.Order.{compare};
+ghost use Rattle.aggregate.specs.Accumulators.{accumulator_named, start, sum_with, is_below, lesser, greater, best_with, first_with};
+ghost use Rattle.aggregate.specs.Accumulators.{pushed_with, take, outcome};
+ghost use Rattle.aggregate.specs.Expression.{or_null};
+ghost use Rattle.aggregate.specs.Found.{found_of};
+ghost use Rattle.aggregate.specs.GroupView.{state_of};
+
+use crate::numbers::total_value;
+use crate::path_value::Found;
+use bson::{Array, BuildFault, NoMemory, Value};
+use path::Refusal;
+use std::alloc::{AllocError, Global};
+use std::cmp::Ordering;
+use value_order::compare;
+
+/// What is made of the values of a group.
+#[derive(Clone, Copy, Debug, PartialEq, Eq)]
+pub(crate) enum Accumulator {
+    Sum,
+    Least,
+    Greatest,
+    First,
+    Last,
+    Push,
+}
+
+/// The accumulator that is called so.
+pub(crate) fn accumulator_named(name: &str) -> Option<Accumulator>
+    ensures { result ≡ accumulator_named name.now }
+{
+    match name {
+        _ if name == "$sum" => Some(Accumulator::Sum),
+        _ if name == "$min" => Some(Accumulator::Least),
+        _ if name == "$max" => Some(Accumulator::Greatest),
+        _ if name == "$first" => Some(Accumulator::First),
+        _ if name == "$last" => Some(Accumulator::Last),
+        _ if name == "$push" => Some(Accumulator::Push),
+        _ => None,
+    }
+}
+
+/// What an accumulator has of the values so far.
+#[derive(Debug, Drop)]
+pub(crate) enum State {
+    /// The sum of the numbers, and whether all were int32.
+    Total { narrow: bool, total: i128 },
+    Least(Option<Value>),
+    Greatest(Option<Value>),
+    First(Option<Value>),
+    Last(Option<Value>),
+    Push(Vec<Value>),
+}
+
+/// A value, or null where it is missing.
+pub(crate) fn or_null(found: Found<'_>) -> Result<Value, NoMemory>
+    ensures { IfOk result (λ v. tree v ≡ or_null (found_of found.entry)) }
+{
+    match found.into_value()? {
+        Some(value) => Ok(value),
+        None => Ok(Value::Null),
+    }
+}
+
+/// A sum and one number more. A list of as many numbers as would pass 128 bits is in no memory.
+fn plus(total: i128, number: i64) -> Result<i128, NoMemory>
+    ensures { IfOk result (λ z. z ≡ total +ℤ number) }
+{
+    match total.checked_add(i128::from(number)) {
+        Some(sum) => Ok(sum),
+        None => Err(AllocError),
+    }
+}
+
+/// A sum and one value more; what isn't a number is passed over.
+fn sum_with(narrow: bool, total: i128, value: &Value) -> Result<State, NoMemory>
+    ensures { IfOk result (λ s. state_of s ≡ sum_with narrow total (tree value.now)) }
+{
+    match value {
+        Value::Int32(number) => Ok(State::Total {
+            narrow,
+            total: plus(total, i64::from(*number))?,
+        }),
+        Value::Int64(number) => Ok(State::Total {
+            narrow: false,
+            total: plus(total, *number)?,
+        }),
+        _ => Ok(State::Total { narrow, total }),
+    }
+}
+
+fn is_below(a: &Value, b: &Value) -> bool
+    ensures { result ≡ is_below (compare (tree a.now) (tree b.now)) }
+{
+    match compare(a, b) {
+        Ordering::Less => true,
+        Ordering::Equal | Ordering::Greater => false,
+    }
+}
+
+fn is_null(value: &Value) -> bool
+    ensures { result ≡ is_null (tree value.now) }
+{
+    match value {
+        Value::Null => true,
+        _ => false,
+    }
+}
+
+/// The least of the values so far and one more; null and what is missing are passed over.
+fn lesser(best: Option<Value>, found: Found<'_>) -> Result<Option<Value>, NoMemory>
+    ensures { IfOk result (λ o. option_map tree o
+        ≡ best_with lesser (option_map tree best) (found_of found.entry)) }
+{
+    let Some(value) = found.get() else {
+        return Ok(best);
+    };
+    if is_null(value) {
+        return Ok(best);
+    }
+    match &best {
+        None => found.into_value(),
+        Some(first) if is_below(value, first) => found.into_value(),
+        Some(_) => Ok(best),
+    }
+}
+
+/// The greatest of the values so far and one more; null and what is missing are passed over.
+fn greater(best: Option<Value>, found: Found<'_>) -> Result<Option<Value>, NoMemory>
+    ensures { IfOk result (λ o. option_map tree o
+        ≡ best_with greater (option_map tree best) (found_of found.entry)) }
+{
+    let Some(value) = found.get() else {
+        return Ok(best);
+    };
+    if is_null(value) {
+        return Ok(best);
+    }
+    match &best {
+        None => found.into_value(),
+        Some(first) if is_below(first, value) => found.into_value(),
+        Some(_) => Ok(best),
+    }
+}
+
+fn first_with(first: Option<Value>, found: Found<'_>) -> Result<Option<Value>, NoMemory>
+    ensures { IfOk result (λ o. option_map tree o
+        ≡ first_with (option_map tree first) (found_of found.entry)) }
+{
+    match first {
+        Some(value) => Ok(Some(value)),
+        None => Ok(Some(or_null(found)?)),
+    }
+}
+
+fn pushed_with(values: Vec<Value>, found: Found<'_>) -> Result<Vec<Value>, NoMemory>
+    ensures { IfOk result (λ v. items_of v.items
+        ≡ pushed_with (items_of values.items) (found_of found.entry)) }
+{
+    let mut values = values;
+    match found.into_value()? {
+        Some(value) => {
+            values.push(value)?;
+            Ok(values)
+        }
+        None => Ok(values),
+    }
+}
+
+/// The array of values. `BadValue` where it would nest more than 99 levels.
+fn array_of(alloc: Global, values: Vec<Value>) -> Result<Value, Refusal>
+    ensures { Gives tree (within 99 (Ok (array (items_of values.items)))) result }
+{
+    let mut array = Array::new(alloc);
+    'values: for value in values {
+        match array.push(value) {
+            Ok(()) => {}
+            Err(BuildFault::Deep) => return Err(Refusal::BadValue),
+            Err(BuildFault::Memory) => return Err(Refusal::OutOfMemory),
+            Err(BuildFault::Name) => unreachable!(),
+            Err(BuildFault::Repeated) => unreachable!(),
+        }
+    }
+    let _levels = array.levels();
+    Ok(Value::Array(array))
+}
+
+fn value_or_null(value: Option<Value>) -> Value
+    ensures { tree result ≡ or_null (option_map tree value) }
+{
+    match value {
+        Some(value) => value,
+        None => Value::Null,
+    }
+}
+
+impl State {
+    /// What an accumulator has of no value.
+    pub(crate) fn new(alloc: Global, accumulator: Accumulator) -> State
+        ensures { state_of result ≡ start accumulator }
+    {
+        match accumulator {
+            Accumulator::Sum => State::Total {
+                narrow: true,
+                total: 0,
+            },
+            Accumulator::Least => State::Least(None),
+            Accumulator::Greatest => State::Greatest(None),
+            Accumulator::First => State::First(None),
+            Accumulator::Last => State::Last(None),
+            Accumulator::Push => State::Push(Vec::new(alloc)),
+        }
+    }
+
+    /// What it has with one value more.
+    pub(crate) fn take(self, found: Found<'_>) -> Result<State, NoMemory>
+        ensures { IfOk result (λ s. state_of s ≡ take (state_of self) (found_of found.entry)) }
+    {
+        match self {
+            State::Total { narrow, total } => match found.get() {
+                Some(value) => sum_with(narrow, total, value),
+                None => Ok(State::Total { narrow, total }),
+            },
+            State::Least(best) => Ok(State::Least(lesser(best, found)?)),
+            State::Greatest(best) => Ok(State::Greatest(greater(best, found)?)),
+            State::First(first) => Ok(State::First(first_with(first, found)?)),
+            State::Last(_) => Ok(State::Last(Some(or_null(found)?))),
+            State::Push(values) => Ok(State::Push(pushed_with(values, found)?)),
+        }
+    }
+
+    /// What it gives in the end. `BadValue` for a sum past int64 and for an array that would nest too deep.
+    pub(crate) fn outcome(self, alloc: Global) -> Result<Value, Refusal>
+        ensures { Gives tree (outcome (state_of self)) result }
+    {
+        match self {
+            State::Total { narrow, total } => total_value(narrow, total),
+            State::Least(value) => Ok(value_or_null(value)),
+            State::Greatest(value) => Ok(value_or_null(value)),
+            State::First(value) => Ok(value_or_null(value)),
+            State::Last(value) => Ok(value_or_null(value)),
+            State::Push(values) => array_of(alloc, values),
+        }
+    }
+}

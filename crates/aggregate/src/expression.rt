@@ -1,0 +1,63 @@
+//! What a group is made of for each document.
+
+ghost use Rattle.std.specs.Prelude.{◌≡◌, IfOk};
+ghost use Rattle.bson.specs.View.{tree};
+ghost use Rattle.path.specs.View.{Gives};
+ghost use Rattle.aggregate.specs.Expression.{read_expression, expression_value};
+ghost use Rattle.aggregate.specs.Found.{found_of};
+ghost use Rattle.aggregate.specs.GroupView.{expression_of};
+
+use crate::operands::{dollar_path, source_path};
+use crate::path_value::{Found, path_value};
+use bson::{Document, NoMemory, Value};
+use path::{Path, Refusal};
+use std::alloc::Global;
+
+/// A constant, or the value of `"$path"`.
+#[derive(Debug, Drop)]
+pub(crate) enum Expression {
+    Constant(Value),
+    Source(Path),
+}
+
+impl Expression {
+    /// A constant that is no document and no array, or a text that begins with `$`. `FailedToParse` for all else.
+    pub(crate) fn read(alloc: Global, value: &Value) -> Result<Expression, Refusal>
+        ensures { Gives expression_of (read_expression (tree value.now)) result }
+    {
+        match value {
+            Value::Document(_) => Err(Refusal::FailedToParse),
+            Value::Array(_) => Err(Refusal::FailedToParse),
+            Value::String(text) => match dollar_path(text.as_str()) {
+                Some(name) => Ok(Expression::Source(source_path(alloc, name)?)),
+                None => Ok(Expression::Constant(value.copy()?)),
+            },
+            _ => Ok(Expression::Constant(value.copy()?)),
+        }
+    }
+
+    /// An equal expression of its own.
+    pub(crate) fn copy(&self) -> Result<Expression, NoMemory>
+        ensures { IfOk result (λ e. expression_of e ≡ expression_of self.now) }
+    {
+        match self {
+            Expression::Constant(value) => Ok(Expression::Constant(value.copy()?)),
+            Expression::Source(path) => Ok(Expression::Source(path.copy()?)),
+        }
+    }
+
+    /// What it is for a document.
+    pub(crate) fn value<'a>(
+        &'a self,
+        alloc: Global,
+        document: &'a Document,
+    ) -> Result<Found<'a>, NoMemory>
+        ensures { IfOk result (λ f. found_of f
+            ≡ expression_value (expression_of self.now) document.now) }
+    {
+        match self {
+            Expression::Constant(value) => Ok(Found::There(value)),
+            Expression::Source(path) => path_value(alloc, document, path),
+        }
+    }
+}
