@@ -144,7 +144,7 @@ module _ (gs : List Pairs) (ns : List ℕ) where
   pub cursor_short : All IsWithin gs → length ns ≤ 255 → (most : ℕ) → length gs ≤ batch_of most gs → (o0 o5 : List ℕ) (start : ℕ) → start ≡ length o0 → o5 ≡ (o0 ++ zeros) ++ content → length o5 < start + 1048576
   unfolding tree_bytes pairs_bytes
   cursor_short within short most whole o0 o5 start s e =
-      let sendable : length (frame_of (pairs_bytes reply)) ≤ 901000 = reply_sendable within short most whole in
+      let sendable : length (frame_of (pairs_bytes reply)) ≤ 1048555 = reply_sendable within short most whole in
       let inner = element 3 (codes "cursor") (frame_of content) in
       let ok = element 16 (codes "ok") (tree_bytes (int 1)) ++ [] in
       let all : length (pairs_bytes reply) ≡ length inner + length ok = length-append inner ok in

@@ -1,6 +1,6 @@
 -- A lawful world steps to a lawful world, and its replies are within their limit.
 use Rattle.std.proofs.Common.{◌≡◌, ◌⊎◌, inl, inr, ℕ, zero, suc, max, min, ◌+◌, ◌-◌, ◌<◌, ◌≤◌, Bool, true, false, List, [], ◌∷◌, length, get_or, set, insert, take, drop, Option, Some, None, Result, Ok, Err, refl, sym, ap, subst, ◌∙◌, arith}
-use Rattle.std.specs.Prelude.{◌&&◌, ◌||◌, ◌^◌, not, is_some, nat_le, if◌then◌else◌, codes, unwrap_or, All}
+use Rattle.std.specs.Prelude.{◌&&◌, ◌||◌, ◌^◌, not, is_some, nat_le, if◌then◌else◌, codes, unwrap_or, nat_lt, All}
 use Rattle.std.specs.Str.{bytes_eq}
 use Rattle.std.specs.Cmp.{IsTotalOrder}
 use Rattle.std.specs.Cmp.Lexicographic.{slice_cmp}
@@ -34,8 +34,7 @@ use Rattle.engine.specs.Find.{query_result as found_by, matching, window, run_fi
 use Rattle.commands.specs.Delete.{Deletion, Delete}
 use Rattle.engine.specs.Delete.{after_deletions, deleted_in, run_delete}
 use Rattle.commands.specs.Update.{UpdateStatement, Update, IsRead}
-use Rattle.engine.specs.Update.{Changed, update_from, Updated, not_updated, not_changed, updated_to, upsert_document, with_upserted, upsert, run_statement, run_statements, update_reply, run_update}
-use Rattle.engine.specs.Laws.{IsNoUpdate, BodyIsNoUpdate}
+use Rattle.engine.specs.Update.{Changed, update_from, Updated, not_updated, not_changed, updated_to, upsert_document, with_upserted, upsert, run_statement, run_statements, update_reply, judged, run_all, spelled, run_update}
 use Rattle.engine.proofs.Applied.{upserted_stored}
 use Rattle.engine.proofs.LawfulUpdates.{SameKeys, from_kept, changed_lawful}
 use Rattle.engine.specs.Refusals.{int, total, ok_reply}
@@ -314,49 +313,45 @@ statements_lawful name index (s ∷ ss) u v short read h e =
     let m = step_of (run_statement name index s u) (run_statements name (suc index) ss) v e in
     statements_lawful name (suc index) ss m.0 v short (λ k d below. read (suc k) d (omega arith)) (statement_lawful name index s u m.0 short (read 0 s (omega arith)) h m.1) m.2
 
--- what running a command comes to: a lawful world
-abbrev Lawful : Result (World × Pairs) Refusal → Type 0
-Lawful r = (x : World × Pairs) → r ≡ Ok x → IsLawful x.0
+not_long : (u : Updated) → nat_lt 1048555 (length (spelled (ok_reply (update_reply u)))) ≡ false → IsSendable (ok_reply (update_reply u))
+not_long u e = grind (arith, nat_tests, e)
 
-lawful_update : (w : World) (c : Update) → IsLawful w → IsBounded (update c) → Lawful (run_update w c)
+good_update : (w : World) (c : Update) → IsLawful w → IsBounded (update c) → Good (run_update w c)
 unfolding run_update
-lawful_update w c h b = λ x e.
-    let u = step_of (run_statements c.namespace 0 c.statements (not_updated w.collections)) (λ u. let r : Result (World × Pairs) Refusal = Ok (record w { collections = u.collections }, update_reply u) in r) x e in
+good_update w c h b = λ x e.
+    let u = step_of (run_all c.namespace c.statements w.collections) (λ u. let r : Result (World × Pairs) Refusal = Ok (record w { collections = u.collections }, update_reply u) in r) x e in
+    let s = step_of (run_statements c.namespace 0 c.statements (not_updated w.collections)) judged u.0 u.1 in
+    let p = passed (nat_lt 1048555 (length (spelled (ok_reply (update_reply s.0))))) refusals.BSONObjectTooLarge (Ok s.0) u.0 s.2 in
+    let judged_as : s.0 ≡ u.0 = cc in
     let same : (record w { collections = u.0.collections }, update_reply u.0) ≡ x = cc in
-    subst (λ (y : World × Pairs). IsLawful y.0) same (record { collections = statements_lawful c.namespace 0 c.statements (not_updated w.collections) u.0 b.0 b.2 h.collections u.1; cursors = h.cursors })
+    let lawful : IsLawfulState u.0.collections = subst (λ (v : Updated). IsLawfulState v.collections) judged_as (statements_lawful c.namespace 0 c.statements (not_updated w.collections) s.0 b.0 b.2 h.collections s.1) in
+    let sendable : IsSendable (ok_reply (update_reply u.0)) = subst (λ (v : Updated). IsSendable (ok_reply (update_reply v))) judged_as (not_long s.0 p.0) in
+    subst (λ (y : World × Pairs). IsLawful y.0 × IsSendable (ok_reply y.1)) same (record { collections = lawful; cursors = h.cursors }, sendable)
 
 -- ---- any command
 
--- a lawful world, and a reply within the limit where it is no update
-record Runs (command : Command) (r : Result (World × Pairs) Refusal) : Type 0 where
-  lawful : Lawful r
-  sendable : IsNoUpdate (Ok command) → (x : World × Pairs) → r ≡ Ok x → IsSendable (ok_reply x.1)
-
-of_good : (command : Command) (r : Result (World × Pairs) Refusal) → Good r → Runs command r
-of_good command r good = record { lawful = λ x e. (good x e).0; sendable = λ other x e. (good x e).1 }
-
-good_run : (w : World) (connection : ℕ) (command : Command) → IsLawful w → IsBounded command → Runs command (run w connection command)
-good_run w connection ping h b = of_good ping _ (good_one w no_pairs h ping-sendable)
-good_run w connection (insert_of c) h b = of_good (insert_of c) _ (good_insert w c.namespace c.documents h b.0)
-good_run w connection (find_of c) h b = of_good (find_of c) _ (good_find w connection c.namespace c.query c.batch_size h b)
-good_run w connection (count_of_all c) h b = of_good (count_of_all c) _ (good_count w c h)
-good_run w connection (delete c) h b = of_good (delete c) _ (good_delete w c.namespace c.deletions h)
-good_run w connection (aggregate c) h b = of_good (aggregate c) _ (good_aggregate w connection c h b)
-good_run w connection (update c) h b = record { lawful = lawful_update w c h b; sendable = λ other. absurd other }
+good_run : (w : World) (connection : ℕ) (command : Command) → IsLawful w → IsBounded command → Good (run w connection command)
+good_run w connection ping h b = good_one w no_pairs h ping-sendable
+good_run w connection (insert_of c) h b = good_insert w c.namespace c.documents h b.0
+good_run w connection (find_of c) h b = good_find w connection c.namespace c.query c.batch_size h b
+good_run w connection (count_of_all c) h b = good_count w c h
+good_run w connection (delete c) h b = good_delete w c.namespace c.deletions h
+good_run w connection (update c) h b = good_update w c h b
+good_run w connection (aggregate c) h b = good_aggregate w connection c h b
 
 -- the world after a step, and its reply
-pub record Steps (body : Result Pairs BsonFault) (x : World × Pairs) : Type 0 where
+pub record Steps (x : World × Pairs) : Type 0 where
   pub lawful : IsLawful x.0
-  pub sendable : BodyIsNoUpdate body → IsSendable x.1
+  pub sendable : IsSendable x.1
 
-pub steps : (w : World) (connection : ℕ) (body : Result Pairs BsonFault) → IsLawful w → Steps body (step w connection body)
-steps w connection (Err fault) h = record { lawful = h; sendable = λ other. refusal-sendable refusals.InvalidBSON }
+pub steps : (w : World) (connection : ℕ) (body : Result Pairs BsonFault) → IsLawful w → Steps (step w connection body)
+steps w connection (Err fault) h = record { lawful = h; sendable = refusal-sendable refusals.InvalidBSON }
 steps w connection (Ok body) h = at (command_of body) refl
   where
-    ran : (c : Command) (r : Result (World × Pairs) Refusal) → command_of body ≡ Ok c → Runs c r → Steps (Ok body) (answered w r)
-    ran c (Err e) is good = record { lawful = h; sendable = λ other. refusal-sendable e }
-    ran c (Ok x) is good = record { lawful = good.lawful x refl; sendable = λ other. good.sendable (subst IsNoUpdate is other) x refl }
+    ran : (c : Command) (r : Result (World × Pairs) Refusal) → Good r → Steps (answered w r)
+    ran c (Err e) good = record { lawful = h; sendable = refusal-sendable e }
+    ran c (Ok x) good = let g = good x refl in record { lawful = g.0; sendable = g.1 }
 
-    at : (r : Result Command Refusal) → command_of body ≡ r → Steps (Ok body) (answered w (r >>= run w connection))
-    at (Err e) is = record { lawful = h; sendable = λ other. refusal-sendable e }
-    at (Ok c) is = ran c (run w connection c) is (good_run w connection c h (bounded body c is))
+    at : (r : Result Command Refusal) → command_of body ≡ r → Steps (answered w (r >>= run w connection))
+    at (Err e) is = record { lawful = h; sendable = refusal-sendable e }
+    at (Ok c) is = ran c (run w connection c) (good_run w connection c h (bounded body c is))

@@ -48,15 +48,6 @@ ReadsChangeNothing =
     (world new : World) (connection : ℕ) (body : Result Pairs BsonFault) (reply : Pairs) → BodyOnlyReads body
     → Answers ForMemory world connection body new reply → new.collections ≡ world.collections
 
--- a command that is no update, or one that is refused before it runs
-abbrev pub IsNoUpdate : Result Command Refusal → Type 0
-IsNoUpdate (Ok (update c)) = ⊥
-IsNoUpdate other = Unit {0}
-
-abbrev pub BodyIsNoUpdate : Result Pairs BsonFault → Type 0
-BodyIsNoUpdate (Ok body) = IsNoUpdate (command_of body)
-BodyIsNoUpdate (Err fault) = Unit {0}
-
--- What a lawful world replies is within the limit of replies. What an update replies is as long as its message makes it.
+-- what a lawful world replies is within the limit of replies
 abbrev pub RepliesSendable : Type 0
-RepliesSendable = (world : World) (connection : ℕ) (body : Result Pairs BsonFault) → IsLawful world → BodyIsNoUpdate body → IsSendable (step world connection body).1
+RepliesSendable = (world : World) (connection : ℕ) (body : Result Pairs BsonFault) → IsLawful world → IsSendable (step world connection body).1

@@ -13,7 +13,7 @@ use Rattle.path.specs.declared.refusal.Refusal.TheVariants as refusals
 use Rattle.commands.specs.Update.{UpdateStatement, Update}
 use Rattle.engine.specs.World.{World, Collection, find_collection, documents_of, with_documents, put_collection}
 use Rattle.engine.specs.Documents.{key_of, key_checked, place}
-use Rattle.engine.specs.Refusals.{int, total}
+use Rattle.engine.specs.Refusals.{int, total, ok_reply}
 
 -- a count of documents, which goes up to the greatest int32
 abbrev pub counted : ℕ → ℕ
@@ -150,7 +150,19 @@ counts_reply matched modified upserted =
 abbrev pub update_reply : Updated → Pairs
 update_reply u = counts_reply u.matched u.modified u.upserted
 
+-- a reply has room in a message, unless many documents with `_id`s of some thousand bytes were made
+abbrev pub judged : Updated → Result Updated Refusal
+judged u =
+    unless (nat_lt 1048555 (length (spelled (ok_reply (update_reply u)))))
+    refusals.BSONObjectTooLarge (Ok u)
+
+-- all statements, or the first refusal
+abbrev pub run_all : List ℕ → List UpdateStatement → List Collection → Result Updated Refusal
+run_all name ss cs = do
+  u ← run_statements name 0 ss (not_updated cs)
+  judged u
+
 unfoldable pub run_update : World → Update → Result (World × Pairs) Refusal
 run_update world c = do
-  u ← run_statements c.namespace 0 c.statements (not_updated world.collections)
+  u ← run_all c.namespace c.statements world.collections
   Ok (record world { collections = u.collections }, update_reply u)

@@ -14,7 +14,7 @@ use Rattle.engine.specs.Documents.{key_of}
 use Rattle.engine.specs.Lawful.{IsStored}
 use Rattle.engine.specs.Places.{collection_at}
 use Rattle.engine.specs.Progress.{Progress, with_document_at}
-use Rattle.engine.specs.Update.{counted, spelled, modified_by, Changed, update_from, Updated, not_updated, updated_to, run_statements, update_reply}
+use Rattle.engine.specs.Update.{counted, spelled, modified_by, Changed, update_from, Updated, updated_to, run_all, update_reply}
 use Rattle.engine.specs.declared.updates.Tally.{Tally}
 
 -- what the statements of an update have come to
@@ -103,7 +103,7 @@ RunsFound name s before after old new (Err e) =
 pub record UpdatesAll (name : List ℕ) (ss : List UpdateStatement) (old new : Progress)
     (reply : Pairs) : Type 0 where
   pub updated : Updated
-  pub planned : run_statements name 0 ss (not_updated old.now) ≡ Ok updated
+  pub planned : run_all name ss old.now ≡ Ok updated
   pub is : updated.collections ≡ new.now
   pub says : reply ≡ ok_reply (update_reply updated)
   pub quiet : updated.modified ≡ 0 → updated.upserted ≡ no_items → new ≡ old
@@ -111,4 +111,4 @@ pub record UpdatesAll (name : List ℕ) (ss : List UpdateStatement) (old new : P
 abbrev pub RunsAll : List ℕ → List UpdateStatement → Progress → Progress → Result Pairs Refusal
     → Type 0
 RunsAll name ss old new (Ok reply) = UpdatesAll name ss old new reply
-RunsAll name ss old new (Err e) = Refuses (run_statements name 0 ss (not_updated old.now)) e
+RunsAll name ss old new (Err e) = Refuses (run_all name ss old.now) e

@@ -326,8 +326,8 @@ impl Collections {
         Ok(())
     }
 
-    /// Runs statements, and makes the reply. What it says of each document that was made is shorter than the statement
-    /// that made it, so a reply to a message has room in one.
+    /// Runs statements, and makes the reply; `BSONObjectTooLarge` where that is too long, as the `_id`s of many documents
+    /// that were made can make it.
     fn update_each(
         &mut self,
         namespace: &str,
@@ -348,7 +348,7 @@ impl Collections {
         self.run_statements(namespace, statements, &mut tally)?;
         let reply = update_reply(alloc, tally)?;
         if REPLY_LIMIT < reply.encoded_len() {
-            return Err(Refusal::OutOfMemory);
+            return Err(Refusal::BSONObjectTooLarge);
         }
         Ok(reply)
     }

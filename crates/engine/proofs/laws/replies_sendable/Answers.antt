@@ -2,4 +2,4 @@ use Rattle.engine.proofs.LawfulSteps.{steps}
 use Rattle.engine.proofs.laws.replies_sendable.Goals as goal
 
 pub returns : goal.returns
-returns c world connection body h other = (steps world connection body h).sendable other
+returns c world connection body h = (steps world connection body h).sendable

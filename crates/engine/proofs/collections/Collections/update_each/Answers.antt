@@ -1,14 +1,38 @@
-use Rattle.std.proofs.Common.{◌≡◌, refl, sym, ◌∙◌}
-use Rattle.engine.specs.Update.{run_statements}
+use Rattle.std.proofs.Common.{◌≡◌, ◌≤◌, ℕ, Bool, true, false, List, Result, Ok, length, refl, sym, ap, ◌∙◌, arith}
+use Rattle.std.specs.Prelude.{nat_lt}
+use Rattle.std.proofs.lemmas.Bool.Decides.{nat_tests}
+use Rattle.std.proofs.lemmas.Result.{err_from_is_err_and}
+use Rattle.bson.specs.Tree.{Pairs, Items, no_items}
+use Rattle.commands.specs.Update.{UpdateStatement}
+use Rattle.path.specs.Outcomes.{◌>>=◌, unless}
+use Rattle.path.specs.declared.refusal.Refusal.{Refusal}
+use Rattle.path.specs.declared.refusal.Refusal.TheVariants as refusals
+use Rattle.engine.specs.World.{Collection}
+use Rattle.engine.specs.Refusals.{ok_reply}
+use Rattle.engine.specs.Update.{Updated, run_statements, judged, run_all, spelled, update_reply}
 use Rattle.engine.specs.Updating.{updated_of}
 use Rattle.engine.proofs.collections.Collections.update_each.Goals as goal
 
+-- a reply that is no longer than it may be
+is_judged : (u : Updated) (d : Pairs) → d ≡ ok_reply (update_reply u) → length (spelled d) ≤ 1048555 → judged u ≡ Ok u
+is_judged u d e h =
+    let short : nat_lt 1048555 (length (spelled (ok_reply (update_reply u)))) ≡ false = grind (arith, nat_tests, h, ap (λ (ps : Pairs). length (spelled ps)) e) in
+    ap (λ (b : Bool). unless b refusals.BSONObjectTooLarge (let r : Result Updated Refusal = Ok u in r)) short
+
+-- what the statements come to, and what is judged of it
+all_of : (name : List ℕ) (ss : List UpdateStatement) (cs : List Collection) (u : Updated) (none : Items) → none ≡ no_items
+    → run_statements name 0 ss (record { collections = cs; matched = 0; modified = 0; upserted = none }) ≡ Ok u → run_all name ss cs ≡ judged u
+all_of name ss cs u none e is =
+    (λ k. run_statements name 0 ss (record { collections = cs; matched = 0; modified = 0; upserted = sym e k }) >>= judged) ∙ ap (λ (r : Result Updated Refusal). r >>= judged) is
+
 pub returns-clause-runs : goal.returns-clause-runs
-returns-clause-runs c = record {
-  updated = updated_of c.run_statements.new.self c.run_statements.new.tally;
-  planned = (λ k. run_statements c.args.namespace.now 0 c.args.statements.now
-      (record { collections = c.args.self.now.now; matched = 0; modified = 0; upserted = sym c.new.ensures k })) ∙ c.in_ok-run_statements.ensures.gives;
-  is = refl;
-  says = c.in_ok-reply.ensures;
-  quiet = λ m u. (c.in_ok-run_statements.ensures.quiet (m, u)).1;
-}
+returns-clause-runs c =
+    let u = updated_of c.run_statements.new.self c.run_statements.new.tally in
+    let short : length (spelled c.in_ok-reply.reply) ≤ 1048555 = omega (arith, c.encoded_len.ensures, c.if-encoded_len-gt-REPLY_LIMIT.false) in
+    record {
+      updated = u;
+      planned = all_of c.args.namespace.now c.args.statements.now c.args.self.now.now u c.new.result c.new.ensures c.in_ok-run_statements.ensures.gives ∙ is_judged u c.in_ok-reply.reply c.in_ok-reply.ensures short;
+      is = refl;
+      says = c.in_ok-reply.ensures;
+      quiet = λ m u. (c.in_ok-run_statements.ensures.quiet (m, u)).1;
+    }
