@@ -20,7 +20,7 @@ use Rattle.bson.specs.Tree.{Scalar, text, binary, object_id, boolean, date, null
 use Rattle.bson.specs.Kinds.{kind_byte, scalar_kind, kind}
 use Rattle.bson.specs.Lawful.{IsBytes, levels, pairs_levels, items_levels, NoZero, IsName, Lacks, IsScalar, IsTree, IsPairs, IsItems}
 use Rattle.bson.specs.Spelling.{Spells, scalar_bytes, frame_of, type_byte, element, tree_bytes, pairs_bytes, items_bytes}
-use Rattle.bson.specs.Outcome.{◌>>=◌, Gives, unless}
+use Rattle.outcome.specs.Outcome.{◌>>=◌, unless, Gives}
 use Rattle.bson.specs.Reading.{Read, element_by, item_by, stands_in, is_no_index, kind_of, name_at, leaf, scalar_at, content_at, pairs_by, items_by, pairs_in, items_in, value_at, is_below, ended_at, length_at, document_at}
 use Rattle.bson.proofs.FrameLaws.{or_false, is_below-false, not_below, bind_ok, unless_ok, done, ok_is, Takes, Takes-then, content_takes, content_again, name_takes, name_again, kind_again, kind_takes, front32, wide32, ended_takes, ended_again}
 use Rattle.bson.proofs.ScalarLaws.{scalar_takes, scalar_again}

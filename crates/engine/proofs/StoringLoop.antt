@@ -3,7 +3,7 @@ use Rattle.std.proofs.Common.{◌≡◌, ℕ, ◌+◌, ◌<◌, ◌≤◌, true,
 use Rattle.std.proofs.lemmas.List.{set-set, set-get_or, length-set, drop_all}
 use Rattle.bson.specs.Tree.{Pairs}
 use Rattle.engine.specs.World.{Collection, documents_of, with_documents, put_collection}
-use Rattle.path.specs.Outcomes.{◌>>=◌, unless}
+use Rattle.outcome.specs.Outcome.{◌>>=◌, unless}
 use Rattle.engine.specs.Documents.{insert_one, insert_all}
 use Rattle.engine.specs.Places.{collection_at, no_collection}
 use Rattle.engine.specs.Progress.{Progress, Extends, Stands, is_full, inserted, with_document}

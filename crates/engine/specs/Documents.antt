@@ -9,7 +9,7 @@ use Rattle.bson.specs.Lookup.{lookup}
 use Rattle.bson.specs.Lawful.{pairs_levels}
 use Rattle.bson.specs.Spelling.{frame_of, pairs_bytes}
 use Rattle.engine.specs.World.{by_order}
-use Rattle.path.specs.Outcomes.{◌>>=◌, unless, or_refused}
+use Rattle.outcome.specs.Outcome.{◌>>=◌, unless, or_refused}
 use Rattle.path.specs.declared.refusal.Refusal.{Refusal}
 use Rattle.path.specs.declared.refusal.Refusal.TheVariants as refusals
 

@@ -4,12 +4,13 @@ use Rattle.bson.specs.Tree.{Pairs}
 use Rattle.bson.specs.Spelling.{frame_of, pairs_bytes}
 use Rattle.engine.specs.World.{World}
 use Rattle.engine.specs.Refusals.{refusal_reply, ok_reply}
-use Rattle.path.specs.Outcomes.{Refuses}
+use Rattle.outcome.specs.Outcome.{Fails}
 use Rattle.engine.specs.Progress.{turn_start_of}
 use Rattle.path.specs.declared.refusal.Refusal.{Refusal}
 use Rattle.engine.specs.declared.engine.Reply.{Reply}
 use Rattle.engine.specs.declared.engine.Reply.TheVariants as replies
 use Rattle.engine.specs.declared.engine.Engine.{Engine}
+use Rattle.path.specs.declared.refusal.Refusal.TheVariants as refusals
 
 abbrev pub reply_of : Reply → Pairs
 reply_of (replies.Done ps) = ps
@@ -36,4 +37,4 @@ with_ok (Err e) = Err e
 -- What running a command made of a world: what was planned, or a refusal, which leaves the world as it was.
 abbrev pub Runs : World → Result (World × Pairs) Refusal → World → Result Pairs Refusal → Type 0
 Runs old planned new (Ok reply) = with_ok planned ≡ Ok (new, reply)
-Runs old planned new (Err e) = (new ≡ old) × Refuses planned e
+Runs old planned new (Err e) = (new ≡ old) × Fails refusals.OutOfMemory e planned

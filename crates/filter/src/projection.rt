@@ -4,7 +4,7 @@ ghost use Rattle.std.specs.Prelude.{◌≡◌, Ok, IfOk, false, []};
 ghost use Rattle.std.specs.List.{list_any};
 ghost use Rattle.bson.specs.View.{tree};
 ghost use Rattle.path.specs.Parts.{meets};
-ghost use Rattle.path.specs.View.{Gives};
+ghost use Rattle.outcome.specs.Outcome.{Gives};
 ghost use Rattle.filter.specs.ProjectionReading.{flag_of, flag_in, id_path, is_id, begins_with_id, nothing_seen};
 ghost use Rattle.filter.specs.ProjectionReading.{agrees, with_field, read_field, read_flags, mode, names_id};
 ghost use Rattle.filter.specs.ProjectionReading.{projection_of, read_projection};
@@ -40,7 +40,7 @@ struct Seen {
 }
 
 fn flag_of(number: i64) -> Result<bool, Refusal>
-    ensures { Gives (λ b. b) (flag_of number) result }
+    ensures { Gives Refusal.OutOfMemory (λ b. b) result (flag_of number) }
 {
     if number == 0 {
         return Ok(false);
@@ -53,7 +53,7 @@ fn flag_of(number: i64) -> Result<bool, Refusal>
 
 /// Whether a field is asked for: 1 or true, and not 0 or false.
 fn flag_in(value: &Value) -> Result<bool, Refusal>
-    ensures { Gives (λ b. b) (flag_in (tree value.now)) result }
+    ensures { Gives Refusal.OutOfMemory (λ b. b) result (flag_in (tree value.now)) }
 {
     match value {
         Value::Bool(flag) => Ok(*flag),
@@ -105,7 +105,7 @@ fn agrees(fields: Option<bool>, flag: bool) -> bool
 
 /// Takes one more field in.
 fn with_field(seen: Seen, path: Path, flag: bool) -> Result<Seen, Refusal>
-    ensures { Gives seen_of (with_field path flag (seen_of seen)) result }
+    ensures { Gives Refusal.OutOfMemory seen_of result (with_field path flag (seen_of seen)) }
 {
     let mut seen = seen;
     if seen.id.is_some() && begins_with_id(&path) {
@@ -127,7 +127,8 @@ fn with_field(seen: Seen, path: Path, flag: bool) -> Result<Seen, Refusal>
 }
 
 fn read_field(alloc: Global, seen: Seen, name: &str, value: &Value) -> Result<Seen, Refusal>
-    ensures { Gives seen_of (read_field name.now (tree value.now) (seen_of seen)) result }
+    ensures { Gives Refusal.OutOfMemory seen_of result
+        (read_field name.now (tree value.now) (seen_of seen)) }
 {
     let path = path_in(alloc, name)?;
     let flag = flag_in(value)?;
@@ -135,7 +136,7 @@ fn read_field(alloc: Global, seen: Seen, name: &str, value: &Value) -> Result<Se
 }
 
 fn read_fields(alloc: Global, document: &Document) -> Result<Seen, Refusal>
-    ensures { Gives seen_of (read_flags nothing_seen document.now) result }
+    ensures { Gives Refusal.OutOfMemory seen_of result (read_flags nothing_seen document.now) }
 {
     let mut seen = Seen {
         fields: None,
@@ -171,13 +172,14 @@ fn names_id(includes: bool, id: Option<bool>, paths: &[Path]) -> bool
 
 /// The path `_id`.
 fn id_path(alloc: Global) -> Result<Path, Refusal>
-    ensures { Gives (λ p. p) (Ok id_path) result }
+    ensures { Gives Refusal.OutOfMemory (λ p. p) result (Ok id_path) }
 {
     path_in(alloc, "_id")
 }
 
 fn projection_of(alloc: Global, includes: bool, seen: Seen) -> Result<Projection, Refusal>
-    ensures { Gives (λ p. p) (Ok (projection_of includes (seen_of seen))) result }
+    ensures { Gives Refusal.OutOfMemory (λ p. p) result
+        (Ok (projection_of includes (seen_of seen))) }
 {
     let Seen {
         fields: _,
@@ -204,7 +206,7 @@ impl Projection {
 
     /// The projection that a document spells, or the first misuse from the left.
     pub fn read(alloc: Global, document: &Document) -> Result<Projection, Refusal>
-        ensures { Gives (λ p. p) (read_projection document.now) result }
+        ensures { Gives Refusal.OutOfMemory (λ p. p) result (read_projection document.now) }
     {
         let seen = read_fields(alloc, document)?;
         projection_of(alloc, mode(seen.fields, seen.id), seen)

@@ -16,8 +16,3 @@ sheet_of image = record {
   generation = image.generation;
   content = content_of image.content;
 }
-
--- What a function returned, seen by view, is what reading gives, unless memory ran out.
-abbrev pub Gives : {X Y : Type 0} → (X → Y) → Result X PageFault → Result Y PageFault → Type 0
-Gives view (Ok x) read = read ≡ Ok (view x)
-Gives view (Err e) read = e ≢ faults.Memory → read ≡ Err e

@@ -14,13 +14,3 @@ use Rattle.path.specs.declared.refusal.Refusal.TheVariants as refusals
 abbrev pub reached : Reached → Option Tree
 reached reached_values.Missing = None
 reached (reached_values.Value v) = Some (tree v.now)
-
--- the path or the fault that was to be found, unless memory ran out
-abbrev pub ReadsAs : Result (List (List ℕ)) PathFault → Result (List (List ℕ)) PathFault → Type 0
-ReadsAs planned (Ok path) = planned ≡ Ok path
-ReadsAs planned (Err e) = e ≢ faults.Memory → planned ≡ Err e
-
--- the value or the refusal that was planned, unless memory ran out
-abbrev pub Gives : {A B : Type 0} → (A → B) → Result B Refusal → Result A Refusal → Type 0
-Gives view planned (Ok a) = planned ≡ Ok (view a)
-Gives view planned (Err e) = e ≢ refusals.OutOfMemory → planned ≡ Err e
