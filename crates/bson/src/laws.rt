@@ -5,6 +5,7 @@ ghost use Rattle.bson.specs.Tree.{Tree, Pairs};
 ghost use Rattle.bson.specs.Kinds.{kind};
 ghost use Rattle.bson.specs.Lawful.{IsBytes, IsTree, levels};
 ghost use Rattle.bson.specs.Spelling.{Spells, IsSpellable, tree_bytes};
+ghost use Rattle.bson.specs.Raw.{document_spelled};
 ghost use Rattle.bson.specs.FirstFault.{WrongDocument, Agrees, IsStill};
 ghost use Rattle.bson.specs.Reading.{value_at, pairs_by, items_by, pairs_in, items_in, document_at};
 ghost use Rattle.bson.specs.declared.fault.BsonFault.{BsonFault};
@@ -60,6 +61,11 @@ pub fn reading_is_spelling()
         → (n ≤ length bytes) × Spells (take n bytes) ps }
     ensures spelled { (front rest : List ℕ) (ps : Pairs) → Spells front ps
         → document_at (front ++ rest) ≡ Ok (ps, length front) }
+{}
+
+/// Bytes that spell a document spell no other.
+pub fn spelled_once()
+    ensures { (bytes : List ℕ) (ps : Pairs) → Spells bytes ps → document_spelled bytes ≡ ps }
 {}
 
 /// No bytes are the reason that memory runs out.

@@ -7,6 +7,7 @@
 mod array;
 mod binary;
 mod checking;
+mod composing;
 mod copying;
 mod distinct;
 mod document;
@@ -22,16 +23,19 @@ mod raw;
 mod reading;
 mod scalars;
 mod sizing;
+mod spelled;
 mod text;
 mod value;
 mod writing;
 
 pub use binary::{Binary, Bytes, Subtype};
+pub use composing::{begin_frame, end_frame, put_head, put_string, put_value};
 pub use fault::{BsonFault, BuildFault, EncodeFault, NoMemory};
 pub use kind::Kind;
 pub use object_id::ObjectId;
 pub use raw::{RawDoc, RawValue};
 pub use reading::decode;
+pub use spelled::SpelledDocument;
 pub use text::Text;
 pub use value::{Array, Document, Pair, Value};
 pub use writing::{encode, encode_onto};

@@ -160,7 +160,7 @@ pub(crate) fn read_scalar(
     }
 }
 
-fn put_text(out: &mut Vec<u8>, string: &str) -> Result<(), EncodeFault>
+pub(crate) fn put_text(out: &mut Vec<u8>, string: &str) -> Result<(), EncodeFault>
     ensures puts { Puts (scalar_bytes (text string.now)) out.old.items out.new.items result }
     ensures front { IsFront out.old.items out.new.items }
 {

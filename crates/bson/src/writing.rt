@@ -24,7 +24,7 @@ fn write_number(bytes: &mut [u8], start: usize, number: u32)
 }
 
 /// Writes the length of what stands from here on into its first four bytes.
-fn fill_length(out: &mut Vec<u8>, start: usize) -> Result<(), EncodeFault>
+pub(crate) fn fill_length(out: &mut Vec<u8>, start: usize) -> Result<(), EncodeFault>
     requires { start + 4 ≤ length out.old.items }
     ensures fills { Fills start out.old.items out.new.items result }
     ensures err { OnErr result (out.new.items ≡ out.old.items) }
@@ -39,7 +39,7 @@ fn fill_length(out: &mut Vec<u8>, start: usize) -> Result<(), EncodeFault>
 
 #[cycle(writing)]
 #[tactic(auto, unfolding(crate::specs::Spelling::tree_bytes))]
-fn put_value(out: &mut Vec<u8>, value: &Value) -> Result<(), EncodeFault>
+pub(crate) fn put_value(out: &mut Vec<u8>, value: &Value) -> Result<(), EncodeFault>
     ensures puts { Puts (tree_bytes (tree value.now)) out.old.items out.new.items result }
     ensures front { IsFront out.old.items out.new.items }
 {
@@ -50,7 +50,7 @@ fn put_value(out: &mut Vec<u8>, value: &Value) -> Result<(), EncodeFault>
     }
 }
 
-fn put_name(out: &mut Vec<u8>, type_byte: u8, name: &str) -> Result<(), AllocError>
+pub(crate) fn put_name(out: &mut Vec<u8>, type_byte: u8, name: &str) -> Result<(), AllocError>
     ensures ok { OnOk result
         (out.new.items ≡ out.old.items ++ (type_byte ∷ (name.now ++ 0 ∷ []))) }
     ensures front { IsFront out.old.items out.new.items }
@@ -97,11 +97,12 @@ fn put_array(out: &mut Vec<u8>, array: &Array) -> Result<(), EncodeFault>
 pub fn encode_onto(out: &mut Vec<u8>, document: &Document) -> Result<(), EncodeFault>
     ensures ok { OnOk result
         (out.new.items ≡ out.old.items ++ frame_of (pairs_bytes document.now)) }
-    ensures within { OnOk result (length (frame_of (pairs_bytes document.now)) ≤ message_limit) }
+    ensures spells { OnOk result (Spells (frame_of (pairs_bytes document.now)) document.now) }
     ensures large { IsErrOf result EncodeFault.TooLarge
         → message_limit < length (frame_of (pairs_bytes document.now)) }
     ensures err { OnErr result (out.new.items ≡ out.old.items) }
 {
+    let _ = &document.pairs;
     let start = out.len();
     match put_document(out, document) {
         Ok(()) => Ok(()),
@@ -118,7 +119,6 @@ pub fn encode(alloc: Global, document: &Document) -> Result<Vec<u8>, EncodeFault
     ensures large { IsErrOf result EncodeFault.TooLarge
         → message_limit < length (frame_of (pairs_bytes document.now)) }
 {
-    let _ = &document.pairs;
     let mut out = Vec::new(alloc);
     encode_onto(&mut out, document)?;
     Ok(out)

@@ -4,7 +4,8 @@ pub mod Ordered
 pub mod Rewinding
 pub mod Checked
 pub mod StoringLoop
-pub mod Batches
+pub mod BatchLoop
+pub mod CursorSpelling
 pub mod Running
 pub mod LawfulSteps
 pub mod SpelledSizes

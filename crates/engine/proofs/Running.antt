@@ -59,16 +59,6 @@ module _ (w : World) (name : List ℕ) (ds : List Pairs) where
 
 -- ---- find
 
--- a batch has not more documents than it may
-batch_most : (i most room : ℕ) (ds : List Pairs) → batch_len i most room ds ≤ most
-batch_most i most room [] = omega arith
-batch_most i zero room (d ∷ ds) = omega arith
-batch_most i (suc most) room (d ∷ ds) = at (i == 0 || nat_le (item_size i d) room) (batch_most (i + 1) most (room - item_size i d) ds)
-  where
-    at : (b : Bool) → batch_len (i + 1) most (room - item_size i d) ds ≤ most → (if b then suc (batch_len (i + 1) most (room - item_size i d) ds) else 0) ≤ suc most
-    at true later = omega (arith, later)
-    at false later = omega arith
-
 module _ (w : World) (connection : ℕ) (name : List ℕ) (query : Query) (most : ℕ) where
   abbrev sought : Find
   sought = record { namespace = name; query = query; batch_size = Some most }
@@ -94,16 +84,9 @@ module _ (w : World) (connection : ℕ) (name : List ℕ) (query : Query) (most 
       let part : nat_le (length documents) (batch_of most documents) ≡ false = grind (arith, nat_tests) in
       rw part (rw none_opened refl)
 
-  -- there are more than may go into a batch
-  pub run_find-more : most < length documents → run_find w connection sought ≡ Err refusals.TooMany
-  run_find-more more = run_find-over (omega (arith, more, batch_most 0 most (900000 - 5) documents))
-
 pub run_find-default : (w : World) (connection : ℕ) (c : Find) → run_find w connection (record c { batch_size = Some (unwrap_or c.batch_size 101) }) ≡ run_find w connection c
 unfolding run_find
 run_find-default w connection c = refl
-
-pub too_many : {X : Type 0} (e : Refusal) → e ≡ refusals.TooMany → (let r : Result X Refusal = Err refusals.TooMany in r) ≡ Err e
-too_many {X} e is = ap (λ (f : Refusal). let r : Result X Refusal = Err f in r) (sym is)
 
 -- ---- count and delete
 

@@ -1,5 +1,5 @@
 -- Batches of documents, the replies that hold them, and cursors on what a batch leaves.
-use Rattle.std.specs.Prelude.{ℕ, zero, suc, ◌+◌, ◌-◌, ◌^◌, Bool, ◌||◌, ◌==◌, nat_le, if◌then◌else◌, List, [], ◌∷◌, length, take, drop, codes, Result, Ok, Err}
+use Rattle.std.specs.Prelude.{ℕ, zero, suc, ◌+◌, ◌-◌, ◌^◌, ◌<◌, ◌≤◌, Bool, true, false, ◌||◌, ◌==◌, nat_le, if◌then◌else◌, List, [], ◌∷◌, length, take, drop, codes, Result, Ok, Err}
 use Rattle.std.specs.Fmt.{decimal}
 use Rattle.bson.specs.Tree.{document, array, Pairs, no_pairs, pair, Items, no_items, item}
 use Rattle.bson.specs.Spelling.{frame_of, pairs_bytes, element}
@@ -29,12 +29,21 @@ abbrev pub items_of_documents : List Pairs → Items
 items_of_documents [] = no_items
 items_of_documents (ps ∷ rest) = item (document ps) (items_of_documents rest)
 
+-- what a reply says of a cursor: a batch, the cursor's number (0 for none), and the namespace
+abbrev pub cursor_pairs : List ℕ → List Pairs → ℕ → List ℕ → Pairs
+cursor_pairs batch_name batch number namespace =
+    pair batch_name (array (items_of_documents batch))
+    (pair (codes "id") (long number)
+    (pair (codes "ns") (words namespace) no_pairs))
+
 abbrev pub cursor_reply : List ℕ → List Pairs → ℕ → List ℕ → Pairs
 cursor_reply batch_name batch number namespace =
-    pair (codes "cursor") (document
-    (pair batch_name (array (items_of_documents batch))
-    (pair (codes "id") (long number)
-    (pair (codes "ns") (words namespace) no_pairs)))) no_pairs
+    pair (codes "cursor") (document (cursor_pairs batch_name batch number namespace)) no_pairs
+
+-- whether a batch has all documents
+abbrev pub IsWholeBatch : Bool → ℕ → List Pairs → Type 0
+IsWholeBatch true most documents = length documents ≤ batch_of most documents
+IsWholeBatch false most documents = batch_of most documents < length documents
 
 -- A cursor is one too many past the cursors that a connection may have (none yet), or past the last number.
 abbrev pub is_refused : World → ℕ → Bool

@@ -1,20 +1,39 @@
 -- What an engine and its replies stand for.
-use Rattle.std.specs.Prelude.{◌≡◌, ◌≤◌, [], length, Result, Ok, Err}
+use Rattle.std.specs.Prelude.{◌≡◌, ◌≤◌, [], List, length, map, Result, Ok, Err}
+use Rattle.std.specs.Borrow.{Bor}
 use Rattle.bson.specs.Tree.{Pairs}
 use Rattle.bson.specs.Spelling.{frame_of, pairs_bytes}
+use Rattle.filter.specs.Projection.{Projection, project}
+use Rattle.commands.specs.View.{documents_at}
 use Rattle.engine.specs.World.{World}
 use Rattle.engine.specs.Refusals.{refusal_reply, ok_reply}
 use Rattle.outcome.specs.Outcome.{Fails}
 use Rattle.engine.specs.Progress.{turn_start_of}
 use Rattle.path.specs.declared.refusal.Refusal.{Refusal}
+use Rattle.engine.specs.declared.reply.Answer.{Answer}
+use Rattle.engine.specs.declared.reply.Answer.TheVariants as answers
 use Rattle.engine.specs.declared.engine.Reply.{Reply}
 use Rattle.engine.specs.declared.engine.Reply.TheVariants as replies
 use Rattle.engine.specs.declared.engine.Engine.{Engine}
 use Rattle.path.specs.declared.refusal.Refusal.TheVariants as refusals
 
+-- the reply that says that a command was done
+abbrev pub answer_of : Answer → Pairs
+answer_of (answers.Built ps) = ps
+answer_of (answers.Spelled ps) = ps
+
+-- what running a command returned: the reply, or the refusal
+abbrev pub outcome_of : Result Answer Refusal → Result Pairs Refusal
+outcome_of (Ok a) = Ok (answer_of a)
+outcome_of (Err r) = Err r
+
 abbrev pub reply_of : Reply → Pairs
-reply_of (replies.Done ps) = ps
+reply_of (replies.Done a) = answer_of a
 reply_of (replies.Refused r) = refusal_reply r
+
+-- what a projection leaves of each of the documents that are lent
+abbrev pub projected : Projection → List (Bor Pairs) → List Pairs
+projected p ds = map (project p) (documents_at ds)
 
 -- No cursor is opened yet, so there are none and the next number is the first.
 abbrev pub world : {D : Type 0} → Engine D → World

@@ -10,7 +10,7 @@ ghost use Rattle.engine.specs.Committing.{Saves, Commits};
 ghost use Rattle.engine.specs.Opening.{IsOpened, IsRefused};
 ghost use Rattle.engine.specs.World.{Collection, after_commit, after_undo, forget};
 ghost use Rattle.engine.specs.Step.{Answers, ForMemory, read_and_run};
-ghost use Rattle.engine.specs.View.{world, turn_start, reply_of, IsSendable, Runs};
+ghost use Rattle.engine.specs.View.{world, turn_start, reply_of, answer_of, outcome_of, IsSendable, Runs};
 ghost use Rattle.engine.specs.Durable.{Holds, disk_history, has_changes, is_stopped, IsRunning, store_of, IsSound, HasNoRoom, full_takes_of};
 
 use crate::FIRST_BATCH;
@@ -18,7 +18,7 @@ use crate::collections::Collections;
 use crate::connection::ConnId;
 use crate::image::image_of;
 use crate::loading::load;
-use crate::reply::ping_reply;
+use crate::reply::{Answer, built, ping_reply, spelled};
 use bson::Document;
 use commands::Command;
 use page::Disk;
@@ -29,8 +29,8 @@ use std::alloc::Global;
 /// What a command is answered.
 #[derive(Drop)]
 pub enum Reply {
-    /// The command was done, and this document says so.
-    Done(Document),
+    /// The command was done, and this says so.
+    Done(Answer),
     /// The command was refused and changed nothing. `refusal_document` makes the document that says so.
     Refused(Refusal),
 }
@@ -93,24 +93,26 @@ impl<D: Disk> Engine<D> {
     }
 
     /// Reads a command and runs it.
-    fn run(&mut self, connection: ConnId, body: &Document) -> Result<Document, Refusal>
+    fn run(&mut self, connection: ConnId, body: &Document) -> Result<Answer, Refusal>
         ensures disk { self.new.store ≡ self.old.store }
         ensures runs { Runs (world self.old) (read_and_run (world self.old) connection body.now)
-            (world self.new) result }
+            (world self.new) (outcome_of result) }
         ensures turn_start { turn_start self.new ≡ turn_start self.old }
         ensures has_changes { (world self.new).collections ≡ (world self.old).collections
             → has_changes self.new ≡ has_changes self.old }
-        ensures sendable { IfOk result (λ d. IsSendable d) }
+        ensures sendable { IfOk result (λ a. IsSendable (answer_of a)) }
     {
         match Command::read(self.alloc, body)? {
-            Command::Ping => Ok(ping_reply(self.alloc)?),
-            Command::Insert(c) => self.insert(c.namespace.as_str(), &c.documents),
+            Command::Ping => Ok(Answer::Built(ping_reply(self.alloc)?)),
+            Command::Insert(c) => built(self.insert(c.namespace.as_str(), &c.documents)),
             Command::Find(c) => {
                 let most = c.batch_size.unwrap_or(FIRST_BATCH);
-                self.find(connection, c.namespace.as_str(), &c.query, most)
+                spelled(self.find(connection, c.namespace.as_str(), &c.query, most))
             }
-            Command::Count(c) => self.count(c.namespace.as_str(), &c.filter, c.skip, c.limit),
-            Command::Delete(c) => self.delete(c.namespace.as_str(), &c.deletions),
+            Command::Count(c) => {
+                built(self.count(c.namespace.as_str(), &c.filter, c.skip, c.limit))
+            }
+            Command::Delete(c) => built(self.delete(c.namespace.as_str(), &c.deletions)),
         }
     }
 
@@ -130,7 +132,7 @@ impl<D: Disk> Engine<D> {
         ensures sendable { IsSendable (reply_of result) }
     {
         match self.run(connection, body) {
-            Ok(document) => Reply::Done(document),
+            Ok(answer) => Reply::Done(answer),
             Err(refusal) => Reply::Refused(refusal),
         }
     }

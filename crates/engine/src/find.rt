@@ -9,14 +9,13 @@ ghost use Rattle.engine.specs.World.{documents_of};
 ghost use Rattle.engine.specs.Find.{matching, window, selection, query_result, run_find, Suffices};
 ghost use Rattle.engine.specs.View.{world, IsSendable, Runs};
 
-use crate::batch::batch_len;
 use crate::connection::ConnId;
 use crate::engine::Engine;
-use crate::reply::find_reply;
+use crate::find_reply::find_reply;
 use crate::shared_document::SharedDocument;
-use bson::{Document, NoMemory};
+use bson::{Document, NoMemory, SpelledDocument};
 use commands::Query;
-use filter::{Filter, Projection};
+use filter::Filter;
 use page::Disk;
 use path::Refusal;
 use std::alloc::Global;
@@ -62,30 +61,6 @@ fn window<T>(items: &[T], skip: usize, limit: usize) -> &[T]
     }
 }
 
-/// What a projection leaves of each document.
-fn projected(
-    alloc: Global,
-    projection: &Projection,
-    documents: &[&Document],
-) -> Result<Vec<Document>, NoMemory>
-    ensures { IfOk result (λ v. v.items
-        ≡ map (project projection.now) (documents_at documents.now)) }
-{
-    let mut given = Vec::with_capacity(alloc, documents.len())?;
-    'documents: for document in documents {
-        given.push(projection.of(document)?)?;
-    }
-    Ok(given)
-}
-
-/// What a query gives of the documents that it selects.
-fn given(alloc: Global, query: &Query, selected: &[&Document]) -> Result<Vec<Document>, NoMemory>
-    ensures { IfOk result (λ v. v.items
-        ≡ map (project query.now.projection) (documents_at selected.now)) }
-{
-    projected(alloc, &query.projection, selected)
-}
-
 /// Those of ordered documents that are not skipped and within the limit.
 fn selected<'s, 'a>(query: &Query, ordered: &'s [&'a Document]) -> &'s [&'a Document]
     ensures { documents_at result.now
@@ -126,30 +101,6 @@ fn ordered<'a>(
 }
 
 impl<D: Disk> Engine<D> {
-    /// What a query gives, where there is not more of it than may go into a batch. A cursor on the others may not be
-    /// opened yet: `TooMany`.
-    fn run_query(
-        &self,
-        namespace: &str,
-        query: &Query,
-        most: usize,
-    ) -> Result<Vec<Document>, Refusal>
-        ensures given { IfOk result (λ v. v.items
-            ≡ query_result query.now (documents_of (world self.now).collections namespace.now)) }
-        ensures within { IfOk result (λ v. All IsWithin v.items) }
-        ensures over { IfErr result (λ e. e ≢ Refusal.OutOfMemory → (e ≡ Refusal.TooMany)
-            × (most < length (query_result query.now
-            (documents_of (world self.now).collections namespace.now)))) }
-    {
-        let documents = self.collections.documents(namespace);
-        let ordered = ordered(self.alloc, query, documents)?;
-        let selected = selected(query, &ordered);
-        if most < selected.len() {
-            return Err(Refusal::TooMany);
-        }
-        Ok(given(self.alloc, query, selected)?)
-    }
-
     /// Finds documents, where they all go into one batch. A cursor on the others may not be opened yet: `TooMany`.
     pub(crate) fn find(
         &self,
@@ -157,7 +108,7 @@ impl<D: Disk> Engine<D> {
         namespace: &str,
         query: &Query,
         most: usize,
-    ) -> Result<Document, Refusal>
+    ) -> Result<SpelledDocument, Refusal>
         requires { length namespace.now ≤ 255 }
         ensures runs { Runs (world self.now)
             (run_find (world self.now) connection
@@ -167,10 +118,12 @@ impl<D: Disk> Engine<D> {
     {
         // It would own the cursor.
         let _ = connection;
-        let found = self.run_query(namespace, query, most)?;
-        if batch_len(&found, most) < found.len() {
-            return Err(Refusal::TooMany);
+        let documents = self.collections.documents(namespace);
+        let ordered = ordered(self.alloc, query, documents)?;
+        let selected = selected(query, &ordered);
+        match find_reply(self.alloc, namespace, &query.projection, selected, most)? {
+            Some(reply) => Ok(reply),
+            None => Err(Refusal::TooMany),
         }
-        Ok(find_reply(self.alloc, namespace, found)?)
     }
 }

@@ -10,6 +10,7 @@ mod delete;
 mod documents;
 mod engine;
 mod find;
+mod find_reply;
 mod image;
 mod insert;
 pub mod laws;
@@ -22,7 +23,7 @@ pub use connection::{CONNECTIONS, ConnId};
 pub use engine::{Engine, Reply};
 pub use path::Refusal;
 pub use refusal::body_refusal;
-pub use reply::{full_bytes, out_of_memory_bytes, refusal_document};
+pub use reply::{Answer, full_bytes, out_of_memory_bytes, refusal_document};
 
 /// The most bytes of a stored document.
 pub const STORED_LIMIT: usize = 65_535;

@@ -1,20 +1,42 @@
 //! Documents that replies are.
 
-ghost use Rattle.std.specs.Prelude.{◌≡◌, ◌==◌, ◌≤◌, None, All, OnOk, IfOk, codes, false};
+ghost use Rattle.std.specs.Prelude.{◌≡◌, ◌==◌, ◌≤◌, None, OnOk, IfOk, codes, false};
 ghost use Rattle.std.specs.List.{list_any};
-ghost use Rattle.bson.specs.Tree.{pair, no_pairs, append, append_items, item, no_items};
+ghost use Rattle.bson.specs.Tree.{pair, no_pairs, append};
 ghost use Rattle.bson.specs.View.{tree};
 ghost use Rattle.bson.specs.Lookup.{lookup};
 ghost use Rattle.bson.specs.Spelling.{frame_of, pairs_bytes};
 ghost use Rattle.bson.specs.Lawful.{levels};
-ghost use Rattle.engine.specs.Lawful.{IsWithin};
+ghost use Rattle.engine.specs.View.{outcome_of};
 ghost use Rattle.engine.specs.Refusals.{int, total, words, ok_reply, refusal_reply};
-ghost use Rattle.engine.specs.Cursors.{items_of_documents, cursor_reply};
 
 use crate::MOST_STATEMENTS;
-use bson::{Array, BuildFault, Document, NoMemory, Text, Value};
+use bson::{BuildFault, Document, NoMemory, SpelledDocument, Text, Value};
 use path::Refusal;
 use std::alloc::{AllocError, Global};
+
+/// The document that says that a command was done.
+#[derive(Drop)]
+pub enum Answer {
+    /// A short one, built value by value.
+    Built(Document),
+    /// One whose bytes were written at once, so that the documents in it are not built again.
+    Spelled(SpelledDocument),
+}
+
+/// What a command returned that built its reply.
+pub(crate) fn built(outcome: Result<Document, Refusal>) -> Result<Answer, Refusal>
+    ensures { outcome_of result ≡ outcome }
+{
+    Ok(Answer::Built(outcome?))
+}
+
+/// What a command returned that spelled its reply.
+pub(crate) fn spelled(outcome: Result<SpelledDocument, Refusal>) -> Result<Answer, Refusal>
+    ensures { outcome_of result ≡ outcome }
+{
+    Ok(Answer::Spelled(outcome?))
+}
 
 /// Adds a pair to a reply: of another name than those before, and not nested too deep, so only memory can be wanting.
 pub(crate) fn put(reply: &mut Document, name: &str, value: Value) -> Result<(), NoMemory>
@@ -29,18 +51,6 @@ pub(crate) fn put(reply: &mut Document, name: &str, value: Value) -> Result<(), 
         Err(BuildFault::Name) => unreachable!("it has no zero"),
         Err(BuildFault::Repeated) => unreachable!("it is new"),
         Err(BuildFault::Deep) => unreachable!("it is flat"),
-    }
-}
-
-/// Adds an item to an array of a reply, which is not nested too deep, so only memory can be wanting.
-fn add(array: &mut Array, value: Value) -> Result<(), NoMemory>
-    requires { levels (tree value) ≤ 98 }
-    ensures { OnOk result (array.new ≡ append_items array.old (item (tree value) no_items)) }
-{
-    match array.push(value) {
-        Ok(()) => Ok(()),
-        Err(BuildFault::Deep) => unreachable!("it is flat"),
-        Err(_) => Err(AllocError),
     }
 }
 
@@ -84,41 +94,6 @@ pub(crate) fn total_reply(alloc: Global, number: usize) -> Result<Document, NoMe
     let mut reply = Document::new(alloc);
     let number = number.min(i32::MAX as usize);
     put(&mut reply, "n", Value::Int32(number as i32))?;
-    done(reply)
-}
-
-/// Documents as an array.
-fn array_of(alloc: Global, documents: Vec<Document>) -> Result<Array, NoMemory>
-    requires { All IsWithin documents.items }
-    ensures { IfOk result (λ a. a ≡ items_of_documents documents.items) }
-{
-    let mut array = Array::new(alloc);
-    'documents: for document in documents {
-        add(&mut array, Value::Document(document))?;
-    }
-    Ok(array)
-}
-
-/// The reply of a find whose documents all go into the first batch.
-pub(crate) fn find_reply(
-    alloc: Global,
-    namespace: &str,
-    documents: Vec<Document>,
-) -> Result<Document, NoMemory>
-    requires { All IsWithin documents.items }
-    ensures { IfOk result
-        (λ d. d ≡ ok_reply (cursor_reply (codes "firstBatch") documents.items 0 namespace.now)) }
-{
-    let mut cursor = Document::new(alloc);
-    put(
-        &mut cursor,
-        "firstBatch",
-        Value::Array(array_of(alloc, documents)?),
-    )?;
-    put(&mut cursor, "id", Value::Int64(0))?;
-    put(&mut cursor, "ns", text_value(alloc, namespace)?)?;
-    let mut reply = Document::new(alloc);
-    put(&mut reply, "cursor", Value::Document(cursor))?;
     done(reply)
 }
 

@@ -1,5 +1,5 @@
 -- Projections: what one is, and what it leaves of a document.
-use Rattle.std.specs.Prelude.{ℕ, not, Bool, true, false, if◌then◌else◌, Option, Some, None, List, [], ◌∷◌}
+use Rattle.std.specs.Prelude.{ℕ, not, Bool, ◌&&◌, true, false, if◌then◌else◌, Option, Some, None, List, [], ◌∷◌}
 use Rattle.std.specs.List.{list_any}
 use Rattle.std.specs.Str.{bytes_eq}
 use Rattle.bson.specs.Tree.{Tree, scalar, document, array, Pairs, no_pairs, pair, Items, no_items, item}
@@ -61,6 +61,10 @@ module _ (includes : Bool) where
     pub of_items : List Path → Items → Items
     of_items paths no_items = no_items
     of_items paths (item t ts) = add_item (of_tree paths t) (of_items paths ts)
+
+-- the projection that says nothing of any field, and so keeps all
+abbrev pub keeps_all : Projection → Bool
+keeps_all p = not p.0 && is_none p.1
 
 abbrev pub project : Projection → Pairs → Pairs
 project p ps = of_pairs p.0 p.1 ps

@@ -9,7 +9,7 @@ use Rattle.bson.specs.Tree.{Tree, scalar, document, array, Pairs, no_pairs, pair
 use Rattle.bson.specs.Lawful.{levels, pairs_levels, items_levels}
 use Rattle.bson.specs.Spelling.{tree_bytes, pairs_bytes, items_bytes}
 use Rattle.bson.specs.SizingLaws.{frame_of-length, pairs_size-pair, items_size-item, items_bytes-none}
-use Rattle.filter.specs.Projection.{Path, Projection, below, is_end, is_none, only, pick, add_pair, add_item, of_tree, of_pairs, of_items, project}
+use Rattle.filter.specs.Projection.{Path, Projection, below, is_end, is_none, only, pick, add_pair, add_item, of_tree, of_pairs, of_items, keeps_all, project}
 
 abbrev pub NoLarger : Type 0
 NoLarger = (p : Projection) (ps : Pairs) → (length (pairs_bytes (project p ps)) ≤ length (pairs_bytes ps)) × (pairs_levels (project p ps) ≤ pairs_levels ps)
@@ -200,3 +200,16 @@ includes_named_fields names (pair name t ps) = by (list_any (bytes_eq name) name
     by false e rest =
         ap (λ (o : Option Tree). add_pair name o (of_pairs true (paths_to names) ps)) (chosen.1 ∙ picked (below name (paths_to names)) t chosen.0 true (list_any is_end (below name (paths_to names))) (nothing_below name names e) refl)
         ∙ rest
+
+-- ---- the projection that says nothing of any field
+
+pub all_stays : (ps : Pairs) → project (false, []) ps ≡ ps
+all_stays no_pairs = refl
+all_stays (pair name (scalar s) ps) = ap (pair name (scalar s)) (all_stays ps)
+all_stays (pair name (document inner) ps) = ap (pair name (document inner)) (all_stays ps)
+all_stays (pair name (array ts) ps) = ap (pair name (array ts)) (all_stays ps)
+
+pub whole_stays : (p : Projection) (ps : Pairs) → keeps_all p ≡ true → project p ps ≡ ps
+whole_stays (false, []) ps e = all_stays ps
+whole_stays (false, path ∷ paths) ps e = absurd cc
+whole_stays (true, paths) ps e = absurd cc

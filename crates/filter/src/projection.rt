@@ -8,6 +8,7 @@ ghost use Rattle.outcome.specs.Outcome.{Gives};
 ghost use Rattle.filter.specs.ProjectionReading.{flag_of, flag_in, id_path, is_id, begins_with_id, nothing_seen};
 ghost use Rattle.filter.specs.ProjectionReading.{agrees, with_field, read_field, read_flags, mode, names_id};
 ghost use Rattle.filter.specs.ProjectionReading.{projection_of, read_projection};
+ghost use Rattle.filter.specs.Projection.{keeps_all};
 ghost use Rattle.filter.specs.Seen.{seen_of};
 
 use crate::operands::path_in;
@@ -202,6 +203,13 @@ impl Projection {
             includes: false,
             paths: Vec::new(alloc),
         }
+    }
+
+    /// Whether it leaves every document as it is, since it says nothing of any field.
+    pub fn keeps_all(&self) -> bool
+        ensures { result ≡ keeps_all self.now }
+    {
+        !self.includes && self.paths.is_empty()
     }
 
     /// The projection that a document spells, or the first misuse from the left.

@@ -6,7 +6,7 @@ ghost use Rattle.engine.specs.Durable.{IsSound};
 
 use crate::session::CONFIG;
 use bson::encode;
-use engine::{ConnId, Engine, Reply};
+use engine::{Answer, ConnId, Engine, Reply};
 use notation::document;
 use page::MemDisk;
 use std::alloc::Global;
@@ -32,12 +32,14 @@ fn answers(
     ensures { IsSound memory_history engine.new }
 {
     let connection = ConnId::new(0).ok_or("connection 0")?;
-    let Reply::Done(found) = engine.execute(connection, &document(alloc, command)?) else {
+    let Reply::Done(answer) = engine.execute(connection, &document(alloc, command)?) else {
         return Ok(false);
     };
-    let found = encode(alloc, &found)?;
     let wanted = encode(alloc, &document(alloc, reply)?)?;
-    Ok(found.as_slice() == wanted.as_slice())
+    match answer {
+        Answer::Built(document) => Ok(encode(alloc, &document)?.as_slice() == wanted.as_slice()),
+        Answer::Spelled(document) => Ok(document.bytes() == wanted.as_slice()),
+    }
 }
 
 const INSERT: &str = "{insert: 'c', documents: [{_id: 1}, {_id: 2}, {_id: 3}], $db: 't'}";

@@ -5,7 +5,7 @@ ghost use Rattle.page.specs.History.{KeepsWord};
 ghost use Rattle.page.specs.Crash.{GoesOn, LeavesOnly, LeavesNow};
 ghost use Rattle.roots.specs.Store.{limit_of};
 ghost use Rattle.op_msg.specs.Request.{reply_bytes};
-ghost use Rattle.engine.specs.View.{world, turn_start, reply_of, IsSendable};
+ghost use Rattle.engine.specs.View.{world, turn_start, reply_of, answer_of, IsSendable};
 ghost use Rattle.engine.specs.Durable.{Holds, disk_history, has_changes, is_stopped, IsRunning, store_of, IsSound};
 ghost use Rattle.path.specs.declared.refusal.Refusal.TheVariants.{OutOfMemory};
 ghost use Rattle.engine.specs.Step.{ForMemory};
@@ -17,11 +17,27 @@ ghost use Rattle.server.specs.Durable.{NoRoomFor};
 use crate::connection::{Connection, Taken, take_call};
 use crate::preparing::say_full;
 use bson::NoMemory;
-use engine::{ConnId, Engine, Reply, body_refusal, refusal_document};
-use op_msg::{FrameFault, Request, reply};
+use engine::{Answer, ConnId, Engine, Reply, body_refusal, refusal_document};
+use op_msg::{FrameFault, Request, reply, spelled_reply};
 use page::Disk;
 use roots::CommitFault;
 use std::alloc::Global;
+
+/// The frame of what says that a command was done.
+fn frame_of_answer(
+    alloc: Global,
+    number: u32,
+    request_id: u32,
+    answer: &Answer,
+) -> Result<Vec<u8>, NoMemory>
+    requires { IsSendable (answer_of answer.now) }
+    ensures { IfOk result (λ v. v.items ≡ reply_bytes number request_id (answer_of answer.now)) }
+{
+    match answer {
+        Answer::Built(document) => reply(alloc, number, request_id, document),
+        Answer::Spelled(document) => spelled_reply(alloc, number, request_id, document.bytes()),
+    }
+}
 
 /// The frame of what the engine answered.
 fn frame_of_reply(
@@ -34,7 +50,7 @@ fn frame_of_reply(
     ensures { IfOk result (λ v. v.items ≡ reply_bytes number request_id (reply_of answer.now)) }
 {
     match answer {
-        Reply::Done(document) => reply(alloc, number, request_id, document),
+        Reply::Done(answer) => frame_of_answer(alloc, number, request_id, answer),
         Reply::Refused(refusal) => {
             let document = refusal_document(alloc, *refusal)?;
             reply(alloc, number, request_id, &document)

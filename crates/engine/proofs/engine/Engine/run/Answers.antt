@@ -27,4 +27,5 @@ returns-in-Find-clause-runs g c =
     ap read (c.in_ok-read.ensures.gives ∙ ap (λ (x : Command). Ok (command_read x)) c.in-Find.is) in
     let called : run_find w c.args.connection (record { namespace = c.as_str-in-Find.result.now; query = asked.query; batch_size = Some c.unwrap_or-most.result }) ≡ run_find w c.args.connection (record asked { batch_size = Some (unwrap_or asked.batch_size 101) }) =
     λ i. run_find w c.args.connection (record { namespace = c.as_str-in-Find.ensures.value i; query = asked.query; batch_size = Some (c.unwrap_or-most.ensures i) }) in
-    subst (λ (planned : Result (World × Pairs) Refusal). Runs w planned w c.find.result) (called ∙ run_find-default w c.args.connection asked ∙ sym spelled) c.find.ensures.runs
+    subst (λ (r : Result Pairs Refusal). Runs w (read_and_run w c.args.connection c.args.body.now) w r) (sym c.spelled.ensures)
+    (subst (λ (planned : Result (World × Pairs) Refusal). Runs w planned w c.find.result) (called ∙ run_find-default w c.args.connection asked ∙ sym spelled) c.find.ensures.runs)
