@@ -115,7 +115,7 @@ fn read_operators(alloc: Global, document: &Document) -> Result<Filter, Refusal>
 fn read_operator(alloc: Global, name: &str, value: &Value) -> Result<Condition, Refusal>
     ensures { let operand = tree value.now in
         Gives Refusal.OutOfMemory condition_of result
-            (operation name.now (read_element operand) (read_not operand) operand) }
+        (operation name.now (read_element operand) (read_not operand) operand) }
 {
     if name == "$elemMatch" {
         return read_element(alloc, value);

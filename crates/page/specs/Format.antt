@@ -1,6 +1,6 @@
 -- The 4,096 bytes of a page: a header of sixteen bytes (kind, zero, count, the page's own number, the generation of the
 -- commit that wrote it), then what its kind has, then zeros. Numbers have their lowest byte first.
-use Rattle.std.specs.Prelude.{ℕ, ◌-◌, Bool, not, ◌||◌, ◌&&◌, ◌==◌, nat_lt, ◌≤◌, if◌then◌else◌, List, ◌∷◌, ◌++◌, length, take, drop, replicate, slice_index, Result, Ok, Err}
+use Rattle.std.specs.Prelude.{ℕ, ◌-◌, Bool, not, ◌||◌, ◌&&◌, ◌==◌, nat_lt, ◌≤◌, List, ◌∷◌, ◌++◌, length, take, drop, replicate, slice_index, Result, Ok}
 use Rattle.outcome.specs.Outcome.{◌>>=◌, unless}
 use Rattle.std.specs.List.{list_all}
 use Rattle.byteorder.specs.Endian.{little_bytes, little_number}

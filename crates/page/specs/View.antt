@@ -1,11 +1,8 @@
 -- What pages of the code stand for.
-use Rattle.std.specs.Prelude.{◌≡◌, ◌≢◌, Result, Ok, Err}
 use Rattle.page.specs.Format.{Content, chain, Sheet}
 use Rattle.page.specs.declared.page_image.PageContent.{PageContent}
 use Rattle.page.specs.declared.page_image.PageContent.TheVariants as contents
 use Rattle.page.specs.declared.page_image.PageImage.{PageImage}
-use Rattle.page.specs.declared.page_image.PageFault.{PageFault}
-use Rattle.page.specs.declared.page_image.PageFault.TheVariants as faults
 
 abbrev pub content_of : PageContent → Content
 content_of (contents.Chain next bytes) = chain next bytes.items

@@ -1,14 +1,10 @@
 -- What the types of the crate stand for. A `Path` is the list of its parts, a `Part` its name; `reached` says what a
 -- `Reached` is.
-use Rattle.std.specs.Prelude.{◌≡◌, ◌≢◌, ℕ, Option, Some, None, Result, Ok, Err, List}
+use Rattle.std.specs.Prelude.{Option, Some, None}
 use Rattle.bson.specs.Tree.{Tree}
 use Rattle.bson.specs.View.{tree}
-use Rattle.path.specs.declared.fault.PathFault.{PathFault}
-use Rattle.path.specs.declared.fault.PathFault.TheVariants as faults
 use Rattle.path.specs.declared.reaching.Reached.{Reached}
 use Rattle.path.specs.declared.reaching.Reached.TheVariants as reached_values
-use Rattle.path.specs.declared.refusal.Refusal.{Refusal}
-use Rattle.path.specs.declared.refusal.Refusal.TheVariants as refusals
 
 -- a value, or None for Missing
 abbrev pub reached : Reached → Option Tree

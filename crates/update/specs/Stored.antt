@@ -1,5 +1,5 @@
 -- Documents that may be stored: their size, their levels, their names and their `_id`, which stands first.
-use Rattle.std.specs.Prelude.{ℕ, suc, Bool, ◌==◌, nat_lt, if◌then◌else◌, List, [], ◌∷◌, length, codes, Result, Ok, Err, Option, Some, None, option_and_then}
+use Rattle.std.specs.Prelude.{ℕ, suc, Bool, ◌==◌, nat_lt, if◌then◌else◌, List, [], ◌∷◌, length, codes, Result, Option, Some, None, option_and_then}
 use Rattle.outcome.specs.Outcome.{fault_or}
 use Rattle.std.specs.Str.{bytes_eq}
 use Rattle.std.specs.List.{list_any}
