@@ -9,7 +9,7 @@ use Rattle.bson.specs.Tree.{Tree, Pairs, no_pairs}
 use Rattle.filter.specs.Matches.{is_equal}
 use Rattle.value_order.specs.Order.{compare}
 use Rattle.value_order.specs.TotalLaws.{compare_total}
-use Rattle.path.specs.Outcomes.{◌>>=◌}
+use Rattle.outcome.specs.Outcome.{◌>>=◌}
 use Rattle.path.specs.declared.refusal.Refusal.{Refusal}
 use Rattle.aggregate.specs.Accumulators.{State, start, take, outcome, accumulated}
 use Rattle.aggregate.specs.Each.{just, behind, each}

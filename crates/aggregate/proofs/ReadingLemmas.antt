@@ -6,7 +6,7 @@ use Rattle.bson.specs.declared.value.Pair.{Pair}
 use Rattle.bson.specs.declared.value.Value.{Value}
 use Rattle.std.specs.Prelude.{◌≢◌}
 use Rattle.std.specs.Result.{IsErrAnd, IfOk}
-use Rattle.path.specs.View.{Gives}
+use Rattle.outcome.specs.Outcome.{Gives}
 use Rattle.path.specs.declared.refusal.Refusal.{Refusal}
 use Rattle.path.specs.declared.refusal.Refusal.TheVariants as refusals
 use Rattle.aggregate.specs.Operands.{only_pair}
@@ -29,7 +29,7 @@ not_only (p ∷ q ∷ ps) le = refl
 
 -- an answer that passes a refusal on
 pub refused : {A B : Type 0} (view : A → B) (planned : Result B Refusal) (r : Result A Refusal) (f : Refusal) → IsErrAnd r (λ e. e ≡ f)
-    → (f ≢ refusals.OutOfMemory → planned ≡ Err f) → Gives view planned r
+    → (f ≢ refusals.OutOfMemory → planned ≡ Err f) → Gives refusals.OutOfMemory view r planned
 refused view planned (Ok a) f is told = absurd is
 refused view planned (Err e) f is told = λ known. told (λ same. known (is ∙ same)) ∙ ap Err (sym is)
 

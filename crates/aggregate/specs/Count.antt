@@ -1,7 +1,7 @@
 -- `$count` gives one document that says how many there are, and none where there is none (MongoDB manual, "$count").
 use Rattle.std.specs.Prelude.{ℕ, pos, true, Result, Ok, List, [], ◌∷◌, length}
 use Rattle.bson.specs.Tree.{Pairs, no_pairs}
-use Rattle.path.specs.Outcomes.{◌>>=◌}
+use Rattle.outcome.specs.Outcome.{◌>>=◌}
 use Rattle.path.specs.declared.refusal.Refusal.{Refusal}
 use Rattle.aggregate.specs.Fields.{set_field}
 use Rattle.aggregate.specs.Numbers.{total_value}

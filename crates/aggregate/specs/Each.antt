@@ -1,6 +1,6 @@
 -- What a function gives of each member of a list, one behind the other, or the first refusal.
 use Rattle.std.specs.Prelude.{◌++◌, Result, Ok, Err, List, [], ◌∷◌}
-use Rattle.path.specs.Outcomes.{◌>>=◌}
+use Rattle.outcome.specs.Outcome.{◌>>=◌}
 use Rattle.path.specs.declared.refusal.Refusal.{Refusal}
 
 abbrev pub just : {X : Type 0} → Result X Refusal → Result (List X) Refusal

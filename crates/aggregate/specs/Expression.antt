@@ -2,7 +2,7 @@
 use Rattle.std.specs.Prelude.{ℕ, Option, Some, None, Result, Ok, Err, List}
 use Rattle.std.specs.Option.{unwrap_or}
 use Rattle.bson.specs.Tree.{Tree, scalar, text, null, document, array, Pairs}
-use Rattle.path.specs.Outcomes.{◌>>=◌}
+use Rattle.outcome.specs.Outcome.{◌>>=◌}
 use Rattle.path.specs.declared.refusal.Refusal.{Refusal}
 use Rattle.path.specs.declared.refusal.Refusal.TheVariants as refusals
 use Rattle.aggregate.specs.Operands.{dollar_path, source_path}

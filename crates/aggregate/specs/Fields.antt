@@ -4,7 +4,7 @@ use Rattle.std.specs.Prelude.{ℕ, nat_lt, Result, Ok, List}
 use Rattle.bson.specs.Tree.{Tree, Pairs}
 use Rattle.bson.specs.Edits.{put}
 use Rattle.bson.specs.Lawful.{levels}
-use Rattle.path.specs.Outcomes.{unless}
+use Rattle.outcome.specs.Outcome.{unless}
 use Rattle.path.specs.declared.refusal.Refusal.{Refusal}
 use Rattle.path.specs.declared.refusal.Refusal.TheVariants as refusals
 

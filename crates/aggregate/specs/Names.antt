@@ -1,7 +1,7 @@
 -- Names of fields that a stage makes: not empty, without a dot, a zero byte or a `$` in front.
 use Rattle.std.specs.Prelude.{ℕ, ◌==◌, ◌||◌, Bool, Result, Ok, List}
 use Rattle.std.specs.List.{list_any}
-use Rattle.path.specs.Outcomes.{unless}
+use Rattle.outcome.specs.Outcome.{unless}
 use Rattle.path.specs.Parts.{is_empty, begins_with_dollar, has_zero}
 use Rattle.path.specs.declared.refusal.Refusal.{Refusal}
 use Rattle.path.specs.declared.refusal.Refusal.TheVariants as refusals

@@ -1,7 +1,7 @@
 -- What stages are given: documents, texts, numbers. Whatever else stands there is not understood.
 use Rattle.std.specs.Prelude.{ℕ, ℤ, pos, negsuc, ◌==◌, nat_lt, if◌then◌else◌, Option, Some, None, Result, Ok, Err, List, [], ◌∷◌}
 use Rattle.bson.specs.Tree.{Tree, scalar, text, int32, int64, document, Pairs, no_pairs, pair}
-use Rattle.path.specs.Outcomes.{◌>>=◌, unless, or_refused}
+use Rattle.outcome.specs.Outcome.{◌>>=◌, unless, or_refused}
 use Rattle.path.specs.Parts.{path_of}
 use Rattle.path.specs.declared.fault.PathFault.{PathFault}
 use Rattle.path.specs.declared.refusal.Refusal.{Refusal}

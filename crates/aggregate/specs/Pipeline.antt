@@ -2,7 +2,7 @@
 -- gives is judged before the next one.
 use Rattle.std.specs.Prelude.{ℕ, ◌==◌, ◌++◌, Result, Ok, Err, List, [], ◌∷◌, length}
 use Rattle.bson.specs.Tree.{Tree, Pairs}
-use Rattle.path.specs.Outcomes.{◌>>=◌, unless, or_refused}
+use Rattle.outcome.specs.Outcome.{◌>>=◌, unless, or_refused}
 use Rattle.path.specs.declared.refusal.Refusal.{Refusal}
 use Rattle.path.specs.declared.refusal.Refusal.TheVariants as refusals
 use Rattle.aggregate.specs.Operands.{only_pair_in}

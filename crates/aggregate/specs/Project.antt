@@ -4,7 +4,7 @@
 use Rattle.std.specs.Prelude.{ℕ, ◌++◌, Bool, true, false, if◌then◌else◌, Option, Some, None, Result, Ok, Err, List, [], ◌∷◌}
 use Rattle.bson.specs.Tree.{Tree, scalar, text, document, Pairs, no_pairs, pair}
 use Rattle.path.specs.Edits.{set_at, cut_at}
-use Rattle.path.specs.Outcomes.{◌>>=◌, unless}
+use Rattle.outcome.specs.Outcome.{◌>>=◌, unless}
 use Rattle.path.specs.declared.refusal.Refusal.{Refusal}
 use Rattle.path.specs.declared.refusal.Refusal.TheVariants as refusals
 use Rattle.filter.specs.Projection.{Projection, project}

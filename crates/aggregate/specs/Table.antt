@@ -1,7 +1,7 @@
 -- How groups grow, one document after the other: an entry for each group, with its `_id` and what its accumulators have.
 use Rattle.std.specs.Prelude.{◌≡◌, ◌||◌, Bool, false, if◌then◌else◌, Result, Ok, List, [], ◌∷◌, map, codes}
 use Rattle.bson.specs.Tree.{Tree, Pairs, no_pairs}
-use Rattle.path.specs.Outcomes.{◌>>=◌}
+use Rattle.outcome.specs.Outcome.{◌>>=◌}
 use Rattle.path.specs.declared.refusal.Refusal.{Refusal}
 use Rattle.aggregate.specs.Accumulators.{State, start, take, outcome}
 use Rattle.aggregate.specs.Each.{just, each}

@@ -4,7 +4,7 @@ use Rattle.std.specs.List.{filter}
 use Rattle.std.proofs.Common.{refl, sym, ap, ◌∙◌, subst}
 use Rattle.bson.specs.Tree.{Pairs}
 use Rattle.filter.specs.Matches.{matches}
-use Rattle.path.specs.Outcomes.{◌>>=◌}
+use Rattle.outcome.specs.Outcome.{◌>>=◌}
 use Rattle.path.specs.declared.refusal.Refusal.{Refusal}
 use Rattle.aggregate.specs.Stage.{Stage, match_stage, project_stage, unwind_stage, sort_stage, skip_stage, limit_stage, count_stage}
 use Rattle.aggregate.specs.Stages.{apply_stage}

@@ -4,7 +4,7 @@
 use Rattle.std.specs.Prelude.{ℕ, if◌then◌else◌, Option, Some, None, Result, Ok, List, [], ◌∷◌}
 use Rattle.bson.specs.Tree.{Tree, scalar, null, document, array, Pairs, Items}
 use Rattle.path.specs.Edits.{set_at}
-use Rattle.path.specs.Outcomes.{◌>>=◌}
+use Rattle.outcome.specs.Outcome.{◌>>=◌}
 use Rattle.path.specs.Place.{value_at, passes_array}
 use Rattle.path.specs.Reach.{items_list}
 use Rattle.path.specs.declared.refusal.Refusal.{Refusal}

@@ -7,7 +7,7 @@ ghost use Rattle.std.specs.Prelude.{◌≡◌, ◌+ℤ◌, IfOk, Ok, option_map}
 ghost use Rattle.bson.specs.Tree.{array};
 ghost use Rattle.bson.specs.View.{tree, items_of};
 ghost use Rattle.path.specs.Edits.{within};
-ghost use Rattle.path.specs.View.{Gives};
+ghost use Rattle.outcome.specs.Outcome.{Gives};
 ghost use Rattle.filter.specs.Matches.{is_null};
 ghost use Rattle.value_order.specs.Order.{compare};
 ghost use Rattle.aggregate.specs.Accumulators.{accumulator_named, start, sum_with, is_below, lesser, greater, best_with, first_with};
@@ -179,7 +179,8 @@ fn pushed_with(values: Vec<Value>, found: Found<'_>) -> Result<Vec<Value>, NoMem
 
 /// The array of values. `BadValue` where it would nest more than 99 levels.
 fn array_of(alloc: Global, values: Vec<Value>) -> Result<Value, Refusal>
-    ensures { Gives tree (within 99 (Ok (array (items_of values.items)))) result }
+    ensures { Gives Refusal.OutOfMemory tree result
+        (within 99 (Ok (array (items_of values.items)))) }
 {
     let mut array = Array::new(alloc);
     'values: for value in values {
@@ -241,7 +242,7 @@ impl State {
 
     /// What it gives in the end. `BadValue` for a sum past int64 and for an array that would nest too deep.
     pub(crate) fn outcome(self, alloc: Global) -> Result<Value, Refusal>
-        ensures { Gives tree (outcome (state_of self)) result }
+        ensures { Gives Refusal.OutOfMemory tree result (outcome (state_of self)) }
     {
         match self {
             State::Total { narrow, total } => total_value(narrow, total),

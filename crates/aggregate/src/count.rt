@@ -1,7 +1,7 @@
 //! `$count`.
 
 ghost use Rattle.std.specs.Prelude.{◌≡◌};
-ghost use Rattle.path.specs.View.{Gives};
+ghost use Rattle.outcome.specs.Outcome.{Gives};
 ghost use Rattle.aggregate.specs.Count.{number_document, counted};
 
 use crate::fields::set_field;
@@ -13,7 +13,7 @@ use std::alloc::Global;
 
 /// The document of one field that has this number.
 fn number_document(alloc: Global, name: &FieldName, number: usize) -> Result<Document, Refusal>
-    ensures { Gives (λ d. d) (number_document name.now number) result }
+    ensures { Gives Refusal.OutOfMemory (λ d. d) result (number_document name.now number) }
 {
     let value = total_value(true, number as i128)?;
     set_field(Document::new(alloc), name.as_str(), value)
@@ -25,7 +25,7 @@ pub(crate) fn counted(
     name: &FieldName,
     documents: &[Document],
 ) -> Result<Vec<Document>, Refusal>
-    ensures { Gives (λ v. v.items) (counted name.now documents.now) result }
+    ensures { Gives Refusal.OutOfMemory (λ v. v.items) result (counted name.now documents.now) }
 {
     let mut given = Vec::new(alloc);
     if documents.is_empty() {

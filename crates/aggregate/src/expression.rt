@@ -2,7 +2,7 @@
 
 ghost use Rattle.std.specs.Prelude.{◌≡◌, IfOk};
 ghost use Rattle.bson.specs.View.{tree};
-ghost use Rattle.path.specs.View.{Gives};
+ghost use Rattle.outcome.specs.Outcome.{Gives};
 ghost use Rattle.aggregate.specs.Expression.{read_expression, expression_value};
 ghost use Rattle.aggregate.specs.Found.{found_of};
 ghost use Rattle.aggregate.specs.GroupView.{expression_of};
@@ -23,7 +23,8 @@ pub(crate) enum Expression {
 impl Expression {
     /// A constant that is no document and no array, or a text that begins with `$`. `FailedToParse` for all else.
     pub(crate) fn read(alloc: Global, value: &Value) -> Result<Expression, Refusal>
-        ensures { Gives expression_of (read_expression (tree value.now)) result }
+        ensures { Gives Refusal.OutOfMemory expression_of result
+            (read_expression (tree value.now)) }
     {
         match value {
             Value::Document(_) => Err(Refusal::FailedToParse),

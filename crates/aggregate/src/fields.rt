@@ -3,7 +3,7 @@
 ghost use Rattle.std.specs.Prelude.{◌≡◌};
 ghost use Rattle.bson.specs.Lawful.{IsName};
 ghost use Rattle.bson.specs.View.{tree};
-ghost use Rattle.path.specs.View.{Gives};
+ghost use Rattle.outcome.specs.Outcome.{Gives};
 ghost use Rattle.aggregate.specs.Fields.{set_field};
 
 use bson::{BuildFault, Document, MOST_LEVELS, Value};
@@ -13,7 +13,7 @@ use path::Refusal;
 /// would nest more than 100 levels.
 pub(crate) fn set_field(document: Document, name: &str, value: Value) -> Result<Document, Refusal>
     requires { IsName name.now }
-    ensures { Gives (λ d. d) (set_field name.now (tree value) document) result }
+    ensures { Gives Refusal.OutOfMemory (λ d. d) result (set_field name.now (tree value) document) }
 {
     let mut document = document;
     if MOST_LEVELS <= value.levels() {

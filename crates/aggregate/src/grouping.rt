@@ -2,7 +2,7 @@
 
 ghost use Rattle.std.specs.Prelude.{◌≡◌, [], IfOk, map};
 ghost use Rattle.bson.specs.View.{tree};
-ghost use Rattle.path.specs.View.{Gives};
+ghost use Rattle.outcome.specs.Outcome.{Gives};
 ghost use Rattle.aggregate.specs.Group.{read_id_fields, read_id, read_group_field, no_parts, read_part, read_parts, read_grouping};
 ghost use Rattle.aggregate.specs.Group.{with_id_field, with_id_fields, id_value};
 ghost use Rattle.aggregate.specs.Expression.{expression_value, or_null};
@@ -97,7 +97,8 @@ struct Parts {
 }
 
 fn read_id_fields(alloc: Global, document: &Document) -> Result<Vec<IdField>, Refusal>
-    ensures { Gives (λ v. map id_field_of v.items) (read_id_fields document.now []) result }
+    ensures { Gives Refusal.OutOfMemory (λ v. map id_field_of v.items) result
+        (read_id_fields document.now []) }
 {
     let mut fields = Vec::new(alloc);
     'pairs: for pair in document.pairs() {
@@ -110,7 +111,7 @@ fn read_id_fields(alloc: Global, document: &Document) -> Result<Vec<IdField>, Re
 
 impl GroupId {
     fn read(alloc: Global, value: &Value) -> Result<GroupId, Refusal>
-        ensures { Gives id_of (read_id (tree value.now)) result }
+        ensures { Gives Refusal.OutOfMemory id_of result (read_id (tree value.now)) }
     {
         match value {
             Value::Document(document) => Ok(GroupId::Fields(read_id_fields(alloc, document)?)),
@@ -122,7 +123,8 @@ impl GroupId {
 impl GroupField {
     /// The field of `{accumulator: expression}`.
     fn read(alloc: Global, name: &str, value: &Value) -> Result<GroupField, Refusal>
-        ensures { Gives group_field_of (read_group_field name.now (tree value.now)) result }
+        ensures { Gives Refusal.OutOfMemory group_field_of result
+            (read_group_field name.now (tree value.now)) }
     {
         let name = FieldName::read(alloc, name)?;
         let (word, operand) = only_pair_in(value)?;
@@ -140,7 +142,8 @@ impl GroupField {
 
 impl Parts {
     fn read_part(self, alloc: Global, name: &str, value: &Value) -> Result<Parts, Refusal>
-        ensures { Gives parts_of (read_part name.now (tree value.now) (parts_of self)) result }
+        ensures { Gives Refusal.OutOfMemory parts_of result
+            (read_part name.now (tree value.now) (parts_of self)) }
     {
         let Parts { id, fields } = self;
         if name == "_id" {
@@ -157,7 +160,7 @@ impl Parts {
 }
 
 fn read_parts(alloc: Global, document: &Document) -> Result<Parts, Refusal>
-    ensures { Gives parts_of (read_parts document.now no_parts) result }
+    ensures { Gives Refusal.OutOfMemory parts_of result (read_parts document.now no_parts) }
 {
     let mut parts = Parts {
         id: None,
@@ -172,7 +175,7 @@ fn read_parts(alloc: Global, document: &Document) -> Result<Parts, Refusal>
 impl Grouping {
     /// The grouping that a document spells, or the first misuse from the left. `FailedToParse` without `_id`.
     pub(crate) fn read(alloc: Global, document: &Document) -> Result<Grouping, Refusal>
-        ensures { Gives grouping_of (read_grouping document.now) result }
+        ensures { Gives Refusal.OutOfMemory grouping_of result (read_grouping document.now) }
     {
         let Parts { id, fields } = read_parts(alloc, document)?;
         match id {
@@ -194,8 +197,8 @@ impl IdField {
 
     /// The document with the field, where its path gives something.
     fn put(&self, alloc: Global, whole: &Document, document: Document) -> Result<Document, Refusal>
-        ensures { let f = id_field_of self.now in Gives (λ d. d)
-            (with_id_field f.name (expression_value f.expression whole.now) document) result }
+        ensures { let f = id_field_of self.now in Gives Refusal.OutOfMemory (λ d. d) result
+            (with_id_field f.name (expression_value f.expression whole.now) document) }
     {
         let found = self.expression.value(alloc, whole)?;
         match found.into_value()? {
@@ -216,8 +219,8 @@ fn copy_id_fields(alloc: Global, fields: &[IdField]) -> Result<Vec<IdField>, NoM
 }
 
 fn with_id_fields(alloc: Global, fields: &[IdField], whole: &Document) -> Result<Document, Refusal>
-    ensures { Gives (λ d. d)
-        (with_id_fields (map id_field_of fields.now) whole.now no_pairs) result }
+    ensures { Gives Refusal.OutOfMemory (λ d. d) result
+        (with_id_fields (map id_field_of fields.now) whole.now no_pairs) }
 {
     let mut document = Document::new(alloc);
     'fields: for field in fields {
@@ -242,7 +245,8 @@ impl GroupId {
         alloc: Global,
         document: &'a Document,
     ) -> Result<IdValue<'a>, Refusal>
-        ensures { Gives id_value_of (id_value (id_of self.now) document.now) result }
+        ensures { Gives Refusal.OutOfMemory id_value_of result
+            (id_value (id_of self.now) document.now) }
     {
         match self {
             GroupId::One(expression) => Ok(or_null(expression.value(alloc, document)?)),

@@ -5,7 +5,7 @@
 
 ghost use Rattle.std.specs.Prelude.{◌≡◌, [], IfOk, OnOk, map};
 ghost use Rattle.bson.specs.View.{tree};
-ghost use Rattle.path.specs.View.{Gives};
+ghost use Rattle.outcome.specs.Outcome.{Gives};
 ghost use Rattle.value_order.specs.KeyText.{tree_text};
 ghost use Rattle.aggregate.specs.Group.{same, grouped};
 ghost use Rattle.aggregate.specs.GroupView.{state_of, group_field_of, grouping_of, id_value_of};
@@ -97,8 +97,8 @@ fn with_outcomes(
     states: Vec<State>,
     document: Document,
 ) -> Result<Document, Refusal>
-    ensures { Gives (λ d. d) (with_outcomes (map group_field_of fields.now)
-        (map state_of states.items) document) result }
+    ensures { Gives Refusal.OutOfMemory (λ d. d) result
+        (with_outcomes (map group_field_of fields.now) (map state_of states.items) document) }
 {
     let mut document = document;
     let mut states = states;
@@ -134,8 +134,8 @@ impl Group {
 
     /// The document of the group. `BadValue` for a sum past int64 and where it would nest too deep.
     fn document(self, alloc: Global, fields: &[GroupField]) -> Result<Document, Refusal>
-        ensures { Gives (λ d. d)
-            (entry_document (map group_field_of fields.now) (entry_of self)) result }
+        ensures { Gives Refusal.OutOfMemory (λ d. d) result
+            (entry_document (map group_field_of fields.now) (entry_of self)) }
     {
         let Group { id, states } = self;
         let document = set_field(Document::new(alloc), "_id", id)?;
@@ -198,8 +198,8 @@ impl Groups {
     }
 
     fn into_documents(self, alloc: Global, fields: &[GroupField]) -> Result<Vec<Document>, Refusal>
-        ensures { Gives (λ v. v.items)
-            (entry_documents (map group_field_of fields.now) (entries_of self)) result }
+        ensures { Gives Refusal.OutOfMemory (λ v. v.items) result
+            (entry_documents (map group_field_of fields.now) (entries_of self)) }
     {
         let Groups { places: _, groups } = self;
         let mut given = Vec::with_capacity(alloc, groups.len())?;
@@ -212,7 +212,8 @@ impl Groups {
 
 /// The groups of documents, one after the other.
 fn grouped_from(grouping: &Grouping, documents: &[Document]) -> Result<Vec<Document>, Refusal>
-    ensures { Gives (λ v. v.items) (grouped_from (grouping_of grouping.now) documents.now []) result }
+    ensures { Gives Refusal.OutOfMemory (λ v. v.items) result
+        (grouped_from (grouping_of grouping.now) documents.now []) }
 {
     let alloc = grouping.alloc;
     let mut groups = Groups::new(alloc);
@@ -225,7 +226,8 @@ fn grouped_from(grouping: &Grouping, documents: &[Document]) -> Result<Vec<Docum
 
 /// A document for each group, in the order of first appearance.
 pub(crate) fn grouped(grouping: &Grouping, documents: &[Document]) -> Result<Vec<Document>, Refusal>
-    ensures { Gives (λ v. v.items) (grouped (grouping_of grouping.now) documents.now) result }
+    ensures { Gives Refusal.OutOfMemory (λ v. v.items) result
+        (grouped (grouping_of grouping.now) documents.now) }
 {
     grouped_from(grouping, documents)
 }

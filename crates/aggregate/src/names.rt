@@ -2,7 +2,7 @@
 
 ghost use Rattle.std.specs.Prelude.{◌≡◌, IfOk};
 ghost use Rattle.bson.specs.Lawful.{IsName};
-ghost use Rattle.path.specs.View.{Gives};
+ghost use Rattle.outcome.specs.Outcome.{Gives};
 ghost use Rattle.aggregate.specs.Names.{is_unfit, field_name};
 
 use bson::{NoMemory, Text};
@@ -42,7 +42,7 @@ fn is_unfit(name: &str) -> bool
 impl FieldName {
     /// The name, where a field that is made may be called so.
     pub(crate) fn read(alloc: Global, name: &str) -> Result<FieldName, Refusal>
-        ensures { Gives (λ n. n) (field_name name.now) result }
+        ensures { Gives Refusal.OutOfMemory (λ n. n) result (field_name name.now) }
     {
         if is_unfit(name) {
             return Err(Refusal::FailedToParse);

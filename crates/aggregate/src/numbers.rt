@@ -2,7 +2,7 @@
 
 ghost use Rattle.std.specs.Prelude.{◌≡◌};
 ghost use Rattle.bson.specs.View.{tree};
-ghost use Rattle.path.specs.View.{Gives};
+ghost use Rattle.outcome.specs.Outcome.{Gives};
 ghost use Rattle.aggregate.specs.Numbers.{fits_int32, fits_int64, total_value};
 
 use bson::Value;
@@ -22,7 +22,7 @@ fn fits_int64(total: i128) -> bool
 
 /// A total as an int32, where that is asked for and it fits, else as an int64. `BadValue` past int64.
 pub(crate) fn total_value(narrow: bool, total: i128) -> Result<Value, Refusal>
-    ensures { Gives tree (total_value narrow total) result }
+    ensures { Gives Refusal.OutOfMemory tree result (total_value narrow total) }
 {
     if narrow && fits_int32(total) {
         return Ok(Value::Int32(total as i32));

@@ -2,7 +2,7 @@
 
 ghost use Rattle.std.specs.Prelude.{◌≡◌, option_map};
 ghost use Rattle.bson.specs.View.{tree};
-ghost use Rattle.path.specs.View.{Gives};
+ghost use Rattle.outcome.specs.Outcome.{Gives};
 ghost use Rattle.aggregate.specs.Operands.{document_in, text_in, no_less, number_in, only_pair, only_pair_in};
 ghost use Rattle.aggregate.specs.Operands.{dollar_path, source_path, dollar_path_in};
 
@@ -12,7 +12,7 @@ use std::alloc::Global;
 
 /// The document that a stage is given.
 pub(crate) fn document_in(value: &Value) -> Result<&Document, Refusal>
-    ensures { Gives (λ d. d.now) (document_in (tree value.now)) result }
+    ensures { Gives Refusal.OutOfMemory (λ d. d.now) result (document_in (tree value.now)) }
 {
     match value {
         Value::Document(document) => Ok(document),
@@ -22,7 +22,7 @@ pub(crate) fn document_in(value: &Value) -> Result<&Document, Refusal>
 
 /// The text that a stage is given.
 pub(crate) fn text_in(value: &Value) -> Result<&str, Refusal>
-    ensures { Gives (λ t. t.now) (text_in (tree value.now)) result }
+    ensures { Gives Refusal.OutOfMemory (λ t. t.now) result (text_in (tree value.now)) }
 {
     match value {
         Value::String(text) => Ok(text.as_str()),
@@ -31,7 +31,7 @@ pub(crate) fn text_in(value: &Value) -> Result<&str, Refusal>
 }
 
 fn no_less(least: usize, number: i64) -> Result<usize, Refusal>
-    ensures { Gives (λ n. n) (no_less least number) result }
+    ensures { Gives Refusal.OutOfMemory (λ n. n) result (no_less least number) }
 {
     if number < 0 {
         return Err(Refusal::FailedToParse);
@@ -45,7 +45,7 @@ fn no_less(least: usize, number: i64) -> Result<usize, Refusal>
 
 /// The whole number that a stage is given, which is no less than `least`.
 pub(crate) fn number_in(least: usize, value: &Value) -> Result<usize, Refusal>
-    ensures { Gives (λ n. n) (number_in least (tree value.now)) result }
+    ensures { Gives Refusal.OutOfMemory (λ n. n) result (number_in least (tree value.now)) }
 {
     match value {
         Value::Int32(number) => no_less(least, i64::from(*number)),
@@ -56,7 +56,8 @@ pub(crate) fn number_in(least: usize, value: &Value) -> Result<usize, Refusal>
 
 /// The pair of a document that has no other.
 fn only_pair(document: &Document) -> Result<&Pair, Refusal>
-    ensures { Gives (λ p. (p.now.name, tree p.now.value)) (only_pair document.now) result }
+    ensures { Gives Refusal.OutOfMemory (λ p. (p.now.name, tree p.now.value)) result
+        (only_pair document.now) }
 {
     match document.pairs() {
         [] => Err(Refusal::FailedToParse),
@@ -67,7 +68,8 @@ fn only_pair(document: &Document) -> Result<&Pair, Refusal>
 
 /// The name and the value of a document that has no other pair.
 pub(crate) fn only_pair_in(value: &Value) -> Result<(&str, &Value), Refusal>
-    ensures { Gives (λ p. (p.0.now, tree p.1.now)) (only_pair_in (tree value.now)) result }
+    ensures { Gives Refusal.OutOfMemory (λ p. (p.0.now, tree p.1.now)) result
+        (only_pair_in (tree value.now)) }
 {
     let pair = only_pair(document_in(value)?)?;
     Ok((pair.name.as_str(), &pair.value))
@@ -82,7 +84,7 @@ pub(crate) fn dollar_path(text: &str) -> Option<&str>
 
 /// The path that stands behind a `$`.
 pub(crate) fn source_path(alloc: Global, name: &str) -> Result<Path, Refusal>
-    ensures { Gives (λ p. p) (source_path name.now) result }
+    ensures { Gives Refusal.OutOfMemory (λ p. p) result (source_path name.now) }
 {
     match Path::parse(alloc, name) {
         Ok(path) => Ok(path),
@@ -97,7 +99,7 @@ pub(crate) fn source_path(alloc: Global, name: &str) -> Result<Path, Refusal>
 
 /// The path of a text that begins with `$`.
 pub(crate) fn dollar_path_in(alloc: Global, value: &Value) -> Result<Path, Refusal>
-    ensures { Gives (λ p. p) (dollar_path_in (tree value.now)) result }
+    ensures { Gives Refusal.OutOfMemory (λ p. p) result (dollar_path_in (tree value.now)) }
 {
     match dollar_path(text_in(value)?) {
         Some(name) => source_path(alloc, name),

@@ -2,7 +2,7 @@
 
 ghost use Rattle.std.specs.Prelude.{◌≡◌, map};
 ghost use Rattle.bson.specs.View.{tree};
-ghost use Rattle.path.specs.View.{Gives};
+ghost use Rattle.outcome.specs.Outcome.{Gives};
 ghost use Rattle.aggregate.specs.Pipeline.{read_stage, read_pipeline, after_stage, run};
 ghost use Rattle.aggregate.specs.Taking.{takes};
 ghost use Rattle.aggregate.specs.View.{stage_of, pipeline_of};
@@ -28,7 +28,7 @@ pub struct Pipeline {
 
 /// The stage of a document with one pair, its name and its operand.
 fn read_stage(alloc: Global, value: &Value) -> Result<Stage, Refusal>
-    ensures { Gives stage_of (read_stage (tree value.now)) result }
+    ensures { Gives Refusal.OutOfMemory stage_of result (read_stage (tree value.now)) }
 {
     let (name, operand) = only_pair_in(value)?;
     match stage_named(name) {
@@ -44,7 +44,8 @@ fn after_stage(
     documents: Vec<Document>,
     limit: u32,
 ) -> Result<Vec<Document>, Refusal>
-    ensures { Gives (λ v. v.items) (after_stage (stage_of stage.now) limit documents.items) result }
+    ensures { Gives Refusal.OutOfMemory (λ v. v.items) result
+        (after_stage (stage_of stage.now) limit documents.items) }
 {
     let given = apply_stage(alloc, stage, documents)?;
     match first_fault(&given, limit) {
@@ -59,7 +60,8 @@ impl Pipeline {
     /// `FailedToParse` where a stage is no document of one pair, is unknown or is given what it doesn't take; a filter, a
     /// sort or a projection in it is refused with its own refusals.
     pub fn read(alloc: Global, stages: &[Value]) -> Result<Pipeline, Refusal>
-        ensures { Gives pipeline_of (read_pipeline (map tree stages.now)) result }
+        ensures { Gives Refusal.OutOfMemory pipeline_of result
+            (read_pipeline (map tree stages.now)) }
     {
         let mut read = Vec::new(alloc);
         'stages: for value in stages {
@@ -80,7 +82,8 @@ impl Pipeline {
     /// Refused by the first stage that can't be done, or after which a document is over a limit: the first such document
     /// decides, with `BSONObjectTooLarge` over `limit` bytes, else with `BadValue` over 90 levels.
     pub fn run(&self, documents: Vec<Document>, limit: u32) -> Result<Vec<Document>, Refusal>
-        ensures { Gives (λ v. v.items) (run (pipeline_of self.now) limit documents.items) result }
+        ensures { Gives Refusal.OutOfMemory (λ v. v.items) result
+            (run (pipeline_of self.now) limit documents.items) }
     {
         let mut documents = documents;
         'stages: for stage in &self.stages {

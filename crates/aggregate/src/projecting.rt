@@ -3,7 +3,7 @@
 ghost use Rattle.std.specs.Prelude.{◌≡◌, IfOk, map, option_map};
 ghost use Rattle.bson.specs.Tree.{document as whole_tree};
 ghost use Rattle.bson.specs.View.{tree};
-ghost use Rattle.path.specs.View.{Gives};
+ghost use Rattle.outcome.specs.Outcome.{Gives};
 ghost use Rattle.aggregate.specs.Operands.{dollar_path};
 ghost use Rattle.aggregate.specs.PathValue.{path_value};
 ghost use Rattle.aggregate.specs.Project.{no_fields, is_dotted, source_in, add_computed, read_computed, add_taken};
@@ -52,7 +52,7 @@ fn is_dotted(path: &Path) -> bool
 /// The path that a text writes for a field that is computed. `TypeMismatch` where it has no `$` in front, `FailedToParse`
 /// where what follows is no path.
 fn source_in(alloc: Global, text: &str) -> Result<Path, Refusal>
-    ensures { Gives (λ p. p) (source_in (dollar_path text.now)) result }
+    ensures { Gives Refusal.OutOfMemory (λ p. p) result (source_in (dollar_path text.now)) }
 {
     match dollar_path(text) {
         Some(name) => source_path(alloc, name),
@@ -62,7 +62,8 @@ fn source_in(alloc: Global, text: &str) -> Result<Path, Refusal>
 
 impl Fields {
     fn with_computed(self, name: Path, source: Path) -> Result<Fields, Refusal>
-        ensures { Gives fields_of (add_computed name source (fields_of self)) result }
+        ensures { Gives Refusal.OutOfMemory fields_of result
+            (add_computed name source (fields_of self)) }
     {
         let Fields { seen, computed } = self;
         let seen = seen.with_computed(name.copy()?)?;
@@ -73,7 +74,8 @@ impl Fields {
 
     /// One field more, which is computed.
     fn read_computed(self, alloc: Global, name: &str, text: &str) -> Result<Fields, Refusal>
-        ensures { Gives fields_of (read_computed name.now text.now (fields_of self)) result }
+        ensures { Gives Refusal.OutOfMemory fields_of result
+            (read_computed name.now text.now (fields_of self)) }
     {
         let path = path_in(alloc, name)?;
         if is_dotted(&path) {
@@ -85,7 +87,8 @@ impl Fields {
 
     /// One field more, which is taken from the document or left out.
     fn add_taken(self, alloc: Global, name: &str, value: &Value) -> Result<Fields, Refusal>
-        ensures { Gives fields_of (add_taken name.now (tree value.now) (fields_of self)) result }
+        ensures { Gives Refusal.OutOfMemory fields_of result
+            (add_taken name.now (tree value.now) (fields_of self)) }
     {
         let Fields { seen, computed } = self;
         let seen = seen.with_pair(alloc, name, value)?;
@@ -93,7 +96,8 @@ impl Fields {
     }
 
     fn read_pair(self, alloc: Global, name: &str, value: &Value) -> Result<Fields, Refusal>
-        ensures { Gives fields_of (read_pair name.now (tree value.now) (fields_of self)) result }
+        ensures { Gives Refusal.OutOfMemory fields_of result
+            (read_pair name.now (tree value.now) (fields_of self)) }
     {
         match value {
             Value::String(text) => self.read_computed(alloc, name, text.as_str()),
@@ -103,7 +107,7 @@ impl Fields {
 }
 
 fn read_pairs(alloc: Global, document: &Document) -> Result<Fields, Refusal>
-    ensures { Gives fields_of (read_pairs document.now no_fields) result }
+    ensures { Gives Refusal.OutOfMemory fields_of result (read_pairs document.now no_fields) }
 {
     let mut fields = Fields {
         seen: ProjectionFields::new(alloc),
@@ -132,8 +136,8 @@ impl Computed {
         whole: &Document,
         document: Document,
     ) -> Result<Document, Refusal>
-        ensures { let c = computed_of self.now in Gives (λ d. d)
-            (put_last c.name (path_value c.source (whole_tree whole.now)) document) result }
+        ensures { let c = computed_of self.now in Gives Refusal.OutOfMemory (λ d. d) result
+            (put_last c.name (path_value c.source (whole_tree whole.now)) document) }
     {
         let found = path_value(alloc, whole, &self.source)?;
         let left = remove_from(document, &self.name);
@@ -150,8 +154,8 @@ fn with_all_computed(
     whole: &Document,
     document: Document,
 ) -> Result<Document, Refusal>
-    ensures { Gives (λ d. d)
-        (with_all_computed (map computed_of all.now) whole.now document) result }
+    ensures { Gives Refusal.OutOfMemory (λ d. d) result
+        (with_all_computed (map computed_of all.now) whole.now document) }
 {
     let mut document = document;
     'all: for computed in all {
@@ -167,7 +171,7 @@ impl Projecting {
     /// `"$path"`, or a `"$path"` at a dotted name; `FailedToParse` for one that is malformed; `BadValue` where it meets an
     /// earlier field or mixes taking and leaving.
     pub(crate) fn read(alloc: Global, document: &Document) -> Result<Projecting, Refusal>
-        ensures { Gives projecting_of (read_projecting document.now) result }
+        ensures { Gives Refusal.OutOfMemory projecting_of result (read_projecting document.now) }
     {
         let Fields { seen, computed } = read_pairs(alloc, document)?;
         let taken = seen.projection(alloc)?;
@@ -196,7 +200,8 @@ impl Projecting {
 
     /// What it gives of a document.
     fn of(&self, document: &Document) -> Result<Document, Refusal>
-        ensures { Gives (λ d. d) (projected (projecting_of self.now) document.now) result }
+        ensures { Gives Refusal.OutOfMemory (λ d. d) result
+            (projected (projecting_of self.now) document.now) }
     {
         let taken = self.taken.of(document)?;
         with_all_computed(self.alloc, &self.computed, document, taken)
@@ -209,8 +214,8 @@ pub(crate) fn all_projected(
     projecting: &Projecting,
     documents: &[Document],
 ) -> Result<Vec<Document>, Refusal>
-    ensures { Gives (λ v. v.items)
-        (all_projected (projecting_of projecting.now) documents.now) result }
+    ensures { Gives Refusal.OutOfMemory (λ v. v.items) result
+        (all_projected (projecting_of projecting.now) documents.now) }
 {
     let mut given = Vec::with_capacity(alloc, documents.len())?;
     'documents: for document in documents {

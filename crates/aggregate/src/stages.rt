@@ -5,7 +5,7 @@
 
 ghost use Rattle.std.specs.Prelude.{◌≡◌};
 ghost use Rattle.bson.specs.View.{tree};
-ghost use Rattle.path.specs.View.{Gives};
+ghost use Rattle.outcome.specs.Outcome.{Gives};
 ghost use Rattle.aggregate.specs.Stages.{stage_named, read_operand, apply_stage};
 ghost use Rattle.aggregate.specs.View.{stage_of};
 
@@ -56,7 +56,7 @@ pub(crate) fn stage_named(name: &str) -> Option<StageName>
 
 /// What a stage does with this operand.
 pub(crate) fn read_operand(alloc: Global, stage: StageName, value: &Value) -> Result<Stage, Refusal>
-    ensures { Gives stage_of (read_operand stage (tree value.now)) result }
+    ensures { Gives Refusal.OutOfMemory stage_of result (read_operand stage (tree value.now)) }
 {
     match stage {
         StageName::Match => Ok(Stage::Match(Filter::read(alloc, document_in(value)?)?)),
@@ -76,7 +76,8 @@ pub(crate) fn apply_stage(
     stage: &Stage,
     documents: Vec<Document>,
 ) -> Result<Vec<Document>, Refusal>
-    ensures { Gives (λ v. v.items) (apply_stage (stage_of stage.now) documents.items) result }
+    ensures { Gives Refusal.OutOfMemory (λ v. v.items) result
+        (apply_stage (stage_of stage.now) documents.items) }
 {
     match stage {
         Stage::Match(filter) => Ok(matching(filter, documents)),

@@ -2,7 +2,7 @@
 
 ghost use Rattle.std.specs.Prelude.{◌≡◌};
 ghost use Rattle.path.specs.Reach.{items_list};
-ghost use Rattle.path.specs.View.{Gives};
+ghost use Rattle.outcome.specs.Outcome.{Gives};
 ghost use Rattle.aggregate.specs.Each.{behind, each};
 ghost use Rattle.aggregate.specs.Unwind.{with_element, with_elements, unwound_document, unwound};
 
@@ -18,8 +18,8 @@ fn with_each(
     array: &Array,
     given: Vec<Document>,
 ) -> Result<Vec<Document>, Refusal>
-    ensures { Gives (λ v. v.items) (behind given.items
-        (each (with_element path.now shell.now) (items_list array.now))) result }
+    ensures { Gives Refusal.OutOfMemory (λ v. v.items) result
+        (behind given.items (each (with_element path.now shell.now) (items_list array.now))) }
 {
     let mut given = given;
     'elements: for element in array.items() {
@@ -37,8 +37,8 @@ fn with_elements(
     array: &Array,
     given: Vec<Document>,
 ) -> Result<Vec<Document>, Refusal>
-    ensures { Gives (λ v. v.items) (behind given.items
-        (with_elements path.now document.now (items_list array.now))) result }
+    ensures { Gives Refusal.OutOfMemory (λ v. v.items) result
+        (behind given.items (with_elements path.now document.now (items_list array.now))) }
 {
     let shell = write_at(alloc, document, path, Value::Null)?;
     with_each(alloc, path, &shell, array, given)
@@ -51,8 +51,8 @@ fn unwound_document(
     document: Document,
     given: Vec<Document>,
 ) -> Result<Vec<Document>, Refusal>
-    ensures { Gives (λ v. v.items)
-        (behind given.items (unwound_document path.now document)) result }
+    ensures { Gives Refusal.OutOfMemory (λ v. v.items) result
+        (behind given.items (unwound_document path.now document)) }
 {
     if passes_array(&document, path) {
         return Ok(given);
@@ -75,7 +75,7 @@ pub(crate) fn unwound(
     path: &Path,
     documents: Vec<Document>,
 ) -> Result<Vec<Document>, Refusal>
-    ensures { Gives (λ v. v.items) (unwound path.now documents.items) result }
+    ensures { Gives Refusal.OutOfMemory (λ v. v.items) result (unwound path.now documents.items) }
 {
     let mut given = Vec::with_capacity(alloc, documents.len())?;
     'documents: for document in documents {

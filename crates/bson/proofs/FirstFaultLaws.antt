@@ -11,7 +11,7 @@ use Rattle.bson.specs.declared.kind.Kind.{Kind}
 use Rattle.bson.specs.declared.kind.Kind.TheVariants as kinds
 use Rattle.bson.specs.Tree.{Tree, scalar, document, array, Pairs, no_pairs, pair, append, Items, no_items, item, append_items}
 use Rattle.bson.specs.Lawful.{IsBytes, IsName, IsPairs, IsItems, pairs_levels, items_levels}
-use Rattle.bson.specs.Outcome.{◌>>=◌, unless, Gives}
+use Rattle.outcome.specs.Outcome.{◌>>=◌, unless, Gives}
 use Rattle.bson.specs.Spelling.{HasNoDocument, frame_of, element, type_byte, tree_bytes, pairs_bytes, items_bytes}
 use Rattle.bson.specs.Edits.{items_len}
 use Rattle.bson.specs.EditsLaws.{IsPairs-append, IsItems-append, pairs_levels-append, items_levels-append, items_len-append}

@@ -13,3 +13,4 @@ pub mod CheckLaws
 pub mod FirstFaultLaws
 pub mod SeenLaws
 pub mod BuildLaws
+pub mod WrongLaws

@@ -8,7 +8,7 @@ use Rattle.bson.specs.declared.fault.BsonFault.{BsonFault}
 use Rattle.bson.specs.declared.fault.BsonFault.TheVariants as faults
 use Rattle.bson.specs.declared.kind.Kind.{Kind}
 use Rattle.bson.specs.declared.kind.Kind.TheVariants as kinds
-use Rattle.bson.specs.Outcome.{unless, ◌>>=◌}
+use Rattle.outcome.specs.Outcome.{◌>>=◌, unless}
 use Rattle.bson.specs.Spelling.{pairs_bytes, items_bytes, frame_of}
 use Rattle.bson.specs.Edits.{items_len}
 use Rattle.bson.specs.Reading.{Read, zero_at, name_at, stands_in, is_no_index, is_below, fixed_at, count_at, length_at}

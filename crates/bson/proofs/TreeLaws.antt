@@ -20,7 +20,7 @@ use Rattle.bson.specs.Tree.{Scalar, text, binary, object_id, boolean, date, null
 use Rattle.bson.specs.Kinds.{kind_byte, scalar_kind, kind}
 use Rattle.bson.specs.Lawful.{IsBytes, levels, pairs_levels, items_levels, NoZero, IsName, Lacks, IsScalar, IsTree, IsPairs, IsItems}
 use Rattle.bson.specs.Spelling.{Spells, scalar_bytes, frame_of, type_byte, element, tree_bytes, pairs_bytes, items_bytes}
-use Rattle.bson.specs.Outcome.{◌>>=◌, Gives, unless}
+use Rattle.outcome.specs.Outcome.{◌>>=◌, unless, Gives}
 use Rattle.bson.specs.Reading.{Read, element_by, item_by, stands_in, is_no_index, kind_of, name_at, leaf, scalar_at, content_at, pairs_by, items_by, pairs_in, items_in, value_at, is_below, ended_at, length_at, document_at}
 use Rattle.bson.proofs.FrameLaws.{or_false, is_below-false, not_below, bind_ok, unless_ok, done, ok_is, Takes, Takes-then, content_takes, content_again, name_takes, name_again, kind_again, kind_takes, front32, wide32, ended_takes, ended_again}
 use Rattle.bson.proofs.ScalarLaws.{scalar_takes, scalar_again}
@@ -61,14 +61,14 @@ AreNew-push (pair other t ps) earlier name h =
     let more = AreNew-push ps earlier name h.1 in
     ((parts.0, more.0), (λ e. ne-bytes_eq other name last.0 (sym e), more.1))
 
-AreNew-with : (ps : Pairs) (earlier : List (List ℕ)) (name : List ℕ) → AreNew ps earlier → Lacks ps name → AreNew ps (earlier ++ name ∷ [])
+pub AreNew-with : (ps : Pairs) (earlier : List (List ℕ)) (name : List ℕ) → AreNew ps earlier → Lacks ps name → AreNew ps (earlier ++ name ∷ [])
 AreNew-with no_pairs earlier name h l = tt
 AreNew-with (pair other t ps) earlier name h l =
     let e : bytes_eq other name ≡ false = bytes_eq-ne other name (λ same. l.0 (sym same)) in
     (rw (list_any-append, h.0, e) refl, AreNew-with ps earlier name h.1 l.1)
 
 -- an element, and the bytes after it
-regroup_element : (type : ℕ) (name value rest : List ℕ) → element type name value ++ rest ≡ type ∷ (name ++ 0 ∷ (value ++ rest))
+pub regroup_element : (type : ℕ) (name value rest : List ℕ) → element type name value ++ rest ≡ type ∷ (name ++ 0 ∷ (value ++ rest))
 regroup_element type name value rest = ap (λ (t : List ℕ). type ∷ t) (append_assoc name (0 ∷ value) rest)
 
 element_parts : (type t : ℕ) (bytes name b v c os : List ℕ) → type ≡ t → bytes ≡ (name ++ 0 ∷ []) ++ b → b ≡ v ++ c → c ≡ os → type ∷ bytes ≡ element t name v ++ os
@@ -218,7 +218,7 @@ NoZero-push (c ∷ cs) b h = (h.0, NoZero-push cs b h.1)
 NoZero-decimal : (n : ℕ) → n < 2 ^ 64 → NoZero (decimal n)
 NoZero-decimal n h = decimal_by_steps (λ _ ds. NoZero ds) (λ m lt. (λ e. absurd (omega arith), tt)) (λ m ds le so_far. NoZero-push ds (m % 10) so_far) n h
 
-IsName-decimal : (n : ℕ) → n < 2 ^ 64 → IsName (decimal n)
+pub IsName-decimal : (n : ℕ) → n < 2 ^ 64 → IsName (decimal n)
 IsName-decimal n h = record { is_text = IsUtf8-from_ascii (decimal n) (IsAscii-decimal n h); no_zero = NoZero-decimal n h }
 
 pub items_again : (read : Kind → List ℕ → Read Tree) (more : ℕ) → Reads read more → (most i : ℕ) (ts : Items) → IsItems ts → items_levels ts ≤ more

@@ -7,7 +7,6 @@ pub mod Faults
 pub mod Lawful
 pub mod Spelling
 pub mod Limits
-pub mod Outcome
 pub mod Reading
 pub mod Raw
 pub mod RawNames

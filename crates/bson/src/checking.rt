@@ -2,7 +2,7 @@
 //! `reading` accepts, with the same faults.
 
 ghost use Rattle.std.specs.Prelude.{true, false, ℕ, List, Ok, ◌≡◌, ◌^◌, ◌<◌, ◌≤◌, length};
-ghost use Rattle.bson.specs.Outcome.{GivesExactly};
+ghost use Rattle.outcome.specs.Outcome.{GivesExactly};
 ghost use Rattle.bson.specs.Reading.{leaf, scalar_at, value_at, element_by, item_by, stands_in, kind_of, name_at, pairs_in, items_in, document_at};
 ghost use Rattle.bson.specs.declared.kind.Kind.{Kind};
 ghost use Rattle.bson.specs.Raw.{tree_names, pairs_spelled, Elements, rest_of, outcome_of, only_length};

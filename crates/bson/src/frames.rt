@@ -3,7 +3,7 @@
 ghost use Rattle.std.specs.Prelude.{◌≡◌, ℕ, ◌<◌, ◌≤◌, ◌-◌, ◌^◌, List, length, IfOk, Ok, MatchOption, false, true, position, ◌==◌};
 ghost use Rattle.std.specs.Str.{is_utf8};
 ghost use Rattle.std.specs.Int.{w32, w64};
-ghost use Rattle.bson.specs.Outcome.{GivesExactly};
+ghost use Rattle.outcome.specs.Outcome.{GivesExactly};
 ghost use Rattle.bson.specs.Reading.{fixed_at, count_at, ended_at, text_at, content_at, name_at};
 
 use crate::fault::BsonFault;

@@ -89,3 +89,9 @@ pub fn elements_are_not_bounded()
     ensures items { (more most : ℕ) (content : List ℕ) → IsBytes content → length content ≤ most
         → items_by (value_at more) most 0 content ≡ items_in (value_at more) content }
 {}
+
+/// What is wrong at a place, behind what is spelled before it, is the fault that reading gives: there is no other first fault.
+pub fn what_is_wrong_is_refused()
+    ensures { (bytes : List ℕ) (place seen : ℕ) (fault : BsonFault) → IsBytes bytes
+        → WrongDocument bytes place seen fault → document_at bytes ≡ Err fault }
+{}

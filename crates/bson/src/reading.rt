@@ -4,7 +4,7 @@ ghost use Rattle.std.specs.Prelude.{◌≡◌, ℕ, ◌<◌, ◌≤◌, ◌-◌,
 ghost use Rattle.std.specs.Str.{bytes_eq};
 ghost use Rattle.std.specs.Fmt.{decimal};
 ghost use Rattle.bson.specs.View.{tree};
-ghost use Rattle.bson.specs.Outcome.{Gives, GivesExactly};
+ghost use Rattle.outcome.specs.Outcome.{Gives, GivesExactly};
 ghost use Rattle.bson.specs.Reading.{value_at, element_by, item_by, stands_in, pairs_in, items_in, length_at, document_at};
 ghost use Rattle.bson.specs.FirstFault.{FirstFault};
 ghost use Rattle.bson.specs.Limits.{message_limit};

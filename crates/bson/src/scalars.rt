@@ -6,7 +6,7 @@ ghost use Rattle.bson.specs.Lawful.{IsLeaf};
 ghost use Rattle.bson.specs.Tree.{text, binary};
 ghost use Rattle.bson.specs.Spelling.{scalar_bytes, tree_bytes};
 ghost use Rattle.bson.specs.Writing.{Puts, IsFront};
-ghost use Rattle.bson.specs.Outcome.{Gives, GivesExactly};
+ghost use Rattle.outcome.specs.Outcome.{Gives, GivesExactly};
 ghost use Rattle.bson.specs.declared.fault.BsonFault.TheVariants as faults;
 ghost use Rattle.bson.specs.Reading.{leaf, scalar_at, string_at, binary_at, object_id_at, boolean_at, date_at, int32_at, timestamp_at, int64_at, kind_of};
 

@@ -5,7 +5,7 @@ use Rattle.bson.specs.Tree.{Tree, Items}
 use Rattle.bson.specs.View.{tree, items_of}
 use Rattle.bson.specs.declared.value.Value.{Value}
 use Rattle.commands.specs.Statements.{each_of}
-use Rattle.path.specs.Outcomes.{◌>>=◌}
+use Rattle.outcome.specs.Outcome.{◌>>=◌}
 use Rattle.path.specs.declared.refusal.Refusal.{Refusal}
 
 -- what is left begins with the element at hand

@@ -4,7 +4,7 @@ use Rattle.std.specs.Str.{bytes_eq}
 use Rattle.bson.specs.Tree.{Tree, Pairs}
 use Rattle.aggregate.specs.Stage.{Stage}
 use Rattle.aggregate.specs.Pipeline.{read_pipeline}
-use Rattle.path.specs.Outcomes.{◌>>=◌, or_refused}
+use Rattle.outcome.specs.Outcome.{◌>>=◌, or_refused}
 use Rattle.path.specs.Reach.{items_list}
 use Rattle.path.specs.declared.refusal.Refusal.{Refusal}
 use Rattle.path.specs.declared.refusal.Refusal.TheVariants as refusals

@@ -10,8 +10,7 @@ use Rattle.update.specs.Update.{Update as Change, is_replacement}
 use Rattle.update.specs.Reading.{read_update}
 use Rattle.bson.specs.Tree.{Tree, scalar, document, array, Pairs, no_pairs, pair, Items, no_items, item}
 use Rattle.bson.specs.Edits.{items_len}
-use Rattle.path.specs.Outcomes.{◌>>=◌, unless, or_refused}
-use Rattle.path.specs.View.{Gives}
+use Rattle.outcome.specs.Outcome.{◌>>=◌, unless, or_refused, Gives}
 use Rattle.path.specs.declared.refusal.Refusal.{Refusal}
 use Rattle.path.specs.declared.refusal.Refusal.TheVariants as refusals
 use Rattle.commands.specs.OutcomeLaws.{step_of, passed}
@@ -286,6 +285,6 @@ bounded (pair name t ps) c e = at (bytes_eq name (codes "ping")) (bytes_eq name 
     at false false false false false false false e = absurd cc
 
 -- a reader that gives what was planned gives a bounded command
-pub gives-bounded : {X : Type 0} (view : X → Command) (planned : Result Command Refusal) (r : Result X Refusal) → Gives view planned r → ((c : Command) → planned ≡ Ok c → IsBounded c) → IfOk r (λ x. IsBounded (view x))
+pub gives-bounded : {X : Type 0} (view : X → Command) (planned : Result Command Refusal) (r : Result X Refusal) → Gives refusals.OutOfMemory view r planned → ((c : Command) → planned ≡ Ok c → IsBounded c) → IfOk r (λ x. IsBounded (view x))
 gives-bounded view planned (Ok x) h keeps = keeps (view x) h
 gives-bounded view planned (Err e) h keeps = tt

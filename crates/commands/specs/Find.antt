@@ -8,7 +8,7 @@ use Rattle.filter.specs.Sort.{SortField}
 use Rattle.filter.specs.SortReading.{read_sort}
 use Rattle.filter.specs.Projection.{Projection}
 use Rattle.filter.specs.ProjectionReading.{read_projection}
-use Rattle.path.specs.Outcomes.{◌>>=◌, or_refused}
+use Rattle.outcome.specs.Outcome.{◌>>=◌, or_refused}
 use Rattle.path.specs.declared.refusal.Refusal.{Refusal}
 use Rattle.path.specs.declared.refusal.Refusal.TheVariants as refusals
 use Rattle.commands.specs.Values.{text_in, count_in, spelled_in}

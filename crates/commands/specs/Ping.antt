@@ -1,7 +1,7 @@
 -- `ping` has no fields of its own. Its value is read over.
 use Rattle.bson.specs.Tree.{Tree, Pairs}
 use Rattle.std.specs.Prelude.{Result, Ok}
-use Rattle.path.specs.Outcomes.{◌>>=◌, unless, or_refused}
+use Rattle.outcome.specs.Outcome.{◌>>=◌, unless, or_refused}
 use Rattle.path.specs.declared.refusal.Refusal.{Refusal}
 use Rattle.path.specs.declared.refusal.Refusal.TheVariants as refusals
 use Rattle.commands.specs.Fields.{read_fields, common_field, no_common}

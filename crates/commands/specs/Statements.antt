@@ -2,7 +2,7 @@
 use Rattle.std.specs.Prelude.{◌==◌, nat_lt, List, [], ◌∷◌, Result, Ok, Err}
 use Rattle.bson.specs.Tree.{Tree, Items, no_items, item}
 use Rattle.bson.specs.Edits.{items_len}
-use Rattle.path.specs.Outcomes.{◌>>=◌, unless, or_refused}
+use Rattle.outcome.specs.Outcome.{◌>>=◌, unless, or_refused}
 use Rattle.path.specs.declared.refusal.Refusal.{Refusal}
 use Rattle.path.specs.declared.refusal.Refusal.TheVariants as refusals
 use Rattle.commands.specs.Values.{items_of}

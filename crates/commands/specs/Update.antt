@@ -6,7 +6,7 @@ use Rattle.filter.specs.Condition.{Conditions}
 use Rattle.filter.specs.Reading.{read_filter}
 use Rattle.update.specs.Update.{Update as Change, is_replacement}
 use Rattle.update.specs.Reading.{read_update}
-use Rattle.path.specs.Outcomes.{◌>>=◌, unless, or_refused}
+use Rattle.outcome.specs.Outcome.{◌>>=◌, unless, or_refused}
 use Rattle.path.specs.declared.refusal.Refusal.{Refusal}
 use Rattle.path.specs.declared.refusal.Refusal.TheVariants as refusals
 use Rattle.commands.specs.Values.{text_in, bool_in, spelled_in}

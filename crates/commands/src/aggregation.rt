@@ -2,8 +2,7 @@
 
 ghost use Rattle.std.specs.Prelude.{◌≡◌};
 ghost use Rattle.bson.specs.View.{tree, pairs_of};
-ghost use Rattle.path.specs.View.{Gives};
-ghost use Rattle.path.specs.Outcomes.{Does};
+ghost use Rattle.outcome.specs.Outcome.{Gives, Does};
 ghost use Rattle.aggregate.specs.View.{pipeline_of};
 ghost use Rattle.commands.specs.Aggregate.{no_cursor_fields, cursor_field, read_cursor, stages_in, no_aggregate_fields, aggregate_field, read_aggregate};
 ghost use Rattle.commands.specs.View.{aggregate_read};
@@ -53,14 +52,14 @@ impl<'a> Fields<'a> for CursorFields {
 }
 
 fn read_cursor(alloc: Global, document: &Document) -> Result<CursorFields, Refusal>
-    ensures { Gives (λ c. c) (read_cursor document.now) result }
+    ensures { Gives Refusal.OutOfMemory (λ c. c) result (read_cursor document.now) }
 {
     read_fields(alloc, CursorFields { batch_size: None }, document.pairs())
 }
 
 /// The pipeline that an array spells; `TypeMismatch` where a value is no array.
 fn stages_in(alloc: Global, value: &Value) -> Result<Pipeline, Refusal>
-    ensures { Gives pipeline_of (stages_in (tree value.now)) result }
+    ensures { Gives Refusal.OutOfMemory pipeline_of result (stages_in (tree value.now)) }
 {
     match value {
         Value::Array(array) => Pipeline::read(alloc, array.items()),
@@ -116,8 +115,8 @@ pub(crate) fn read_aggregate(
     collection: &Value,
     pairs: &[Pair],
 ) -> Result<Aggregate, Refusal>
-    ensures { Gives aggregate_read
-        (read_aggregate (tree collection.now) (pairs_of pairs.now)) result }
+    ensures { Gives Refusal.OutOfMemory aggregate_read result
+        (read_aggregate (tree collection.now) (pairs_of pairs.now)) }
 {
     let name = text_in(collection)?;
     let none = AggregateFields {

@@ -1,7 +1,7 @@
 //! The command that a body spells.
 
 ghost use Rattle.std.specs.Prelude.{IfOk};
-ghost use Rattle.path.specs.View.{Gives};
+ghost use Rattle.outcome.specs.Outcome.{Gives};
 ghost use Rattle.commands.specs.Command.{command_of, IsBounded};
 ghost use Rattle.commands.specs.View.{command_read};
 
@@ -36,7 +36,7 @@ impl<'a> Command<'a> {
     /// is missing; `InvalidNamespace`.
     #[tactic(auto, unfolding(crate::specs::Command::command_of))]
     pub fn read(alloc: Global, body: &'a Document) -> Result<Command<'a>, Refusal>
-        ensures gives { Gives command_read (command_of body.now) result }
+        ensures gives { Gives Refusal.OutOfMemory command_read result (command_of body.now) }
         ensures bounded { IfOk result (λ c. IsBounded (command_read c)) }
     {
         let Some((first, rest)) = body.pairs().split_first() else {

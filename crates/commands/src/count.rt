@@ -2,8 +2,7 @@
 
 ghost use Rattle.std.specs.Prelude.{◌≡◌};
 ghost use Rattle.bson.specs.View.{tree, pairs_of};
-ghost use Rattle.path.specs.View.{Gives};
-ghost use Rattle.path.specs.Outcomes.{Does};
+ghost use Rattle.outcome.specs.Outcome.{Gives, Does};
 ghost use Rattle.commands.specs.Count.{no_count_fields, count_field, read_count};
 ghost use Rattle.commands.specs.View.{count_read};
 
@@ -77,7 +76,8 @@ pub(crate) fn read_count(
     collection: &Value,
     pairs: &[Pair],
 ) -> Result<Count, Refusal>
-    ensures { Gives count_read (read_count (tree collection.now) (pairs_of pairs.now)) result }
+    ensures { Gives Refusal.OutOfMemory count_read result
+        (read_count (tree collection.now) (pairs_of pairs.now)) }
 {
     let name = text_in(collection)?;
     let none = CountFields {

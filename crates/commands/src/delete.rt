@@ -2,8 +2,7 @@
 
 ghost use Rattle.std.specs.Prelude.{◌≡◌};
 ghost use Rattle.bson.specs.View.{tree, pairs_of, items_of};
-ghost use Rattle.path.specs.View.{Gives};
-ghost use Rattle.path.specs.Outcomes.{Does};
+ghost use Rattle.outcome.specs.Outcome.{Gives, Does};
 ghost use Rattle.commands.specs.Delete.{no_deletion_fields, only_first_in, deletion_field, read_deletion, no_delete_fields, deletions_in, delete_field, read_delete};
 ghost use Rattle.commands.specs.Statements.{each_of};
 ghost use Rattle.commands.specs.Values.{spelled_in};
@@ -66,7 +65,7 @@ impl Model for DeletionFields {
 
 /// Whether the first document alone is meant: 1, and not 0.
 fn only_first_in(value: &Value) -> Result<bool, Refusal>
-    ensures { Gives (λ b. b) (only_first_in (tree value.now)) result }
+    ensures { Gives Refusal.OutOfMemory (λ b. b) result (only_first_in (tree value.now)) }
 {
     match count_in(value)? {
         0 => Ok(false),
@@ -93,7 +92,7 @@ impl<'a> Fields<'a> for DeletionFields {
 
 /// The statement that a document spells: a filter `q`, and a `limit` of 0 or 1. Neither may be missing.
 fn read_deletion(alloc: Global, statement: &Document) -> Result<Deletion, Refusal>
-    ensures { Gives (λ d. d) (read_deletion statement.now) result }
+    ensures { Gives Refusal.OutOfMemory (λ d. d) result (read_deletion statement.now) }
 {
     let none = DeletionFields {
         filter: None,
@@ -107,8 +106,8 @@ fn read_deletion(alloc: Global, statement: &Document) -> Result<Deletion, Refusa
 
 /// The statements that the items of an array spell.
 fn all_deletions(alloc: Global, items: &[Value]) -> Result<Vec<Deletion>, Refusal>
-    ensures { Gives (λ v. v.items)
-        (each_of (spelled_in read_deletion) (items_of items.now)) result }
+    ensures { Gives Refusal.OutOfMemory (λ v. v.items) result
+        (each_of (spelled_in read_deletion) (items_of items.now)) }
 {
     let mut deletions = Vec::with_capacity(alloc, items.len())?;
     'items: for item in items {
@@ -119,7 +118,7 @@ fn all_deletions(alloc: Global, items: &[Value]) -> Result<Vec<Deletion>, Refusa
 
 /// The statements of a delete.
 fn deletions_in(alloc: Global, value: &Value) -> Result<Vec<Deletion>, Refusal>
-    ensures { Gives (λ v. v.items) (deletions_in (tree value.now)) result }
+    ensures { Gives Refusal.OutOfMemory (λ v. v.items) result (deletions_in (tree value.now)) }
 {
     all_deletions(alloc, statements_in(value)?)
 }
@@ -167,7 +166,8 @@ pub(crate) fn read_delete(
     collection: &Value,
     pairs: &[Pair],
 ) -> Result<Delete, Refusal>
-    ensures { Gives delete_read (read_delete (tree collection.now) (pairs_of pairs.now)) result }
+    ensures { Gives Refusal.OutOfMemory delete_read result
+        (read_delete (tree collection.now) (pairs_of pairs.now)) }
 {
     let name = text_in(collection)?;
     let none = DeleteFields {

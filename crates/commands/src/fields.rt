@@ -2,8 +2,7 @@
 
 ghost use Rattle.std.specs.Prelude.{◌≡◌};
 ghost use Rattle.bson.specs.View.{tree, pairs_of};
-ghost use Rattle.path.specs.View.{Gives};
-ghost use Rattle.path.specs.Outcomes.{Does, or_refused};
+ghost use Rattle.outcome.specs.Outcome.{or_refused, Gives, Does};
 ghost use Rattle.commands.specs.Fields.{read_fields, common_field, no_common};
 
 use crate::values::text_in;
@@ -23,7 +22,8 @@ pub(crate) trait Fields<'a>: Drop {
 
     /// Reads one field. `FailedToParse` where there is none of that name, else what its value is refused with.
     fn read_field(&mut self, alloc: Global, name: &str, value: &'a Value) -> Result<(), Refusal>
-        ensures { Does (field self.old name.now (tree value.now)) self.new result };
+        ensures { Does Refusal.OutOfMemory result self.new
+            (field self.old name.now (tree value.now)) };
 }
 
 /// Reads fields in the order written, up to the first that is refused.
@@ -32,7 +32,8 @@ pub(crate) fn read_fields<'a, F: Fields<'a>>(
     mut fields: F,
     pairs: &'a [Pair],
 ) -> Result<F, Refusal>
-    ensures { Gives (λ f. f) (read_fields F.field fields (pairs_of pairs.now)) result }
+    ensures { Gives Refusal.OutOfMemory (λ f. f) result
+        (read_fields F.field fields (pairs_of pairs.now)) }
 {
     'pairs: for pair in pairs {
         fields.read_field(alloc, pair.name.as_str(), &pair.value)?;
@@ -64,7 +65,8 @@ impl<'a> CommonFields<'a> {
 
     /// The name of the database; `FailedToParse` where the field is missing.
     pub(crate) fn database(&self) -> Result<&'a str, Refusal>
-        ensures { Gives (λ s. s.now) (or_refused self.now.database Refusal.FailedToParse) result }
+        ensures { Gives Refusal.OutOfMemory (λ s. s.now) result
+            (or_refused self.now.database Refusal.FailedToParse) }
     {
         match self.database {
             Some(database) => Ok(database),

@@ -2,8 +2,7 @@
 
 ghost use Rattle.std.specs.Prelude.{◌≡◌};
 ghost use Rattle.bson.specs.View.{tree, pairs_of};
-ghost use Rattle.path.specs.View.{Gives};
-ghost use Rattle.path.specs.Outcomes.{Does};
+ghost use Rattle.outcome.specs.Outcome.{Gives, Does};
 ghost use Rattle.commands.specs.Find.{no_find_fields, find_field, query_of, read_find};
 ghost use Rattle.commands.specs.View.{find_read};
 
@@ -146,7 +145,8 @@ impl<'a> Fields<'a> for FindFields<'a> {
 
 /// Reads a `find` from the value of its name, which is the collection's, and its further fields.
 pub(crate) fn read_find(alloc: Global, collection: &Value, pairs: &[Pair]) -> Result<Find, Refusal>
-    ensures { Gives find_read (read_find (tree collection.now) (pairs_of pairs.now)) result }
+    ensures { Gives Refusal.OutOfMemory find_read result
+        (read_find (tree collection.now) (pairs_of pairs.now)) }
 {
     let name = text_in(collection)?;
     let found = read_fields(alloc, FindFields::new(), pairs)?;

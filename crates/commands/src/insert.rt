@@ -2,7 +2,7 @@
 
 ghost use Rattle.std.specs.Prelude.{◌≡◌};
 ghost use Rattle.bson.specs.View.{tree, pairs_of, items_of};
-ghost use Rattle.path.specs.View.{Gives};
+ghost use Rattle.outcome.specs.Outcome.{Gives};
 ghost use Rattle.commands.specs.Insert.{no_insert_fields, documents_in, insert_field, read_insert};
 ghost use Rattle.commands.specs.Statements.{each_of};
 ghost use Rattle.commands.specs.Values.{document_in};
@@ -49,7 +49,8 @@ impl<'a> Model for InsertFields<'a> {
 
 /// The documents that the items of an array are, all of which have to be some.
 fn all_documents(alloc: Global, items: &[Value]) -> Result<Vec<&Document>, Refusal>
-    ensures { Gives (λ v. documents_at v.items) (each_of document_in (items_of items.now)) result }
+    ensures { Gives Refusal.OutOfMemory (λ v. documents_at v.items) result
+        (each_of document_in (items_of items.now)) }
 {
     let mut documents = Vec::with_capacity(alloc, items.len())?;
     'items: for item in items {
@@ -60,7 +61,8 @@ fn all_documents(alloc: Global, items: &[Value]) -> Result<Vec<&Document>, Refus
 
 /// The documents of an insert.
 fn documents_in(alloc: Global, value: &Value) -> Result<Vec<&Document>, Refusal>
-    ensures { Gives (λ v. documents_at v.items) (documents_in (tree value.now)) result }
+    ensures { Gives Refusal.OutOfMemory (λ v. documents_at v.items) result
+        (documents_in (tree value.now)) }
 {
     all_documents(alloc, statements_in(value)?)
 }
@@ -84,7 +86,8 @@ pub(crate) fn read_insert<'a>(
     collection: &Value,
     pairs: &'a [Pair],
 ) -> Result<Insert<'a>, Refusal>
-    ensures { Gives insert_read (read_insert (tree collection.now) (pairs_of pairs.now)) result }
+    ensures { Gives Refusal.OutOfMemory insert_read result
+        (read_insert (tree collection.now) (pairs_of pairs.now)) }
 {
     let name = text_in(collection)?;
     let none = InsertFields {

@@ -3,7 +3,7 @@
 ghost use Rattle.std.specs.Prelude.{◌≡◌, ◌==◌, ◌||◌, string_bytes};
 ghost use Rattle.std.specs.List.{list_any};
 ghost use Rattle.commands.specs.Names.{is_bad_byte, is_bad_database, is_bad_collection, namespace_of};
-ghost use Rattle.path.specs.View.{Gives};
+ghost use Rattle.outcome.specs.Outcome.{Gives};
 
 use path::Refusal;
 use std::alloc::Global;
@@ -62,7 +62,8 @@ pub(crate) fn namespace_of(
     database: &str,
     collection: &str,
 ) -> Result<String, Refusal>
-    ensures { Gives (λ s. string_bytes s) (namespace_of database.now collection.now) result }
+    ensures { Gives Refusal.OutOfMemory (λ s. string_bytes s) result
+        (namespace_of database.now collection.now) }
 {
     if is_bad_database(database)
         || is_bad_collection(collection)

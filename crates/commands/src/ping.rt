@@ -1,7 +1,7 @@
 //! `ping`: is the server there?
 
 ghost use Rattle.bson.specs.View.{tree, pairs_of};
-ghost use Rattle.path.specs.View.{Gives};
+ghost use Rattle.outcome.specs.Outcome.{Gives};
 ghost use Rattle.commands.specs.Ping.{read_ping};
 
 use crate::fields::{CommonFields, read_fields};
@@ -12,7 +12,8 @@ use std::alloc::Global;
 
 /// Reads a `ping`, whose value is read over.
 pub(crate) fn read_ping(alloc: Global, value: &Value, pairs: &[Pair]) -> Result<(), Refusal>
-    ensures { Gives (λ x. x) (read_ping (tree value.now) (pairs_of pairs.now)) result }
+    ensures { Gives Refusal.OutOfMemory (λ x. x) result
+        (read_ping (tree value.now) (pairs_of pairs.now)) }
 {
     let _ = value;
     let found = read_fields(alloc, CommonFields::new(), pairs)?;

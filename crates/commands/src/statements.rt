@@ -1,7 +1,7 @@
 //! The documents or statements of one command.
 
 ghost use Rattle.bson.specs.View.{tree, items_of};
-ghost use Rattle.path.specs.View.{Gives};
+ghost use Rattle.outcome.specs.Outcome.{Gives};
 ghost use Rattle.commands.specs.Statements.{statements_in};
 
 use bson::Value;
@@ -13,7 +13,8 @@ const MOST_STATEMENTS: usize = 1_000;
 /// The items of the array that a value is: at least one (else `BadValue`), and at most 1,000 (else `TooMany`);
 /// `TypeMismatch` where it is no array.
 pub(crate) fn statements_in(value: &Value) -> Result<&[Value], Refusal>
-    ensures { Gives (λ items. items_of items.now) (statements_in (tree value.now)) result }
+    ensures { Gives Refusal.OutOfMemory (λ items. items_of items.now) result
+        (statements_in (tree value.now)) }
 {
     let Value::Array(array) = value else {
         return Err(Refusal::TypeMismatch);

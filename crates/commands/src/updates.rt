@@ -2,8 +2,7 @@
 
 ghost use Rattle.std.specs.Prelude.{◌≡◌};
 ghost use Rattle.bson.specs.View.{tree, pairs_of, items_of};
-ghost use Rattle.path.specs.View.{Gives};
-ghost use Rattle.path.specs.Outcomes.{Does};
+ghost use Rattle.outcome.specs.Outcome.{Gives, Does};
 ghost use Rattle.commands.specs.Update.{no_statement_fields, statement_field, read_statement, no_update_fields, update_statements_in, update_field, read_update_command};
 ghost use Rattle.commands.specs.Statements.{each_of};
 ghost use Rattle.commands.specs.Values.{spelled_in};
@@ -110,7 +109,7 @@ impl<'a> Fields<'a> for UpdateStatementFields {
 /// The statement that a document spells: a filter `q` and an update `u`, neither of which may be missing, and two
 /// booleans, `upsert` and `multi`. A replacement with `multi` is met at the end of the statement: `FailedToParse`.
 fn read_statement(alloc: Global, statement: &Document) -> Result<UpdateStatement, Refusal>
-    ensures { Gives (λ s. s) (read_statement statement.now) result }
+    ensures { Gives Refusal.OutOfMemory (λ s. s) result (read_statement statement.now) }
 {
     let none = UpdateStatementFields {
         filter: None,
@@ -134,8 +133,8 @@ fn read_statement(alloc: Global, statement: &Document) -> Result<UpdateStatement
 
 /// The statements that the items of an array spell.
 fn all_statements(alloc: Global, items: &[Value]) -> Result<Vec<UpdateStatement>, Refusal>
-    ensures { Gives (λ v. v.items)
-        (each_of (spelled_in read_statement) (items_of items.now)) result }
+    ensures { Gives Refusal.OutOfMemory (λ v. v.items) result
+        (each_of (spelled_in read_statement) (items_of items.now)) }
 {
     let mut statements = Vec::with_capacity(alloc, items.len())?;
     'items: for item in items {
@@ -146,7 +145,8 @@ fn all_statements(alloc: Global, items: &[Value]) -> Result<Vec<UpdateStatement>
 
 /// The statements of an update.
 fn update_statements_in(alloc: Global, value: &Value) -> Result<Vec<UpdateStatement>, Refusal>
-    ensures { Gives (λ v. v.items) (update_statements_in (tree value.now)) result }
+    ensures { Gives Refusal.OutOfMemory (λ v. v.items) result
+        (update_statements_in (tree value.now)) }
 {
     all_statements(alloc, statements_in(value)?)
 }
@@ -195,8 +195,8 @@ pub(crate) fn read_update(
     collection: &Value,
     pairs: &[Pair],
 ) -> Result<Update, Refusal>
-    ensures { Gives update_read
-        (read_update_command (tree collection.now) (pairs_of pairs.now)) result }
+    ensures { Gives Refusal.OutOfMemory update_read result
+        (read_update_command (tree collection.now) (pairs_of pairs.now)) }
 {
     let name = text_in(collection)?;
     let none = UpdateFields {

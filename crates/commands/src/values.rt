@@ -2,7 +2,7 @@
 
 ghost use Rattle.std.specs.Prelude.{◌≡◌};
 ghost use Rattle.bson.specs.View.{tree};
-ghost use Rattle.path.specs.View.{Gives};
+ghost use Rattle.outcome.specs.Outcome.{Gives};
 ghost use Rattle.commands.specs.Values.{text_in, bool_in, count_in, document_in};
 
 use bson::{Document, Value};
@@ -10,7 +10,8 @@ use path::Refusal;
 
 /// The text that a value is; `TypeMismatch` where it is none.
 pub(crate) fn text_in(value: &Value) -> Result<&str, Refusal>
-    ensures { Gives (λ s. s.now) (text_in (tree value.now)) result }
+    ensures { Gives Refusal.OutOfMemory Refusal.OutOfMemory result
+        (λ s. s.now) (text_in (tree value.now)) }
 {
     match value {
         Value::String(text) => Ok(text.as_str()),
@@ -20,7 +21,7 @@ pub(crate) fn text_in(value: &Value) -> Result<&str, Refusal>
 
 /// The boolean that a value is; `TypeMismatch` where it is none.
 pub(crate) fn bool_in(value: &Value) -> Result<bool, Refusal>
-    ensures { Gives (λ b. b) (bool_in (tree value.now)) result }
+    ensures { Gives Refusal.OutOfMemory (λ b. b) result (bool_in (tree value.now)) }
 {
     match value {
         Value::Bool(boolean) => Ok(*boolean),
@@ -30,7 +31,8 @@ pub(crate) fn bool_in(value: &Value) -> Result<bool, Refusal>
 
 /// The count that a value is: a number (else `TypeMismatch`) that is not negative (else `BadValue`).
 pub(crate) fn count_in(value: &Value) -> Result<usize, Refusal>
-    ensures { Gives (λ n. n) (count_in (tree value.now)) result }
+    ensures { Gives Refusal.OutOfMemory Refusal.OutOfMemory result
+        (λ n. n) (count_in (tree value.now)) }
 {
     let number = match value {
         Value::Int32(number) => i64::from(*number),
@@ -45,7 +47,8 @@ pub(crate) fn count_in(value: &Value) -> Result<usize, Refusal>
 
 /// The document that a value is; `TypeMismatch` where it is none.
 pub(crate) fn document_in(value: &Value) -> Result<&Document, Refusal>
-    ensures { Gives (λ d. d.now) (document_in (tree value.now)) result }
+    ensures { Gives Refusal.OutOfMemory Refusal.OutOfMemory result
+        (λ d. d.now) (document_in (tree value.now)) }
 {
     match value {
         Value::Document(document) => Ok(document),

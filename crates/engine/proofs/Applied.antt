@@ -16,12 +16,12 @@ use Rattle.bson.proofs.TreeLaws.{one_spelling}
 use Rattle.value_order.specs.Order.{compare}
 use Rattle.value_order.specs.KeyText.{tree_text}
 use Rattle.path.specs.EditLaws.{if_ok_value}
-use Rattle.path.specs.Outcomes.{◌>>=◌}
+use Rattle.outcome.specs.Outcome.{◌>>=◌, fault_or}
 use Rattle.path.specs.declared.refusal.Refusal.{Refusal}
 use Rattle.path.specs.declared.refusal.Refusal.TheVariants as refusals
 use Rattle.filter.specs.Condition.{Conditions}
 use Rattle.update.specs.Update.{Update as Change}
-use Rattle.update.specs.Stored.{id_name, pairs_fault, no_array, id_of, id_first, stored_fault, unless, judged}
+use Rattle.update.specs.Stored.{id_name, pairs_fault, no_array, id_of, id_first, stored_fault, judged}
 use Rattle.update.specs.Applying.{changed, apply}
 use Rattle.update.specs.Upserts.{base_of}
 use Rattle.update.specs.UpdateLaws.{keeps_id, gives_stored}
@@ -46,7 +46,7 @@ pub record Applied (ps : Pairs) : Type 0 where
 id_is_first : (limit : ℕ) (x qs : Pairs) → judged limit x ≡ Ok qs → id_first x ≡ qs
 id_is_first limit x qs e = at (stored_fault limit (id_first x)) e
   where
-    at : (o : Option Refusal) → unless o (id_first x) ≡ Ok qs → id_first x ≡ qs
+    at : (o : Option Refusal) → fault_or o (id_first x) ≡ Ok qs → id_first x ≡ qs
     at None e = cc
     at (Some r) e = absurd cc
 

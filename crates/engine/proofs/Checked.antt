@@ -10,7 +10,7 @@ use Rattle.bson.specs.Lawful.{levels, pairs_levels}
 use Rattle.bson.specs.SizingLaws.{frame_of-length, pairs_size-pair}
 use Rattle.bson.specs.Spelling.{tree_bytes, pairs_bytes, frame_of}
 use Rattle.value_order.specs.KeyText.{tree_text}
-use Rattle.path.specs.Outcomes.{◌>>=◌, unless, or_refused}
+use Rattle.outcome.specs.Outcome.{◌>>=◌, unless, or_refused}
 use Rattle.engine.specs.Documents.{refused_if, key_of, checked}
 use Rattle.update.specs.Stored.{or_else, fault_if, pairs_fault, without, first_pair, id_name, id_first, no_array, id_of}
 use Rattle.engine.specs.Lawful.{IsStored}

@@ -19,7 +19,7 @@ use Rattle.engine.specs.Updating.{RunsAll}
 use Rattle.engine.specs.View.{with_ok, Runs}
 use Rattle.engine.specs.Delete.{after_deletions, deleted_in, run_delete}
 use Rattle.engine.specs.World.{World, Collection, find_collection, documents_of, with_documents, put_collection, count_of}
-use Rattle.path.specs.Outcomes.{◌>>=◌, unless}
+use Rattle.outcome.specs.Outcome.{◌>>=◌, unless}
 use Rattle.engine.specs.Documents.{insert_all}
 use Rattle.engine.specs.Refusals.{int, total}
 use Rattle.engine.specs.Cursors.{item_size, batch_len, cursor_reply, open_cursor, batch_of, first_batch}

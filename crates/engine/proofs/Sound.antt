@@ -14,7 +14,7 @@ use Rattle.engine.specs.View.{world, turn_start, with_ok, Runs}
 use Rattle.engine.specs.Durable.{Holds, IsSound}
 use Rattle.engine.specs.declared.engine.Engine.{Engine}
 use Rattle.engine.specs.Refusals.{refusal_reply}
-use Rattle.path.specs.Outcomes.{Refuses}
+use Rattle.outcome.specs.Outcome.{Fails}
 use Rattle.path.specs.declared.refusal.Refusal.{Refusal}
 use Rattle.path.specs.declared.refusal.Refusal.TheVariants as refusals
 use Rattle.engine.proofs.LawfulSteps.{steps}
@@ -61,7 +61,7 @@ answers_done w new (Ok x) d h = sym (ap both h)
     both (Ok y) = y
     both (Err e) = (w, d)
 
-pub answers_refused : (w new : World) (planned : Result (World × Pairs) Refusal) (e : Refusal) → new ≡ w → Refuses planned e
+pub answers_refused : (w new : World) (planned : Result (World × Pairs) Refusal) (e : Refusal) → new ≡ w → Fails refusals.OutOfMemory e planned
     → ((new, refusal_reply e) ≡ answered w planned) ⊎ RefusedBeside ForMemory w new (refusal_reply e)
 answers_refused w new planned refusals.OutOfMemory same refuses = inr (record { refusal = refusals.OutOfMemory; cause = refl; same = same; says = refl })
 answers_refused w new planned e same refuses = inl ((λ i. (same i, refusal_reply e)) ∙ ap (answered w) (sym (refuses (λ h. absurd cc))))

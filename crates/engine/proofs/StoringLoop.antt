@@ -3,7 +3,7 @@ use Rattle.std.proofs.Common.{◌≡◌, ℕ, ◌+◌, ◌<◌, ◌≤◌, true,
 use Rattle.std.proofs.lemmas.List.{set-set, set-get_or, length-set, drop_all}
 use Rattle.bson.specs.Tree.{Pairs}
 use Rattle.engine.specs.World.{Collection, documents_of, with_documents, put_collection}
-use Rattle.path.specs.Outcomes.{◌>>=◌, unless, or_refused}
+use Rattle.outcome.specs.Outcome.{◌>>=◌, unless, or_refused}
 use Rattle.engine.specs.Documents.{key_of, checked, place, insert_one, insert_all}
 use Rattle.update.specs.Stored.{id_first}
 use Rattle.engine.proofs.Checked.{keeps}

@@ -7,8 +7,7 @@ use Rattle.std.proofs.lemmas.List.{set-set, set-get_or, length-set, take_more, t
 use Rattle.std.proofs.lemmas.Slice.Eq.{bytes_eq-Decides}
 use Rattle.bson.specs.Tree.{document, Pairs, no_pairs, Items, no_items, item, append_items}
 use Rattle.filter.specs.Matches.{matches}
-use Rattle.path.specs.Outcomes.{◌>>=◌, unless, or_refused, Refuses}
-use Rattle.path.specs.View.{Gives}
+use Rattle.outcome.specs.Outcome.{◌>>=◌, unless, or_refused, Fails, Gives}
 use Rattle.path.specs.declared.refusal.Refusal.{Refusal}
 use Rattle.path.specs.declared.refusal.Refusal.TheVariants as refusals
 use Rattle.update.specs.Update.{Update as Change}
@@ -118,8 +117,8 @@ module _ (s : UpdateStatement) (at : ℕ) (before after : Tally) (start now : Pr
   }
 
   -- it matches, and is refused
-  pub refused_one : (e : Refusal) → matches s.filter at_hand ≡ true → Refuses (apply s.change 65535 at_hand) e
-      → Refuses (update_from s (changed_of [] false before) (collection_at start.now at).documents) e
+  pub refused_one : (e : Refusal) → matches s.filter at_hand ≡ true → Fails refusals.OutOfMemory e (apply s.change 65535 at_hand)
+      → Fails refusals.OutOfMemory e (update_from s (changed_of [] false before) (collection_at start.now at).documents)
   refused_one e match is = λ other. sym looked ∙ (λ k. one_step (match k) (is other k) s.multi)
 
   -- it matches, and is changed
@@ -261,7 +260,7 @@ module _ (name : List ℕ) (index : ℕ) (s : UpdateStatement) (before after : T
       ∙ (λ k. upsert name index s (updated_of (sym (up.none none).0 k) (sym (up.none none).1 k)))
 
 pub refused_statement : (name : List ℕ) (index : ℕ) (s : UpdateStatement) (before : Tally) (old : Progress) (e : Refusal)
-    → Refuses (update_from s (changed_of [] false before) (documents_of old.now name)) e → Refuses (run_statement name index s (updated_of old before)) e
+    → Fails refusals.OutOfMemory e (update_from s (changed_of [] false before) (documents_of old.now name)) → Fails refusals.OutOfMemory e (run_statement name index s (updated_of old before))
 refused_statement name index s before old e is other =
     ap (λ (r : Result Changed Refusal). r >>= (λ changed. if not changed.found && s.upsert then upsert name index s (updated_of old before) else Ok (updated_to name (updated_of old before) changed))) (is other)
 
@@ -269,8 +268,8 @@ pub quiet_upsert : (r : Result (Unit {0}) Refusal) (before after : Tally) (old n
 quiet_upsert (Ok x) before after old next some = λ h. absurd (some h)
 quiet_upsert (Err e) before after old next some = tt
 
-pub Gives-upsert : (r : Result (Unit {0}) Refusal) (planned other : Result Updated Refusal) (u : Updated) → other ≡ planned → Gives (λ _. u) planned r → Gives (λ _. u) other r
-Gives-upsert r planned other u same h = subst (λ (x : Result Updated Refusal). Gives (λ _. u) x r) (sym same) h
+pub Gives-upsert : (r : Result (Unit {0}) Refusal) (planned other : Result Updated Refusal) (u : Updated) → other ≡ planned → Gives refusals.OutOfMemory (λ _. u) r planned → Gives refusals.OutOfMemory (λ _. u) r other
+Gives-upsert r planned other u same h = subst (λ (x : Result Updated Refusal). Gives refusals.OutOfMemory (λ _. u) r x) (sym same) h
 
 -- ---- statement after statement
 

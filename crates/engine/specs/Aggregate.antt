@@ -2,7 +2,7 @@
 use Rattle.std.specs.Prelude.{ℕ, Result, unwrap_or}
 use Rattle.bson.specs.Tree.{Pairs}
 use Rattle.aggregate.specs.Pipeline.{run as after_pipeline}
-use Rattle.path.specs.Outcomes.{◌>>=◌}
+use Rattle.outcome.specs.Outcome.{◌>>=◌}
 use Rattle.path.specs.declared.refusal.Refusal.{Refusal}
 use Rattle.commands.specs.Aggregate.{Aggregate}
 use Rattle.engine.specs.World.{World, documents_of}

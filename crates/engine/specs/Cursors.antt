@@ -3,7 +3,7 @@ use Rattle.std.specs.Prelude.{ℕ, zero, suc, ◌+◌, ◌-◌, ◌^◌, ◌<◌
 use Rattle.std.specs.Fmt.{decimal}
 use Rattle.bson.specs.Tree.{document, array, Pairs, no_pairs, pair, Items, no_items, item}
 use Rattle.bson.specs.Spelling.{frame_of, pairs_bytes, element}
-use Rattle.path.specs.Outcomes.{◌>>=◌, unless}
+use Rattle.outcome.specs.Outcome.{◌>>=◌, unless}
 use Rattle.path.specs.declared.refusal.Refusal.{Refusal}
 use Rattle.path.specs.declared.refusal.Refusal.TheVariants as refusals
 use Rattle.engine.specs.World.{World, Cursor, count_of}

@@ -6,7 +6,7 @@ use Rattle.bson.specs.Tree.{Tree, scalar, null, Pairs}
 use Rattle.bson.specs.Lookup.{lookup}
 use Rattle.update.specs.Stored.{limits_fault, pairs_fault, id_name, id_of, id_first}
 use Rattle.engine.specs.World.{by_order}
-use Rattle.path.specs.Outcomes.{◌>>=◌, unless, or_refused}
+use Rattle.outcome.specs.Outcome.{◌>>=◌, unless, or_refused}
 use Rattle.path.specs.declared.refusal.Refusal.{Refusal}
 use Rattle.path.specs.declared.refusal.Refusal.TheVariants as refusals
 

@@ -1,7 +1,7 @@
 -- `insert`: all documents are stored, or none.
 use Rattle.std.specs.Prelude.{ℕ, ◌&&◌, not, nat_le, length, codes, Result, Ok, is_some}
 use Rattle.bson.specs.Tree.{Pairs, no_pairs, pair}
-use Rattle.path.specs.Outcomes.{◌>>=◌, unless}
+use Rattle.outcome.specs.Outcome.{◌>>=◌, unless}
 use Rattle.path.specs.declared.refusal.Refusal.{Refusal}
 use Rattle.path.specs.declared.refusal.Refusal.TheVariants as refusals
 use Rattle.commands.specs.Insert.{Insert}

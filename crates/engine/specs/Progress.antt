@@ -5,7 +5,7 @@ use Rattle.std.specs.Coded.{Coded, code_by, coded×, coded⊎, coded_ℕ, coded_
 use Rattle.bson.specs.Tree.{Pairs}
 use Rattle.bson.specs.TreeCode.{coded_pairs}
 use Rattle.engine.specs.World.{Collection, find_collection, documents_of, with_documents, put_collection}
-use Rattle.path.specs.Outcomes.{◌>>=◌, unless, or_refused}
+use Rattle.outcome.specs.Outcome.{◌>>=◌, unless, or_refused}
 use Rattle.engine.specs.Documents.{key_of, place, insert_one, insert_all}
 use Rattle.commands.specs.Delete.{Deletion}
 use Rattle.engine.specs.Delete.{after_deletions, deleted_in}

@@ -3,7 +3,7 @@ use Rattle.std.specs.Prelude.{◌≡◌, ℕ, ◌<◌, Bool, true, false, List, 
 use Rattle.std.specs.Str.{bytes_eq}
 use Rattle.bson.specs.Tree.{Pairs, no_pairs, Items, no_items}
 use Rattle.bson.specs.Lawful.{IsDocument}
-use Rattle.path.specs.Outcomes.{Refuses}
+use Rattle.outcome.specs.Outcome.{Fails}
 use Rattle.path.specs.declared.refusal.Refusal.{Refusal}
 use Rattle.update.specs.Update.{Update as Change}
 use Rattle.update.specs.Applying.{apply}
@@ -16,6 +16,7 @@ use Rattle.engine.specs.Places.{collection_at}
 use Rattle.engine.specs.Progress.{Progress, with_document_at}
 use Rattle.engine.specs.Update.{counted, spelled, modified_by, Changed, update_from, Updated, updated_to, run_all, update_reply}
 use Rattle.engine.specs.declared.updates.Tally.{Tally}
+use Rattle.path.specs.declared.refusal.Refusal.TheVariants as refusals
 
 -- what the statements of an update have come to
 abbrev pub updated_of : Progress → Tally → Updated
@@ -81,7 +82,8 @@ abbrev pub RunsMatching : UpdateStatement → ℕ → Tally → Tally → Progre
     → Result Bool Refusal → Type 0
 RunsMatching s at before after old new (Ok found) = UpdatesMatching s at before after old new found
 RunsMatching s at before after old new (Err e) =
-    Refuses (update_from s (changed_of [] false before) (collection_at old.now at).documents) e
+    Fails refusals.OutOfMemory e
+        (update_from s (changed_of [] false before) (collection_at old.now at).documents)
 
 -- The documents of a namespace that match were updated; one was found, or none.
 pub record UpdatesFound (name : List ℕ) (s : UpdateStatement) (before after : Tally)
@@ -97,7 +99,8 @@ abbrev pub RunsFound : List ℕ → UpdateStatement → Tally → Tally → Prog
     → Result Bool Refusal → Type 0
 RunsFound name s before after old new (Ok found) = UpdatesFound name s before after old new found
 RunsFound name s before after old new (Err e) =
-    Refuses (update_from s (changed_of [] false before) (documents_of old.now name)) e
+    Fails refusals.OutOfMemory e
+        (update_from s (changed_of [] false before) (documents_of old.now name))
 
 -- All statements were run.
 pub record UpdatesAll (name : List ℕ) (ss : List UpdateStatement) (old new : Progress)
@@ -111,4 +114,4 @@ pub record UpdatesAll (name : List ℕ) (ss : List UpdateStatement) (old new : P
 abbrev pub RunsAll : List ℕ → List UpdateStatement → Progress → Progress → Result Pairs Refusal
     → Type 0
 RunsAll name ss old new (Ok reply) = UpdatesAll name ss old new reply
-RunsAll name ss old new (Err e) = Refuses (run_all name ss old.now) e
+RunsAll name ss old new (Err e) = Fails refusals.OutOfMemory e (run_all name ss old.now)

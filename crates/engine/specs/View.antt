@@ -7,7 +7,7 @@ use Rattle.filter.specs.Projection.{Projection, project}
 use Rattle.commands.specs.View.{documents_at}
 use Rattle.engine.specs.World.{World}
 use Rattle.engine.specs.Refusals.{refusal_reply, ok_reply}
-use Rattle.path.specs.Outcomes.{Refuses}
+use Rattle.outcome.specs.Outcome.{Fails}
 use Rattle.engine.specs.Progress.{turn_start_of}
 use Rattle.path.specs.declared.refusal.Refusal.{Refusal}
 use Rattle.engine.specs.declared.reply.Answer.{Answer}
@@ -15,6 +15,7 @@ use Rattle.engine.specs.declared.reply.Answer.TheVariants as answers
 use Rattle.engine.specs.declared.engine.Reply.{Reply}
 use Rattle.engine.specs.declared.engine.Reply.TheVariants as replies
 use Rattle.engine.specs.declared.engine.Engine.{Engine}
+use Rattle.path.specs.declared.refusal.Refusal.TheVariants as refusals
 
 -- the reply that says that a command was done
 abbrev pub answer_of : Answer → Pairs
@@ -55,4 +56,4 @@ with_ok (Err e) = Err e
 -- What running a command made of a world: what was planned, or a refusal, which leaves the world as it was.
 abbrev pub Runs : World → Result (World × Pairs) Refusal → World → Result Pairs Refusal → Type 0
 Runs old planned new (Ok reply) = with_ok planned ≡ Ok (new, reply)
-Runs old planned new (Err e) = (new ≡ old) × Refuses planned e
+Runs old planned new (Err e) = (new ≡ old) × Fails refusals.OutOfMemory e planned

@@ -2,7 +2,7 @@
 
 ghost use Rattle.std.specs.Prelude.{◌≡◌, ◌≤◌, ◌<◌, Some, IfOk, All, length, map};
 ghost use Rattle.std.specs.List.{filter};
-ghost use Rattle.path.specs.View.{Gives};
+ghost use Rattle.outcome.specs.Outcome.{Gives};
 ghost use Rattle.aggregate.specs.Pipeline.{run as after_pipeline};
 ghost use Rattle.aggregate.specs.Taking.{takes};
 ghost use Rattle.aggregate.specs.View.{pipeline_of};
@@ -46,8 +46,8 @@ fn after_pipeline(
     pipeline: &Pipeline,
     documents: &[SharedDocument],
 ) -> Result<Vec<Document>, Refusal>
-    ensures { Gives (λ v. v.items)
-        (after_pipeline (pipeline_of pipeline.now) 65535 documents.now) result }
+    ensures { Gives Refusal.OutOfMemory (λ v. v.items) result
+        (after_pipeline (pipeline_of pipeline.now) 65535 documents.now) }
 {
     let taken = taken(alloc, pipeline, documents)?;
     pipeline.run(taken, STORED_LIMIT as u32)

@@ -9,7 +9,7 @@ ghost use Rattle.engine.specs.Loading.{place_numbered, IsAdded};
 ghost use Rattle.engine.specs.Lawful.{IsStored, IsHeld};
 ghost use Rattle.engine.specs.Stored.{documents_numbered};
 ghost use Rattle.engine.specs.Places.{IsNamedAt, collection_at};
-ghost use Rattle.path.specs.Outcomes.{Does};
+ghost use Rattle.outcome.specs.Outcome.{Does};
 ghost use Rattle.commands.specs.View.{documents_at};
 ghost use Rattle.bson.specs.Lawful.{IsDocument};
 ghost use Rattle.engine.specs.Progress.{turn_start_of, is_changed, Extends, Stands, IsFull, placed_in, with_document_at, with_document, inserted, Leaves, LeavesAll};
@@ -258,8 +258,8 @@ impl Collections {
     pub(crate) fn store(&mut self, at: usize, document: &Document) -> Result<(), Refusal>
         requires { at < length self.old.now }
         ensures extends { Extends self.old self.new }
-        ensures does { Does (with_document (collection_at self.old.now at) document.now)
-            (collection_at self.new.now at) result }
+        ensures does { Does Refusal.OutOfMemory result (collection_at self.new.now at)
+            (with_document (collection_at self.old.now at) document.now) }
         ensures ok { OnOk result
             (self.new.now ≡ slice_set self.old.now at (collection_at self.new.now at)) }
     {
@@ -271,8 +271,8 @@ impl Collections {
     /// Stores documents in a collection, up to the first that is refused.
     fn store_each(&mut self, namespace: &str, documents: &[&Document]) -> Result<(), Refusal>
         ensures extends { Extends self.old self.new }
-        ensures does { Does (inserted self.old.now namespace.now (documents_at documents.now))
-            self.new.now result }
+        ensures does { Does Refusal.OutOfMemory result self.new.now
+            (inserted self.old.now namespace.now (documents_at documents.now)) }
     {
         let at = self.find_or_make(namespace)?;
         'documents: for document in documents {
@@ -358,8 +358,8 @@ impl Collections {
     /// Stores documents in a collection, which is made where it is missing: all of them, or none and the
     /// first refusal.
     pub(crate) fn insert(&mut self, namespace: &str, documents: &[&Document]) -> Result<(), Refusal>
-        ensures does { Does (inserted self.old.now namespace.now (documents_at documents.now))
-            self.new.now result }
+        ensures does { Does Refusal.OutOfMemory result self.new.now
+            (inserted self.old.now namespace.now (documents_at documents.now)) }
         ensures turn_start { turn_start_of self.new ≡ turn_start_of self.old }
         ensures err { OnErr result (self.new ≡ self.old) }
     {

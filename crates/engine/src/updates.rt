@@ -5,8 +5,7 @@ ghost use Rattle.std.specs.Str.{bytes_eq};
 ghost use Rattle.bson.specs.Lawful.{IsDocument, pairs_levels};
 ghost use Rattle.bson.specs.View.{tree};
 ghost use Rattle.filter.specs.Matches.{matches};
-ghost use Rattle.path.specs.Outcomes.{Refuses};
-ghost use Rattle.path.specs.View.{Gives};
+ghost use Rattle.outcome.specs.Outcome.{Fails, Gives};
 ghost use Rattle.update.specs.Applying.{apply};
 ghost use Rattle.update.specs.View.{update_of};
 ghost use Rattle.commands.specs.Update.{UpdateStatement, IsRead};
@@ -80,8 +79,8 @@ fn changed(alloc: Global, change: &Update, document: &Document) -> Result<Option
         (λ found. IfSome found (IsChange (update_of change.now) document.now)) }
     ensures none { IfOk result (λ found. IfNone found
         (apply (update_of change.now) 65535 document.now ≡ Ok document.now)) }
-    ensures refused { IfErr result
-        (Refuses (apply (update_of change.now) 65535 document.now)) }
+    ensures refused { IfErr result (λ e. Fails Refusal.OutOfMemory e
+        (apply (update_of change.now) 65535 document.now)) }
 {
     let new = change.apply(document, STORED_LIMIT)?;
     let _levels = new.levels();
@@ -96,7 +95,7 @@ fn changed(alloc: Global, change: &Update, document: &Document) -> Result<Option
 ///
 /// The first of these refusals: what setting an equality refuses; what the update refuses; `KeyTooLong`.
 fn upsert_document(alloc: Global, statement: &UpdateStatement) -> Result<Document, Refusal>
-    ensures gives { Gives (λ d. d) (upsert_document statement.now) result }
+    ensures gives { Gives Refusal.OutOfMemory (λ d. d) result (upsert_document statement.now) }
     ensures stored { IfOk result (λ d. IsStored d) }
     ensures readable { IfOk result (λ d. IsDocument d) }
 {
@@ -177,7 +176,8 @@ impl Collections {
         ensures none { IfOk result (λ found. IfNone found
             (apply (update_of change.now) 65535 (document_at place (collection_at self.now.now at))
             ≡ Ok (document_at place (collection_at self.now.now at)))) }
-        ensures refused { IfErr result (Refuses (apply (update_of change.now) 65535
+        ensures refused { IfErr result (λ e. Fails Refusal.OutOfMemory e
+            (apply (update_of change.now) 65535
             (document_at place (collection_at self.now.now at)))) }
     {
         let documents = self.list()[at].documents();
@@ -198,7 +198,8 @@ impl Collections {
         ensures extends { Extends self.old self.new }
         ensures updates { OnOk result
             (UpdatesAt (update_of change.now) at place tally.old tally.new self.old self.new) }
-        ensures refused { IfErr result (Refuses (apply (update_of change.now) 65535
+        ensures refused { IfErr result (λ e. Fails Refusal.OutOfMemory e
+            (apply (update_of change.now) 65535
             (document_at place (collection_at self.old.now at)))) }
     {
         let found = self.changed_at(at, place, change)?;
@@ -247,8 +248,8 @@ impl Collections {
     ) -> Result<(), Refusal>
         requires index { index ≤ 1000 }
         ensures extends { Extends self.old self.new }
-        ensures gives { Gives (λ _. updated_of self.new tally.new)
-            (upsert namespace.now index statement.now (updated_of self.old tally.old)) result }
+        ensures gives { Gives Refusal.OutOfMemory (λ _. updated_of self.new tally.new) result
+            (upsert namespace.now index statement.now (updated_of self.old tally.old)) }
         ensures some { OnOk result (HasNone tally.new → ⊥) }
     {
         let at = self.find_or_make(namespace)?;
@@ -290,9 +291,8 @@ impl Collections {
         requires index { index ≤ 1000 }
         requires read { IsRead statement.now.change }
         ensures extends { Extends self.old self.new }
-        ensures gives { Gives (λ _. updated_of self.new tally.new)
-            (run_statement namespace.now index statement.now (updated_of self.old tally.old))
-            result }
+        ensures gives { Gives Refusal.OutOfMemory (λ _. updated_of self.new tally.new) result
+            (run_statement namespace.now index statement.now (updated_of self.old tally.old)) }
         ensures quiet { OnOk result (IsQuiet tally.old tally.new self.old self.new) }
     {
         let found = self.update_found(namespace, statement, tally)?;
@@ -315,9 +315,8 @@ impl Collections {
         requires few { length statements.now ≤ 1000 }
         requires read { All (λ (s : UpdateStatement). IsRead s.change) statements.now }
         ensures extends { Extends self.old self.new }
-        ensures gives { Gives (λ _. updated_of self.new tally.new)
-            (run_statements namespace.now 0 statements.now (updated_of self.old tally.old))
-            result }
+        ensures gives { Gives Refusal.OutOfMemory (λ _. updated_of self.new tally.new) result
+            (run_statements namespace.now 0 statements.now (updated_of self.old tally.old)) }
         ensures quiet { OnOk result (IsQuiet tally.old tally.new self.old self.new) }
     {
         'statements: for (index, statement) in statements.iter().enumerate() {

@@ -1,5 +1,5 @@
 -- The first of a list of keys is one of them, and none of them precedes it.
-use Rattle.std.proofs.Common.{◌≡◌, ℕ, zero, suc, ◌+◌, ◌<◌, Bool, true, false, List, [], ◌∷◌, ◌++◌, length, get_or, refl, sym, ap, subst, ◌∙◌, arith}
+use Rattle.std.proofs.Common.{◌≡◌, zero, suc, Bool, true, false, List, [], ◌∷◌, refl, sym, ap, subst, ◌∙◌, arith}
 use Rattle.std.specs.Prelude.{if◌then◌else◌}
 use Rattle.std.specs.List.{AllByRecursion, Contains}
 use Rattle.std.specs.Cmp.{IsTotalOrder}
@@ -8,7 +8,7 @@ use Rattle.std.specs.declared.cmp.Ordering.{Ordering}
 use Rattle.std.specs.declared.cmp.Ordering.TheVariants.{Less, Equal, Greater}
 use Rattle.std.proofs.lemmas.List.Elements.{Contains-append_right}
 use Rattle.value_order.specs.Order.{Key, key_cmp}
-use Rattle.filter.specs.Sort.{precedes, in_direction, first_key, key_among, sort_key}
+use Rattle.filter.specs.Sort.{precedes, in_direction, first_key, key_among}
 use Rattle.filter.specs.SortLaws.{IsFirstKey, SortsByFirstKey}
 use Rattle.filter.proofs.SortLemmas.{directed_total}
 

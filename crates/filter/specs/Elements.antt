@@ -1,5 +1,5 @@
 -- What is asked of one element of an array apart from the others, as `$pull` does.
-use Rattle.std.specs.Prelude.{Bool, false, if◌then◌else◌, Result, Ok}
+use Rattle.std.specs.Prelude.{Bool, false, Result, Ok}
 use Rattle.bson.specs.Tree.{Tree, scalar, document, array}
 use Rattle.path.specs.declared.refusal.Refusal.{Refusal}
 use Rattle.filter.specs.Condition.{Condition, is, equal, element, element_document}

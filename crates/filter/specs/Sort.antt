@@ -1,16 +1,12 @@
 -- Sorts: what one is, the keys of a document, and the order that it gives to documents.
-use Rattle.std.specs.Prelude.{ℕ, ℤ, pos, negsuc, zero, suc, ◌==◌, Bool, true, false, if◌then◌else◌, Some, None, Result, Ok, Err, List, [], ◌∷◌, map}
+use Rattle.std.specs.Prelude.{ℕ, Bool, true, false, if◌then◌else◌, Some, None, List, [], ◌∷◌, map}
 use Rattle.std.specs.List.{flat_map}
 use Rattle.std.specs.declared.cmp.Ordering.{Ordering}
 use Rattle.std.specs.declared.cmp.Ordering.TheVariants.{Less, Equal, Greater}
 use Rattle.std.specs.Ordering.{ordering_then}
-use Rattle.bson.specs.Tree.{Tree, scalar, null, int32, int64, document, array, Pairs, no_pairs, pair, Items, no_items, item}
+use Rattle.bson.specs.Tree.{scalar, null, document, array, Pairs, Items, no_items, item}
 use Rattle.value_order.specs.Order.{Key, empty_array, value, key_cmp}
-use Rattle.path.specs.declared.refusal.Refusal.{Refusal}
-use Rattle.path.specs.declared.refusal.Refusal.TheVariants as refusals
-use Rattle.path.specs.Edits.{if_ok}
 use Rattle.path.specs.Reach.{Reached, reach, items_list}
-use Rattle.filter.specs.Reading.{path_in}
 
 -- a path, and whether it is descending
 abbrev pub SortField : Type 0

@@ -2,7 +2,7 @@
 
 ghost use Rattle.std.specs.Prelude.{◌≡◌};
 ghost use Rattle.bson.specs.View.{tree};
-ghost use Rattle.path.specs.View.{Gives};
+ghost use Rattle.outcome.specs.Outcome.{Gives};
 ghost use Rattle.filter.specs.Elements.{read_element_condition, element_matches};
 ghost use Rattle.filter.specs.View.{condition_of};
 
@@ -18,7 +18,8 @@ impl Condition {
     /// What an element is asked by an operator document, which looks at it as it stands, by another document, a filter
     /// that looks at elements that are documents, or by another value, to be equal to it.
     pub fn read_element(alloc: Global, value: &Value) -> Result<Condition, Refusal>
-        ensures { Gives condition_of (read_element_condition (tree value.now)) result }
+        ensures { Gives Refusal.OutOfMemory condition_of result
+            (read_element_condition (tree value.now)) }
     {
         match value {
             Value::Document(_) => read_element(alloc, value),

@@ -2,7 +2,7 @@
 
 ghost use Rattle.std.specs.Prelude.{◌≡◌, IfOk};
 ghost use Rattle.bson.specs.View.{tree};
-ghost use Rattle.path.specs.View.{Gives};
+ghost use Rattle.outcome.specs.Outcome.{Gives};
 ghost use Rattle.path.specs.Parts.{begins_with_dollar};
 ghost use Rattle.filter.specs.Condition.{equals, is, equal};
 ghost use Rattle.filter.specs.Reading.{path_in, just, has_operators, order_operand, array_in, every, exists, read_operation};
@@ -16,7 +16,7 @@ use std::alloc::Global;
 
 /// The path that a name writes, or the refusal of its fault.
 pub fn path_in(alloc: Global, name: &str) -> Result<Path, Refusal>
-    ensures { Gives (λ p. p) (path_in name.now) result }
+    ensures { Gives Refusal.OutOfMemory (λ p. p) result (path_in name.now) }
 {
     match Path::parse(alloc, name) {
         Ok(path) => Ok(path),
@@ -60,7 +60,8 @@ pub(crate) fn equal(value: &Value) -> Result<Condition, NoMemory>
 }
 
 fn order_operand(comparison: Comparison, value: &Value) -> Result<Condition, Refusal>
-    ensures { Gives condition_of (order_operand comparison (tree value.now)) result }
+    ensures { Gives Refusal.OutOfMemory condition_of result
+        (order_operand comparison (tree value.now)) }
 {
     match value {
         Value::Null => Err(Refusal::BadValue),
@@ -82,7 +83,7 @@ fn equals(alloc: Global, array: &Array) -> Result<Filter, NoMemory>
 }
 
 fn array_in(value: &Value) -> Result<&Array, Refusal>
-    ensures { Gives (λ a. a.now) (array_in (tree value.now)) result }
+    ensures { Gives Refusal.OutOfMemory (λ a. a.now) result (array_in (tree value.now)) }
 {
     match value {
         Value::Array(array) => Ok(array),
@@ -101,7 +102,7 @@ fn every(filter: Filter) -> Condition
 }
 
 fn exists(alloc: Global, value: &Value) -> Result<Condition, Refusal>
-    ensures { Gives condition_of (exists (tree value.now)) result }
+    ensures { Gives Refusal.OutOfMemory condition_of result (exists (tree value.now)) }
 {
     match value {
         Value::Bool(true) => Ok(Condition::Is(Predicate::There)),
@@ -116,7 +117,8 @@ pub(crate) fn read_operation(
     operator: Operator,
     value: &Value,
 ) -> Result<Condition, Refusal>
-    ensures { Gives condition_of (read_operation operator (tree value.now)) result }
+    ensures { Gives Refusal.OutOfMemory condition_of result
+        (read_operation operator (tree value.now)) }
 {
     match operator {
         Operator::Equal => Ok(equal(value)?),

@@ -2,7 +2,7 @@
 
 ghost use Rattle.std.specs.Prelude.{◌≡◌};
 ghost use Rattle.bson.specs.View.{tree, items_of};
-ghost use Rattle.path.specs.View.{Gives};
+ghost use Rattle.outcome.specs.Outcome.{Gives};
 ghost use Rattle.filter.specs.Words.{operator_of, kind_named, kind_counted, kind_numbered, kinds_named, only_kind, kinds_in, each_kind, all_kinds, size_of, size_in};
 
 use bson::{Array, Kind, Value};
@@ -102,7 +102,7 @@ fn kind_numbered(number: i64) -> Option<Kind>
 
 /// The one kind that was found.
 fn only_kind(alloc: Global, kind: Option<Kind>) -> Result<Vec<Kind>, Refusal>
-    ensures { Gives (λ v. v.items) (only_kind kind) result }
+    ensures { Gives Refusal.OutOfMemory (λ v. v.items) result (only_kind kind) }
 {
     let Some(kind) = kind else {
         return Err(Refusal::BadValue);
@@ -113,7 +113,7 @@ fn only_kind(alloc: Global, kind: Option<Kind>) -> Result<Vec<Kind>, Refusal>
 }
 
 fn kinds_named(alloc: Global, name: &str) -> Result<Vec<Kind>, Refusal>
-    ensures { Gives (λ v. v.items) (kinds_named name.now) result }
+    ensures { Gives Refusal.OutOfMemory (λ v. v.items) result (kinds_named name.now) }
 {
     if name == "number" {
         let mut kinds = Vec::with_capacity(alloc, 2)?;
@@ -126,7 +126,7 @@ fn kinds_named(alloc: Global, name: &str) -> Result<Vec<Kind>, Refusal>
 
 /// The kinds that a name or a number stands for.
 fn kinds_in(alloc: Global, value: &Value) -> Result<Vec<Kind>, Refusal>
-    ensures { Gives (λ v. v.items) (kinds_in (tree value.now)) result }
+    ensures { Gives Refusal.OutOfMemory (λ v. v.items) result (kinds_in (tree value.now)) }
 {
     match value {
         Value::String(name) => kinds_named(alloc, name.as_str()),
@@ -137,7 +137,7 @@ fn kinds_in(alloc: Global, value: &Value) -> Result<Vec<Kind>, Refusal>
 }
 
 fn each_kind(alloc: Global, array: &Array) -> Result<Vec<Kind>, Refusal>
-    ensures { Gives (λ v. v.items) (each_kind array.now) result }
+    ensures { Gives Refusal.OutOfMemory (λ v. v.items) result (each_kind array.now) }
 {
     let mut kinds = Vec::new(alloc);
     'items: for item in array.items() {
@@ -149,7 +149,7 @@ fn each_kind(alloc: Global, array: &Array) -> Result<Vec<Kind>, Refusal>
 
 /// The kinds that `$type` asks for: one, or each of an array.
 pub(crate) fn all_kinds(alloc: Global, value: &Value) -> Result<Vec<Kind>, Refusal>
-    ensures { Gives (λ v. v.items) (all_kinds (tree value.now)) result }
+    ensures { Gives Refusal.OutOfMemory (λ v. v.items) result (all_kinds (tree value.now)) }
 {
     match value {
         Value::Array(array) => each_kind(alloc, array),
@@ -158,7 +158,7 @@ pub(crate) fn all_kinds(alloc: Global, value: &Value) -> Result<Vec<Kind>, Refus
 }
 
 fn size_of(number: i64) -> Result<usize, Refusal>
-    ensures { Gives (λ n. n) (size_of number) result }
+    ensures { Gives Refusal.OutOfMemory (λ n. n) result (size_of number) }
 {
     if number < 0 {
         return Err(Refusal::BadValue);
@@ -168,7 +168,7 @@ fn size_of(number: i64) -> Result<usize, Refusal>
 
 /// A size: a whole number that isn't negative.
 pub(crate) fn size_in(value: &Value) -> Result<usize, Refusal>
-    ensures { Gives (λ n. n) (size_in (tree value.now)) result }
+    ensures { Gives Refusal.OutOfMemory (λ n. n) result (size_in (tree value.now)) }
 {
     match value {
         Value::Int32(number) => size_of(i64::from(*number)),

@@ -4,7 +4,7 @@ ghost use Rattle.std.specs.Prelude.{◌≡◌, Ok, IfOk, false, []};
 ghost use Rattle.std.specs.List.{list_any};
 ghost use Rattle.bson.specs.View.{tree};
 ghost use Rattle.path.specs.Parts.{meets};
-ghost use Rattle.path.specs.View.{Gives};
+ghost use Rattle.outcome.specs.Outcome.{Gives};
 ghost use Rattle.filter.specs.ProjectionReading.{flag_of, flag_in, id_path, is_id, begins_with_id, nothing_seen};
 ghost use Rattle.filter.specs.ProjectionReading.{agrees, with_field, read_field, read_flags, mode, names_id};
 ghost use Rattle.filter.specs.Projection.{keeps_all};
@@ -41,7 +41,7 @@ pub struct ProjectionFields {
 }
 
 fn flag_of(number: i64) -> Result<bool, Refusal>
-    ensures { Gives (λ b. b) (flag_of number) result }
+    ensures { Gives Refusal.OutOfMemory (λ b. b) result (flag_of number) }
 {
     if number == 0 {
         return Ok(false);
@@ -54,7 +54,7 @@ fn flag_of(number: i64) -> Result<bool, Refusal>
 
 /// Whether a field is asked for: 1 or true, and not 0 or false.
 fn flag_in(value: &Value) -> Result<bool, Refusal>
-    ensures { Gives (λ b. b) (flag_in (tree value.now)) result }
+    ensures { Gives Refusal.OutOfMemory (λ b. b) result (flag_in (tree value.now)) }
 {
     match value {
         Value::Bool(flag) => Ok(*flag),
@@ -160,7 +160,7 @@ fn names_id(includes: bool, id: Option<bool>, paths: &[Path]) -> bool
 
 /// The path `_id`.
 fn id_path(alloc: Global) -> Result<Path, Refusal>
-    ensures { Gives (λ p. p) (Ok id_path) result }
+    ensures { Gives Refusal.OutOfMemory (λ p. p) result (Ok id_path) }
 {
     path_in(alloc, "_id")
 }
@@ -254,7 +254,7 @@ impl Projection {
 
     /// The projection that a document spells, or the first misuse from the left.
     pub fn read(alloc: Global, document: &Document) -> Result<Projection, Refusal>
-        ensures { Gives (λ p. p) (read_projection document.now) result }
+        ensures { Gives Refusal.OutOfMemory (λ p. p) result (read_projection document.now) }
     {
         read_fields(alloc, document)?.projection(alloc)
     }

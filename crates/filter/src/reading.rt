@@ -2,7 +2,7 @@
 
 ghost use Rattle.std.specs.Prelude.{◌≡◌};
 ghost use Rattle.bson.specs.View.{tree};
-ghost use Rattle.path.specs.View.{Gives};
+ghost use Rattle.outcome.specs.Outcome.{Gives};
 ghost use Rattle.filter.specs.Reading.{named_condition, operation, read_filter, read_members, read_filters, read_member, read_operand, read_operators, read_element, read_not};
 ghost use Rattle.filter.specs.View.{condition_of};
 
@@ -16,7 +16,7 @@ use std::alloc::Global;
 impl Filter {
     /// The filter that a document spells, or the first misuse from the left.
     pub fn read(alloc: Global, document: &Document) -> Result<Filter, Refusal>
-        ensures { Gives (λ f. f) (read_filter document.now) result }
+        ensures { Gives Refusal.OutOfMemory (λ f. f) result (read_filter document.now) }
     {
         read_filter(alloc, document)
     }
@@ -25,7 +25,7 @@ impl Filter {
 /// All pairs of a filter.
 #[cycle(reading)]
 fn read_filter(alloc: Global, document: &Document) -> Result<Filter, Refusal>
-    ensures { Gives (λ f. f) (read_filter document.now) result }
+    ensures { Gives Refusal.OutOfMemory (λ f. f) result (read_filter document.now) }
 {
     let mut conditions = Vec::with_capacity(alloc, document.len())?;
     'pairs: for pair in document.pairs() {
@@ -38,8 +38,8 @@ fn read_filter(alloc: Global, document: &Document) -> Result<Filter, Refusal>
 /// One pair: a list of filters, or a path and what is asked there.
 #[cycle(reading)]
 fn read_condition(alloc: Global, name: &str, value: &Value) -> Result<Condition, Refusal>
-    ensures { Gives condition_of (named_condition name.now (read_members (tree value.now))
-        (read_operand (tree value.now))) result }
+    ensures { Gives Refusal.OutOfMemory condition_of result
+        (named_condition name.now (read_members (tree value.now)) (read_operand (tree value.now))) }
 {
     if name == "$and" {
         return Ok(Condition::All(read_members(alloc, value)?));
@@ -57,7 +57,7 @@ fn read_condition(alloc: Global, name: &str, value: &Value) -> Result<Condition,
 /// A list of filters that isn't empty.
 #[cycle(reading)]
 fn read_members(alloc: Global, value: &Value) -> Result<Filter, Refusal>
-    ensures { Gives (λ f. f) (read_members (tree value.now)) result }
+    ensures { Gives Refusal.OutOfMemory (λ f. f) result (read_members (tree value.now)) }
 {
     match value {
         Value::Array(array) if array.is_empty() => Err(Refusal::BadValue),
@@ -68,7 +68,7 @@ fn read_members(alloc: Global, value: &Value) -> Result<Filter, Refusal>
 
 #[cycle(reading)]
 fn read_filters(alloc: Global, array: &Array) -> Result<Filter, Refusal>
-    ensures { Gives (λ f. f) (read_filters array.now) result }
+    ensures { Gives Refusal.OutOfMemory (λ f. f) result (read_filters array.now) }
 {
     let mut conditions = Vec::with_capacity(alloc, array.len())?;
     'items: for item in array.items() {
@@ -80,7 +80,7 @@ fn read_filters(alloc: Global, array: &Array) -> Result<Filter, Refusal>
 
 #[cycle(reading)]
 fn read_member(alloc: Global, value: &Value) -> Result<Condition, Refusal>
-    ensures { Gives condition_of (read_member (tree value.now)) result }
+    ensures { Gives Refusal.OutOfMemory condition_of result (read_member (tree value.now)) }
 {
     match value {
         Value::Document(document) => Ok(Condition::All(read_filter(alloc, document)?)),
@@ -91,7 +91,7 @@ fn read_member(alloc: Global, value: &Value) -> Result<Condition, Refusal>
 /// What is asked at a path: an operator document, or a value to be equal to.
 #[cycle(reading)]
 fn read_operand(alloc: Global, value: &Value) -> Result<Filter, Refusal>
-    ensures { Gives (λ f. f) (read_operand (tree value.now)) result }
+    ensures { Gives Refusal.OutOfMemory (λ f. f) result (read_operand (tree value.now)) }
 {
     match value {
         Value::Document(document) if has_operators(document) => read_operators(alloc, document),
@@ -101,7 +101,7 @@ fn read_operand(alloc: Global, value: &Value) -> Result<Filter, Refusal>
 
 #[cycle(reading)]
 fn read_operators(alloc: Global, document: &Document) -> Result<Filter, Refusal>
-    ensures { Gives (λ f. f) (read_operators document.now) result }
+    ensures { Gives Refusal.OutOfMemory (λ f. f) result (read_operators document.now) }
 {
     let mut conditions = Vec::with_capacity(alloc, document.len())?;
     'pairs: for pair in document.pairs() {
@@ -114,8 +114,8 @@ fn read_operators(alloc: Global, document: &Document) -> Result<Filter, Refusal>
 #[cycle(reading)]
 fn read_operator(alloc: Global, name: &str, value: &Value) -> Result<Condition, Refusal>
     ensures { let operand = tree value.now in
-        Gives condition_of
-        (operation name.now (read_element operand) (read_not operand) operand) result }
+        Gives Refusal.OutOfMemory condition_of result
+        (operation name.now (read_element operand) (read_not operand) operand) }
 {
     if name == "$elemMatch" {
         return read_element(alloc, value);
@@ -132,7 +132,7 @@ fn read_operator(alloc: Global, name: &str, value: &Value) -> Result<Condition, 
 /// What `$elemMatch` asks of one element.
 #[cycle(reading)]
 pub(crate) fn read_element(alloc: Global, value: &Value) -> Result<Condition, Refusal>
-    ensures { Gives condition_of (read_element (tree value.now)) result }
+    ensures { Gives Refusal.OutOfMemory condition_of result (read_element (tree value.now)) }
 {
     match value {
         Value::Document(document) if has_operators(document) => {
@@ -145,7 +145,7 @@ pub(crate) fn read_element(alloc: Global, value: &Value) -> Result<Condition, Re
 
 #[cycle(reading)]
 fn read_not(alloc: Global, value: &Value) -> Result<Condition, Refusal>
-    ensures { Gives condition_of (read_not (tree value.now)) result }
+    ensures { Gives Refusal.OutOfMemory condition_of result (read_not (tree value.now)) }
 {
     match value {
         Value::Document(document) if has_operators(document) => {

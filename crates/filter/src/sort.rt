@@ -2,7 +2,7 @@
 
 ghost use Rattle.std.specs.Prelude.{◌≡◌, ◌==◌, [], IfOk, length};
 ghost use Rattle.bson.specs.View.{tree};
-ghost use Rattle.path.specs.View.{Gives};
+ghost use Rattle.outcome.specs.Outcome.{Gives};
 ghost use Rattle.filter.specs.SortReading.{direction_of, direction_in, read_field, read_sort};
 
 use crate::operands::path_in;
@@ -38,7 +38,7 @@ impl Model for Sort {
 }
 
 fn direction_of(number: i64) -> Result<bool, Refusal>
-    ensures { Gives (λ b. b) (direction_of number) result }
+    ensures { Gives Refusal.OutOfMemory (λ b. b) result (direction_of number) }
 {
     if number == 1 {
         return Ok(false);
@@ -51,7 +51,7 @@ fn direction_of(number: i64) -> Result<bool, Refusal>
 
 /// Whether a field is descending: -1, and not 1.
 fn direction_in(value: &Value) -> Result<bool, Refusal>
-    ensures { Gives (λ b. b) (direction_in (tree value.now)) result }
+    ensures { Gives Refusal.OutOfMemory (λ b. b) result (direction_in (tree value.now)) }
 {
     match value {
         Value::Int32(number) => direction_of(i64::from(*number)),
@@ -64,7 +64,7 @@ impl Field {
     ghost use Rattle.filter.specs.SortKeys.{field_of};
 
     fn read(alloc: Global, name: &str, value: &Value) -> Result<Field, Refusal>
-        ensures { Gives field_of (read_field name.now (tree value.now)) result }
+        ensures { Gives Refusal.OutOfMemory field_of result (read_field name.now (tree value.now)) }
     {
         let path = path_in(alloc, name)?;
         let descending = direction_in(value)?;
@@ -94,7 +94,7 @@ impl Sort {
     /// The sort that a document spells, or the first misuse from the left. It has 32 fields at most, and nothing of
     /// one more is looked at.
     pub fn read(alloc: Global, document: &Document) -> Result<Sort, Refusal>
-        ensures { Gives (λ s. s) (read_sort document.now) result }
+        ensures { Gives Refusal.OutOfMemory (λ s. s) result (read_sort document.now) }
     {
         let mut fields = Vec::new(alloc);
         'pairs: for pair in document.pairs() {

@@ -114,19 +114,30 @@ fn each_class(rt: HostRuntime) -> Result<(), Fail> {
     Ok(())
 }
 
+const MANY_VALUES_LISTS: [&str; 4] = [
+    "{_id: 1, v: [3, 9]}",
+    "{_id: 2, v: 5}",
+    "{_id: 3, v: [1, 10]}",
+    "{_id: 4, v: [6]}",
+];
+
+const MANY_VALUES_NESTED: [&str; 7] = [
+    "{_id: 1, a: [{b: 4}, {b: 1}]}",
+    "{_id: 2, a: {b: 2}}",
+    "{_id: 3, a: [{c: 1}]}",
+    "{_id: 4, a: []}",
+    "{_id: 5, a: [5]}",
+    "{_id: 6, a: 5}",
+    "{_id: 7, a: [{b: []}]}",
+];
+
 #[test]
 fn many_values(rt: HostRuntime) -> Result<(), Fail> {
-    let lists = [
-        "{_id: 1, v: [3, 9]}",
-        "{_id: 2, v: 5}",
-        "{_id: 3, v: [1, 10]}",
-        "{_id: 4, v: [6]}",
-    ];
     assert!(rt;
         sorts(
             rt.alloc(),
             "{v: 1L}",
-            all(rt.alloc(), &lists)?,
+            all(rt.alloc(), &MANY_VALUES_LISTS)?,
             &[3, 1, 2, 4]
         )?
     );
@@ -134,26 +145,17 @@ fn many_values(rt: HostRuntime) -> Result<(), Fail> {
         sorts(
             rt.alloc(),
             "{v: -1L}",
-            all(rt.alloc(), &lists)?,
+            all(rt.alloc(), &MANY_VALUES_LISTS)?,
             &[3, 1, 4, 2]
         )?
     );
     // a path through arrays may reach many values, Missing, or nothing at all
-    let nested = [
-        "{_id: 1, a: [{b: 4}, {b: 1}]}",
-        "{_id: 2, a: {b: 2}}",
-        "{_id: 3, a: [{c: 1}]}",
-        "{_id: 4, a: []}",
-        "{_id: 5, a: [5]}",
-        "{_id: 6, a: 5}",
-        "{_id: 7, a: [{b: []}]}",
-    ];
     let rising = [7, 3, 4, 5, 6, 1, 2];
     assert!(rt;
         sorts(
             rt.alloc(),
             "{\"a.b\": 1}",
-            all(rt.alloc(), &nested)?,
+            all(rt.alloc(), &MANY_VALUES_NESTED)?,
             &rising
         )?
     );
@@ -162,27 +164,28 @@ fn many_values(rt: HostRuntime) -> Result<(), Fail> {
         sorts(
             rt.alloc(),
             "{\"a.b\": -1}",
-            all(rt.alloc(), &nested)?,
+            all(rt.alloc(), &MANY_VALUES_NESTED)?,
             &falling
         )?
     );
     Ok(())
 }
 
+const TWO_FIELDS_FIVE: [&str; 5] = [
+    "{_id: 1, a: 1, b: 1}",
+    "{_id: 2, a: 0, b: 1}",
+    "{_id: 3, a: 1, b: 2}",
+    "{_id: 4, a: 0, b: 2}",
+    "{_id: 5, a: 1, b: 1}",
+];
+
 #[test]
 fn two_fields(rt: HostRuntime) -> Result<(), Fail> {
-    let five = [
-        "{_id: 1, a: 1, b: 1}",
-        "{_id: 2, a: 0, b: 1}",
-        "{_id: 3, a: 1, b: 2}",
-        "{_id: 4, a: 0, b: 2}",
-        "{_id: 5, a: 1, b: 1}",
-    ];
     assert!(rt;
         sorts(
             rt.alloc(),
             "{a: 1, b: -1}",
-            all(rt.alloc(), &five)?,
+            all(rt.alloc(), &TWO_FIELDS_FIVE)?,
             &[4, 2, 3, 1, 5]
         )?
     );
@@ -190,7 +193,7 @@ fn two_fields(rt: HostRuntime) -> Result<(), Fail> {
         sorts(
             rt.alloc(),
             "{b: -1, a: 1}",
-            all(rt.alloc(), &five)?,
+            all(rt.alloc(), &TWO_FIELDS_FIVE)?,
             &[4, 3, 2, 1, 5]
         )?
     );
@@ -198,11 +201,18 @@ fn two_fields(rt: HostRuntime) -> Result<(), Fail> {
         sorts(
             rt.alloc(),
             "{a: -1, b: 1}",
-            all(rt.alloc(), &five)?,
+            all(rt.alloc(), &TWO_FIELDS_FIVE)?,
             &[1, 5, 3, 2, 4]
         )?
     );
-    assert!(rt; sorts(rt.alloc(), "{}", all(rt.alloc(), &five)?, &[1, 2, 3, 4, 5])?);
+    assert!(rt;
+        sorts(
+            rt.alloc(),
+            "{}",
+            all(rt.alloc(), &TWO_FIELDS_FIVE)?,
+            &[1, 2, 3, 4, 5]
+        )?
+    );
     Ok(())
 }
 
@@ -248,28 +258,29 @@ fn code(alloc: Global, sort: &Document) -> i32 {
     }
 }
 
+const MISUSES_CASES: [(&str, i32); 16] = [
+    ("{}", 0),
+    ("{a: 1, b: -1, c: 1L, d: -1L}", 0),
+    ("{a: 2}", 2),
+    ("{a: 0}", 2),
+    ("{a: -2L}", 2),
+    ("{a: 'x'}", 14),
+    ("{a: null}", 14),
+    ("{a: true}", 14),
+    ("{\"\": 1}", 56),
+    ("{\"a..b\": 1}", 56),
+    ("{$a: 1}", 52),
+    ("{\"a.$b\": 1}", 52),
+    // the first from the left, a name before its value
+    ("{\"a..b\": 'x'}", 56),
+    ("{a: 2, $b: 1}", 2),
+    ("{$b: 1, a: 2}", 52),
+    ("{a: 'x', b: 2}", 14),
+];
+
 #[test]
 fn misuses(rt: HostRuntime) -> Result<(), Fail> {
-    let cases = [
-        ("{}", 0),
-        ("{a: 1, b: -1, c: 1L, d: -1L}", 0),
-        ("{a: 2}", 2),
-        ("{a: 0}", 2),
-        ("{a: -2L}", 2),
-        ("{a: 'x'}", 14),
-        ("{a: null}", 14),
-        ("{a: true}", 14),
-        ("{\"\": 1}", 56),
-        ("{\"a..b\": 1}", 56),
-        ("{$a: 1}", 52),
-        ("{\"a.$b\": 1}", 52),
-        // the first from the left, a name before its value
-        ("{\"a..b\": 'x'}", 56),
-        ("{a: 2, $b: 1}", 2),
-        ("{$b: 1, a: 2}", 52),
-        ("{a: 'x', b: 2}", 14),
-    ];
-    for (sort, expected) in &cases {
+    for (sort, expected) in &MISUSES_CASES {
         let sort = document(rt.alloc(), sort)?;
         assert_eq!(rt; code(rt.alloc(), &sort), *expected);
     }

@@ -67,22 +67,26 @@ fn one_commit(rt: HostRuntime) -> Result<(), Fail> {
     Ok(())
 }
 
+const NOTHING_TO_DELETE_SCRIPT: [(&str, &str); 3] = [
+    (
+        "{delete: 'c', deletes: [{q: {a: 2}, limit: 0}, {q: {a: 2}, limit: 1}], $db: 't'}",
+        "{n: 0, ok: 1}",
+    ),
+    (
+        "{delete: 'd', deletes: [{q: {}, limit: 0}], $db: 't'}",
+        "{n: 0, ok: 1}",
+    ),
+    ("{count: 'c', $db: 't'}", "{n: 1, ok: 1}"),
+];
+
 #[test]
 fn nothing_to_delete(rt: HostRuntime) -> Result<(), Fail> {
     let alloc = rt.alloc();
     let mut session = Session::filled(alloc, "[{_id: 1, a: 1}]")?;
-    let script = [
-        (
-            "{delete: 'c', deletes: [{q: {a: 2}, limit: 0}, {q: {a: 2}, limit: 1}], $db: 't'}",
-            "{n: 0, ok: 1}",
-        ),
-        (
-            "{delete: 'd', deletes: [{q: {}, limit: 0}], $db: 't'}",
-            "{n: 0, ok: 1}",
-        ),
-        ("{count: 'c', $db: 't'}", "{n: 1, ok: 1}"),
-    ];
-    assert_eq!(rt; session.answered_otherwise(&script)?, None);
+    assert_eq!(rt;
+        session.answered_otherwise(&NOTHING_TO_DELETE_SCRIPT)?,
+        None
+    );
     let refused = "{delete: 'c', deletes: [{q: {}, limit: 0}, {q: {}}], $db: 't'}";
     assert!(rt; session.refuses(refused, 9)?);
     let mut disk = session.into_disk();
@@ -115,22 +119,32 @@ fn emptied(rt: HostRuntime) -> Result<(), Fail> {
     Ok(())
 }
 
+const AN_EMPTIED_ONE_KEEPS_ITS_NUMBER_SCRIPT_FIRST: [(&str, &str); 3] = [
+    (
+        "{insert: 'd', documents: [{_id: 2}], $db: 't'}",
+        "{n: 1, ok: 1}",
+    ),
+    (DELETE_ALL, "{n: 1, ok: 1}"),
+    (
+        "{insert: 'e', documents: [{_id: 3}], $db: 't'}",
+        "{n: 1, ok: 1}",
+    ),
+];
+
+const AN_EMPTIED_ONE_KEEPS_ITS_NUMBER_SCRIPT_SECOND: [(&str, &str); 3] = [
+    ("{count: 'c', $db: 't'}", "{n: 0, ok: 1}"),
+    ("{count: 'd', $db: 't'}", "{n: 1, ok: 1}"),
+    ("{count: 'e', $db: 't'}", "{n: 1, ok: 1}"),
+];
+
 #[test]
 fn an_emptied_one_keeps_its_number(rt: HostRuntime) -> Result<(), Fail> {
     let alloc = rt.alloc();
     let mut session = Session::filled(alloc, "[{_id: 1}]")?;
-    let script = [
-        (
-            "{insert: 'd', documents: [{_id: 2}], $db: 't'}",
-            "{n: 1, ok: 1}",
-        ),
-        (DELETE_ALL, "{n: 1, ok: 1}"),
-        (
-            "{insert: 'e', documents: [{_id: 3}], $db: 't'}",
-            "{n: 1, ok: 1}",
-        ),
-    ];
-    assert_eq!(rt; session.answered_otherwise(&script)?, None);
+    assert_eq!(rt;
+        session.answered_otherwise(&AN_EMPTIED_ONE_KEEPS_ITS_NUMBER_SCRIPT_FIRST)?,
+        None
+    );
     let mut disk = session.into_disk();
     // three pairs of 40 bytes are the catalogue, and the number stands at 27 in each: the third isn't given the first's
     let page = sector(&rt, &mut disk, 16);
@@ -139,12 +153,10 @@ fn an_emptied_one_keeps_its_number(rt: HostRuntime) -> Result<(), Fail> {
         assert_eq!(rt; page[at + 27], number);
     }
     let mut session = Session::over(alloc, disk)?;
-    let script = [
-        ("{count: 'c', $db: 't'}", "{n: 0, ok: 1}"),
-        ("{count: 'd', $db: 't'}", "{n: 1, ok: 1}"),
-        ("{count: 'e', $db: 't'}", "{n: 1, ok: 1}"),
-    ];
-    assert_eq!(rt; session.answered_otherwise(&script)?, None);
+    assert_eq!(rt;
+        session.answered_otherwise(&AN_EMPTIED_ONE_KEEPS_ITS_NUMBER_SCRIPT_SECOND)?,
+        None
+    );
     Ok(())
 }
 

@@ -54,64 +54,67 @@ fn sixteen(alloc: Global) -> Result<Document, Fail> {
     Ok(insert)
 }
 
+const EACH_CLASS_CASES: [(&str, &str); 2] = [
+    // an empty array stands before null, missing as null, an array by its least element
+    (
+        "sort: {v: 1}",
+        "[13, 7, 12, 14, 15, 10, 11, 9, 8, 16, 6, 5, 4, 3, 2, 1]",
+    ),
+    // an array by its greatest element, and ties in the order of `_id`
+    (
+        "sort: {v: -1}",
+        "[1, 2, 3, 4, 5, 6, 16, 8, 9, 15, 10, 11, 12, 14, 7, 13]",
+    ),
+];
+
 #[test]
 fn each_class(rt: HostRuntime) -> Result<(), Fail> {
     let mut session = Session::new(rt.alloc())?;
     assert!(rt; session.does(&sixteen(rt.alloc())?)?);
-    let cases = [
-        // an empty array stands before null, missing as null, an array by its least element
-        (
-            "sort: {v: 1}",
-            "[13, 7, 12, 14, 15, 10, 11, 9, 8, 16, 6, 5, 4, 3, 2, 1]",
-        ),
-        // an array by its greatest element, and ties in the order of `_id`
-        (
-            "sort: {v: -1}",
-            "[1, 2, 3, 4, 5, 6, 16, 8, 9, 15, 10, 11, 12, 14, 7, 13]",
-        ),
-    ];
-    assert_eq!(rt; session.found_otherwise(&cases)?, None);
+    assert_eq!(rt; session.found_otherwise(&EACH_CLASS_CASES)?, None);
     Ok(())
 }
+
+const SORTS_AND_WINDOWS_CASES: [(&str, &str); 9] = [
+    // no sort and an empty one: rising `_id`
+    ("", "[1, 2, 3, 4, 5]"),
+    ("sort: {}", "[1, 2, 3, 4, 5]"),
+    ("sort: {_id: -1}", "[5, 4, 3, 2, 1]"),
+    // the first field counts most, ties keep the order of `_id`
+    ("sort: {a: 1, b: -1}", "[4, 2, 3, 1, 5]"),
+    ("sort: {b: -1, a: 1}", "[4, 3, 2, 1, 5]"),
+    // the filter comes before the sort, the sort before the window
+    ("filter: {a: 1}, sort: {b: -1}", "[3, 1, 5]"),
+    ("filter: {a: 1}, sort: {b: -1}, skip: 1, limit: 1", "[1]"),
+    ("limit: 2, sort: {_id: -1}", "[5, 4]"),
+    // and the projection comes last
+    (
+        "projection: {_id: 1}, sort: {a: -1, b: -1}",
+        "[3, 1, 5, 4, 2]",
+    ),
+];
 
 #[test]
 fn sorts_and_windows(rt: HostRuntime) -> Result<(), Fail> {
     let documents =
         "[{_id: 1, a: 1, b: 1}, {_id: 2, a: 0, b: 1}, {_id: 3, a: 1, b: 2}, {_id: 4, a: 0, b: 2}, {_id: 5, a: 1, b: 1}]";
     let mut session = Session::filled(rt.alloc(), documents)?;
-    let cases = [
-        // no sort and an empty one: rising `_id`
-        ("", "[1, 2, 3, 4, 5]"),
-        ("sort: {}", "[1, 2, 3, 4, 5]"),
-        ("sort: {_id: -1}", "[5, 4, 3, 2, 1]"),
-        // the first field counts most, ties keep the order of `_id`
-        ("sort: {a: 1, b: -1}", "[4, 2, 3, 1, 5]"),
-        ("sort: {b: -1, a: 1}", "[4, 3, 2, 1, 5]"),
-        // the filter comes before the sort, the sort before the window
-        ("filter: {a: 1}, sort: {b: -1}", "[3, 1, 5]"),
-        ("filter: {a: 1}, sort: {b: -1}, skip: 1, limit: 1", "[1]"),
-        ("limit: 2, sort: {_id: -1}", "[5, 4]"),
-        // and the projection comes last
-        (
-            "projection: {_id: 1}, sort: {a: -1, b: -1}",
-            "[3, 1, 5, 4, 2]",
-        ),
-    ];
-    assert_eq!(rt; session.found_otherwise(&cases)?, None);
+    assert_eq!(rt; session.found_otherwise(&SORTS_AND_WINDOWS_CASES)?, None);
     Ok(())
 }
+
+const REFUSED_SORTS_CASES: [(&str, i32); 5] = [
+    ("{find: 'c', sort: {a: 2}, $db: 't'}", 2),
+    ("{find: 'c', sort: {a: 'x'}, $db: 't'}", 14),
+    ("{find: 'c', sort: {$a: 1}, $db: 't'}", 52),
+    ("{find: 'c', sort: {\"a..b\": 1}, $db: 't'}", 56),
+    ("{find: 'c', sort: {a: 2, $b: 1}, $db: 't'}", 2),
+];
 
 #[test]
 fn refused_sorts(rt: HostRuntime) -> Result<(), Fail> {
     let mut session = Session::new(rt.alloc())?;
-    let cases = [
-        ("{find: 'c', sort: {a: 2}, $db: 't'}", 2),
-        ("{find: 'c', sort: {a: 'x'}, $db: 't'}", 14),
-        ("{find: 'c', sort: {$a: 1}, $db: 't'}", 52),
-        ("{find: 'c', sort: {\"a..b\": 1}, $db: 't'}", 56),
-        ("{find: 'c', sort: {a: 2, $b: 1}, $db: 't'}", 2),
-    ];
-    assert_eq!(rt; session.refused_otherwise(&cases)?, None);
+    assert_eq!(rt; session.refused_otherwise(&REFUSED_SORTS_CASES)?, None);
     Ok(())
 }
 

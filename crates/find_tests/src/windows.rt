@@ -7,86 +7,90 @@ use std::test::*;
 const FIVE: &str =
     "[{_id: 1, a: 1}, {_id: 2, a: 1}, {_id: 3, a: 1}, {_id: 4, a: 2}, {_id: 5, a: 2}]";
 
+const SKIPS_AND_LIMITS_CASES: [(&str, &str); 10] = [
+    ("skip: 0, limit: 0", "[1, 2, 3, 4, 5]"),
+    ("skip: 2", "[3, 4, 5]"),
+    ("limit: 2", "[1, 2]"),
+    // skip comes before limit, whatever the order written
+    ("skip: 1, limit: 2", "[2, 3]"),
+    ("limit: 2, skip: 1", "[2, 3]"),
+    ("skip: 4, limit: 2", "[5]"),
+    ("skip: 5", "[]"),
+    ("skip: 6, limit: 1", "[]"),
+    // of what the filter found
+    ("filter: {a: 2}, skip: 1", "[5]"),
+    ("filter: {a: 1}, skip: 1, limit: 1", "[2]"),
+];
+
 #[test]
 fn skips_and_limits(rt: HostRuntime) -> Result<(), Fail> {
     let mut session = Session::filled(rt.alloc(), FIVE)?;
-    let cases = [
-        ("skip: 0, limit: 0", "[1, 2, 3, 4, 5]"),
-        ("skip: 2", "[3, 4, 5]"),
-        ("limit: 2", "[1, 2]"),
-        // skip comes before limit, whatever the order written
-        ("skip: 1, limit: 2", "[2, 3]"),
-        ("limit: 2, skip: 1", "[2, 3]"),
-        ("skip: 4, limit: 2", "[5]"),
-        ("skip: 5", "[]"),
-        ("skip: 6, limit: 1", "[]"),
-        // of what the filter found
-        ("filter: {a: 2}, skip: 1", "[5]"),
-        ("filter: {a: 1}, skip: 1, limit: 1", "[2]"),
-    ];
-    assert_eq!(rt; session.found_otherwise(&cases)?, None);
+    assert_eq!(rt; session.found_otherwise(&SKIPS_AND_LIMITS_CASES)?, None);
     Ok(())
 }
+
+const COUNTS_SCRIPT: [(&str, &str); 12] = [
+    ("{count: 'c', $db: 't'}", "{n: 5, ok: 1}"),
+    ("{count: 'c', query: {}, $db: 't'}", "{n: 5, ok: 1}"),
+    ("{count: 'c', query: {a: 1}, $db: 't'}", "{n: 3, ok: 1}"),
+    ("{count: 'c', query: {a: 9}, $db: 't'}", "{n: 0, ok: 1}"),
+    (
+        "{count: 'c', query: {a: 1}, skip: 1, $db: 't'}",
+        "{n: 2, ok: 1}",
+    ),
+    (
+        "{count: 'c', query: {a: 1}, limit: 2, $db: 't'}",
+        "{n: 2, ok: 1}",
+    ),
+    (
+        "{count: 'c', query: {a: 1}, skip: 2, limit: 2, $db: 't'}",
+        "{n: 1, ok: 1}",
+    ),
+    ("{count: 'c', limit: 2, skip: 1, $db: 't'}", "{n: 2, ok: 1}"),
+    ("{count: 'c', skip: 6, $db: 't'}", "{n: 0, ok: 1}"),
+    ("{count: 'c', limit: 0, $db: 't'}", "{n: 5, ok: 1}"),
+    (
+        "{count: 'c', limit: 9L, skip: 4L, $db: 't'}",
+        "{n: 1, ok: 1}",
+    ),
+    (
+        "{count: 'c', skip: 9223372036854775807L, limit: 9223372036854775807L, $db: 't'}",
+        "{n: 0, ok: 1}",
+    ),
+];
 
 #[test]
 fn counts(rt: HostRuntime) -> Result<(), Fail> {
     let mut session = Session::filled(rt.alloc(), FIVE)?;
-    let script = [
-        ("{count: 'c', $db: 't'}", "{n: 5, ok: 1}"),
-        ("{count: 'c', query: {}, $db: 't'}", "{n: 5, ok: 1}"),
-        ("{count: 'c', query: {a: 1}, $db: 't'}", "{n: 3, ok: 1}"),
-        ("{count: 'c', query: {a: 9}, $db: 't'}", "{n: 0, ok: 1}"),
-        (
-            "{count: 'c', query: {a: 1}, skip: 1, $db: 't'}",
-            "{n: 2, ok: 1}",
-        ),
-        (
-            "{count: 'c', query: {a: 1}, limit: 2, $db: 't'}",
-            "{n: 2, ok: 1}",
-        ),
-        (
-            "{count: 'c', query: {a: 1}, skip: 2, limit: 2, $db: 't'}",
-            "{n: 1, ok: 1}",
-        ),
-        ("{count: 'c', limit: 2, skip: 1, $db: 't'}", "{n: 2, ok: 1}"),
-        ("{count: 'c', skip: 6, $db: 't'}", "{n: 0, ok: 1}"),
-        ("{count: 'c', limit: 0, $db: 't'}", "{n: 5, ok: 1}"),
-        (
-            "{count: 'c', limit: 9L, skip: 4L, $db: 't'}",
-            "{n: 1, ok: 1}",
-        ),
-        (
-            "{count: 'c', skip: 9223372036854775807L, limit: 9223372036854775807L, $db: 't'}",
-            "{n: 0, ok: 1}",
-        ),
-    ];
-    assert_eq!(rt; session.answered_otherwise(&script)?, None);
+    assert_eq!(rt; session.answered_otherwise(&COUNTS_SCRIPT)?, None);
     Ok(())
 }
+
+const BATCH_SIZES_REFUSED: [(&str, i32); 5] = [
+    // what a batch leaves would need a cursor
+    ("{find: 'c', batchSize: 0, $db: 't'}", 9002),
+    ("{find: 'c', batchSize: 4, $db: 't'}", 9002),
+    ("{find: 'c', batchSize: 2, skip: 2, $db: 't'}", 9002),
+    ("{find: 'c', batchSize: 1, limit: 2, $db: 't'}", 9002),
+    ("{find: 'c', batchSize: 2, filter: {a: 1}, $db: 't'}", 9002),
+];
+
+const BATCH_SIZES_CASES: [(&str, &str); 6] = [
+    ("batchSize: 5", "[1, 2, 3, 4, 5]"),
+    // of what is found after skip and limit
+    ("batchSize: 3, skip: 2", "[3, 4, 5]"),
+    ("batchSize: 1, limit: 1", "[1]"),
+    ("batchSize: 2, filter: {a: 2}", "[4, 5]"),
+    // where nothing is found nothing is left
+    ("batchSize: 0, filter: {a: 9}", "[]"),
+    ("batchSize: 0, skip: 5", "[]"),
+];
 
 #[test]
 fn batch_sizes(rt: HostRuntime) -> Result<(), Fail> {
     let mut session = Session::filled(rt.alloc(), FIVE)?;
-    let refused = [
-        // what a batch leaves would need a cursor
-        ("{find: 'c', batchSize: 0, $db: 't'}", 9002),
-        ("{find: 'c', batchSize: 4, $db: 't'}", 9002),
-        ("{find: 'c', batchSize: 2, skip: 2, $db: 't'}", 9002),
-        ("{find: 'c', batchSize: 1, limit: 2, $db: 't'}", 9002),
-        ("{find: 'c', batchSize: 2, filter: {a: 1}, $db: 't'}", 9002),
-    ];
-    assert_eq!(rt; session.refused_otherwise(&refused)?, None);
-    let cases = [
-        ("batchSize: 5", "[1, 2, 3, 4, 5]"),
-        // of what is found after skip and limit
-        ("batchSize: 3, skip: 2", "[3, 4, 5]"),
-        ("batchSize: 1, limit: 1", "[1]"),
-        ("batchSize: 2, filter: {a: 2}", "[4, 5]"),
-        // where nothing is found nothing is left
-        ("batchSize: 0, filter: {a: 9}", "[]"),
-        ("batchSize: 0, skip: 5", "[]"),
-    ];
-    assert_eq!(rt; session.found_otherwise(&cases)?, None);
+    assert_eq!(rt; session.refused_otherwise(&BATCH_SIZES_REFUSED)?, None);
+    assert_eq!(rt; session.found_otherwise(&BATCH_SIZES_CASES)?, None);
     Ok(())
 }
 
@@ -102,37 +106,46 @@ fn many(alloc: Global, count: i32) -> Result<String, Fail> {
     Ok(documents)
 }
 
+const A_BATCH_OF_NO_SIZE_REFUSED: [(&str, i32); 5] = [
+    // at most 101 where no size is said
+    ("{find: 'c', $db: 't'}", 9002),
+    (
+        "{find: 'c', sort: {a: 1}, projection: {_id: 1}, $db: 't'}",
+        9002,
+    ),
+    ("{find: 'c', skip: 2, $db: 't'}", 9002),
+    ("{find: 'c', limit: 102, $db: 't'}", 9002),
+    ("{find: 'c', limit: 1, batchSize: 0, $db: 't'}", 9002),
+];
+
+const A_BATCH_OF_NO_SIZE_CASES: [(&str, &str); 4] = [
+    ("skip: 102", "[102, 103]"),
+    ("sort: {_id: -1}, skip: 101", "[2, 1, 0]"),
+    ("limit: 2", "[0, 1]"),
+    ("filter: {_id: {$gte: 101}, a: 1}", "[101, 103]"),
+];
+
+const A_BATCH_OF_NO_SIZE_SCRIPT: [(&str, &str); 3] = [
+    ("{count: 'c', $db: 't'}", "{n: 104, ok: 1}"),
+    ("{count: 'c', query: {a: 1}, $db: 't'}", "{n: 52, ok: 1}"),
+    (
+        "{delete: 'c', deletes: [{q: {_id: {$lt: 3}}, limit: 0}], $db: 't'}",
+        "{n: 3, ok: 1}",
+    ),
+];
+
 #[test]
 fn a_batch_of_no_size(rt: HostRuntime) -> Result<(), Fail> {
     let mut session = Session::filled(rt.alloc(), &many(rt.alloc(), 104)?)?;
-    let refused = [
-        // at most 101 where no size is said
-        ("{find: 'c', $db: 't'}", 9002),
-        (
-            "{find: 'c', sort: {a: 1}, projection: {_id: 1}, $db: 't'}",
-            9002,
-        ),
-        ("{find: 'c', skip: 2, $db: 't'}", 9002),
-        ("{find: 'c', limit: 102, $db: 't'}", 9002),
-        ("{find: 'c', limit: 1, batchSize: 0, $db: 't'}", 9002),
-    ];
-    assert_eq!(rt; session.refused_otherwise(&refused)?, None);
-    let cases = [
-        ("skip: 102", "[102, 103]"),
-        ("sort: {_id: -1}, skip: 101", "[2, 1, 0]"),
-        ("limit: 2", "[0, 1]"),
-        ("filter: {_id: {$gte: 101}, a: 1}", "[101, 103]"),
-    ];
-    assert_eq!(rt; session.found_otherwise(&cases)?, None);
-    let script = [
-        ("{count: 'c', $db: 't'}", "{n: 104, ok: 1}"),
-        ("{count: 'c', query: {a: 1}, $db: 't'}", "{n: 52, ok: 1}"),
-        (
-            "{delete: 'c', deletes: [{q: {_id: {$lt: 3}}, limit: 0}], $db: 't'}",
-            "{n: 3, ok: 1}",
-        ),
-    ];
-    assert_eq!(rt; session.answered_otherwise(&script)?, None);
+    assert_eq!(rt;
+        session.refused_otherwise(&A_BATCH_OF_NO_SIZE_REFUSED)?,
+        None
+    );
+    assert_eq!(rt; session.found_otherwise(&A_BATCH_OF_NO_SIZE_CASES)?, None);
+    assert_eq!(rt;
+        session.answered_otherwise(&A_BATCH_OF_NO_SIZE_SCRIPT)?,
+        None
+    );
     // now all that is left goes into a batch
     let one = session.finds("skip: 100", "[103]")?;
     assert!(rt; one);
@@ -150,6 +163,28 @@ fn large(alloc: Global, number: i32, len: usize) -> Result<String, Fail> {
     Ok(insert)
 }
 
+const BYTES_OF_A_BATCH_REFUSED: [(&str, i32); 2] = [
+    // fifteen of 60,000 bytes and more are past 900,000
+    ("{find: 'c', $db: 't'}", 9002),
+    (
+        "{find: 'c', batchSize: 15, sort: {_id: -1}, $db: 't'}",
+        9002,
+    ),
+];
+
+const BYTES_OF_A_BATCH_CASES: [(&str, &str); 3] = [
+    // what is given counts, not what is stored
+    (
+        "projection: {_id: 1}",
+        "[0, 1, 2, 3, 4, 5, 6, 7, 8, 9, 10, 11, 12, 13, 14]",
+    ),
+    (
+        "limit: 14",
+        "[0, 1, 2, 3, 4, 5, 6, 7, 8, 9, 10, 11, 12, 13]",
+    ),
+    ("filter: {_id: 14}, batchSize: 1", "[14]"),
+];
+
 #[test]
 fn bytes_of_a_batch(rt: HostRuntime) -> Result<(), Fail> {
     let mut session = Session::new(rt.alloc())?;
@@ -157,27 +192,7 @@ fn bytes_of_a_batch(rt: HostRuntime) -> Result<(), Fail> {
         let insert = large(rt.alloc(), number, 60_000)?;
         assert!(rt; session.answers(&insert, "{n: 1, ok: 1}")?);
     }
-    let refused = [
-        // fifteen of 60,000 bytes and more are past 900,000
-        ("{find: 'c', $db: 't'}", 9002),
-        (
-            "{find: 'c', batchSize: 15, sort: {_id: -1}, $db: 't'}",
-            9002,
-        ),
-    ];
-    assert_eq!(rt; session.refused_otherwise(&refused)?, None);
-    let cases = [
-        // what is given counts, not what is stored
-        (
-            "projection: {_id: 1}",
-            "[0, 1, 2, 3, 4, 5, 6, 7, 8, 9, 10, 11, 12, 13, 14]",
-        ),
-        (
-            "limit: 14",
-            "[0, 1, 2, 3, 4, 5, 6, 7, 8, 9, 10, 11, 12, 13]",
-        ),
-        ("filter: {_id: 14}, batchSize: 1", "[14]"),
-    ];
-    assert_eq!(rt; session.found_otherwise(&cases)?, None);
+    assert_eq!(rt; session.refused_otherwise(&BYTES_OF_A_BATCH_REFUSED)?, None);
+    assert_eq!(rt; session.found_otherwise(&BYTES_OF_A_BATCH_CASES)?, None);
     Ok(())
 }

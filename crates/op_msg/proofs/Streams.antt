@@ -2,7 +2,8 @@
 use Rattle.std.proofs.Common.{◌≡◌, ℕ, ◌≤◌, List, [], ◌∷◌, ◌++◌, length, take, drop, refl, sym, ◌∙◌, ap, subst, arith, length-append}
 use Rattle.std.specs.Prelude.{Bool, true, false, nat_lt, Result, Ok, Err, Option, Some, None, if◌then◌else◌}
 use Rattle.std.proofs.lemmas.List.{take-append-le, drop-append-le}
-use Rattle.op_msg.specs.Frame.{Frame, front, frame_of, number_at, unless, is_no_length, ◌>>=◌}
+use Rattle.op_msg.specs.Frame.{Frame, front, frame_of, number_at, is_no_length}
+use Rattle.outcome.specs.Outcome.{◌>>=◌, unless}
 use Rattle.std.specs.Int.{w32, from_le_bytes}
 use Rattle.op_msg.specs.Stream.{Begins, Splits, ending}
 use Rattle.op_msg.specs.declared.fault.FrameFault.{FrameFault}

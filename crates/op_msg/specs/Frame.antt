@@ -4,20 +4,11 @@
 -- bytes are there; of the faults that wait for the whole message the first of Opcode, Flags, Checksum, Section, TwoBodies and
 -- NoBody is the one. Bytes that are no whole message and have no fault are nothing yet.
 use Rattle.std.specs.Prelude.{ℕ, zero, suc, ◌%◌, ◌^◌, Bool, false, not, ◌||◌, ◌==◌, nat_lt, if◌then◌else◌, List, [], ◌∷◌, length, take, drop, Result, Ok, Err, Option, Some, None, is_some}
+use Rattle.outcome.specs.Outcome.{◌>>=◌, unless}
 use Rattle.std.specs.Int.{w32, from_le_bytes}
 use Rattle.bson.specs.Limits.{message_limit}
 use Rattle.op_msg.specs.declared.fault.FrameFault.{FrameFault}
 use Rattle.op_msg.specs.declared.fault.FrameFault.TheVariants as faults
-
-infixl 10 ◌>>=◌
-abbrev pub ◌>>=◌ : {A B : Type 0} → Result A FrameFault → (A → Result B FrameFault)
-    → Result B FrameFault
-(Ok x) >>= f = f x
-(Err e) >>= f = Err e
-
--- goes on with what a test lets pass
-abbrev pub unless : {X : Type 0} → Bool → FrameFault → Result X FrameFault → Result X FrameFault
-unless test fault read = if test then Err fault else read
 
 -- A message in its frame: the number of the request, whether it wants no reply, and the bytes of its body.
 pub record Frame : Type 0 where

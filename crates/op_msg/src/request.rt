@@ -1,6 +1,6 @@
 //! What a message is read as.
 
-ghost use Rattle.bson.specs.Outcome.{Gives};
+ghost use Rattle.outcome.specs.Outcome.{Gives};
 ghost use Rattle.op_msg.specs.Request.{IsRequest, document_in};
 ghost use Rattle.op_msg.specs.View.{frame_in};
 

@@ -5,7 +5,8 @@ use Rattle.std.proofs.lemmas.Bool.Decides.{nat_tests}
 use Rattle.std.proofs.Math.Seq.{drop-append_seam, take-append_seam}
 use Rattle.byteorder.specs.Endian.{little_number}
 use Rattle.byteorder.specs.Numbers.{little_number-reads_back}
-use Rattle.page.specs.Format.{Content, chain, Sheet, page_bytes, ◌>>=◌, unless, are_zeros, sheet_in}
+use Rattle.page.specs.Format.{Content, chain, Sheet, page_bytes, are_zeros, sheet_in}
+use Rattle.outcome.specs.Outcome.{◌>>=◌, unless}
 use Rattle.page.specs.declared.page_image.PageFault.{PageFault}
 use Rattle.page.specs.declared.page_image.PageFault.TheVariants as faults
 

@@ -1,6 +1,7 @@
 -- The 4,096 bytes of a page: a header of sixteen bytes (kind, zero, count, the page's own number, the generation of the
 -- commit that wrote it), then what its kind has, then zeros. Numbers have their lowest byte first.
-use Rattle.std.specs.Prelude.{ℕ, ◌-◌, Bool, not, ◌||◌, ◌&&◌, ◌==◌, nat_lt, ◌≤◌, if◌then◌else◌, List, ◌∷◌, ◌++◌, length, take, drop, replicate, slice_index, Result, Ok, Err}
+use Rattle.std.specs.Prelude.{ℕ, ◌-◌, Bool, not, ◌||◌, ◌&&◌, ◌==◌, nat_lt, ◌≤◌, List, ◌∷◌, ◌++◌, length, take, drop, replicate, slice_index, Result, Ok}
+use Rattle.outcome.specs.Outcome.{◌>>=◌, unless}
 use Rattle.std.specs.List.{list_all}
 use Rattle.byteorder.specs.Endian.{little_bytes, little_number}
 use Rattle.page.specs.declared.page_image.PageFault.{PageFault}
@@ -41,16 +42,7 @@ page_bytes sheet =
     header (kind_of sheet.content) (count_of sheet.content) sheet.page sheet.generation
     ++ body_and_zeros (body_of sheet.content)
 
-infixl 10 ◌>>=◌
-abbrev pub ◌>>=◌ : {A B : Type 0} → Result A PageFault → (A → Result B PageFault)
-    → Result B PageFault
-(Ok x) >>= f = f x
-(Err e) >>= f = Err e
-
 -- ---- reading, with the first fault in the order of their numbers but Length before Order
-
-abbrev pub unless : {X : Type 0} → Bool → PageFault → Result X PageFault → Result X PageFault
-unless test fault read = if test then Err fault else read
 
 abbrev pub are_zeros : List ℕ → Bool
 are_zeros bytes = list_all (λ b. b == 0) bytes

@@ -1,11 +1,8 @@
 -- What pages of the code stand for.
-use Rattle.std.specs.Prelude.{◌≡◌, ◌≢◌, Result, Ok, Err}
 use Rattle.page.specs.Format.{Content, chain, Sheet}
 use Rattle.page.specs.declared.page_image.PageContent.{PageContent}
 use Rattle.page.specs.declared.page_image.PageContent.TheVariants as contents
 use Rattle.page.specs.declared.page_image.PageImage.{PageImage}
-use Rattle.page.specs.declared.page_image.PageFault.{PageFault}
-use Rattle.page.specs.declared.page_image.PageFault.TheVariants as faults
 
 abbrev pub content_of : PageContent → Content
 content_of (contents.Chain next bytes) = chain next bytes.items
@@ -16,8 +13,3 @@ sheet_of image = record {
   generation = image.generation;
   content = content_of image.content;
 }
-
--- What a function returned, seen by view, is what reading gives, unless memory ran out.
-abbrev pub Gives : {X Y : Type 0} → (X → Y) → Result X PageFault → Result Y PageFault → Type 0
-Gives view (Ok x) read = read ≡ Ok (view x)
-Gives view (Err e) read = e ≢ faults.Memory → read ≡ Err e

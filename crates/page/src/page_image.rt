@@ -3,7 +3,8 @@
 ghost use Rattle.std.specs.Prelude.{◌≡◌, ◌≢◌, ◌≤◌, ◌<◌, ◌++◌, length};
 ghost use Rattle.byteorder.specs.Endian.{little_bytes};
 ghost use Rattle.page.specs.Format.{chain, header, IsFit, page_bytes, are_zeros, chain_in, generation_in, content_in, sheet_in};
-ghost use Rattle.page.specs.View.{content_of, sheet_of, Gives};
+ghost use Rattle.page.specs.View.{content_of, sheet_of};
+ghost use Rattle.outcome.specs.Outcome.{Gives};
 
 use byteorder::{ByteOrder, LittleEndian};
 use std::alloc::{AllocError, Global};
@@ -88,7 +89,7 @@ fn read_chain(
     bytes: &[u8],
 ) -> Result<PageContent, PageFault>
     requires { length bytes.now ≡ 4076 }
-    ensures { Gives content_of result (chain_in count next bytes.now) }
+    ensures { Gives PageFault.Memory content_of result (chain_in count next bytes.now) }
 {
     if count > CHAIN_BYTES || (next != 0 && count < CHAIN_BYTES) {
         return Err(PageFault::Length);
@@ -104,7 +105,7 @@ fn read_chain(
 /// The generation of the page of this number, in a file whose root has this generation.
 fn read_generation(bytes: &[u8], page: u32, generation: u64) -> Result<u64, PageFault>
     requires { length bytes.now ≡ 4096 }
-    ensures { Gives (λ n. n) result (generation_in page generation bytes.now) }
+    ensures { Gives PageFault.Memory (λ n. n) result (generation_in page generation bytes.now) }
 {
     if bytes[0] != 3 || bytes[1] != 0 {
         return Err(PageFault::Kind);
@@ -119,7 +120,7 @@ fn read_generation(bytes: &[u8], page: u32, generation: u64) -> Result<u64, Page
 
 fn read_content(alloc: Global, bytes: &[u8]) -> Result<PageContent, PageFault>
     requires { length bytes.now ≡ 4096 }
-    ensures { Gives content_of result (content_in bytes.now) }
+    ensures { Gives PageFault.Memory content_of result (content_in bytes.now) }
 {
     let count = LittleEndian::read_u16(&bytes[2..]);
     let next = LittleEndian::read_u32(&bytes[16..]);
@@ -178,7 +179,7 @@ impl PageImage {
         page: u32,
         generation: u64,
     ) -> Result<PageImage, PageFault>
-        ensures { Gives sheet_of result (sheet_in page generation bytes.now) }
+        ensures { Gives PageFault.Memory sheet_of result (sheet_in page generation bytes.now) }
     {
         let generation = read_generation(bytes, page, generation)?;
         let content = read_content(alloc, bytes)?;

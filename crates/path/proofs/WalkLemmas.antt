@@ -12,7 +12,7 @@ use Rattle.bson.specs.Edits.{place, pair_at, pairs_len, put, with_value, without
 use Rattle.bson.specs.EditsLaws.{place-there, place-absent, pairs_levels-put, pairs_levels-cut, items_levels-with_item}
 use Rattle.path.specs.declared.refusal.Refusal.{Refusal}
 use Rattle.path.specs.declared.refusal.Refusal.TheVariants as refusals
-use Rattle.path.specs.View.{Gives}
+use Rattle.outcome.specs.Outcome.{Gives}
 use Rattle.path.specs.Reach.{Reached, onwards, in_elements, in_place}
 use Rattle.path.specs.Edits.{within, if_ok, write, write_item, write_field, cut_found, put_or_cut, cut_field, with_found, cut_item, cut_off}
 use Rattle.path.specs.Parts.{index_of}
@@ -44,7 +44,7 @@ lookup-levels (pair other u ps) name t e = by (bytes_eq name other) e (lookup-le
 -- ---- an answer that passes a refusal on
 
 pub refused : {A B : Type 0} (view : A → B) (planned : Result B Refusal) (r : Result A Refusal) (f : Refusal) → IsErrAnd r (λ e. e ≡ f)
-    → (f ≢ refusals.OutOfMemory → planned ≡ Err f) → Gives view planned r
+    → (f ≢ refusals.OutOfMemory → planned ≡ Err f) → Gives refusals.OutOfMemory view r planned
 refused view planned (Ok a) f is told = absurd is
 refused view planned (Err e) f is told = λ known. told (λ same. known (is ∙ same)) ∙ ap Err (sym is)
 

@@ -2,7 +2,6 @@ pub mod Refusals
 pub mod FaultNames
 pub mod Parts
 pub mod View
-pub mod Outcomes
 pub mod Reach
 pub mod Place
 pub mod Edits

@@ -1,6 +1,7 @@
 -- A path is parts joined by dots. A part isn't empty, doesn't begin with `$` and has no zero byte, and a path has at
 -- most 255 bytes.
-use Rattle.std.specs.Prelude.{ℕ, ◌≡◌, ◌+◌, ◌-◌, ◌*◌, ◌==◌, nat_lt, nat_le, ◌&&◌, ◌||◌, Bool, true, false, if◌then◌else◌, Option, Some, None, Result, Ok, Err, List, [], ◌∷◌, length}
+use Rattle.std.specs.Prelude.{ℕ, ◌≡◌, ◌+◌, ◌-◌, ◌*◌, ◌==◌, nat_lt, nat_le, ◌&&◌, ◌||◌, Bool, true, false, if◌then◌else◌, Option, Some, None, Result, List, [], ◌∷◌, length}
+use Rattle.outcome.specs.Outcome.{fault_or}
 use Rattle.std.specs.Str.{bytes_eq}
 use Rattle.std.specs.List.{slice_split, list_any, list_all}
 use Rattle.bson.specs.Lawful.{IsName}
@@ -32,13 +33,8 @@ path_fault text parts =
     if list_any has_zero parts then Some faults.Zero else
     None
 
--- the parts, where no fault is found
-abbrev pub unless : Option PathFault → List (List ℕ) → Result (List (List ℕ)) PathFault
-unless None parts = Ok parts
-unless (Some e) parts = Err e
-
 abbrev pub path_of : List ℕ → Result (List (List ℕ)) PathFault
-path_of text = unless (path_fault text (parts_of text)) (parts_of text)
+path_of text = fault_or (path_fault text (parts_of text)) (parts_of text)
 
 -- ---- what a part is
 

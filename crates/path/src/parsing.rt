@@ -3,7 +3,7 @@
 ghost use Rattle.std.specs.Prelude.{◌≡◌, ◌∷◌, IfOk, map};
 ghost use Rattle.std.specs.List.{list_any};
 ghost use Rattle.path.specs.Parts.{parts_of, path_fault, path_of, is_empty, begins_with_dollar, has_zero, is_front, meets};
-ghost use Rattle.path.specs.View.{ReadsAs};
+ghost use Rattle.outcome.specs.Outcome.{Gives};
 
 use crate::PATH_LIMIT;
 use crate::fault::PathFault;
@@ -102,7 +102,7 @@ fn has_zero(part: &str) -> bool
 impl Path {
     /// The path that a text writes, or the first of the faults that it has.
     pub fn parse(alloc: Global, text: &str) -> Result<Path, PathFault>
-        ensures { ReadsAs (path_of text.now) result }
+        ensures { Gives PathFault.Memory (λ p. p) result (path_of text.now) }
     {
         if let Some(fault) = fault_of(text) {
             return Err(fault);

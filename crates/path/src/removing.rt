@@ -9,7 +9,7 @@ ghost use Rattle.bson.specs.View.{tree};
 ghost use Rattle.path.specs.Edits.{cut_off, cut_at, cut_field, cut_item};
 ghost use Rattle.path.specs.Parts.{index_of};
 ghost use Rattle.path.specs.Place.{value_at};
-ghost use Rattle.path.specs.View.{Gives};
+ghost use Rattle.outcome.specs.Outcome.{Gives};
 
 use crate::holding::{put_field, put_item, take_field, take_item};
 use crate::parsing::Path;
@@ -20,7 +20,7 @@ use bson::{Array, Document, Value};
 /// A copy of the document without what stands at the path: a field goes, an element of an array becomes null, and
 /// where the path isn't there nothing changes. Want of memory is its only refusal.
 pub fn remove_at(document: &Document, path: &Path) -> Result<Document, Refusal>
-    ensures { Gives (λ d. d) (Ok (cut_at path.now document.now)) result }
+    ensures { Gives Refusal.OutOfMemory (λ d. d) result (Ok (cut_at path.now document.now)) }
 {
     let document = document.copy()?;
     Ok(remove_from(document, path))

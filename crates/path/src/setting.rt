@@ -7,7 +7,7 @@ ghost use Rattle.bson.specs.View.{tree};
 ghost use Rattle.bson.specs.Edits.{items_len};
 ghost use Rattle.path.specs.Edits.{write, write_at, set_at, write_field, write_item, put_item, within};
 ghost use Rattle.path.specs.Parts.{index_of};
-ghost use Rattle.path.specs.View.{Gives};
+ghost use Rattle.outcome.specs.Outcome.{Gives};
 
 use crate::MOST_NULLS;
 use crate::holding::{add_field, add_item, put_field, put_item, take_field, take_item};
@@ -22,14 +22,14 @@ pub trait NewValue {
     ghost use Rattle.std.specs.Prelude.{Option, Result, option_map};
     ghost use Rattle.bson.specs.Tree.{Tree};
     ghost use Rattle.bson.specs.View.{tree};
-    ghost use Rattle.path.specs.View.{Gives};
+    ghost use Rattle.outcome.specs.Outcome.{Gives};
     ghost use Rattle.path.specs.declared.refusal.Refusal.{Refusal as Why};
 
     ghost made: { Self → Option Tree → Result Tree Why };
 
     /// The value that is to stand there, from the one that does, if one does.
     fn make(self, old: Option<Value>) -> Result<Value, Refusal>
-        ensures { Gives tree (made self (option_map tree old)) result };
+        ensures { Gives Refusal.OutOfMemory tree result (made self (option_map tree old)) };
 }
 
 /// A value that is put there whatever stands there.
@@ -60,7 +60,8 @@ pub fn write_at(
     path: &Path,
     value: Value,
 ) -> Result<Document, Refusal>
-    ensures { Gives (λ d. d) (set_at path.now (tree value) document.now) result }
+    ensures { Gives Refusal.OutOfMemory (λ d. d) result
+        (set_at path.now (tree value) document.now) }
 {
     let document = document.copy()?;
     write_into(alloc, document, path, value)
@@ -73,7 +74,7 @@ pub fn write_into(
     path: &Path,
     value: Value,
 ) -> Result<Document, Refusal>
-    ensures { Gives (λ d. d) (set_at path.now (tree value) document) result }
+    ensures { Gives Refusal.OutOfMemory (λ d. d) result (set_at path.now (tree value) document) }
 {
     write_new(alloc, document, path, Always { value })
 }
@@ -86,7 +87,7 @@ pub fn write_new<N: NewValue + Drop>(
     path: &Path,
     new: N,
 ) -> Result<Document, Refusal>
-    ensures { Gives (λ d. d) (write_at (N.made new) path.now document) result }
+    ensures { Gives Refusal.OutOfMemory (λ d. d) result (write_at (N.made new) path.now document) }
 {
     let (part, rest) = path.split_first();
     write_field(alloc, document, part, rest, new)
@@ -100,7 +101,8 @@ fn write<N: NewValue + Drop>(
     parts: &[Part],
     new: N,
 ) -> Result<Value, Refusal>
-    ensures { Gives tree (write (N.made new) parts.now (option_map tree old)) result }
+    ensures { Gives Refusal.OutOfMemory tree result
+        (write (N.made new) parts.now (option_map tree old)) }
 {
     let [part, rest @ ..] = parts else {
         return new.make(old);
@@ -127,8 +129,8 @@ fn write_within<N: NewValue + Drop>(
     parts: &[Part],
     new: N,
 ) -> Result<Value, Refusal>
-    ensures value { Gives tree (within most (write (N.made new) parts.now
-        (option_map tree old))) result }
+    ensures value { Gives Refusal.OutOfMemory tree result
+        (within most (write (N.made new) parts.now (option_map tree old))) }
     ensures levels { IfOk result (λ v. levels (tree v) ≤ most) }
 {
     let value = write(alloc, old, parts, new)?;
@@ -147,7 +149,8 @@ fn write_field<N: NewValue + Drop>(
     rest: &[Part],
     new: N,
 ) -> Result<Document, Refusal>
-    ensures { Gives (λ d. d) (write_field (write (N.made new) rest.now) part.now document) result }
+    ensures { Gives Refusal.OutOfMemory (λ d. d) result
+        (write_field (write (N.made new) rest.now) part.now document) }
 {
     let mut document = document;
     match document.position(part.as_str()) {
@@ -173,8 +176,8 @@ fn write_item<N: NewValue + Drop>(
     rest: &[Part],
     new: N,
 ) -> Result<Array, Refusal>
-    ensures { Gives (λ a. a) (write_item (write (N.made new) rest.now)
-        (index_of part.now) array) result }
+    ensures { Gives Refusal.OutOfMemory (λ a. a) result
+        (write_item (write (N.made new) rest.now) (index_of part.now) array) }
 {
     let mut array = array;
     let Some(at) = part.index() else {

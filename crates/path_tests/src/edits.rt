@@ -35,25 +35,26 @@ fn spelled(alloc: Global, source: &str) -> Result<Vec<u8>, Fail> {
     Ok(encode(alloc, &document(alloc, source)?)?)
 }
 
+const WRITES_CASES: [(&str, &str, &str, &str); 11] = [
+    // in its place, or at the end
+    ("{a: 1, b: 2}", "a", "5", "{a: 5, b: 2}"),
+    ("{a: 1}", "b", "5", "{a: 1, b: 5}"),
+    // documents are made on the way, whatever the part looks like
+    ("{}", "a.b.c", "5", "{a: {b: {c: 5}}}"),
+    ("{}", "a.0", "5", "{a: {\"0\": 5}}"),
+    ("{a: {x: 1}}", "a.b.c", "5", "{a: {x: 1, b: {c: 5}}}"),
+    // an array's element, the next one, and one past the end
+    ("{a: [1, 2]}", "a.1", "5", "{a: [1, 5]}"),
+    ("{a: [1]}", "a.1", "5", "{a: [1, 5]}"),
+    ("{a: [1]}", "a.3", "7", "{a: [1, null, null, 7]}"),
+    ("{a: []}", "a.1.b", "5", "{a: [null, {b: 5}]}"),
+    ("{a: [[1]]}", "a.0.0", "5", "{a: [[5]]}"),
+    ("{a: [{b: 1}]}", "a.0.b", "5", "{a: [{b: 5}]}"),
+];
+
 #[test]
 fn writes(rt: HostRuntime) -> Result<(), Fail> {
-    let cases = [
-        // in its place, or at the end
-        ("{a: 1, b: 2}", "a", "5", "{a: 5, b: 2}"),
-        ("{a: 1}", "b", "5", "{a: 1, b: 5}"),
-        // documents are made on the way, whatever the part looks like
-        ("{}", "a.b.c", "5", "{a: {b: {c: 5}}}"),
-        ("{}", "a.0", "5", "{a: {\"0\": 5}}"),
-        ("{a: {x: 1}}", "a.b.c", "5", "{a: {x: 1, b: {c: 5}}}"),
-        // an array's element, the next one, and one past the end
-        ("{a: [1, 2]}", "a.1", "5", "{a: [1, 5]}"),
-        ("{a: [1]}", "a.1", "5", "{a: [1, 5]}"),
-        ("{a: [1]}", "a.3", "7", "{a: [1, null, null, 7]}"),
-        ("{a: []}", "a.1.b", "5", "{a: [null, {b: 5}]}"),
-        ("{a: [[1]]}", "a.0.0", "5", "{a: [[5]]}"),
-        ("{a: [{b: 1}]}", "a.0.b", "5", "{a: [{b: 5}]}"),
-    ];
-    for (source, text, new, expected) in &cases {
+    for (source, text, new, expected) in &WRITES_CASES {
         let expected = spelled(rt.alloc(), expected)?;
         assert!(rt;
             written(rt.alloc(), source, text, new)? == Ok(expected),
@@ -63,21 +64,22 @@ fn writes(rt: HostRuntime) -> Result<(), Fail> {
     Ok(())
 }
 
+const REFUSALS_CASES: [(&str, &str, i32); 7] = [
+    // another value on the way, null too
+    ("{a: 5}", "a.b", 28),
+    ("{a: null}", "a.b", 28),
+    ("{a: {b: 'x'}}", "a.b.c", 28),
+    // a part that is no index
+    ("{a: [{b: 1}]}", "a.b", 28),
+    ("{a: [1]}", "a.00", 28),
+    // more than 1,000 nulls
+    ("{a: [1]}", "a.1002", 2),
+    ("{a: [1]}", "a.18446744073709551616", 2),
+];
+
 #[test]
 fn refusals(rt: HostRuntime) -> Result<(), Fail> {
-    let cases = [
-        // another value on the way, null too
-        ("{a: 5}", "a.b", 28),
-        ("{a: null}", "a.b", 28),
-        ("{a: {b: 'x'}}", "a.b.c", 28),
-        // a part that is no index
-        ("{a: [{b: 1}]}", "a.b", 28),
-        ("{a: [1]}", "a.00", 28),
-        // more than 1,000 nulls
-        ("{a: [1]}", "a.1002", 2),
-        ("{a: [1]}", "a.18446744073709551616", 2),
-    ];
-    for (source, text, code) in &cases {
+    for (source, text, code) in &REFUSALS_CASES {
         assert!(rt;
             written(rt.alloc(), source, text, "7")? == Err(*code),
             "{source} {text}"
@@ -117,21 +119,22 @@ fn levels(rt: HostRuntime) -> Result<(), Fail> {
     Ok(())
 }
 
+const REMOVALS_CASES: [(&str, &str, &str); 8] = [
+    ("{a: 1, b: 2}", "a", "{b: 2}"),
+    ("{a: {b: 1, c: 2}}", "a.b", "{a: {c: 2}}"),
+    // an element becomes null
+    ("{a: [1, 2]}", "a.0", "{a: [null, 2]}"),
+    ("{a: [{b: 1}]}", "a.0.b", "{a: [{}]}"),
+    // nothing where the path isn't there, or the way is another value
+    ("{a: 1}", "b", "{a: 1}"),
+    ("{a: 1}", "a.b", "{a: 1}"),
+    ("{a: [{b: 1}]}", "a.b", "{a: [{b: 1}]}"),
+    ("{a: [1]}", "a.1", "{a: [1]}"),
+];
+
 #[test]
 fn removals(rt: HostRuntime) -> Result<(), Fail> {
-    let cases = [
-        ("{a: 1, b: 2}", "a", "{b: 2}"),
-        ("{a: {b: 1, c: 2}}", "a.b", "{a: {c: 2}}"),
-        // an element becomes null
-        ("{a: [1, 2]}", "a.0", "{a: [null, 2]}"),
-        ("{a: [{b: 1}]}", "a.0.b", "{a: [{}]}"),
-        // nothing where the path isn't there, or the way is another value
-        ("{a: 1}", "b", "{a: 1}"),
-        ("{a: 1}", "a.b", "{a: 1}"),
-        ("{a: [{b: 1}]}", "a.b", "{a: [{b: 1}]}"),
-        ("{a: [1]}", "a.1", "{a: [1]}"),
-    ];
-    for (source, text, expected) in &cases {
+    for (source, text, expected) in &REMOVALS_CASES {
         let expected = spelled(rt.alloc(), expected)?;
         assert!(rt;
             removed(rt.alloc(), source, text)? == Ok(expected),

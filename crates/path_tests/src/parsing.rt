@@ -12,26 +12,27 @@ fn is_read(alloc: Global, text: &str, fault: Option<PathFault>, code: i32) -> bo
     }
 }
 
+const FAULTS_CASES: [(&str, Option<PathFault>, i32); 13] = [
+    ("a", None, 0),
+    ("a.b.0", None, 0),
+    ("a b.ü", None, 0),
+    // a dollar sign is only refused at the front of a part
+    ("a$.b$c", None, 0),
+    ("", Some(PathFault::Empty), 56),
+    (".", Some(PathFault::EmptyPart), 56),
+    ("a..b", Some(PathFault::EmptyPart), 56),
+    ("a.", Some(PathFault::EmptyPart), 56),
+    ("$a", Some(PathFault::Dollar), 52),
+    ("a.$", Some(PathFault::Dollar), 52),
+    ("a\0", Some(PathFault::Zero), 2),
+    // by their numbers over the whole path, wherever they stand
+    ("$a..b", Some(PathFault::EmptyPart), 56),
+    ("a\0.$b", Some(PathFault::Dollar), 52),
+];
+
 #[test]
 fn faults(rt: HostRuntime) {
-    let cases = [
-        ("a", None, 0),
-        ("a.b.0", None, 0),
-        ("a b.ü", None, 0),
-        // a dollar sign is only refused at the front of a part
-        ("a$.b$c", None, 0),
-        ("", Some(PathFault::Empty), 56),
-        (".", Some(PathFault::EmptyPart), 56),
-        ("a..b", Some(PathFault::EmptyPart), 56),
-        ("a.", Some(PathFault::EmptyPart), 56),
-        ("$a", Some(PathFault::Dollar), 52),
-        ("a.$", Some(PathFault::Dollar), 52),
-        ("a\0", Some(PathFault::Zero), 2),
-        // by their numbers over the whole path, wherever they stand
-        ("$a..b", Some(PathFault::EmptyPart), 56),
-        ("a\0.$b", Some(PathFault::Dollar), 52),
-    ];
-    for (text, fault, code) in &cases {
+    for (text, fault, code) in &FAULTS_CASES {
         assert!(rt; is_read(rt.alloc(), text, *fault, *code), "{text}");
     }
 }
@@ -48,16 +49,17 @@ fn longest(rt: HostRuntime) -> Result<(), Fail> {
     Ok(())
 }
 
+const FRONTS_CASES: [(&str, &str, bool); 5] = [
+    ("a", "a", true),
+    ("a", "a.b", true),
+    ("a.b", "a", false),
+    ("a", "ab", false),
+    ("a.b", "a.c", false),
+];
+
 #[test]
 fn fronts(rt: HostRuntime) -> Result<(), Fail> {
-    let cases = [
-        ("a", "a", true),
-        ("a", "a.b", true),
-        ("a.b", "a", false),
-        ("a", "ab", false),
-        ("a.b", "a.c", false),
-    ];
-    for (first, second, is_front) in &cases {
+    for (first, second, is_front) in &FRONTS_CASES {
         let path = Path::parse(rt.alloc(), first)?;
         let copy = path.copy()?;
         let other = Path::parse(rt.alloc(), second)?;

@@ -148,18 +148,19 @@ fn a_file_in_no_folder(rt: HostRuntime) -> Result<(), Fail> {
     Ok(())
 }
 
+const WORDS_OF_NO_PROGRAM_CASES: [&[&str]; 7] = [
+    &["docpage"],
+    &["docpage", "dump"],
+    &["docpage", "exec"],
+    &["docpage", "exec", "a.docpage", "more"],
+    &["docpage", "exec", "--more"],
+    &["docpage", "exec", "no_such_folder/file.docpage", "more"],
+    &["docpage", "--help"],
+];
+
 #[test]
 fn words_of_no_program(rt: HostRuntime) -> Result<(), Fail> {
-    let cases: [&[&str]; 7] = [
-        &["docpage"],
-        &["docpage", "dump"],
-        &["docpage", "exec"],
-        &["docpage", "exec", "a.docpage", "more"],
-        &["docpage", "exec", "--more"],
-        &["docpage", "exec", "no_such_folder/file.docpage", "more"],
-        &["docpage", "--help"],
-    ];
-    for all in cases {
+    for all in WORDS_OF_NO_PROGRAM_CASES {
         let ended = ended(&rt, all, &[1, 2, 3, 4])?;
         assert_eq!(rt; ended.status, 2);
         assert!(rt; ended.output.is_empty());

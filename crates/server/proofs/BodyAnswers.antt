@@ -2,7 +2,7 @@
 use Rattle.std.proofs.Common.{◌≡◌, inl, inr, ℕ, refl, sym, ap, subst}
 use Rattle.std.specs.Prelude.{◌≢◌, Result, Err}
 use Rattle.bson.specs.Tree.{Pairs}
-use Rattle.bson.specs.Outcome.{Fails}
+use Rattle.outcome.specs.Outcome.{Fails}
 use Rattle.bson.specs.declared.fault.BsonFault.{BsonFault}
 use Rattle.bson.specs.declared.fault.BsonFault.TheVariants as faults
 use Rattle.engine.specs.World.{World}

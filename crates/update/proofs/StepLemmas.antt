@@ -9,7 +9,7 @@ use Rattle.bson.specs.declared.value.Pair.{Pair}
 use Rattle.bson.specs.declared.value.Value.{Value}
 use Rattle.path.specs.declared.refusal.Refusal.{Refusal}
 use Rattle.path.specs.declared.refusal.Refusal.TheVariants as refusals
-use Rattle.path.specs.View.{Gives}
+use Rattle.outcome.specs.Outcome.{Gives}
 use Rattle.path.specs.Edits.{if_ok}
 
 pub drop_step : {X : Type 0} (xs : List X) (i : ℕ) (x : X) → i < length xs → x ≡ get_or xs i x → drop i xs ≡ x ∷ drop (i + 1) xs
@@ -29,7 +29,7 @@ item_count (w ∷ ws) (suc i) v lt is = omega (arith, item_count ws i v (omega a
 
 -- an answer that passes a refusal on
 pub refused : {A B : Type 0} (view : A → B) (planned : Result B Refusal) (r : Result A Refusal) (f : Refusal) → IsErrAnd r (λ e. e ≡ f)
-    → (f ≢ refusals.OutOfMemory → planned ≡ Err f) → Gives view planned r
+    → (f ≢ refusals.OutOfMemory → planned ≡ Err f) → Gives refusals.OutOfMemory view r planned
 refused view planned (Ok a) f is told = absurd is
 refused view planned (Err e) f is told = λ known. told (λ same. known (is ∙ same)) ∙ ap Err (sym is)
 

@@ -16,7 +16,8 @@ use Rattle.value_order.specs.Order.{compare}
 use Rattle.filter.specs.Condition.{Condition}
 use Rattle.filter.specs.Matches.{is_equal}
 use Rattle.update.specs.Update.{Path, Number, int32, int64, Action, set, unset, increment, at_most, at_least, push, pull, rename, Edit, Update, replacement, edits}
-use Rattle.update.specs.Stored.{id_name, without, id_first, id_of, id_fault, or_else, fault_if, limits_fault, name_fault, tree_fault, pairs_fault, items_fault, stored_fault, unless, judged}
+use Rattle.update.specs.Stored.{id_name, without, id_first, id_of, id_fault, or_else, fault_if, limits_fault, name_fault, tree_fault, pairs_fault, items_fault, stored_fault, judged}
+use Rattle.outcome.specs.Outcome.{fault_or}
 use Rattle.update.specs.Numbers.{number_in, number_tree, fits_int32, fits_int64, as_int64, sum, incremented}
 use Rattle.update.specs.Bounds.{lowered, raised}
 use Rattle.update.specs.Arrays.{pushed, pulled, if_there}
@@ -217,7 +218,7 @@ of_stored limit ps =
     (first_fault large deep (fault_by _ refusals.BSONObjectTooLarge tt) (fault_by _ refusals.BadValue tt))
     (first_fault (pairs_fault ps) (id_fault (id_of ps)) (of_pairs ps) (of_id (id_of ps)))
 
-unless_named : (o : Option Refusal) (ps : Pairs) → Fault o → Named (unless o ps)
+unless_named : (o : Option Refusal) (ps : Pairs) → Fault o → Named (fault_or o ps)
 unless_named None ps h = is_ok ps
 unless_named (Some f) ps h = is_err f (h.named f refl)
 

@@ -1,5 +1,6 @@
 -- Documents that may be stored: their size, their levels, their names and their `_id`, which stands first.
-use Rattle.std.specs.Prelude.{ℕ, suc, Bool, ◌==◌, nat_lt, if◌then◌else◌, List, [], ◌∷◌, length, codes, Result, Ok, Err, Option, Some, None, option_and_then}
+use Rattle.std.specs.Prelude.{ℕ, suc, Bool, ◌==◌, nat_lt, if◌then◌else◌, List, [], ◌∷◌, length, codes, Result, Option, Some, None, option_and_then}
+use Rattle.outcome.specs.Outcome.{fault_or}
 use Rattle.std.specs.Str.{bytes_eq}
 use Rattle.std.specs.List.{list_any}
 use Rattle.bson.specs.Tree.{Tree, scalar, document, array, Pairs, no_pairs, pair, Items, no_items, item}
@@ -87,10 +88,6 @@ unfoldable pub stored_fault : ℕ → Pairs → Option Refusal
 stored_fault limit ps =
     or_else (limits_fault limit ps) (or_else (pairs_fault ps) (id_fault (id_of ps)))
 
-abbrev pub unless : {X : Type 0} → Option Refusal → X → Result X Refusal
-unless None x = Ok x
-unless (Some refusal) x = Err refusal
-
 -- the document with its `_id` first, where it may be stored so
 abbrev pub judged : ℕ → Pairs → Result Pairs Refusal
-judged limit ps = unless (stored_fault limit (id_first ps)) (id_first ps)
+judged limit ps = fault_or (stored_fault limit (id_first ps)) (id_first ps)

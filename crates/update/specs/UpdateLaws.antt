@@ -27,7 +27,8 @@ use Rattle.filter.specs.Matches.{is_equal}
 use Rattle.filter.specs.ProjectionReading.{begins_with_id}
 use Rattle.filter.specs.Reading.{path_in, has_operators}
 use Rattle.update.specs.Update.{Path, Number, Action, set, unset, increment, at_most, at_least, push, pull, rename, Edit, Update, replacement, edits, paths_with, meets_any}
-use Rattle.update.specs.Stored.{id_name, without, first_pair, id_first, id_of, id_fault, no_array, or_else, fault_if, limits_fault, pairs_fault, stored_fault, unless, judged}
+use Rattle.update.specs.Stored.{id_name, without, first_pair, id_first, id_of, id_fault, no_array, or_else, fault_if, limits_fault, pairs_fault, stored_fault, judged}
+use Rattle.outcome.specs.Outcome.{fault_or}
 use Rattle.update.specs.Numbers.{number_in}
 use Rattle.update.specs.Arrays.{items_to_push, if_there, pulled}
 use Rattle.update.specs.Renames.{moved}
@@ -187,7 +188,7 @@ record Judged (limit : ℕ) (ps qs : Pairs) : Type 0 where
 judged_so : (limit : ℕ) (ps qs : Pairs) → judged limit ps ≡ Ok qs → Judged limit ps qs
 judged_so limit ps qs e = by (stored_fault limit (id_first ps)) refl e
   where
-    by : (o : Option Refusal) → stored_fault limit (id_first ps) ≡ o → unless o (id_first ps) ≡ Ok qs → Judged limit ps qs
+    by : (o : Option Refusal) → stored_fault limit (id_first ps) ≡ o → fault_or o (id_first ps) ≡ Ok qs → Judged limit ps qs
     by None p e = record { fault = p; same = ok_same e }
     by (Some r) p e = absurd cc
 

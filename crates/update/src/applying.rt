@@ -1,7 +1,7 @@
 //! What an update makes of a document.
 
 ghost use Rattle.std.specs.Prelude.{◌≡◌, map};
-ghost use Rattle.path.specs.View.{Gives};
+ghost use Rattle.outcome.specs.Outcome.{Gives};
 ghost use Rattle.update.specs.Applying.{apply_edits, changed, apply};
 ghost use Rattle.update.specs.Stored.{judged};
 ghost use Rattle.update.specs.View.{edit_of, form_of, update_of};
@@ -16,7 +16,8 @@ use std::alloc::Global;
 
 /// The edits, in the order written.
 fn apply_edits(alloc: Global, edits: &[Edit], document: Document) -> Result<Document, Refusal>
-    ensures { Gives (λ d. d) (apply_edits (map edit_of edits.now) document) result }
+    ensures { Gives Refusal.OutOfMemory (λ d. d) result
+        (apply_edits (map edit_of edits.now) document) }
 {
     let mut document = document;
     'edits: for edit in edits {
@@ -26,7 +27,7 @@ fn apply_edits(alloc: Global, edits: &[Edit], document: Document) -> Result<Docu
 }
 
 fn changed(alloc: Global, form: &Form, document: &Document) -> Result<Document, Refusal>
-    ensures { Gives (λ d. d) (changed (form_of form.now) document.now) result }
+    ensures { Gives Refusal.OutOfMemory (λ d. d) result (changed (form_of form.now) document.now) }
 {
     match form {
         Form::Edits(edits) => apply_edits(alloc, edits, document.copy()?),
@@ -36,7 +37,7 @@ fn changed(alloc: Global, form: &Form, document: &Document) -> Result<Document, 
 
 /// The document with its `_id` first, where it may be stored so.
 fn judged(document: Document, limit: u32) -> Result<Document, Refusal>
-    ensures { Gives (λ d. d) (judged limit document) result }
+    ensures { Gives Refusal.OutOfMemory (λ d. d) result (judged limit document) }
 {
     let document = id_first(document)?;
     match stored_fault(&document, limit) {
@@ -51,7 +52,8 @@ impl Update {
     /// Refused by the first edit that can't be made; then with `ImmutableField` where a replacement would change `_id`;
     /// then where the whole may not be stored, as `stored_fault` says, `limit` being the most bytes.
     pub fn apply(&self, document: &Document, limit: u32) -> Result<Document, Refusal>
-        ensures { Gives (λ d. d) (apply (update_of self.now) limit document.now) result }
+        ensures { Gives Refusal.OutOfMemory (λ d. d) result
+            (apply (update_of self.now) limit document.now) }
     {
         let new = changed(self.alloc, &self.form, document)?;
         judged(new, limit)

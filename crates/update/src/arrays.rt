@@ -4,7 +4,7 @@ ghost use Rattle.std.specs.Prelude.{◌≡◌, OnOk, IfOk, Ok, option_map};
 ghost use Rattle.bson.specs.Tree.{array, append_items};
 ghost use Rattle.bson.specs.View.{tree, items_of};
 ghost use Rattle.path.specs.Edits.{within};
-ghost use Rattle.path.specs.View.{Gives};
+ghost use Rattle.outcome.specs.Outcome.{Gives};
 ghost use Rattle.filter.specs.View.{condition_of};
 ghost use Rattle.update.specs.Arrays.{only_one, items_to_push, each_items, items_without, pull_at};
 
@@ -36,7 +36,7 @@ fn only_one(alloc: Global, value: &Value) -> Result<Vec<Value>, NoMemory>
 
 /// The values of `{$each: [..]}`.
 fn each_items(alloc: Global, document: &Document) -> Result<Vec<Value>, Refusal>
-    ensures { Gives (λ v. items_of v.items) (each_items document.now) result }
+    ensures { Gives Refusal.OutOfMemory (λ v. items_of v.items) result (each_items document.now) }
 {
     let [first, rest @ ..] = document.pairs() else {
         return Err(Refusal::BadValue);
@@ -55,7 +55,8 @@ fn each_items(alloc: Global, document: &Document) -> Result<Vec<Value>, Refusal>
 
 /// The values that `$push` puts there: all of `{$each: [..]}`, else the operand itself.
 pub(crate) fn items_to_push(alloc: Global, value: &Value) -> Result<Vec<Value>, Refusal>
-    ensures { Gives (λ v. items_of v.items) (items_to_push (tree value.now)) result }
+    ensures { Gives Refusal.OutOfMemory (λ v. items_of v.items) result
+        (items_to_push (tree value.now)) }
 {
     match value {
         Value::Document(document) if has_operators(document) => each_items(alloc, document),
@@ -65,8 +66,8 @@ pub(crate) fn items_to_push(alloc: Global, value: &Value) -> Result<Vec<Value>, 
 
 /// The array with copies of values at its end. `BadValue` where one nests more levels than an element may.
 fn with_items(source: Array, values: &[Value]) -> Result<Value, Refusal>
-    ensures { Gives tree
-        (within 99 (Ok (array (append_items source (items_of values.now))))) result }
+    ensures { Gives Refusal.OutOfMemory tree result
+        (within 99 (Ok (array (append_items source (items_of values.now))))) }
 {
     let mut array = source;
     'values: for value in values {
@@ -143,7 +144,8 @@ pub(crate) fn pull_at(
     path: &Path,
     condition: &Condition,
 ) -> Result<Document, Refusal>
-    ensures { Gives (λ d. d) (pull_at path.now (condition_of condition.now) document) result }
+    ensures { Gives Refusal.OutOfMemory (λ d. d) result
+        (pull_at path.now (condition_of condition.now) document) }
 {
     if value_at(&document, path).is_none() {
         return Ok(document);

@@ -2,7 +2,7 @@
 
 ghost use Rattle.std.specs.Prelude.{◌≡◌};
 ghost use Rattle.bson.specs.View.{tree};
-ghost use Rattle.path.specs.View.{Gives};
+ghost use Rattle.outcome.specs.Outcome.{Gives};
 ghost use Rattle.update.specs.Fields.{set_field, unset_field};
 
 use bson::{Document, Value};
@@ -16,14 +16,15 @@ pub(crate) fn set_field(
     path: &Path,
     value: &Value,
 ) -> Result<Document, Refusal>
-    ensures { Gives (λ d. d) (set_field path.now (tree value.now) document) result }
+    ensures { Gives Refusal.OutOfMemory (λ d. d) result
+        (set_field path.now (tree value.now) document) }
 {
     write_into(alloc, document, path, value.copy()?)
 }
 
 /// Takes away what stands at the path.
 pub(crate) fn unset_field(document: Document, path: &Path) -> Result<Document, Refusal>
-    ensures { Gives (λ d. d) (unset_field path.now document) result }
+    ensures { Gives Refusal.OutOfMemory (λ d. d) result (unset_field path.now document) }
 {
     Ok(remove_from(document, path))
 }

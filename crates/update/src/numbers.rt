@@ -2,7 +2,7 @@
 
 ghost use Rattle.std.specs.Prelude.{◌≡◌, option_map};
 ghost use Rattle.bson.specs.View.{tree};
-ghost use Rattle.path.specs.View.{Gives};
+ghost use Rattle.outcome.specs.Outcome.{Gives};
 ghost use Rattle.update.specs.Numbers.{number_in, number_tree, sum};
 
 use crate::sums::{sum_of_int32, sum_of_int64};
@@ -21,7 +21,7 @@ impl Number {
 
     /// The number that a value is.
     pub fn read(value: &Value) -> Result<Number, Refusal>
-        ensures { Gives number_of (number_in (tree value.now)) result }
+        ensures { Gives Refusal.OutOfMemory number_of result (number_in (tree value.now)) }
     {
         match value {
             Value::Int32(number) => Ok(Number::Int32(*number)),
@@ -41,7 +41,7 @@ impl Number {
 
     /// The sum: of two int32 an int32 where it fits, else an int64. `BadValue` past int64.
     fn plus(self, by: Number) -> Result<Number, Refusal>
-        ensures { Gives number_of (sum (number_of self) (number_of by)) result }
+        ensures { Gives Refusal.OutOfMemory number_of result (sum (number_of self) (number_of by)) }
     {
         match (self, by) {
             (Number::Int32(a), Number::Int32(b)) => Ok(sum_of_int32(a, b)),

@@ -5,7 +5,7 @@
 
 ghost use Rattle.std.specs.Prelude.{◌≡◌};
 ghost use Rattle.bson.specs.View.{tree};
-ghost use Rattle.path.specs.View.{Gives};
+ghost use Rattle.outcome.specs.Outcome.{Gives};
 ghost use Rattle.filter.specs.ProjectionReading.{begins_with_id};
 ghost use Rattle.update.specs.Operators.{operator_of, editable_path, new_path, read_action, apply_action};
 ghost use Rattle.update.specs.View.{action_of};
@@ -58,7 +58,7 @@ pub(crate) fn read_action(
     operator: Operator,
     value: &Value,
 ) -> Result<Action, Refusal>
-    ensures { Gives action_of (read_action operator (tree value.now)) result }
+    ensures { Gives Refusal.OutOfMemory action_of result (read_action operator (tree value.now)) }
 {
     match operator {
         Operator::Set => Ok(Action::Set(value.copy()?)),
@@ -79,7 +79,8 @@ pub(crate) fn apply_action(
     path: &Path,
     action: &Action,
 ) -> Result<Document, Refusal>
-    ensures { Gives (λ d. d) (apply_action path.now (action_of action.now) document) result }
+    ensures { Gives Refusal.OutOfMemory (λ d. d) result
+        (apply_action path.now (action_of action.now) document) }
 {
     match action {
         Action::Set(value) => set_field(alloc, document, path, value),
@@ -104,7 +105,7 @@ fn begins_with_id(path: &Path) -> bool
 
 /// The path that a name writes, where an update may change it: `ImmutableField` where it begins with `_id`.
 pub(crate) fn editable_path(alloc: Global, name: &str) -> Result<Path, Refusal>
-    ensures { Gives (λ p. p) (editable_path name.now) result }
+    ensures { Gives Refusal.OutOfMemory (λ p. p) result (editable_path name.now) }
 {
     let path = path_in(alloc, name)?;
     if begins_with_id(&path) {
@@ -115,7 +116,7 @@ pub(crate) fn editable_path(alloc: Global, name: &str) -> Result<Path, Refusal>
 
 /// The path to which `$rename` moves a value.
 fn new_path(alloc: Global, value: &Value) -> Result<Path, Refusal>
-    ensures { Gives (λ p. p) (new_path (tree value.now)) result }
+    ensures { Gives Refusal.OutOfMemory (λ p. p) result (new_path (tree value.now)) }
 {
     match value {
         Value::String(name) => editable_path(alloc, name.as_str()),

@@ -3,7 +3,7 @@
 ghost use Rattle.std.specs.Prelude.{◌≡◌, [], map};
 ghost use Rattle.std.specs.List.{list_any};
 ghost use Rattle.bson.specs.View.{tree};
-ghost use Rattle.path.specs.View.{Gives};
+ghost use Rattle.outcome.specs.Outcome.{Gives};
 ghost use Rattle.update.specs.Update.{meets_any, paths_of};
 ghost use Rattle.update.specs.Reading.{edits_meet, meets_itself, conflicts, read_edit, read_edits};
 ghost use Rattle.update.specs.Reading.{read_operator, read_operators, read_update};
@@ -64,8 +64,8 @@ fn read_edit(
     value: &Value,
     earlier: Vec<Edit>,
 ) -> Result<Vec<Edit>, Refusal>
-    ensures { Gives (λ v. map edit_of v.items)
-        (read_edit operator name.now (tree value.now) (map edit_of earlier.items)) result }
+    ensures { Gives Refusal.OutOfMemory (λ v. map edit_of v.items) result
+        (read_edit operator name.now (tree value.now) (map edit_of earlier.items)) }
 {
     let path = editable_path(alloc, name)?;
     let action = read_action(alloc, operator, value)?;
@@ -85,8 +85,8 @@ fn read_edits(
     document: &Document,
     earlier: Vec<Edit>,
 ) -> Result<Vec<Edit>, Refusal>
-    ensures { Gives (λ v. map edit_of v.items)
-        (read_edits operator document.now (map edit_of earlier.items)) result }
+    ensures { Gives Refusal.OutOfMemory (λ v. map edit_of v.items) result
+        (read_edits operator document.now (map edit_of earlier.items)) }
 {
     let mut edits = earlier;
     'pairs: for pair in document.pairs() {
@@ -102,8 +102,8 @@ fn read_operator(
     value: &Value,
     earlier: Vec<Edit>,
 ) -> Result<Vec<Edit>, Refusal>
-    ensures { Gives (λ v. map edit_of v.items)
-        (read_operator name.now (tree value.now) (map edit_of earlier.items)) result }
+    ensures { Gives Refusal.OutOfMemory (λ v. map edit_of v.items) result
+        (read_operator name.now (tree value.now) (map edit_of earlier.items)) }
 {
     let Some(operator) = operator_of(name) else {
         return Err(Refusal::BadValue);
@@ -116,7 +116,8 @@ fn read_operator(
 
 /// The edits of all operators.
 fn read_operators(alloc: Global, document: &Document) -> Result<Vec<Edit>, Refusal>
-    ensures { Gives (λ v. map edit_of v.items) (read_operators document.now []) result }
+    ensures { Gives Refusal.OutOfMemory (λ v. map edit_of v.items) result
+        (read_operators document.now []) }
 {
     let mut edits = Vec::new(alloc);
     'pairs: for pair in document.pairs() {
@@ -132,7 +133,7 @@ impl Update {
     /// At one path these are looked for in order: a fault of the path, `ImmutableField` where it begins with `_id`, the
     /// operand, `ConflictingUpdateOperators` where it meets an earlier path of the update.
     pub fn read(alloc: Global, document: &Document) -> Result<Update, Refusal>
-        ensures { Gives update_of (read_update document.now) result }
+        ensures { Gives Refusal.OutOfMemory update_of result (read_update document.now) }
     {
         if has_operators(document) {
             let edits = read_operators(alloc, document)?;

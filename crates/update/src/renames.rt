@@ -1,7 +1,7 @@
 //! `$rename`.
 
 ghost use Rattle.std.specs.Prelude.{◌≡◌};
-ghost use Rattle.path.specs.View.{Gives};
+ghost use Rattle.outcome.specs.Outcome.{Gives};
 ghost use Rattle.update.specs.Renames.{rename_at};
 
 use bson::Document;
@@ -15,7 +15,7 @@ pub(crate) fn rename_at(
     old: &Path,
     new: &Path,
 ) -> Result<Document, Refusal>
-    ensures { Gives (λ d. d) (rename_at old.now new.now document) result }
+    ensures { Gives Refusal.OutOfMemory (λ d. d) result (rename_at old.now new.now document) }
 {
     if passes_array(&document, old) {
         return Err(Refusal::BadValue);

@@ -3,7 +3,7 @@
 ghost use Rattle.std.specs.Prelude.{◌≡◌, IfOk, option_map};
 ghost use Rattle.bson.specs.Tree.{pair};
 ghost use Rattle.bson.specs.View.{tree};
-ghost use Rattle.path.specs.View.{Gives};
+ghost use Rattle.outcome.specs.Outcome.{Gives};
 ghost use Rattle.filter.specs.Matches.{is_equal};
 ghost use Rattle.value_order.specs.Order.{compare};
 ghost use Rattle.update.specs.Fronts.{MayStand};
@@ -50,7 +50,7 @@ fn copy_with_id(alloc: Global, id: Option<&Value>, new: &Document) -> Result<Doc
 
 /// A copy of the new document with the old one's `_id`. `ImmutableField` where it has another one.
 pub(crate) fn replace(alloc: Global, new: &Document, old: &Document) -> Result<Document, Refusal>
-    ensures { Gives (λ d. d) (replace new.now old.now) result }
+    ensures { Gives Refusal.OutOfMemory (λ d. d) result (replace new.now old.now) }
 {
     let (_new_levels, _old_levels) = (new.levels(), old.levels());
     let given = new.get(ID);

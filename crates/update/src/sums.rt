@@ -1,7 +1,7 @@
 //! Sums of numbers.
 
 ghost use Rattle.std.specs.Prelude.{◌≡◌, ◌+ℤ◌, Ok};
-ghost use Rattle.path.specs.View.{Gives};
+ghost use Rattle.outcome.specs.Outcome.{Gives};
 ghost use Rattle.update.specs.Numbers.{as_int64, sum};
 ghost use Rattle.update.specs.Update.{int32};
 ghost use Rattle.update.specs.View.{number_of};
@@ -23,7 +23,7 @@ pub(crate) fn sum_of_int32(a: i32, b: i32) -> Number
 
 /// The sum of two int64. `BadValue` where it doesn't fit.
 pub(crate) fn sum_of_int64(a: i64, b: i64) -> Result<Number, Refusal>
-    ensures { Gives number_of (as_int64 (a +ℤ b)) result }
+    ensures { Gives Refusal.OutOfMemory number_of result (as_int64 (a +ℤ b)) }
 {
     match a.checked_add(b) {
         Some(sum) => Ok(Number::Int64(sum)),

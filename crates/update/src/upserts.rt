@@ -1,7 +1,7 @@
 //! The document that an upsert starts from.
 
 ghost use Rattle.std.specs.Prelude.{◌≡◌};
-ghost use Rattle.path.specs.View.{Gives};
+ghost use Rattle.outcome.specs.Outcome.{Gives};
 ghost use Rattle.filter.specs.View.{condition_of, conditions_of, predicate_of};
 ghost use Rattle.update.specs.Upserts.{is_below_id, with_equal, with_equality, with_equalities};
 ghost use Rattle.update.specs.Upserts.{with_condition, base_of};
@@ -29,7 +29,8 @@ fn with_equal(
     path: &Path,
     predicate: &Predicate,
 ) -> Result<Document, Refusal>
-    ensures { Gives (λ d. d) (with_equal path.now (predicate_of predicate.now) document) result }
+    ensures { Gives Refusal.OutOfMemory (λ d. d) result
+        (with_equal path.now (predicate_of predicate.now) document) }
 {
     match predicate {
         Predicate::Equal(_) if is_below_id(path) => Err(Refusal::ImmutableField),
@@ -44,7 +45,8 @@ fn with_equality(
     path: &Path,
     condition: &Condition,
 ) -> Result<Document, Refusal>
-    ensures { Gives (λ d. d) (with_equality path.now (condition_of condition.now) document) result }
+    ensures { Gives Refusal.OutOfMemory (λ d. d) result
+        (with_equality path.now (condition_of condition.now) document) }
 {
     match condition {
         Condition::Is(predicate) => with_equal(alloc, document, path, predicate),
@@ -59,7 +61,8 @@ fn with_equalities(
     path: &Path,
     filter: &Filter,
 ) -> Result<Document, Refusal>
-    ensures { Gives (λ d. d) (with_equalities path.now filter.now document) result }
+    ensures { Gives Refusal.OutOfMemory (λ d. d) result
+        (with_equalities path.now filter.now document) }
 {
     let mut document = document;
     'conditions: for condition in filter.conditions() {
@@ -73,7 +76,8 @@ fn with_condition(
     document: Document,
     condition: &Condition,
 ) -> Result<Document, Refusal>
-    ensures { Gives (λ d. d) (with_condition (condition_of condition.now) document) result }
+    ensures { Gives Refusal.OutOfMemory (λ d. d) result
+        (with_condition (condition_of condition.now) document) }
 {
     match condition {
         Condition::At(path, filter) => with_equalities(alloc, document, path, filter),
@@ -84,7 +88,7 @@ fn with_condition(
 /// The document that an upsert by this filter starts from: the equalities at the filter's top level (`$eq` too), set in
 /// order. `ImmutableField` where one is asked below `_id`; else what setting refuses.
 pub fn upsert_base(alloc: Global, filter: &Filter) -> Result<Document, Refusal>
-    ensures { Gives (λ d. d) (base_of filter.now) result }
+    ensures { Gives Refusal.OutOfMemory (λ d. d) result (base_of filter.now) }
 {
     let mut document = Document::new(alloc);
     'conditions: for condition in filter.conditions() {

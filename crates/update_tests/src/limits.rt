@@ -72,17 +72,18 @@ fn bytes(rt: HostRuntime) -> Result<(), Fail> {
     Ok(())
 }
 
+const NAMES_CASES: [(&str, i32); 5] = [
+    ("{$set: {b: {\"\": 1}}}", 56),
+    ("{$set: {b: {$x: 1}}}", 52),
+    ("{$set: {b: [{\"c.d\": 1}]}}", 57),
+    // the first from the left, at any depth
+    ("{$set: {b: [{\"c.d\": {\"\": 1}}], c: {$x: 1}}}", 57),
+    ("{$set: {b: {$x.y: 1}}}", 52),
+];
+
 #[test]
 fn names(rt: HostRuntime) -> Result<(), Fail> {
-    let cases = [
-        ("{$set: {b: {\"\": 1}}}", 56),
-        ("{$set: {b: {$x: 1}}}", 52),
-        ("{$set: {b: [{\"c.d\": 1}]}}", 57),
-        // the first from the left, at any depth
-        ("{$set: {b: [{\"c.d\": {\"\": 1}}], c: {$x: 1}}}", 57),
-        ("{$set: {b: {$x.y: 1}}}", 52),
-    ];
-    for (update, code) in &cases {
+    for (update, code) in &NAMES_CASES {
         assert!(rt;
             within(rt.alloc(), update, LIMIT)? == Err(*code),
             "{update}"

@@ -14,34 +14,36 @@ fn base(alloc: Global, filter: &str) -> Result<Outcome, Fail> {
     }
 }
 
+const BASES_CASES: [(&str, &str); 10] = [
+    ("{}", "{}"),
+    ("{_id: 5, a: 1}", "{_id: 5, a: 1}"),
+    ("{a: 1, b: {$eq: 2}}", "{a: 1, b: 2}"),
+    ("{a: {$gt: 0, $eq: 2}}", "{a: 2}"),
+    ("{a: {$gt: 3}, b: {$in: [1]}, c: {$ne: 1}}", "{}"),
+    ("{\"a.b\": 1, \"a.c\": 2}", "{a: {b: 1, c: 2}}"),
+    (
+        "{a: null, b: [1], c: {d: 1}}",
+        "{a: null, b: [1], c: {d: 1}}",
+    ),
+    ("{$and: [{a: 1}], $or: [{b: 1}]}", "{}"),
+    ("{a: {$not: {$eq: 1}}, b: {$all: [1]}}", "{}"),
+    ("{\"_id.x\": {$gt: 1}}", "{}"),
+];
+
+const BASES_REFUSALS: [(&str, i32); 4] = [
+    ("{\"_id.x\": 1}", 66),
+    ("{\"_id.x\": {$eq: 1}}", 66),
+    ("{a: 1, \"a.b\": 2}", 28),
+    ("{a: 1, \"a.b\": 2, \"_id.x\": 1}", 28),
+];
+
 #[test]
 fn bases(rt: HostRuntime) -> Result<(), Fail> {
-    let cases = [
-        ("{}", "{}"),
-        ("{_id: 5, a: 1}", "{_id: 5, a: 1}"),
-        ("{a: 1, b: {$eq: 2}}", "{a: 1, b: 2}"),
-        ("{a: {$gt: 0, $eq: 2}}", "{a: 2}"),
-        ("{a: {$gt: 3}, b: {$in: [1]}, c: {$ne: 1}}", "{}"),
-        ("{\"a.b\": 1, \"a.c\": 2}", "{a: {b: 1, c: 2}}"),
-        (
-            "{a: null, b: [1], c: {d: 1}}",
-            "{a: null, b: [1], c: {d: 1}}",
-        ),
-        ("{$and: [{a: 1}], $or: [{b: 1}]}", "{}"),
-        ("{a: {$not: {$eq: 1}}, b: {$all: [1]}}", "{}"),
-        ("{\"_id.x\": {$gt: 1}}", "{}"),
-    ];
-    for (filter, expected) in &cases {
+    for (filter, expected) in &BASES_CASES {
         let expected = spelled(rt.alloc(), expected)?;
         assert!(rt; base(rt.alloc(), filter)? == Ok(expected), "{filter}");
     }
-    let refusals = [
-        ("{\"_id.x\": 1}", 66),
-        ("{\"_id.x\": {$eq: 1}}", 66),
-        ("{a: 1, \"a.b\": 2}", 28),
-        ("{a: 1, \"a.b\": 2, \"_id.x\": 1}", 28),
-    ];
-    for (filter, code) in &refusals {
+    for (filter, code) in &BASES_REFUSALS {
         assert!(rt; base(rt.alloc(), filter)? == Err(*code), "{filter}");
     }
     Ok(())

@@ -4,7 +4,7 @@ use Rattle.bson.specs.declared.value.Value.{Value}
 use Rattle.bson.specs.declared.value.Pair.{Pair}
 use Rattle.bson.specs.Tree.{Tree}
 use Rattle.bson.specs.View.{tree, pairs_of, items_of, names_of}
-use Rattle.bson.specs.Outcome.{Fails}
+use Rattle.outcome.specs.Outcome.{Fails}
 use Rattle.bson.specs.Reading.{Read, element_by, stands_in, item_by, value_at, pairs_in, items_in}
 use Rattle.bson.specs.declared.fault.BsonFault.TheVariants as faults
 use Rattle.bson.specs.Lawful.{pairs_levels, items_levels}

@@ -3,12 +3,13 @@ use Rattle.bson.specs.Tree.{Tree, Items}
 use Rattle.bson.specs.View.{tree, items_of}
 use Rattle.bson.specs.declared.value.Value.{Value}
 use Rattle.path.specs.Reach.{items_list}
-use Rattle.path.specs.View.{Gives}
+use Rattle.outcome.specs.Outcome.{Gives}
 use Rattle.path.specs.declared.refusal.Refusal.{Refusal}
 use Rattle.aggregate.specs.Stage.{Stage}
 use Rattle.aggregate.specs.Pipeline.{read_pipeline}
 use Rattle.aggregate.specs.View.{pipeline_of}
 use Rattle.commands.specs.Aggregate.{stages_in}
+use Rattle.path.specs.declared.refusal.Refusal.TheVariants as refusals
 use Rattle.commands.proofs.aggregation.stages_in.Goals as goal
 
 listed : (vs : List Value) → items_list (items_of vs) ≡ map tree vs
@@ -19,4 +20,4 @@ pub returns-in-Array : goal.returns-in-Array
 returns-in-Array c =
     let same : map tree c.items.result.now ≡ items_list c.in-Array.array = sym (listed c.items.result.now) ∙ ap items_list c.items.ensures.items in
     let planned : read_pipeline (map tree c.items.result.now) ≡ stages_in (tree c.args.value.now) = ap read_pipeline same ∙ ap (λ (v : Value). stages_in (tree v)) (sym c.in-Array.is) in
-    subst (λ (r : Result (List Stage) Refusal). Gives pipeline_of r c.read.result) planned c.read.ensures
+    subst (λ (r : Result (List Stage) Refusal). Gives refusals.OutOfMemory pipeline_of c.read.result r) planned c.read.ensures

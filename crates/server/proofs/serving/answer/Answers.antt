@@ -1,7 +1,7 @@
 use Rattle.std.proofs.Common.{◌≡◌, sym, subst}
 use Rattle.std.specs.Prelude.{Result, Ok}
 use Rattle.bson.specs.Tree.{Pairs}
-use Rattle.bson.specs.Outcome.{Gives}
+use Rattle.outcome.specs.Outcome.{Gives}
 use Rattle.bson.specs.declared.fault.BsonFault.{BsonFault}
 use Rattle.bson.specs.declared.fault.BsonFault.TheVariants as bson_faults
 use Rattle.engine.proofs.SpelledSizes.{refusal-sendable}

@@ -1,5 +1,5 @@
 use Rattle.std.proofs.Common.{◌≡◌, ◌+◌, drop, sym, ap, ◌∙◌, Result}
-use Rattle.path.specs.Outcomes.{◌>>=◌}
+use Rattle.outcome.specs.Outcome.{◌>>=◌}
 use Rattle.path.specs.declared.refusal.Refusal.{Refusal}
 use Rattle.engine.specs.Update.{Updated, run_statements}
 use Rattle.engine.specs.Updating.{updated_of}

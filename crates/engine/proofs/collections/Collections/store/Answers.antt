@@ -4,7 +4,7 @@ use Rattle.engine.specs.World.{Collection}
 use Rattle.engine.specs.Documents.{key_of}
 use Rattle.engine.specs.Lawful.{IsStored}
 use Rattle.engine.specs.Places.{collection_at}
-use Rattle.path.specs.Outcomes.{Does}
+use Rattle.outcome.specs.Outcome.{Does}
 use Rattle.path.specs.declared.refusal.Refusal.{Refusal}
 use Rattle.engine.proofs.Checked.{keeps}
 use Rattle.engine.proofs.Rewinding.{with_refused}
@@ -23,4 +23,4 @@ put-requires-clause-stored c =
 pub returns-clause-does : goal.returns-clause-does
 returns-clause-does c =
     let same = stored_placed (collection_at c.args.self.now.now c.args.at) c.args.document.now c.in_ok-document.document c.in_ok-document.ensures.checked.0 c.in_ok-document.ensures.checked.1 in
-    subst (λ (r : Result Collection Refusal). Does r (collection_at c.put.new.self.now c.args.at) c.put.result) (sym same) c.put.ensures.does
+    subst (λ (r : Result Collection Refusal). Does refusals.OutOfMemory c.put.result (collection_at c.put.new.self.now c.args.at) r) (sym same) c.put.ensures.does

@@ -2,7 +2,7 @@ use Rattle.std.proofs.Common.{◌≡◌, ◌+◌, ◌<◌, ◌≤◌, true, fals
 use Rattle.std.proofs.lemmas.Result.{err_from_is_err_and}
 use Rattle.filter.specs.Matches.{matches}
 use Rattle.commands.specs.Update.{UpdateStatement}
-use Rattle.path.specs.Outcomes.{Refuses}
+use Rattle.outcome.specs.Outcome.{Fails}
 use Rattle.update.specs.Applying.{apply}
 use Rattle.engine.specs.Places.{collection_at}
 use Rattle.engine.specs.Updating.{document_at, UpdatesAt}
@@ -10,6 +10,7 @@ use Rattle.engine.proofs.Rewinding.{Extends-trans}
 use Rattle.engine.proofs.UpdatingLoop.{there_count, begins, goes_by, refused_one, goes_on, only_first, looked_at_all}
 use Rattle.engine.proofs.collections.Collections.update_matching.Goals as goal
 use Rattle.engine.proofs.collections.Collections.update_matching.Goals.{then-matches_at+in_ok-update_at+else-not-statement, else-matches_at}
+use Rattle.path.specs.declared.refusal.Refusal.TheVariants as refusals
 
 pub places-init : goal.places-init
 places-init c = begins c.args.statement.now c.args.at c.args.tally.now c.args.self.now c.requires.within
@@ -39,7 +40,7 @@ returns-in_err-update_at-clause-runs c =
     let below : c.places.place < length (collection_at now.now c.args.at).documents =
     omega (arith, c.places-test.true, c.places.invariant.count, there_count c.args.self.now c.list.result.now c.args.at c.index-list-at.result c.documents-count.result.now c.list.ensures c.requires.within c.index-list-at.is c.documents-count.ensures.documents) in
     let match : matches c.args.statement.now.filter d ≡ true = ap (λ (s : UpdateStatement). matches s.filter d) (sym c.statement.view_is) ∙ sym c.matches_at.ensures ∙ c.if-matches_at.true in
-    let no = subst (λ (s : UpdateStatement). Refuses (apply s.change 65535 d) c.in_err-update_at.field-0.0) c.statement.view_is c.in_err-update_at.ensures.refused in
+    let no = subst (λ (s : UpdateStatement). Fails refusals.OutOfMemory c.in_err-update_at.field-0.0 (apply s.change 65535 d)) c.statement.view_is c.in_err-update_at.ensures.refused in
     rw (p.1, p.2) (refused_one c.args.statement.now c.args.at c.args.tally.now c.places.tally c.args.self.now now c.places.found c.places.place c.places.invariant below c.in_err-update_at.field-0.0 match no)
 
 pub returns-then-not-statement-clause-extends : goal.returns-then-not-statement-clause-extends

@@ -2,7 +2,7 @@ use Rattle.std.proofs.Common.{◌≡◌, Some, Result, Ok, sym, ap, subst, ◌�
 use Rattle.std.specs.Prelude.{string_bytes, unwrap_or}
 use Rattle.bson.specs.Tree.{Pairs}
 use Rattle.engine.specs.World.{World}
-use Rattle.path.specs.Outcomes.{◌>>=◌}
+use Rattle.outcome.specs.Outcome.{◌>>=◌}
 use Rattle.commands.specs.Command as commands
 use Rattle.commands.specs.Find as finds
 use Rattle.commands.specs.Aggregate as aggregates
