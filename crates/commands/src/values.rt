@@ -10,8 +10,7 @@ use path::Refusal;
 
 /// The text that a value is; `TypeMismatch` where it is none.
 pub(crate) fn text_in(value: &Value) -> Result<&str, Refusal>
-    ensures { Gives Refusal.OutOfMemory Refusal.OutOfMemory result
-        (λ s. s.now) (text_in (tree value.now)) }
+    ensures { Gives Refusal.OutOfMemory (λ s. s.now) result (text_in (tree value.now)) }
 {
     match value {
         Value::String(text) => Ok(text.as_str()),
@@ -31,8 +30,7 @@ pub(crate) fn bool_in(value: &Value) -> Result<bool, Refusal>
 
 /// The count that a value is: a number (else `TypeMismatch`) that is not negative (else `BadValue`).
 pub(crate) fn count_in(value: &Value) -> Result<usize, Refusal>
-    ensures { Gives Refusal.OutOfMemory Refusal.OutOfMemory result
-        (λ n. n) (count_in (tree value.now)) }
+    ensures { Gives Refusal.OutOfMemory (λ n. n) result (count_in (tree value.now)) }
 {
     let number = match value {
         Value::Int32(number) => i64::from(*number),
@@ -47,8 +45,7 @@ pub(crate) fn count_in(value: &Value) -> Result<usize, Refusal>
 
 /// The document that a value is; `TypeMismatch` where it is none.
 pub(crate) fn document_in(value: &Value) -> Result<&Document, Refusal>
-    ensures { Gives Refusal.OutOfMemory Refusal.OutOfMemory result
-        (λ d. d.now) (document_in (tree value.now)) }
+    ensures { Gives Refusal.OutOfMemory (λ d. d.now) result (document_in (tree value.now)) }
 {
     match value {
         Value::Document(document) => Ok(document),

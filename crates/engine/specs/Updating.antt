@@ -83,7 +83,7 @@ abbrev pub RunsMatching : UpdateStatement → ℕ → Tally → Tally → Progre
 RunsMatching s at before after old new (Ok found) = UpdatesMatching s at before after old new found
 RunsMatching s at before after old new (Err e) =
     Fails refusals.OutOfMemory e
-        (update_from s (changed_of [] false before) (collection_at old.now at).documents)
+    (update_from s (changed_of [] false before) (collection_at old.now at).documents)
 
 -- The documents of a namespace that match were updated; one was found, or none.
 pub record UpdatesFound (name : List ℕ) (s : UpdateStatement) (before after : Tally)
@@ -100,7 +100,7 @@ abbrev pub RunsFound : List ℕ → UpdateStatement → Tally → Tally → Prog
 RunsFound name s before after old new (Ok found) = UpdatesFound name s before after old new found
 RunsFound name s before after old new (Err e) =
     Fails refusals.OutOfMemory e
-        (update_from s (changed_of [] false before) (documents_of old.now name))
+    (update_from s (changed_of [] false before) (documents_of old.now name))
 
 -- All statements were run.
 pub record UpdatesAll (name : List ℕ) (ss : List UpdateStatement) (old new : Progress)

@@ -21,13 +21,13 @@ ghost use Rattle.engine.specs.Updating.{updated_of, HasNone, IsQuiet, IsChange, 
 ghost use Rattle.engine.specs.View.{world, turn_start, IsSendable, Runs};
 ghost use Rattle.engine.specs.Durable.{has_changes};
 
-use crate::{REPLY_LIMIT, STORED_LIMIT};
 use crate::collections::Collections;
 use crate::documents::check_key;
 use crate::engine::Engine;
 use crate::find::matches;
 use crate::image::spelling;
 use crate::reply::{add, done, put};
+use crate::{REPLY_LIMIT, STORED_LIMIT};
 use bson::{Array, Document, NoMemory, Value};
 use commands::UpdateStatement;
 use filter::Filter;

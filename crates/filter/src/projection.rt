@@ -106,7 +106,7 @@ fn agrees(fields: Option<bool>, flag: bool) -> bool
 
 /// Takes one more field in.
 fn with_field(seen: ProjectionFields, path: Path, flag: bool) -> Result<ProjectionFields, Refusal>
-    ensures { Gives seen_of (with_field path flag (seen_of seen)) result }
+    ensures { Gives Refusal.OutOfMemory seen_of result (with_field path flag (seen_of seen)) }
 {
     let mut seen = seen;
     if seen.id.is_some() && begins_with_id(&path) {
@@ -128,7 +128,7 @@ fn with_field(seen: ProjectionFields, path: Path, flag: bool) -> Result<Projecti
 }
 
 fn read_fields(alloc: Global, document: &Document) -> Result<ProjectionFields, Refusal>
-    ensures { Gives seen_of (read_flags nothing_seen document.now) result }
+    ensures { Gives Refusal.OutOfMemory seen_of result (read_flags nothing_seen document.now) }
 {
     let mut seen = ProjectionFields::new(alloc);
     'pairs: for pair in document.pairs() {
@@ -170,7 +170,7 @@ fn projection_of(
     includes: bool,
     seen: ProjectionFields,
 ) -> Result<Projection, Refusal>
-    ensures { Gives (λ p. p) (Ok (projection_of includes (seen_of seen))) result }
+    ensures { Gives Refusal.OutOfMemory (λ p. p) result (Ok (projection_of includes (seen_of seen))) }
 {
     let ProjectionFields {
         fields: _,
@@ -206,7 +206,7 @@ impl ProjectionFields {
         name: &str,
         value: &Value,
     ) -> Result<ProjectionFields, Refusal>
-        ensures { Gives seen_of (read_field name.now (tree value.now) (seen_of self)) result }
+        ensures { Gives Refusal.OutOfMemory seen_of result (read_field name.now (tree value.now) (seen_of self)) }
     {
         let path = path_in(alloc, name)?;
         let flag = flag_in(value)?;
@@ -216,7 +216,7 @@ impl ProjectionFields {
     /// One field more that is computed and not taken from the document. It is an inclusion, `_id` too. `BadValue` where
     /// it meets an earlier one or where others are left out.
     pub fn with_computed(self, path: Path) -> Result<ProjectionFields, Refusal>
-        ensures { Gives seen_of (with_computed path (seen_of self)) result }
+        ensures { Gives Refusal.OutOfMemory seen_of result (with_computed path (seen_of self)) }
     {
         let mut seen = with_field(self, path, true)?;
         if !agrees(seen.fields, true) {
@@ -228,7 +228,7 @@ impl ProjectionFields {
 
     /// The projection of these fields.
     pub fn projection(self, alloc: Global) -> Result<Projection, Refusal>
-        ensures { Gives (λ p. p) (Ok (projection_seen (seen_of self))) result }
+        ensures { Gives Refusal.OutOfMemory (λ p. p) result (Ok (projection_seen (seen_of self))) }
     {
         projection_of(alloc, mode(self.fields, self.id), self)
     }
