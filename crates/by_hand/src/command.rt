@@ -69,6 +69,30 @@ pub fn delete_statement(alloc: Global, query: &Bytes, limit: i32) -> Bytes {
     Bytes::new(alloc).document("q", query).int32("limit", limit)
 }
 
+/// `{update: "c", updates: [..], $db: "t"}`
+pub fn update(alloc: Global, statements: &[Bytes]) -> Bytes {
+    Bytes::new(alloc)
+        .text("update", "c")
+        .documents("updates", statements)
+        .text("$db", "t")
+}
+
+/// A statement of an update of all that match: `{q: .., u: .., multi: true}`
+pub fn update_all_statement(alloc: Global, query: &Bytes, change: &Bytes) -> Bytes {
+    Bytes::new(alloc)
+        .document("q", query)
+        .document("u", change)
+        .element(8, "multi", &[1])
+}
+
+/// `{n: <number>, nModified: <modified>, ok: 1}`, which an update is answered.
+pub fn update_reply(alloc: Global, number: i32, modified: i32) -> Bytes {
+    Bytes::new(alloc)
+        .int32("n", number)
+        .int32("nModified", modified)
+        .int32("ok", 1)
+}
+
 /// `{ok: 1}`, which a ping is answered.
 pub fn ok_reply(alloc: Global) -> Bytes {
     Bytes::new(alloc).int32("ok", 1)

@@ -117,6 +117,32 @@ fn delete_step(alloc: Global) -> Result<Step, AllocError> {
         .with(alloc, THREE, count_reply(alloc, 2), ONE_LEFT)
 }
 
+/// What one statement changes and the next changes back.
+fn update_step(alloc: Global) -> Result<Step, AllocError> {
+    let up = Bytes::new(alloc).document("$inc", &Bytes::new(alloc).int32("a", 10));
+    let down = Bytes::new(alloc).document("$inc", &Bytes::new(alloc).int32("a", -10));
+    let statements = [
+        update_all_statement(alloc, &Bytes::new(alloc).int32("a", 5), &up),
+        update_all_statement(alloc, &Bytes::new(alloc).int32("a", 15), &down),
+    ];
+    make_step(alloc, update(alloc, &statements))?
+        .with(alloc, NOTHING, update_reply(alloc, 0, 0), NOTHING)?
+        .with(alloc, THREE, update_reply(alloc, 4, 4), THREE)
+}
+
+/// What one statement changes, and the next is refused.
+fn refused_update_step(alloc: Global) -> Result<Step, AllocError> {
+    let up = Bytes::new(alloc).document("$inc", &Bytes::new(alloc).int32("a", 1));
+    let refused = Bytes::new(alloc).document("$set", &Bytes::new(alloc).int32("a.b", 1));
+    let statements = [
+        update_all_statement(alloc, &Bytes::new(alloc).int32("a", 5), &up),
+        update_all_statement(alloc, &Bytes::new(alloc).int32("_id", 3), &refused),
+    ];
+    make_step(alloc, update(alloc, &statements))?
+        .with(alloc, NOTHING, update_reply(alloc, 0, 0), NOTHING)?
+        .with(alloc, THREE, refusal(alloc, 28), THREE)
+}
+
 fn count_step(alloc: Global) -> Result<Step, AllocError> {
     let message = count(alloc, &Bytes::new(alloc).int32("a", 5));
     make_step(alloc, message)?
@@ -149,6 +175,8 @@ fn make_script(alloc: Global) -> Result<Script, AllocError> {
     steps.push(ping_step(alloc)?)?;
     steps.push(insert_step(alloc)?)?;
     steps.push(query_step(alloc)?)?;
+    steps.push(update_step(alloc)?)?;
+    steps.push(refused_update_step(alloc)?)?;
     steps.push(delete_step(alloc)?)?;
     steps.push(count_step(alloc)?)?;
     steps.push(again_step(alloc)?)?;

@@ -1,20 +1,24 @@
 -- What an update makes of a document may be stored, and keeps its `_id`.
-use Rattle.std.proofs.Common.{◌≡◌, ℕ, suc, ◌<◌, ◌≤◌, List, [], ◌++◌, length, get_or, set, true, false, Option, Some, None, Result, Ok, Err, refl, sym, ap, subst, ◌∙◌, arith, inl, inr}
+use Rattle.std.proofs.Common.{◌≡◌, ◌≢◌, ℕ, zero, suc, Bool, ◌∷◌, ◌<◌, ◌≤◌, List, [], ◌++◌, length, get_or, set, true, false, Option, Some, None, Result, Ok, Err, refl, sym, ap, subst, ◌∙◌, arith, inl, inr}
 use Rattle.std.specs.Prelude.{nat_lt, option_and_then, unwrap_or}
 use Rattle.std.specs.Str.{bytes_eq}
+use Rattle.std.specs.declared.cmp.Ordering.{Ordering}
 use Rattle.std.specs.declared.cmp.Ordering.TheVariants as orders
 use Rattle.std.proofs.lemmas.Bool.{cases_eq, ltb-false}
 use Rattle.std.proofs.lemmas.Grind.{get_or-set_at}
 use Rattle.std.proofs.lemmas.List.{get_or_default, get_or-set_other, length-set}
 use Rattle.std.proofs.lemmas.List.Elements.{All-set}
 use Rattle.std.proofs.lemmas.Slice.Eq.{bytes_eq-Decides}
-use Rattle.bson.specs.Tree.{Tree, scalar, null, document, array, Pairs, no_pairs}
+use Rattle.bson.specs.Tree.{Tree, scalar, null, document, array, Pairs, no_pairs, pair}
 use Rattle.bson.specs.Lookup.{lookup}
 use Rattle.bson.specs.Lawful.{pairs_levels, IsDocument}
 use Rattle.bson.specs.Spelling.{frame_of, pairs_bytes, Spells}
 use Rattle.bson.proofs.TreeLaws.{one_spelling}
 use Rattle.value_order.specs.Order.{compare}
 use Rattle.value_order.specs.KeyText.{tree_text}
+use Rattle.value_order.specs.TotalLaws.{compare_total}
+use Rattle.bson.specs.View.{tree, pairs_of}
+use Rattle.bson.specs.declared.value.Pair.{Pair}
 use Rattle.path.specs.EditLaws.{if_ok_value}
 use Rattle.outcome.specs.Outcome.{◌>>=◌, fault_or}
 use Rattle.path.specs.declared.refusal.Refusal.{Refusal}
@@ -34,6 +38,7 @@ use Rattle.engine.specs.Progress.{with_document_at}
 use Rattle.engine.specs.Update.{spelled, upsert_document}
 use Rattle.engine.specs.Updating.{IsChange}
 use Rattle.engine.proofs.Checked.{id_first-id_first}
+use Rattle.engine.proofs.Ordered.{flipped}
 
 -- what an update gives, but for the length of its key text
 pub record Applied (ps : Pairs) : Type 0 where
@@ -89,6 +94,16 @@ module _ (u : Change) (ps qs : Pairs) (read : IsRead u) (stored : IsStored ps) (
   pub kept_stored : IsStored qs
   kept_stored = may_be_stored qs (applied u ps qs e) (subst (λ (t : Tree). length (tree_text t) ≤ 500) (sym kept_key) stored.short)
 
+  -- other documents have other bytes
+  pub other_bytes : IsDocument ps → IsDocument qs → ps ≢ qs → bytes_eq (spelled ps) (spelled qs) ≡ false
+  other_bytes d f other = at (bytes_eq (spelled ps) (spelled qs)) refl
+    where
+      at : (b : Bool) → bytes_eq (spelled ps) (spelled qs) ≡ b → b ≡ false
+      at false is = refl
+      at true is =
+          let one = one_spelling (spelled ps) (spelled qs) [] [] ps qs (spells ps stored d) (spells qs kept_stored f) (ap (λ (bs : List ℕ). bs ++ []) ((bytes_eq-Decides (spelled ps) (spelled qs)).0 is)) in
+          absurd (other one.0)
+
   pub is_change : IsDocument qs → bytes_eq (spelled ps) (spelled qs) ≡ false → IsChange u ps qs
   is_change readable other = record { is = e; differs = other; stored = kept_stored; readable = readable; key = kept_key }
 
@@ -97,6 +112,35 @@ module _ (u : Change) (ps qs : Pairs) (read : IsRead u) (stored : IsStored ps) (
   same_document d f same =
       let one = one_spelling (spelled ps) (spelled qs) [] [] ps qs (spells ps stored d) (spells qs kept_stored f) (ap (λ (bs : List ℕ). bs ++ []) ((bytes_eq-Decides (spelled ps) (spelled qs)).0 same)) in
       e ∙ ap (λ (x : Pairs). Ok x) (sym one.0)
+
+-- ---- values in their places
+
+first_value : Pairs → Tree
+first_value no_pairs = scalar null
+first_value (pair name t ps) = t
+
+later_pairs : Pairs → Pairs
+later_pairs no_pairs = no_pairs
+later_pairs (pair name t ps) = ps
+
+same_values : (xs ys : List Pair) (i : ℕ) (p : Pair) → pairs_of xs ≡ pairs_of ys → i < length xs → i < length ys → tree (get_or xs i p).value ≡ tree (get_or ys i p).value
+unfolding first_value later_pairs
+same_values [] ys i p e within below = absurd (omega arith)
+same_values (x ∷ xs) [] i p e within below = absurd (omega arith)
+same_values (x ∷ xs) (y ∷ ys) zero p e within below = ap first_value e
+same_values (x ∷ xs) (y ∷ ys) (suc i) p e within below = same_values xs ys i p (ap later_pairs e) (omega (arith, within)) (omega (arith, below))
+
+equal_to_itself : (t : Tree) (o : Ordering) → compare t t ≡ o → compare t t ≡ orders.Equal
+equal_to_itself t orders.Equal e = e
+equal_to_itself t orders.Less e = absurd (let f = flipped compare_total t t orders.Less e in let no = sym e ∙ f in cc)
+equal_to_itself t orders.Greater e = absurd (let f = flipped compare_total t t orders.Greater e in let no = sym e ∙ f in cc)
+
+-- values that are not equal don't stand in one document
+pub other_values : (xs ys : List Pair) (i : ℕ) (p q : Pair) → i < length xs → i < length ys → p ≡ get_or xs i p → q ≡ get_or ys i q → compare (tree p.value) (tree q.value) ≢ orders.Equal → pairs_of xs ≢ pairs_of ys
+other_values xs ys i p q within below is_p is_q other same =
+    let alike : tree p.value ≡ tree q.value =
+    ap (λ (x : Pair). tree x.value) is_p ∙ same_values xs ys i p same within below ∙ ap (λ (x : Pair). tree x.value) (get_or_default ys i p q below ∙ sym is_q) in
+    other (ap (λ (t : Tree). compare t (tree q.value)) alike ∙ equal_to_itself (tree q.value) (compare (tree q.value) (tree q.value)) refl)
 
 -- ---- a document of a collection
 

@@ -1,9 +1,9 @@
 //! `update`: documents are changed in place, statement by statement; all statements are done, or none.
 
-ghost use Rattle.std.specs.Prelude.{◌≡◌, ◌≤◌, ◌<◌, IfOk, OnOk, OnErr, IfErr, IfSome, IfNone, Ok, All, length, false};
+ghost use Rattle.std.specs.Prelude.{◌≡◌, ◌≢◌, true, ◌≤◌, ◌<◌, IfOk, OnOk, OnErr, IfErr, IfSome, IfNone, Ok, All, length, false};
 ghost use Rattle.std.specs.Str.{bytes_eq};
 ghost use Rattle.bson.specs.Lawful.{IsDocument, pairs_levels};
-ghost use Rattle.bson.specs.View.{tree};
+ghost use Rattle.bson.specs.View.{tree, pairs_of};
 ghost use Rattle.filter.specs.Matches.{matches};
 ghost use Rattle.outcome.specs.Outcome.{Fails, Gives};
 ghost use Rattle.update.specs.Applying.{apply};
@@ -28,13 +28,15 @@ use crate::find::matches;
 use crate::image::spelling;
 use crate::reply::{add, done, put};
 use crate::{REPLY_LIMIT, STORED_LIMIT};
-use bson::{Array, Document, NoMemory, Value};
+use bson::{Array, Document, NoMemory, Pair, Value};
 use commands::UpdateStatement;
 use filter::Filter;
 use page::Disk;
 use path::Refusal;
 use std::alloc::Global;
+use std::cmp::Ordering;
 use update::{Update, id_of, upsert_base};
+use value_order::compare;
 
 /// The greatest count of a reply.
 const MOST_COUNTED: usize = 2_147_483_647;
@@ -61,6 +63,24 @@ fn counted(number: usize) -> usize
     }
 }
 
+/// Whether a value of the one is not equal to that in its place in the other. Where none is, the bytes may differ all
+/// the same, in names and in kinds of numbers.
+fn has_other_value(a: &[Pair], b: &[Pair]) -> bool
+    ensures { result ≡ true → pairs_of a.now ≢ pairs_of b.now }
+{
+    'pairs: for (i, first) in a.iter().enumerate() {
+        if b.len() <= i {
+            return false;
+        }
+        let second = &b[i];
+        match compare(&first.value, &second.value) {
+            Ordering::Equal => {}
+            Ordering::Less | Ordering::Greater => return true,
+        }
+    }
+    false
+}
+
 /// Whether two documents have the same bytes.
 fn is_same(alloc: Global, a: &Document, b: &Document) -> Result<bool, NoMemory>
     requires a { length (spelled a.now) ≤ 65535 }
@@ -83,7 +103,9 @@ fn changed(alloc: Global, change: &Update, document: &Document) -> Result<Option
         (apply (update_of change.now) 65535 document.now)) }
 {
     let new = change.apply(document, STORED_LIMIT)?;
-    let _levels = new.levels();
+    if has_other_value(document.pairs(), new.pairs()) {
+        return Ok(Some(new));
+    }
     let same = is_same(alloc, document, &new)?;
     if same {
         return Ok(None);

@@ -1,4 +1,4 @@
-//! Finds, counts and deletes, by public calls: commands written as text, asked of a whole server one after the other.
+//! Finds, counts, deletes and updates, by public calls: commands written as text, asked of a whole server one after the other.
 #![tactic(auto)]
 
 #[cfg(test)]
@@ -12,6 +12,8 @@ mod matching;
 #[cfg(test)]
 mod missing;
 #[cfg(test)]
+mod misused_updates;
+#[cfg(test)]
 mod projecting;
 #[cfg(test)]
 mod session;
@@ -19,5 +21,9 @@ mod session;
 mod sorting;
 #[cfg(test)]
 mod turns;
+#[cfg(test)]
+mod updating;
+#[cfg(test)]
+mod upserting;
 #[cfg(test)]
 mod windows;

@@ -1,4 +1,4 @@
-//! A delete and other commands in one turn of an engine.
+//! Deletes, updates and other commands in one turn of an engine.
 
 ghost use Rattle.std.specs.Prelude.{IfOk};
 ghost use Rattle.page.specs.Memory.{memory_history};
@@ -87,5 +87,35 @@ fn taken_back(rt: HostRuntime) -> Result<(), Fail> {
     assert_eq!(rt; disk.calls(), 3 + 11);
     let mut engine = open(alloc, disk)?;
     assert!(rt; answers(alloc, &mut engine, FIND, TWO)?);
+    Ok(())
+}
+
+const UPDATE: &str =
+    "{update: 'c', updates: [{q: {_id: 2}, u: {$set: {a: 1}}}, {q: {_id: 9}, u: {b: 1}, upsert: true}], $db: 't'}";
+
+const UPDATED: &str =
+    "{cursor: {firstBatch: [{_id: 1}, {_id: 2, a: 1}, {_id: 3}, {_id: 9, b: 1}], id: 0L, ns: 't.c'}, ok: 1}";
+
+#[test]
+fn updates_and_their_commits(rt: HostRuntime) -> Result<(), Fail> {
+    let alloc = rt.alloc();
+    let mut engine = open(alloc, MemDisk::new(alloc))?;
+    let upserted = "{n: 2, nModified: 1, upserted: [{index: 1, _id: 9}], ok: 1}";
+    assert!(rt; answers(alloc, &mut engine, INSERT, "{n: 3, ok: 1}")?);
+    assert!(rt; answers(alloc, &mut engine, UPDATE, upserted)?);
+    assert!(rt; engine.commit_turn().is_ok());
+    // what is taken back leaves what the turn before stored
+    let more = "{update: 'c', updates: [{q: {}, u: {$set: {a: 7}}, multi: true}], $db: 't'}";
+    assert!(rt; answers(alloc, &mut engine, more, "{n: 4, nModified: 4, ok: 1}")?);
+    engine.undo_turn();
+    assert!(rt; answers(alloc, &mut engine, FIND, UPDATED)?);
+    // an update that changes no byte writes nothing
+    let same = "{update: 'c', updates: [{q: {_id: 2}, u: {$set: {a: 1}}}], $db: 't'}";
+    assert!(rt; answers(alloc, &mut engine, same, "{n: 1, nModified: 0, ok: 1}")?);
+    assert!(rt; engine.commit_turn().is_ok());
+    let disk = engine.into_disk();
+    assert_eq!(rt; disk.calls(), 3 + 11);
+    let mut engine = open(alloc, disk)?;
+    assert!(rt; answers(alloc, &mut engine, FIND, UPDATED)?);
     Ok(())
 }

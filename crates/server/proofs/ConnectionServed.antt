@@ -7,8 +7,11 @@ use Rattle.op_msg.specs.Request.{body_of}
 use Rattle.op_msg.specs.declared.fault.FrameFault.{FrameFault}
 use Rattle.op_msg.specs.declared.request.Request.{Request}
 use Rattle.engine.specs.World.{World}
-use Rattle.engine.specs.Step.{ForMemory}
-use Rattle.server.specs.Turn.{frame_unless, frame_for, call_at, taken_at}
+use Rattle.engine.specs.Step.{ForMemory, WroteNothing}
+use Rattle.bson.specs.Outcome.{Gives}
+use Rattle.bson.specs.declared.fault.BsonFault.{BsonFault}
+use Rattle.bson.specs.declared.fault.BsonFault.TheVariants as bson_faults
+use Rattle.server.specs.Turn.{frame_unless, frame_for, call_at, taken_at, ChangeNothing}
 use Rattle.server.specs.Taking.{IsTaken, IsAnswer, Serves}
 use Rattle.server.specs.declared.connection.Connection.{Connection}
 use Rattle.server.specs.declared.connection.Taken.{Taken}
@@ -43,3 +46,10 @@ one_served old new (Ok (Some x)) n r w w' reply ok given now h a f = record {
   where
     same : frame_unless r.more_to_come old.id n r.request_id reply ≡ frame_for (record { connection = old; frame = x.0 }) reply
     same = λ i. frame_unless (h.1.more i) old.id (h.0 i) (h.1.number i) reply
+
+-- a message that changes nothing wrote nothing
+pub one_quiet : (P : Type 0) (old new : Connection) (front : Front) (n : ℕ) (r : Request) (w w' : World) (reply : Pairs) → IsTaken old front (takes.Call n r) new → IsAnswer ForMemory w old.id r w' reply
+    → ((read : Result Pairs BsonFault) → Gives bson_faults.Memory (λ d. d) r.body read → WroteNothing w read w' → P) → ChangeNothing ForMemory w (call_at old front) → P
+one_quiet P old new (Ok None) n r w w' reply h a use_it quiet = absurd h
+one_quiet P old new (Err e) n r w w' reply h a use_it quiet = absurd h
+one_quiet P old new (Ok (Some x)) n r w w' reply h a use_it quiet = use_it (body_of x.0) h.1.body (quiet w' reply (a (body_of x.0) h.1.body)).0

@@ -35,7 +35,14 @@ quiet_runs (x ∷ cs) ds a b [] h quiet = absurd h
 quiet_runs (x ∷ cs) ds a b (r ∷ rs) h quiet =
     let one = quiet h.0 r h.1 in
     let later = quiet_runs cs ds h.0 b rs h.2 one.1 in
-    (later.0 ∙ one.0, later.1)
+    (later.0 ∙ one.0.0, later.1)
+
+-- calls that change nothing, and those before them
+pub quiet_front : (cs ds : List Call) (a : World) → ChangeNothing ForMemory a (cs ++ ds) → ChangeNothing ForMemory a cs
+quiet_front [] ds a quiet = tt
+quiet_front (x ∷ cs) ds a quiet = λ mid reply h.
+    let one = quiet mid reply h in
+    (one.0, quiet_front cs ds mid one.1)
 
 both : (p q : Bool) → (p && q) ≡ true → (p ≡ true) × (q ≡ true)
 both true q e = (refl, e)

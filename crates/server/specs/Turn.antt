@@ -11,7 +11,7 @@ use Rattle.op_msg.specs.Request.{body_of, reply_bytes, is_waiting}
 use Rattle.op_msg.specs.declared.fault.FrameFault.{FrameFault}
 use Rattle.engine.specs.World.{World, forget, after_commit, after_undo}
 use Rattle.engine.specs.Refusals.{refusal_reply}
-use Rattle.engine.specs.Step.{Answers}
+use Rattle.engine.specs.Step.{Answers, WroteNothing}
 use Rattle.path.specs.declared.refusal.Refusal.{Refusal}
 use Rattle.path.specs.declared.refusal.Refusal.TheVariants as refusals
 use Rattle.server.specs.ServerState.{ServerState}
@@ -96,12 +96,12 @@ Runs beside world (c ∷ cs) (r ∷ rs) new =
     (mid : World) × Answers beside world c.connection.id (body_of c.frame) mid r
     × Runs beside mid cs rs new
 
--- However the messages are answered, none of them changes the collections.
+-- However the messages are answered, none of them writes anything.
 abbrev pub ChangeNothing : (Refusal → Type 0) → World → List Call → Type 0
 ChangeNothing beside world [] = Unit {0}
 ChangeNothing beside world (c ∷ cs) =
     (mid : World) (reply : Pairs) → Answers beside world c.connection.id (body_of c.frame) mid reply
-    → (mid.collections ≡ world.collections) × ChangeNothing beside mid cs
+    → WroteNothing world (body_of c.frame) mid × ChangeNothing beside mid cs
 
 abbrev pub ChangesNothing : (Refusal → Type 0) → ServerState → Type 0
 ChangesNothing beside state = ChangeNothing beside state.world (calls state.connections)

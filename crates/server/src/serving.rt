@@ -8,7 +8,12 @@ ghost use Rattle.op_msg.specs.Request.{reply_bytes};
 ghost use Rattle.engine.specs.View.{world, turn_start, reply_of, answer_of, IsSendable};
 ghost use Rattle.engine.specs.Durable.{Holds, disk_history, has_changes, is_stopped, IsRunning, store_of, IsSound};
 ghost use Rattle.path.specs.declared.refusal.Refusal.TheVariants.{OutOfMemory};
-ghost use Rattle.engine.specs.Step.{ForMemory};
+ghost use Rattle.std.specs.Prelude.{Result};
+ghost use Rattle.bson.specs.Tree.{Pairs};
+ghost use Rattle.bson.specs.Outcome.{Gives};
+ghost use Rattle.bson.specs.declared.fault.BsonFault.{BsonFault};
+ghost use Rattle.bson.specs.declared.fault.BsonFault.TheVariants as bson_faults;
+ghost use Rattle.engine.specs.Step.{ForMemory, WroteNothing};
 ghost use Rattle.server.specs.Turn.{front_of, connections_taken, taken_at, call_at, calls, refused_frames, forget_all, ChangeNothing};
 ghost use Rattle.server.specs.Taking.{Serves, IsAnswer, EndsTurn, BreaksTurn};
 ghost use Rattle.server.specs.View.{frames_in};
@@ -68,7 +73,9 @@ fn answer<D: Disk>(engine: &mut Engine<D>, id: ConnId, request: &Request) -> Rep
     ensures answer { IsAnswer ForMemory (world engine.old) id request.now (world engine.new)
         (reply_of result) }
     ensures turn_start { turn_start engine.new ≡ turn_start engine.old }
-    ensures has_changes { (world engine.new).collections ≡ (world engine.old).collections
+    ensures has_changes { (read : Result Pairs BsonFault)
+        → Gives bson_faults.Memory (λ d. d) request.now.body read
+        → WroteNothing (world engine.old) read (world engine.new)
         → has_changes engine.new ≡ has_changes engine.old }
     ensures sendable { IsSendable (reply_of result) }
 {
@@ -95,7 +102,8 @@ fn serve_connection<D: Disk>(
         (frames_in frames.old.items) (frames_in frames.new.items) }
     ensures connection { connection.new ≡ taken_at connection.old (front_of connection.old) }
     ensures turn_start { turn_start engine.new ≡ turn_start engine.old }
-    ensures has_changes { (world engine.new).collections ≡ (world engine.old).collections
+    ensures quiet { ChangeNothing ForMemory (world engine.old)
+        (call_at connection.old (front_of connection.old))
         → has_changes engine.new ≡ has_changes engine.old }
 {
     let id = connection.id;

@@ -1,6 +1,6 @@
-use Rattle.std.proofs.Common.{◌≡◌, Ok, sym, ◌∙◌}
+use Rattle.std.proofs.Common.{◌≡◌, ◌≢◌, sym, ◌∙◌}
 use Rattle.update.specs.View.{update_of}
-use Rattle.engine.proofs.Applied.{applied, is_change, same_document}
+use Rattle.engine.proofs.Applied.{applied, other_bytes, is_change, same_document}
 use Rattle.engine.proofs.updates.changed.Goals as goal
 
 pub is_same-requires-clause-b : goal.is_same-requires-clause-b
@@ -8,8 +8,15 @@ is_same-requires-clause-b c = (applied (update_of c.args.change.now) c.args.docu
 
 pub returns-then-same-clause-none : goal.returns-then-same-clause-none
 returns-then-same-clause-none c =
-    same_document (update_of c.args.change.now) c.args.document.now c.in_ok-new.new c.requires.read c.requires.stored c.in_ok-new.ensures c.requires.readable c.levels-levels.ensures.lawful (sym c.in_ok-same.ensures ∙ c.if-same.true)
+    same_document (update_of c.args.change.now) c.args.document.now c.in_ok-new.new c.requires.read c.requires.stored c.in_ok-new.ensures c.requires.readable c.pairs-2.ensures.lawful (sym c.in_ok-same.ensures ∙ c.if-same.true)
 
 pub returns-clause-some : goal.returns-clause-some
 returns-clause-some c =
-    is_change (update_of c.args.change.now) c.args.document.now c.in_ok-new.new c.requires.read c.requires.stored c.in_ok-new.ensures c.levels-levels.ensures.lawful (sym c.in_ok-same.ensures ∙ c.if-same.false)
+    is_change (update_of c.args.change.now) c.args.document.now c.in_ok-new.new c.requires.read c.requires.stored c.in_ok-new.ensures c.pairs-2.ensures.lawful (sym c.in_ok-same.ensures ∙ c.if-same.false)
+
+pub returns-then-has_other_value-clause-some : goal.returns-then-has_other_value-clause-some
+returns-then-has_other_value-clause-some c =
+    let u = update_of c.args.change.now in
+    let other : c.args.document.now ≢ c.in_ok-new.new = λ same. c.has_other_value.ensures c.if-has_other_value.true (c.pairs.ensures.pairs ∙ same ∙ sym c.pairs-2.ensures.pairs) in
+    is_change u c.args.document.now c.in_ok-new.new c.requires.read c.requires.stored c.in_ok-new.ensures c.pairs-2.ensures.lawful
+    (other_bytes u c.args.document.now c.in_ok-new.new c.requires.read c.requires.stored c.in_ok-new.ensures c.requires.readable c.pairs-2.ensures.lawful other)

@@ -1,10 +1,11 @@
 use Rattle.std.proofs.Common.{◌≡◌, ℕ, List, [], ◌∷◌, ◌++◌, sym, ◌∙◌, ap, append-nil, rules}
 use Rattle.std.specs.Prelude.{Bool, true, false}
 use Rattle.engine.specs.View.{world, reply_of}
+use Rattle.engine.specs.Durable.{has_changes}
 use Rattle.server.specs.Turn.{front_of, frame_unless}
 use Rattle.server.specs.View.{frames_in}
 use Rattle.server.proofs.Histories.{frames_append}
-use Rattle.server.proofs.ConnectionServed.{one_served, nothing_served, taken_link}
+use Rattle.server.proofs.ConnectionServed.{one_served, one_quiet, nothing_served, taken_link}
 use Rattle.server.proofs.serving.serve_connection.Goals as goal
 
 pub returns-then-request-clause-serves : goal.returns-then-request-clause-serves
@@ -50,3 +51,21 @@ returns-in-Ok-clause-connection g c = taken_link c.args.connection.now c.take_ca
 
 pub returns-clause-connection : goal.returns-clause-connection
 returns-clause-connection g c = taken_link c.args.connection.now c.take_call.new.connection (front_of c.args.connection.now) c.take_call.result c.take_call.ensures.taken
+
+pub returns-then-request-clause-quiet : goal.returns-then-request-clause-quiet
+returns-then-request-clause-quiet g c =
+    let connection = c.args.connection.now in
+    one_quiet (has_changes c.answer-reply.new.engine ≡ has_changes c.args.engine.now) connection c.take_call.new.connection (front_of connection) c.in-Call.number c.in-Call.request (world c.args.engine.now) (world c.answer-reply.new.engine) (reply_of c.answer-reply.result)
+    c.in-Call.ensures.taken c.answer-reply.ensures.answer c.answer-reply.ensures.has_changes
+
+pub returns-clause-quiet : goal.returns-clause-quiet
+returns-clause-quiet g c =
+    let connection = c.args.connection.now in
+    one_quiet (has_changes c.answer-reply.new.engine ≡ has_changes c.args.engine.now) connection c.take_call.new.connection (front_of connection) c.in-Call.number c.in-Call.request (world c.args.engine.now) (world c.answer-reply.new.engine) (reply_of c.answer-reply.result)
+    c.in-Call.ensures.taken c.answer-reply.ensures.answer c.answer-reply.ensures.has_changes
+
+pub returns-in-Ok-clause-quiet : goal.returns-in-Ok-clause-quiet
+returns-in-Ok-clause-quiet g c =
+    let connection = c.args.connection.now in
+    one_quiet (has_changes c.answer-reply.new.engine ≡ has_changes c.args.engine.now) connection c.take_call.new.connection (front_of connection) c.in-Call.number c.in-Call.request (world c.args.engine.now) (world c.answer-reply.new.engine) (reply_of c.answer-reply.result)
+    c.in-Call.ensures.taken c.answer-reply.ensures.answer c.answer-reply.ensures.has_changes

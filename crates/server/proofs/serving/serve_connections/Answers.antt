@@ -5,7 +5,7 @@ use Rattle.server.specs.Turn.{Call, calls, call_at, front_of, connections_taken,
 use Rattle.server.specs.Taking.{Serves}
 use Rattle.server.specs.View.{frames_in}
 use Rattle.server.specs.declared.connection.Connection.{Connection}
-use Rattle.server.proofs.ConnectionsServed.{serves_on, calls_more, links_step, quiet_runs}
+use Rattle.server.proofs.ConnectionsServed.{serves_on, calls_more, links_step, quiet_front, quiet_runs}
 use Rattle.server.proofs.serving.serve_connections.Goals as goal
 
 pub connections-preserved : goal.connections-preserved
@@ -35,5 +35,5 @@ connections-preserved g c =
           let here : drop i first ≡ x ∷ drop (i + 1) first = drop-cons first i x s.within ∙ (λ j. sym s.same j ∷ drop (sym next j) first) in
           let rest = subst (ChangeNothing ForMemory (world c.connections.engine)) (ap calls here) so_far.1 in
           let one = quiet_runs (call_at x (front_of x)) (calls (drop (i + 1) first)) (world c.connections.engine) (world call.new.engine) call.ensures.serves.replies call.ensures.serves.runs rest in
-          (call.ensures.has_changes one.0 ∙ so_far.0, one.1);
+          (call.ensures.quiet (quiet_front (call_at x (front_of x)) (calls (drop (i + 1) first)) (world c.connections.engine) rest) ∙ so_far.0, one.1);
     }
