@@ -7,3 +7,4 @@ pub mod ArrayLemmas
 pub mod TextLemmas
 pub mod GroupLemmas
 pub mod PlaceLemmas
+pub mod LawLemmas

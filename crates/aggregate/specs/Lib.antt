@@ -21,3 +21,4 @@ pub mod View
 pub mod GroupView
 pub mod Table
 pub mod Groups
+pub mod Laws
