@@ -1,5 +1,5 @@
 -- Laws of stages and of groups.
-use Rattle.std.proofs.Common.{◌≡◌, ℕ, suc, ◌+◌, Bool, true, false, List, [], ◌∷◌, ◌++◌, length, map, fold, Result, Ok, Err, refl, sym, ap, ◌∙◌, arith}
+use Rattle.std.proofs.Common.{◌≡◌, ℕ, ◌+◌, Bool, true, false, List, [], ◌∷◌, ◌++◌, length, map, fold, Result, Ok, Err, refl, sym, ap, ◌∙◌, arith}
 use Rattle.std.specs.Prelude.{◌&&◌, if◌then◌else◌}
 use Rattle.std.specs.List.{sum_by}
 use Rattle.std.proofs.lemmas.List.Sums.{sum_by-cons}
@@ -8,10 +8,9 @@ use Rattle.path.specs.Outcomes.{◌>>=◌}
 use Rattle.path.specs.declared.refusal.Refusal.{Refusal}
 use Rattle.filter.specs.Condition.{Conditions, no_conditions, condition, append_conditions}
 use Rattle.filter.specs.Matches.{Subject, whole, holds, all_hold, matches}
-use Rattle.aggregate.specs.Group.{Identified, same, first_of_each, members, groups}
+use Rattle.aggregate.specs.Group.{Identified, same, first_of_each, members}
 use Rattle.aggregate.specs.Laws.{MatchesBoth, GroupsAll, RunsOneAfterOther}
 use Rattle.aggregate.specs.Pipeline.{after_stage, run}
-use Rattle.aggregate.specs.Stage.{Stage}
 use Rattle.aggregate.specs.Table.{put}
 use Rattle.aggregate.proofs.GroupLemmas.{same_laws}
 use Rattle.aggregate.proofs.SplitLemmas.{filter-both, add_all, split}

@@ -1,5 +1,5 @@
 -- What holds of stages and of groups, whatever the documents.
-use Rattle.std.specs.Prelude.{◌≡◌, ℕ, Result, Ok, List, [], ◌∷◌, ◌++◌, length, take, drop}
+use Rattle.std.specs.Prelude.{◌≡◌, ℕ, Ok, List, [], ◌++◌, length, take, drop}
 use Rattle.std.specs.List.{sum_by}
 use Rattle.bson.specs.Tree.{Pairs}
 use Rattle.path.specs.Outcomes.{◌>>=◌}
