@@ -1,5 +1,5 @@
 -- Laws of stages and of groups.
-use Rattle.std.proofs.Common.{◌≡◌, ℕ, ◌+◌, Bool, true, false, List, [], ◌∷◌, ◌++◌, length, map, fold, Result, Ok, Err, refl, sym, ap, ◌∙◌, arith}
+use Rattle.std.proofs.Common.{◌≡◌, Some, ℕ, ◌+◌, Bool, true, false, List, [], ◌∷◌, ◌++◌, length, map, fold, Result, Ok, Err, refl, sym, ap, ◌∙◌, arith}
 use Rattle.std.specs.Prelude.{◌&&◌, if◌then◌else◌}
 use Rattle.std.specs.List.{sum_by}
 use Rattle.std.proofs.lemmas.List.Sums.{sum_by-cons}
@@ -9,8 +9,11 @@ use Rattle.path.specs.declared.refusal.Refusal.{Refusal}
 use Rattle.filter.specs.Condition.{Conditions, no_conditions, condition, append_conditions}
 use Rattle.filter.specs.Matches.{Subject, whole, holds, all_hold, matches}
 use Rattle.aggregate.specs.Group.{Identified, same, first_of_each, members}
-use Rattle.aggregate.specs.Laws.{MatchesBoth, GroupsAll, RunsOneAfterOther}
-use Rattle.aggregate.specs.Pipeline.{after_stage, run}
+use Rattle.aggregate.specs.Laws.{MatchesBoth, GroupsAll, RunsOneAfterOther, LeadsWithFilter}
+use Rattle.aggregate.specs.Limits.{within_limits}
+use Rattle.aggregate.specs.Match.{matching}
+use Rattle.aggregate.specs.Pipeline.{after_stage, filter_of, run}
+use Rattle.aggregate.specs.Stage.{Stage, match_stage, project_stage, unwind_stage, group_stage, sort_stage, skip_stage, limit_stage, count_stage}
 use Rattle.aggregate.specs.Table.{put}
 use Rattle.aggregate.proofs.GroupLemmas.{same_laws}
 use Rattle.aggregate.proofs.SplitLemmas.{filter-both, add_all, split}
@@ -85,3 +88,27 @@ runs_one_after_other (s ∷ first) second limit documents = by (after_stage s li
         → (r >>= run (first ++ second) limit) ≡ ((r >>= run first limit) >>= run second limit)
     by (Ok ds) later = later ds
     by (Err e) later = refl
+
+and_same : (a : Bool) → a ≡ (a && a)
+and_same true = refl
+and_same false = refl
+
+matching_twice : (rules : Conditions) (documents : List Pairs) → matching rules (matching rules documents) ≡ matching rules documents
+matching_twice rules documents = sym (filter-both (matches rules) (matches rules) (matches rules) (λ ps. and_same (matches rules ps)) documents)
+
+pub leads_with_filter : LeadsWithFilter
+leads_with_filter [] rules is = absurd cc
+leads_with_filter (s ∷ stages) rules is = by s is
+  where
+    by : (s : Stage) → filter_of s ≡ Some rules → (limit : ℕ) (documents : List Pairs) → run (s ∷ stages) limit (matching rules documents) ≡ run (s ∷ stages) limit documents
+    by (match_stage others) is limit documents =
+        let same : others ≡ rules = cc in
+        ap (λ (ds : List Pairs). within_limits limit ds >>= run stages limit)
+        ((λ i. matching (same i) (matching rules documents)) ∙ matching_twice rules documents ∙ (λ i. matching (sym same i) documents))
+    by (project_stage p) is limit documents = absurd cc
+    by (unwind_stage path) is limit documents = absurd cc
+    by (group_stage g) is limit documents = absurd cc
+    by (sort_stage fields) is limit documents = absurd cc
+    by (skip_stage n) is limit documents = absurd cc
+    by (limit_stage n) is limit documents = absurd cc
+    by (count_stage name) is limit documents = absurd cc

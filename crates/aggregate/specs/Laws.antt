@@ -1,11 +1,12 @@
 -- What holds of stages and of groups, whatever the documents.
-use Rattle.std.specs.Prelude.{◌≡◌, ℕ, Ok, List, [], ◌++◌, length, take, drop}
+use Rattle.std.specs.Prelude.{◌≡◌, ℕ, Some, Ok, List, [], ◌++◌, length, take, drop}
 use Rattle.std.specs.List.{sum_by}
 use Rattle.bson.specs.Tree.{Pairs}
 use Rattle.path.specs.Outcomes.{◌>>=◌}
 use Rattle.filter.specs.Condition.{Conditions, append_conditions}
 use Rattle.aggregate.specs.Group.{Grouping, Identified, groups, grouped}
-use Rattle.aggregate.specs.Pipeline.{run}
+use Rattle.aggregate.specs.Match.{matching}
+use Rattle.aggregate.specs.Pipeline.{leading_filter, run}
 use Rattle.aggregate.specs.Stage.{Stage, match_stage, skip_stage, limit_stage}
 use Rattle.aggregate.specs.Stages.{apply_stage}
 
@@ -33,3 +34,9 @@ GroupsAll = (documents : List Identified) → sum_by (λ g. length g.1) (groups 
 abbrev pub RunsOneAfterOther : Type 0
 RunsOneAfterOther = (first second : List Stage) (limit : ℕ) (documents : List Pairs)
     → run (first ++ second) limit documents ≡ (run first limit documents >>= run second limit)
+
+-- documents for which the filter of a first `$match` doesn't hold change nothing
+abbrev pub LeadsWithFilter : Type 0
+LeadsWithFilter = (stages : List Stage) (rules : Conditions) → leading_filter stages ≡ Some rules
+    → (limit : ℕ) (documents : List Pairs)
+    → run stages limit (matching rules documents) ≡ run stages limit documents

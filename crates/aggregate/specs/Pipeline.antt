@@ -1,14 +1,20 @@
 -- A pipeline: one function on lists of documents after the other, each of which gives a list or is refused. What a stage
 -- gives is judged before the next one.
-use Rattle.std.specs.Prelude.{ℕ, ◌==◌, ◌++◌, Result, Ok, List, [], ◌∷◌, length}
+use Rattle.std.specs.Prelude.{ℕ, ◌==◌, ◌++◌, Option, Some, None, Result, Ok, List, [], ◌∷◌, length}
 use Rattle.bson.specs.Tree.{Tree, Pairs}
 use Rattle.path.specs.Outcomes.{◌>>=◌, unless, or_refused}
 use Rattle.path.specs.declared.refusal.Refusal.{Refusal}
 use Rattle.path.specs.declared.refusal.Refusal.TheVariants as refusals
 use Rattle.aggregate.specs.Operands.{only_pair_in}
-use Rattle.aggregate.specs.Stage.{Stage}
+use Rattle.aggregate.specs.Stage.{Stage, match_stage}
 use Rattle.aggregate.specs.Stages.{stage_named, read_operand, apply_stage}
+use Rattle.filter.specs.Condition.{Conditions}
 use Rattle.aggregate.specs.Limits.{within_limits}
+
+-- the filter of a `$match`
+abbrev pub filter_of : Stage → Option Conditions
+filter_of (match_stage rules) = Some rules
+filter_of s = None
 
 -- ---- reading
 
@@ -35,3 +41,8 @@ after_stage s limit documents = apply_stage s documents >>= within_limits limit
 abbrev pub run : List Stage → ℕ → List Pairs → Result (List Pairs) Refusal
 run [] limit documents = Ok documents
 run (s ∷ stages) limit documents = after_stage s limit documents >>= run stages limit
+
+-- the filter of a `$match` that stands first
+abbrev pub leading_filter : List Stage → Option Conditions
+leading_filter [] = None
+leading_filter (s ∷ stages) = filter_of s

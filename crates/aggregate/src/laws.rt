@@ -1,6 +1,7 @@
 //! Laws of the definitions, as contracts.
 
 ghost use Rattle.aggregate.specs.Laws.{MatchesBoth, GivesWindow, GroupsNone, GroupsAll, RunsOneAfterOther};
+ghost use Rattle.aggregate.specs.Laws.{LeadsWithFilter};
 
 /// `$match` and then `$match` keep what one `$match` of all their conditions keeps.
 pub fn matches_both()
@@ -25,4 +26,9 @@ pub fn groups_all()
 /// One pipeline behind another is the two run one after the other.
 pub fn runs_one_after_other()
     ensures { RunsOneAfterOther }
+{}
+
+/// Documents for which the filter of a first `$match` doesn't hold change nothing.
+pub fn leads_with_filter()
+    ensures { LeadsWithFilter }
 {}

@@ -1,9 +1,9 @@
 //! Pipelines: reading one and running it.
 
-ghost use Rattle.std.specs.Prelude.{◌≡◌, map};
+ghost use Rattle.std.specs.Prelude.{◌≡◌, map, option_map};
 ghost use Rattle.bson.specs.View.{tree};
 ghost use Rattle.path.specs.View.{Gives};
-ghost use Rattle.aggregate.specs.Pipeline.{read_stage, read_pipeline, after_stage, run};
+ghost use Rattle.aggregate.specs.Pipeline.{read_stage, read_pipeline, after_stage, leading_filter, run};
 ghost use Rattle.aggregate.specs.View.{stage_of, pipeline_of};
 
 use crate::limits::first_fault;
@@ -11,6 +11,7 @@ use crate::operands::only_pair_in;
 use crate::stage::Stage;
 use crate::stages::{apply_stage, read_operand, stage_named};
 use bson::{Document, Value};
+use filter::Filter;
 use path::Refusal;
 use std::alloc::Global;
 
@@ -71,6 +72,16 @@ impl Pipeline {
             alloc,
             stages: read,
         })
+    }
+
+    /// The filter of a `$match` that stands first. Documents for which it doesn't hold need not be handed to `run`.
+    pub fn leading_filter(&self) -> Option<&Filter>
+        ensures { option_map (λ f. f.now) result ≡ leading_filter (pipeline_of self.now) }
+    {
+        match self.stages.as_slice() {
+            [Stage::Match(filter), ..] => Some(filter),
+            _ => None,
+        }
     }
 
     /// What the pipeline makes of documents.

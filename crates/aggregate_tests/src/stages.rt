@@ -1,6 +1,6 @@
 //! `$match`, `$sort`, `$skip`, `$limit`, `$count`, and stages one after the other.
 
-use crate::outcomes::first_wrong;
+use crate::outcomes::{first_wrong, pipeline};
 use std::test::*;
 
 const SOURCE: &str =
@@ -67,5 +67,16 @@ fn first_rows(rt: HostRuntime) -> Result<(), Fail> {
         ("[{$match: {_id: 9}}, {$count: 'n'}]", "[]"),
     ];
     assert_eq!(rt; first_wrong(rt.alloc(), source, &cases)?, None);
+    Ok(())
+}
+
+#[test]
+fn leading_filters(rt: HostRuntime) -> Result<(), Fail> {
+    let first = pipeline(rt.alloc(), "[{$match: {a: 1}}, {$limit: 1}]")?;
+    assert!(rt; first.map_or(false, |pipeline| pipeline.leading_filter().is_some()));
+    let later = pipeline(rt.alloc(), "[{$limit: 1}, {$match: {a: 1}}]")?;
+    assert!(rt; later.map_or(false, |pipeline| pipeline.leading_filter().is_none()));
+    let none = pipeline(rt.alloc(), "[]")?;
+    assert!(rt; none.map_or(false, |pipeline| pipeline.leading_filter().is_none()));
     Ok(())
 }
