@@ -8,3 +8,4 @@ pub mod TextLemmas
 pub mod GroupLemmas
 pub mod PlaceLemmas
 pub mod LawLemmas
+pub mod SumLemmas

@@ -1,9 +1,11 @@
 -- What holds of stages and of groups, whatever the documents.
-use Rattle.std.specs.Prelude.{◌≡◌, ℕ, Some, Ok, List, [], ◌++◌, length, take, drop}
+use Rattle.std.specs.Prelude.{◌≡◌, ℕ, Option, Some, Ok, List, [], ◌∷◌, ◌++◌, length, take, drop}
 use Rattle.std.specs.List.{sum_by}
-use Rattle.bson.specs.Tree.{Pairs}
+use Rattle.bson.specs.Tree.{Tree, Pairs}
 use Rattle.path.specs.Outcomes.{◌>>=◌}
 use Rattle.filter.specs.Condition.{Conditions, append_conditions}
+use Rattle.aggregate.specs.Accumulators.{accumulated}
+use Rattle.aggregate.specs.declared.accumulators.Accumulator.TheVariants as accumulators
 use Rattle.aggregate.specs.Group.{Grouping, Identified, groups, grouped}
 use Rattle.aggregate.specs.Match.{matching}
 use Rattle.aggregate.specs.Pipeline.{leading_filter, run}
@@ -40,3 +42,9 @@ abbrev pub LeadsWithFilter : Type 0
 LeadsWithFilter = (stages : List Stage) (rules : Conditions) → leading_filter stages ≡ Some rules
     → (limit : ℕ) (documents : List Pairs)
     → run stages limit (matching rules documents) ≡ run stages limit documents
+
+-- two summands that change places change nothing, so a sum is the same in every order
+abbrev pub SumsInAnyOrder : Type 0
+SumsInAnyOrder = (before behind : List (Option Tree)) (a b : Option Tree)
+    → accumulated accumulators.Sum (before ++ a ∷ b ∷ behind)
+    ≡ accumulated accumulators.Sum (before ++ b ∷ a ∷ behind)

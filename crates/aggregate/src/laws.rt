@@ -1,7 +1,7 @@
 //! Laws of the definitions, as contracts.
 
 ghost use Rattle.aggregate.specs.Laws.{MatchesBoth, GivesWindow, GroupsNone, GroupsAll, RunsOneAfterOther};
-ghost use Rattle.aggregate.specs.Laws.{LeadsWithFilter};
+ghost use Rattle.aggregate.specs.Laws.{LeadsWithFilter, SumsInAnyOrder};
 
 /// `$match` and then `$match` keep what one `$match` of all their conditions keeps.
 pub fn matches_both()
@@ -31,4 +31,9 @@ pub fn runs_one_after_other()
 /// Documents for which the filter of a first `$match` doesn't hold change nothing.
 pub fn leads_with_filter()
     ensures { LeadsWithFilter }
+{}
+
+/// Two summands that change places change nothing, so a sum is the same in every order.
+pub fn sums_in_any_order()
+    ensures { SumsInAnyOrder }
 {}
