@@ -91,6 +91,23 @@ fn sizes(rt: HostRuntime) -> Result<(), Fail> {
 }
 
 #[test]
+fn pushed_sizes(rt: HostRuntime) -> Result<(), Fail> {
+    let alloc = rt.alloc();
+    let push = "[{$group: {_id: null, p: {$push: '$b'}}}]";
+    let single = code(alloc, push, one(alloc, wide(alloc, 40_000)?)?, 65_535)?;
+    assert_eq!(rt; single, 0);
+    let mut two = one(alloc, wide(alloc, 40_000)?)?;
+    two.push(wide(alloc, 40_000)?)?;
+    assert_eq!(rt; code(alloc, push, two, 65_535)?, 10_334);
+    // {_id: null, p: [<5 bytes>]} has 5 + 5 + 3 + 5 + 3 + 5 + 5 bytes
+    let at = code(alloc, push, one(alloc, wide(alloc, 5)?)?, 31)?;
+    assert_eq!(rt; at, 0);
+    let over = code(alloc, push, one(alloc, wide(alloc, 5)?)?, 30)?;
+    assert_eq!(rt; over, 10_334);
+    Ok(())
+}
+
+#[test]
 fn levels(rt: HostRuntime) -> Result<(), Fail> {
     let alloc = rt.alloc();
     let skip = "[{$skip: 0}]";
