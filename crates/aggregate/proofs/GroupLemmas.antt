@@ -1,8 +1,8 @@
 -- The documents of groups that grow one after the other are those of the list split by its keys.
-use Rattle.std.proofs.Common.{◌≡◌, Bool, true, false, Option, List, [], ◌∷◌, ◌++◌, map, fold, Result, Ok, Err, refl, sym, ap, subst, ◌∙◌}
+use Rattle.std.proofs.Common.{◌≡◌, Bool, List, [], ◌∷◌, map, fold, Result, Ok, Err, refl, ap, subst, ◌∙◌}
 use Rattle.std.specs.Cmp.{IsEquivalence}
 use Rattle.std.proofs.lemmas.Cmp.{eq_by_cmp_equiv}
-use Rattle.std.specs.Ordering.{eq_by_cmp, is_eq}
+use Rattle.std.specs.Ordering.{is_eq}
 use Rattle.std.specs.declared.cmp.Ordering.{Ordering}
 use Rattle.std.specs.declared.cmp.Ordering.TheVariants.{Less, Equal, Greater}
 use Rattle.bson.specs.Tree.{Tree, Pairs, no_pairs}
@@ -11,7 +11,7 @@ use Rattle.value_order.specs.Order.{compare}
 use Rattle.value_order.specs.TotalLaws.{compare_total}
 use Rattle.outcome.specs.Outcome.{◌>>=◌}
 use Rattle.path.specs.declared.refusal.Refusal.{Refusal}
-use Rattle.aggregate.specs.Accumulators.{State, start, take, outcome, accumulated}
+use Rattle.aggregate.specs.Accumulators.{State, start, take}
 use Rattle.aggregate.specs.Each.{just, behind, each}
 use Rattle.aggregate.specs.Expression.{expression_value}
 use Rattle.aggregate.specs.Fields.{set_field}

@@ -7,3 +7,5 @@ pub mod ArrayLemmas
 pub mod TextLemmas
 pub mod GroupLemmas
 pub mod PlaceLemmas
+pub mod LawLemmas
+pub mod SumLemmas

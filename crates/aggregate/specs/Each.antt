@@ -1,5 +1,5 @@
 -- What a function gives of each member of a list, one behind the other, or the first refusal.
-use Rattle.std.specs.Prelude.{◌++◌, Result, Ok, Err, List, [], ◌∷◌}
+use Rattle.std.specs.Prelude.{◌++◌, Result, Ok, List, [], ◌∷◌}
 use Rattle.outcome.specs.Outcome.{◌>>=◌}
 use Rattle.path.specs.declared.refusal.Refusal.{Refusal}
 

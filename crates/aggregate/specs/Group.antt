@@ -1,6 +1,6 @@
 -- `$group` splits the documents by the order's equality of a value, `_id`, and gives a document for each group, in the order
 -- of first appearance (MongoDB manual, "$group").
-use Rattle.std.specs.Prelude.{ℕ, ◌++◌, not, Bool, if◌then◌else◌, Option, Some, None, Result, Ok, Err, List, [], ◌∷◌, map, codes}
+use Rattle.std.specs.Prelude.{ℕ, ◌++◌, not, Bool, if◌then◌else◌, Option, Some, None, Result, Ok, List, [], ◌∷◌, map, codes}
 use Rattle.std.specs.List.{filter}
 use Rattle.std.specs.Str.{bytes_eq}
 use Rattle.bson.specs.Tree.{Tree, scalar, document, array, Pairs, no_pairs, pair}

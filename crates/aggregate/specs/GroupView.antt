@@ -1,5 +1,5 @@
 -- What the types of `$group` stand for.
-use Rattle.std.specs.Prelude.{Option, Some, None, List, map, option_map}
+use Rattle.std.specs.Prelude.{map, option_map}
 use Rattle.bson.specs.Tree.{Tree}
 use Rattle.bson.specs.View.{tree, items_of}
 use Rattle.aggregate.specs.Accumulators.{State, total, least, greatest, first, last, pushed}

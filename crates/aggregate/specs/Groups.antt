@@ -1,10 +1,10 @@
 -- The groups that the code holds, and how it finds one by the text of its `_id`.
-use Rattle.std.specs.Prelude.{◌≡◌, ℕ, ◌<◌, Bool, true, false, Option, Some, None, List, [], ◌∷◌, map, length, get_or, is_some}
+use Rattle.std.specs.Prelude.{◌≡◌, ℕ, ◌<◌, Bool, true, false, Option, Some, None, List, map, length, get_or, is_some}
 use Rattle.std.specs.Global.{Vec}
 use Rattle.std.specs.Str.{bytes_eq}
 use Rattle.bson.specs.Tree.{Tree}
 use Rattle.bson.specs.View.{tree}
-use Rattle.indexmap.specs.IndexMap.{IndexMap, get}
+use Rattle.indexmap.specs.IndexMap.{get}
 use Rattle.value_order.specs.KeyText.{tree_text}
 use Rattle.aggregate.specs.Group.{same}
 use Rattle.aggregate.specs.GroupView.{state_of}

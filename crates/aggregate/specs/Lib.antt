@@ -24,3 +24,4 @@ pub mod View
 pub mod GroupView
 pub mod Table
 pub mod Groups
+pub mod Laws

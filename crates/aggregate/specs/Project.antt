@@ -1,7 +1,7 @@
 -- `$project` is a projection, of which undotted fields may be computed: `{name: "$path"}` (MongoDB manual, "$project").
 -- A computed field isn't taken from the document. It stands behind the others, in the order written, and is left out where
 -- its path gives nothing.
-use Rattle.std.specs.Prelude.{ℕ, ◌++◌, Bool, true, false, if◌then◌else◌, Option, Some, None, Result, Ok, Err, List, [], ◌∷◌}
+use Rattle.std.specs.Prelude.{ℕ, ◌++◌, Bool, true, false, Option, Some, None, Result, Ok, Err, List, [], ◌∷◌}
 use Rattle.bson.specs.Tree.{Tree, scalar, text, document, Pairs, no_pairs, pair}
 use Rattle.path.specs.Edits.{set_at, cut_at}
 use Rattle.outcome.specs.Outcome.{◌>>=◌, unless}

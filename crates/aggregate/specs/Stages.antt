@@ -1,10 +1,9 @@
 -- The table of the stages: of each its name, how its operand is read, and what it makes of a list of documents.
-use Rattle.std.specs.Prelude.{ℕ, if◌then◌else◌, Option, Some, None, Result, Ok, Err, List, codes}
+use Rattle.std.specs.Prelude.{ℕ, if◌then◌else◌, Option, Some, None, Result, Ok, List, codes}
 use Rattle.std.specs.Str.{bytes_eq}
 use Rattle.bson.specs.Tree.{Tree, Pairs}
 use Rattle.outcome.specs.Outcome.{◌>>=◌}
 use Rattle.path.specs.declared.refusal.Refusal.{Refusal}
-use Rattle.path.specs.declared.refusal.Refusal.TheVariants as refusals
 use Rattle.filter.specs.Reading.{read_filter}
 use Rattle.filter.specs.Sort.{order}
 use Rattle.filter.specs.SortReading.{read_sort}

@@ -2,7 +2,7 @@
 -- manual, "$unwind"). A value that is no array counts as one element. Where nothing or null stands there, and where the
 -- path leads through an array, there is none.
 use Rattle.std.specs.Prelude.{ℕ, if◌then◌else◌, Option, Some, None, Result, Ok, List, [], ◌∷◌}
-use Rattle.bson.specs.Tree.{Tree, scalar, null, document, array, Pairs, Items}
+use Rattle.bson.specs.Tree.{Tree, scalar, null, document, array, Pairs}
 use Rattle.path.specs.Edits.{set_at}
 use Rattle.outcome.specs.Outcome.{◌>>=◌}
 use Rattle.path.specs.Place.{value_at, passes_array}

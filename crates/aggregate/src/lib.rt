@@ -11,6 +11,7 @@ mod expression;
 mod fields;
 mod grouping;
 mod groups;
+pub mod laws;
 mod limits;
 mod matching;
 mod names;

@@ -13,6 +13,7 @@ use crate::operands::only_pair_in;
 use crate::stage::Stage;
 use crate::stages::{apply_stage, read_operand, stage_named};
 use bson::{Document, Value};
+use filter::Filter;
 use path::Refusal;
 use std::alloc::Global;
 

@@ -8,7 +8,7 @@ use Rattle.op_msg.specs.declared.fault.FrameFault.{FrameFault}
 use Rattle.op_msg.specs.declared.request.Request.{Request}
 use Rattle.engine.specs.World.{World}
 use Rattle.engine.specs.Step.{ForMemory, WroteNothing}
-use Rattle.bson.specs.Outcome.{Gives}
+use Rattle.outcome.specs.Outcome.{Gives}
 use Rattle.bson.specs.declared.fault.BsonFault.{BsonFault}
 use Rattle.bson.specs.declared.fault.BsonFault.TheVariants as bson_faults
 use Rattle.server.specs.Turn.{frame_unless, frame_for, call_at, taken_at, ChangeNothing}

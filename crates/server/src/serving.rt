@@ -10,7 +10,7 @@ ghost use Rattle.engine.specs.Durable.{Holds, disk_history, has_changes, is_stop
 ghost use Rattle.path.specs.declared.refusal.Refusal.TheVariants.{OutOfMemory};
 ghost use Rattle.std.specs.Prelude.{Result};
 ghost use Rattle.bson.specs.Tree.{Pairs};
-ghost use Rattle.bson.specs.Outcome.{Gives};
+ghost use Rattle.outcome.specs.Outcome.{Gives};
 ghost use Rattle.bson.specs.declared.fault.BsonFault.{BsonFault};
 ghost use Rattle.bson.specs.declared.fault.BsonFault.TheVariants as bson_faults;
 ghost use Rattle.engine.specs.Step.{ForMemory, WroteNothing};

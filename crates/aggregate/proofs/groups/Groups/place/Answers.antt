@@ -1,7 +1,5 @@
-use Rattle.std.proofs.Common.{rules, sym, ap, ◌∙◌, arith}
+use Rattle.std.proofs.Common.{rules, sym, ◌∙◌, arith}
 use Rattle.bson.specs.View.{tree}
-use Rattle.aggregate.specs.Group.{same}
-use Rattle.aggregate.specs.declared.groups.Group.{Group}
 use Rattle.aggregate.proofs.PlaceLemmas.{unknown, same_there}
 use Rattle.aggregate.proofs.groups.Groups.place.Goals as goal
 

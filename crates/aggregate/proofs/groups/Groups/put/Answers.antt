@@ -1,4 +1,4 @@
-use Rattle.std.proofs.Common.{Option, Some, ◌∷◌, ◌++◌, [], List, Bool, false, ◌≡◌, ℕ, cond, map, refl, sym, ap, subst, ◌∙◌, arith}
+use Rattle.std.proofs.Common.{Some, ◌∷◌, ◌++◌, [], false, ◌≡◌, ℕ, cond, map, refl, sym, ap, subst, ◌∙◌}
 use Rattle.std.proofs.lemmas.List.{map-append}
 use Rattle.bson.specs.Tree.{Tree}
 use Rattle.bson.specs.View.{tree}
