@@ -235,8 +235,8 @@ impl Collections {
         requires stored { IsStored document }
         requires readable { IsDocument document }
         ensures extends { Extends self.old self.new }
-        ensures does { Does (placed_in (collection_at self.old.now at) document)
-            (collection_at self.new.now at) result }
+        ensures does { Does Refusal.OutOfMemory result (collection_at self.new.now at)
+            (placed_in (collection_at self.old.now at) document) }
         ensures ok { OnOk result
             (self.new.now ≡ slice_set self.old.now at (collection_at self.new.now at)) }
     {

@@ -6,6 +6,7 @@ use Rattle.engine.specs.Lawful.{IsStored}
 use Rattle.engine.specs.Places.{collection_at}
 use Rattle.outcome.specs.Outcome.{Does}
 use Rattle.path.specs.declared.refusal.Refusal.{Refusal}
+use Rattle.path.specs.declared.refusal.Refusal.TheVariants as refusals
 use Rattle.engine.proofs.Checked.{keeps}
 use Rattle.engine.proofs.Rewinding.{with_refused}
 use Rattle.engine.proofs.StoringLoop.{stored_placed}
