@@ -29,34 +29,35 @@ fn of_each_front(rt: HostRuntime) {
     }
 }
 
+const OF_ELEMENTS_TABLE: [(&[u8], BsonFault); 17] = [
+    (b"\x08\0\0\0\x06a\0\0", BsonFault::TypeByte),
+    (b"\x07\0\0\0\x0aa\0", BsonFault::Name),
+    (b"\x08\0\0\0\x0a\xff\0\0", BsonFault::Name),
+    (b"\x0b\0\0\0\x0aa\0\x0aa\0\0", BsonFault::Repeated),
+    (
+        b"\x13\0\0\0\x04a\0\x0b\0\0\0\x0a0\0\x0a2\0\0\0",
+        BsonFault::ArrayName,
+    ),
+    (
+        b"\x11\0\0\0\x04a\0\x09\0\0\0\x0a00\0\0\0",
+        BsonFault::ArrayName,
+    ),
+    (b"\x09\0\0\0\x08a\0\x02\0", BsonFault::Bool),
+    (b"\x0d\0\0\0\x02a\0\x01\0\0\0b\0", BsonFault::Text),
+    (b"\x0e\0\0\0\x02a\0\x02\0\0\0\xff\0\0", BsonFault::Text),
+    (b"\x0d\0\0\0\x05a\0\0\0\0\0\x02\0", BsonFault::Subtype),
+    (b"\x0d\0\0\0\x02a\0\0\0\0\0\0\0", BsonFault::Length),
+    (b"\x0d\0\0\0\x05a\0\xff\xff\xff\xff\0\0", BsonFault::Length),
+    (b"\x0c\0\0\0\x03a\0\x04\0\0\0\0", BsonFault::Length),
+    (b"\x0d\0\0\0\x03a\0\x05\0\0\0\x01\0", BsonFault::Length),
+    (b"\x0d\0\0\0\x04a\0\x06\0\0\0\0\0", BsonFault::Length),
+    (b"\x0a\0\0\0\x10a\0\0\0\0", BsonFault::Length),
+    (b"\x0f\0\0\0\x12a\0\0\0\0\0\0\0\0\0", BsonFault::Length),
+];
+
 #[test]
 fn of_elements(rt: HostRuntime) {
-    let table: [(&[u8], BsonFault); 17] = [
-        (b"\x08\0\0\0\x06a\0\0", BsonFault::TypeByte),
-        (b"\x07\0\0\0\x0aa\0", BsonFault::Name),
-        (b"\x08\0\0\0\x0a\xff\0\0", BsonFault::Name),
-        (b"\x0b\0\0\0\x0aa\0\x0aa\0\0", BsonFault::Repeated),
-        (
-            b"\x13\0\0\0\x04a\0\x0b\0\0\0\x0a0\0\x0a2\0\0\0",
-            BsonFault::ArrayName,
-        ),
-        (
-            b"\x11\0\0\0\x04a\0\x09\0\0\0\x0a00\0\0\0",
-            BsonFault::ArrayName,
-        ),
-        (b"\x09\0\0\0\x08a\0\x02\0", BsonFault::Bool),
-        (b"\x0d\0\0\0\x02a\0\x01\0\0\0b\0", BsonFault::Text),
-        (b"\x0e\0\0\0\x02a\0\x02\0\0\0\xff\0\0", BsonFault::Text),
-        (b"\x0d\0\0\0\x05a\0\0\0\0\0\x02\0", BsonFault::Subtype),
-        (b"\x0d\0\0\0\x02a\0\0\0\0\0\0\0", BsonFault::Length),
-        (b"\x0d\0\0\0\x05a\0\xff\xff\xff\xff\0\0", BsonFault::Length),
-        (b"\x0c\0\0\0\x03a\0\x04\0\0\0\0", BsonFault::Length),
-        (b"\x0d\0\0\0\x03a\0\x05\0\0\0\x01\0", BsonFault::Length),
-        (b"\x0d\0\0\0\x04a\0\x06\0\0\0\0\0", BsonFault::Length),
-        (b"\x0a\0\0\0\x10a\0\0\0\0", BsonFault::Length),
-        (b"\x0f\0\0\0\x12a\0\0\0\0\0\0\0\0\0", BsonFault::Length),
-    ];
-    for (bytes, wanted) in table {
+    for (bytes, wanted) in OF_ELEMENTS_TABLE {
         assert!(rt;
             both_refuse(rt.alloc(), bytes, wanted),
             "{wanted:?} at {bytes:?}"
@@ -64,28 +65,29 @@ fn of_elements(rt: HostRuntime) {
     }
 }
 
+const OF_WHAT_STANDS_FURTHER_LEFT_TABLE: [(&[u8], BsonFault); 8] = [
+    // the type before the name, and the name before the value
+    (b"\x08\0\0\0\x06\xff\0\0", BsonFault::TypeByte),
+    (b"\x09\0\0\0\x08\xff\0\x02\0", BsonFault::Name),
+    (b"\x0c\0\0\0\x0aa\0\x08a\0\x02\0", BsonFault::Repeated),
+    (
+        b"\x11\0\0\0\x04a\0\x09\0\0\0\x081\0\x02\0\0",
+        BsonFault::ArrayName,
+    ),
+    // a count before what it counts
+    (b"\x0d\0\0\0\x05a\0\x05\0\0\0\x02\0", BsonFault::Length),
+    (b"\x0d\0\0\0\x02a\0\x09\0\0\0\xff\0", BsonFault::Length),
+    // an element before the next, and before what follows its document
+    (b"\x0d\0\0\0\x08a\0\x02\x06b\0\0\0", BsonFault::Bool),
+    (
+        b"\x14\0\0\0\x03a\0\x09\0\0\0\x08b\0\x02\0\x06c\0\0",
+        BsonFault::Bool,
+    ),
+];
+
 #[test]
 fn of_what_stands_further_left(rt: HostRuntime) {
-    let table: [(&[u8], BsonFault); 8] = [
-        // the type before the name, and the name before the value
-        (b"\x08\0\0\0\x06\xff\0\0", BsonFault::TypeByte),
-        (b"\x09\0\0\0\x08\xff\0\x02\0", BsonFault::Name),
-        (b"\x0c\0\0\0\x0aa\0\x08a\0\x02\0", BsonFault::Repeated),
-        (
-            b"\x11\0\0\0\x04a\0\x09\0\0\0\x081\0\x02\0\0",
-            BsonFault::ArrayName,
-        ),
-        // a count before what it counts
-        (b"\x0d\0\0\0\x05a\0\x05\0\0\0\x02\0", BsonFault::Length),
-        (b"\x0d\0\0\0\x02a\0\x09\0\0\0\xff\0", BsonFault::Length),
-        // an element before the next, and before what follows its document
-        (b"\x0d\0\0\0\x08a\0\x02\x06b\0\0\0", BsonFault::Bool),
-        (
-            b"\x14\0\0\0\x03a\0\x09\0\0\0\x08b\0\x02\0\x06c\0\0",
-            BsonFault::Bool,
-        ),
-    ];
-    for (bytes, wanted) in table {
+    for (bytes, wanted) in OF_WHAT_STANDS_FURTHER_LEFT_TABLE {
         assert!(rt;
             both_refuse(rt.alloc(), bytes, wanted),
             "{wanted:?} at {bytes:?}"
@@ -142,23 +144,24 @@ fn of_many_names(rt: HostRuntime) -> Result<(), Fail> {
     Ok(())
 }
 
+const HAVE_WORDS_AND_NUMBERS_TABLE: [(BsonFault, u8, &str); 12] = [
+    (BsonFault::Truncated, 1, "Truncated"),
+    (BsonFault::Length, 2, "Length"),
+    (BsonFault::TypeByte, 3, "TypeByte"),
+    (BsonFault::Text, 4, "Text"),
+    (BsonFault::Name, 5, "Name"),
+    (BsonFault::Repeated, 6, "Repeated"),
+    (BsonFault::ArrayName, 7, "ArrayName"),
+    (BsonFault::Bool, 8, "Bool"),
+    (BsonFault::Subtype, 9, "Subtype"),
+    (BsonFault::Deep, 10, "Deep"),
+    (BsonFault::TooLarge, 11, "TooLarge"),
+    (BsonFault::Memory, 12, "Memory"),
+];
+
 #[test]
 fn have_words_and_numbers(rt: HostRuntime) {
-    let table = [
-        (BsonFault::Truncated, 1, "Truncated"),
-        (BsonFault::Length, 2, "Length"),
-        (BsonFault::TypeByte, 3, "TypeByte"),
-        (BsonFault::Text, 4, "Text"),
-        (BsonFault::Name, 5, "Name"),
-        (BsonFault::Repeated, 6, "Repeated"),
-        (BsonFault::ArrayName, 7, "ArrayName"),
-        (BsonFault::Bool, 8, "Bool"),
-        (BsonFault::Subtype, 9, "Subtype"),
-        (BsonFault::Deep, 10, "Deep"),
-        (BsonFault::TooLarge, 11, "TooLarge"),
-        (BsonFault::Memory, 12, "Memory"),
-    ];
-    for (fault, number, word) in table {
+    for (fault, number, word) in HAVE_WORDS_AND_NUMBERS_TABLE {
         assert_eq!(rt; fault as u8, number);
         assert!(rt; fault.name() == word);
     }
