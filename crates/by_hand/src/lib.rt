@@ -11,5 +11,5 @@ pub use command::{
     find_with, id_document, insert, insert_one, ok_reply, ping,
 };
 pub use document::Bytes;
-pub use message::{REPLY_HEADER, frame};
+pub use message::{body_of, frame};
 pub use refusals::refusal;
