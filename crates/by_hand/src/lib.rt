@@ -12,5 +12,5 @@ pub use command::{
     update_reply,
 };
 pub use document::Bytes;
-pub use message::{REPLY_HEADER, frame};
+pub use message::{body_of, frame};
 pub use refusals::refusal;

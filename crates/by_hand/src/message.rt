@@ -4,7 +4,7 @@ use crate::document::{Bytes, length};
 use std::alloc::{AllocError, Global};
 
 /// The bytes of a frame before its body's document.
-pub const REPLY_HEADER: usize = 21;
+const HEADER: usize = 21;
 
 /// A message: its number, the number that it answers, no flags, one body.
 pub fn frame(
@@ -24,4 +24,20 @@ pub fn frame(
     out.push(0)?;
     out.extend_from_slice(&document)?;
     Ok(out)
+}
+
+/// The document in a reply: a frame with this number, to this request, with no flags and one body.
+pub fn body_of(reply: &[u8], number: u32, response_to: u32) -> Option<&[u8]> {
+    let (front, document) = reply.split_at_checked(HEADER)?;
+    let [a, b, c, d, ..] = (reply.len() as u64).to_le_bytes();
+    let [e, f, g, h] = number.to_le_bytes();
+    let [i, j, k, l] = response_to.to_le_bytes();
+    let header = [
+        a, b, c, d, e, f, g, h, i, j, k, l, 0xdd, 7, 0, 0, 0, 0, 0, 0, 0,
+    ];
+    if front == header.as_slice() {
+        Some(document)
+    } else {
+        None
+    }
 }

@@ -5,7 +5,7 @@ ghost use Rattle.page.specs.Memory.{memory_history};
 ghost use Rattle.server.specs.Durable.{IsSound};
 
 use bson::{Document, Value, decode, encode};
-use by_hand::{Bytes, REPLY_HEADER, frame, refusal};
+use by_hand::{Bytes, body_of, frame, refusal};
 use engine::ConnId;
 use notation::{document, value};
 use page::MemDisk;
@@ -92,10 +92,7 @@ impl Session {
         if !out.replies.is_empty() || !out.closed.is_empty() {
             return Err(Fail::from("more than a reply"));
         }
-        let (front, document) = reply.split_at_checked(REPLY_HEADER).ok_or("a short reply")?;
-        if !is_header(front, reply.len(), self.asked) {
-            return Err(Fail::from("another header"));
-        }
+        let document = body_of(&reply, self.asked, 1_000).ok_or("another header")?;
         Ok(document.to_vec(self.alloc)?)
     }
 
@@ -200,17 +197,6 @@ fn elements(alloc: Global, command: &Document) -> Result<Bytes, Fail> {
         .ok_or("no front")?;
     let type_byte = front.get(4).ok_or("no type")?;
     Ok(Bytes::new(alloc).element(*type_byte, name, rest))
-}
-
-/// The header of the reply to request 1,000 with this number, in a frame of this length.
-fn is_header(bytes: &[u8], len: usize, number: u32) -> bool {
-    let [a, b, c, d] = number.to_le_bytes();
-    let [e, f, g, h, ..] = (len as u64).to_le_bytes();
-    bytes
-        == [
-            e, f, g, h, a, b, c, d, 0xe8, 3, 0, 0, 0xdd, 7, 0, 0, 0, 0, 0, 0, 0,
-        ]
-        .as_slice()
 }
 
 fn items_of(value: &Value) -> Option<&[Value]> {

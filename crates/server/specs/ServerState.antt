@@ -24,7 +24,7 @@ are_ascending (c ∷ cs) = are_above c.id cs
 abbrev pub new_connection : ℕ → List ℕ → Connection
 new_connection id bytes = record { id = id; frames = bytes; last_reply = 0; fault = None }
 
--- a link that a fault closed takes no bytes
+-- a connection that a fault closed takes no bytes
 abbrev pub add_bytes : Connection → Option FrameFault → List ℕ → Connection
 add_bytes connection None bytes = record connection { frames = connection.frames ++ bytes }
 add_bytes connection (Some fault) bytes = connection
@@ -57,7 +57,7 @@ abbrev pub is_closed_in : Option Connection → Bool
 is_closed_in None = false
 is_closed_in (Some connection) = is_some connection.fault
 
--- where a connection's link stands, or would stand
+-- where a connection stands, or would stand
 abbrev pub shifted : Result ℕ ℕ → Result ℕ ℕ
 shifted (Ok n) = Ok (suc n)
 shifted (Err n) = Err (suc n)

@@ -1,4 +1,4 @@
--- The parts of a turn: what is made ready before a message is taken, what is taken from one link, and how the messages run.
+-- The parts of a turn: what is made ready before a message is taken, what is taken from one connection, and how the messages run.
 use Rattle.std.specs.Prelude.{◌≡◌, ◌⊎◌, ◌≤◌, ◌+◌, ℕ, List, [], ◌∷◌, length, map, slice_get, All, Result, Ok, Err, Option, Some, None, ◌++◌, Bool, true}
 use Rattle.op_msg.specs.Frame.{Frame}
 use Rattle.op_msg.specs.Request.{IsRequest, respelled}
@@ -19,13 +19,13 @@ use Rattle.server.specs.declared.connection.Connection.{Connection}
 use Rattle.server.specs.declared.connection.Taken.{Taken}
 use Rattle.server.specs.declared.connection.Taken.TheVariants as takes
 
--- the frame that an undone turn hands out for a link, by what stands at its front
+-- the frame that an undone turn hands out for a connection, by what stands at its front
 abbrev pub refused_at : Refusal → Connection → Result (Option (Frame × List ℕ)) FrameFault
     → List (ℕ × List ℕ)
 refused_at refusal connection front =
     frames_of (call_at connection front) (refused_calls refusal (call_at connection front))
 
--- the fault at the front of a link, if one is there
+-- the fault at the front of a connection, if one is there
 abbrev pub fault_in : Result (Option (Frame × List ℕ)) FrameFault → Option FrameFault
 fault_in (Ok x) = None
 fault_in (Err fault) = Some fault
@@ -34,7 +34,7 @@ abbrev pub faults_in : List Connection → List (Option FrameFault)
 faults_in [] = []
 faults_in (l ∷ ls) = fault_in (front_of l) ∷ faults_in ls
 
--- a link that this fault closes
+-- a connection that this fault closes
 abbrev pub closed_by : Connection → Option FrameFault → Connection
 closed_by connection None = connection
 closed_by connection (Some fault) = record connection { fault = Some fault }
@@ -87,7 +87,7 @@ IsAnswer beside old id request new reply =
     (read : Result Pairs BsonFault) → Gives bson_faults.Memory (λ d. d) request.body read
     → Answers beside old id read new reply
 
--- The messages of the links ran. The turn kept what they changed and hands out these replies, or it took back what they changed
+-- The messages of the connections ran. The turn kept what they changed and hands out these replies, or it took back what they changed
 -- and hands out refusals: for want of room only where there is none in the last world.
 pub record EndsTurn (beside : Refusal → Type 0) (NoRoom : World → Type 0) (old : World)
     (connections : List Connection) (given : List (ℕ × List ℕ)) (new : World) : Type 0 where
@@ -99,7 +99,7 @@ pub record EndsTurn (beside : Refusal → Type 0) (NoRoom : World → Type 0) (o
       ⊎ ((given ≡ refused_frames refusals.Full connections) × NoRoom last))
       × (new ≡ after_undo old last))
 
--- The messages of the links ran, and the device failed when what they changed was to be made durable.
+-- The messages of the connections ran, and the device failed when what they changed was to be made durable.
 pub record BreaksTurn (beside : Refusal → Type 0) (old : World) (connections : List Connection)
     (new : World) : Type 0 where
   pub replies : List Pairs

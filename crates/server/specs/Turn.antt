@@ -19,7 +19,7 @@ use Rattle.server.specs.declared.connection.Connection.{Connection}
 use Rattle.server.specs.declared.turn.TurnFault.{TurnFault}
 use Rattle.server.specs.declared.turn.TurnFault.TheVariants as turns
 
--- What stands at the front of a link: nothing where a fault closed it.
+-- What stands at the front of a connection: nothing where a fault closed it.
 abbrev pub front_if_open : Option FrameFault → List ℕ → Result (Option (Frame × List ℕ)) FrameFault
 front_if_open None bytes = front bytes
 front_if_open (Some fault) bytes = Ok None
@@ -61,7 +61,7 @@ abbrev pub number_after : Bool → ℕ → ℕ
 number_after true last = last
 number_after false last = next_number last
 
--- a link after the turn
+-- a connection after the turn
 abbrev pub connection_at : Connection → Result (Option (Frame × List ℕ)) FrameFault → Connection
 connection_at connection (Ok (Some x)) = record connection {
   frames = x.1;
@@ -116,17 +116,17 @@ pub record Out : Type 0 where
   pub replies : List (ℕ × List ℕ)
   pub closed : List (ℕ × FrameFault)
 
--- the links after the turn
+-- the connections after the turn
 abbrev pub connections_after : List Connection → List Connection
 connections_after [] = []
 connections_after (l ∷ ls) = connection_after l ∷ connections_after ls
 
--- a link of which the message at the front is taken, and a fault stays where it is
+-- a connection of which the message at the front is taken, and a fault stays where it is
 abbrev pub taken_at : Connection → Result (Option (Frame × List ℕ)) FrameFault → Connection
 taken_at connection (Ok x) = connection_at connection (Ok x)
 taken_at connection (Err fault) = connection
 
--- the links after a turn that is cut
+-- the connections after a turn that is cut
 abbrev pub connections_taken : List Connection → List Connection
 connections_taken [] = []
 connections_taken (l ∷ ls) = taken_at l (front_of l) ∷ connections_taken ls

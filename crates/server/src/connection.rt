@@ -1,4 +1,4 @@
-//! A connection's link.
+//! A connection: its unread bytes, and what a turn takes of them.
 
 ghost use Rattle.std.specs.Prelude.{◌≡◌, ◌≢◌, ◌<◌, ◌≤◌, Err, OnErr, MatchResult, is_err, length};
 ghost use Rattle.server.specs.ServerState.{feed_connections, drop_connection, find_connection, is_closed_in, place_in};
@@ -40,7 +40,7 @@ impl FeedFault {
     }
 }
 
-/// Where the connection's link stands, or would stand.
+/// Where the connection stands, or would stand.
 fn place_of(connections: &[Connection], id: ConnId) -> Result<usize, usize>
     ensures place { result ≡ place_in connections.now id }
     ensures within { MatchResult result (λ i. i < length connections.now)
@@ -117,7 +117,7 @@ pub(crate) fn waits(connections: &[Connection], id: ConnId) -> bool
     }
 }
 
-/// What a turn takes from a link: a message, with the number of its reply.
+/// What a turn takes from a connection: a message, with the number of its reply.
 #[derive(Drop)]
 pub(crate) enum Taken {
     Nothing,
@@ -131,7 +131,7 @@ pub(crate) fn next_number(last: u32) -> u32
     if last < 2_147_483_647 { last + 1 } else { 1 }
 }
 
-/// Takes the message at the front of an open link, with the number of its reply. A fault stays where it is.
+/// Takes the message at the front of an open connection, with the number of its reply. A fault stays where it is.
 pub(crate) fn take_call(connection: &mut Connection) -> Taken
     ensures taken { IsTaken connection.old (front_of connection.old) result connection.new }
     ensures id { connection.new.id ≡ connection.old.id }
@@ -152,7 +152,7 @@ pub(crate) fn take_call(connection: &mut Connection) -> Taken
     }
 }
 
-/// The fault that stands beside a link, if one does.
+/// The fault that stands beside a connection, if one does.
 fn fault_beside(faults: &[Option<FrameFault>], i: usize) -> Option<FrameFault>
     ensures { result ≡ fault_beside faults.now i }
 {
@@ -162,7 +162,7 @@ fn fault_beside(faults: &[Option<FrameFault>], i: usize) -> Option<FrameFault>
     }
 }
 
-/// Closes a link, where there is a fault.
+/// Closes a connection, where there is a fault.
 fn close_connection(connection: &mut Connection, fault: Option<FrameFault>)
     ensures { connection.new ≡ closed_by connection.old fault }
 {
@@ -171,7 +171,7 @@ fn close_connection(connection: &mut Connection, fault: Option<FrameFault>)
     }
 }
 
-/// Closes each link that has a fault beside it.
+/// Closes each connection that has a fault beside it.
 pub(crate) fn close_connections(connections: &mut [Connection], faults: &[Option<FrameFault>])
     ensures { connections.new ≡ closed_connections connections.old faults.now }
 {

@@ -14,7 +14,7 @@ use engine::{ConnId, full_bytes, out_of_memory_bytes};
 use op_msg::{FrameFault, Head, respell, spelled_reply};
 use std::alloc::Global;
 
-/// The frames that a turn hands out if it is undone for want of memory, the connections that it closes, and for each link
+/// The frames that a turn hands out if it is undone for want of memory, the connections that it closes, and for each connection
 /// the fault at its front.
 #[derive(Drop)]
 pub(crate) struct Prepared {
@@ -23,7 +23,7 @@ pub(crate) struct Prepared {
     pub faults: Vec<Option<FrameFault>>,
 }
 
-/// What the message at the front of an open link says of itself.
+/// What the message at the front of an open connection says of itself.
 fn head_at(connection: &Connection) -> Result<Option<Head>, FrameFault>
     ensures { result ≡ head_of (front_of connection.now) }
 {
@@ -60,7 +60,7 @@ fn push_refusal(
     Ok(())
 }
 
-/// Puts a link's part at the end: the refusal of the message at its front, or its fault.
+/// Puts a connection's part at the end: the refusal of the message at its front, or its fault.
 fn prepare_connection(prepared: &mut Prepared, connection: &Connection) -> Result<(), NoMemory>
     ensures refusals { OnOk result (frames_in prepared.new.refusals.items
         ≡ frames_in prepared.old.refusals.items

@@ -85,7 +85,7 @@ fn answer<D: Disk>(engine: &mut Engine<D>, id: ConnId, request: &Request) -> Rep
     }
 }
 
-/// Answers the message at the front of a link, if there is one, and puts the frame at the end. It says whether the
+/// Answers the message at the front of a connection, if there is one, and puts the frame at the end. It says whether the
 /// frame found memory.
 fn serve_connection<D: Disk>(
     engine: &mut Engine<D>,
@@ -120,7 +120,7 @@ fn serve_connection<D: Disk>(
     }
 }
 
-/// Answers the message at the front of each link. It says whether every frame found memory.
+/// Answers the message at the front of each connection. It says whether every frame found memory.
 fn serve_connections<D: Disk>(
     engine: &mut Engine<D>,
     connections: &mut [Connection],
@@ -147,7 +147,7 @@ fn serve_connections<D: Disk>(
     all
 }
 
-/// Answers the message at the front of each link, and ends the turn. What the messages changed is made durable, or it is
+/// Answers the message at the front of each connection, and ends the turn. What the messages changed is made durable, or it is
 /// taken back where memory runs out for a frame, or memory or room for the commit: the frames are then the refusals, which
 /// were made before. `None` says that the device failed.
 pub(crate) fn run_messages<D: Disk>(

@@ -65,11 +65,7 @@ impl Session {
         let message = frame(self.alloc, 1_000, 0, body).ok()?;
         let reply = self.send(&message)?;
         self.asked = self.asked.saturating_add(1);
-        let (front, document) = reply.split_at_checked(REPLY_HEADER)?;
-        if !is_header(front, reply.len(), self.asked) {
-            return None;
-        }
-        document.to_vec(self.alloc).ok()
+        body_of(&reply, self.asked, 1_000)?.to_vec(self.alloc).ok()
     }
 
     /// The length of the document that a command is answered with.
@@ -114,15 +110,4 @@ impl Session {
         let wanted = refusal(self.alloc, code);
         self.answers(body, &wanted)
     }
-}
-
-/// The header of the reply to request 1,000 with this number, in a frame of this length.
-fn is_header(bytes: &[u8], len: usize, number: u32) -> bool {
-    let [a, b, c, d] = number.to_le_bytes();
-    let [e, f, g, h, ..] = (len as u64).to_le_bytes();
-    bytes
-        == [
-            e, f, g, h, a, b, c, d, 0xe8, 3, 0, 0, 0xdd, 7, 0, 0, 0, 0, 0, 0, 0,
-        ]
-        .as_slice()
 }
