@@ -1,4 +1,4 @@
-use Rattle.std.proofs.Common.{◌≡◌, ◌+◌, drop, sym, ap, ◌∙◌, Result}
+use Rattle.std.proofs.Common.{◌+◌, drop, sym, ap, ◌∙◌, Result}
 use Rattle.path.specs.Outcomes.{◌>>=◌}
 use Rattle.path.specs.declared.refusal.Refusal.{Refusal}
 use Rattle.engine.specs.Update.{Updated, run_statements}

@@ -1,4 +1,4 @@
-use Rattle.std.proofs.Common.{◌≡◌, refl, sym, ◌∙◌}
+use Rattle.std.proofs.Common.{refl, sym, ◌∙◌}
 use Rattle.engine.specs.Update.{run_statements}
 use Rattle.engine.specs.Updating.{updated_of}
 use Rattle.engine.proofs.collections.Collections.update_each.Goals as goal

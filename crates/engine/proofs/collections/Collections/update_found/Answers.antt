@@ -1,7 +1,3 @@
-use Rattle.std.proofs.Common.{◌≡◌, Bool, Result, Ok, Err}
-use Rattle.path.specs.Outcomes.{Refuses}
-use Rattle.path.specs.declared.refusal.Refusal.{Refusal}
-use Rattle.engine.specs.Updating.{RunsMatching, RunsFound}
 use Rattle.engine.proofs.UpdatingLoop.{found_there, updated_missing}
 use Rattle.engine.proofs.collections.Collections.update_found.Goals as goal
 
