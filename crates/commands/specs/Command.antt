@@ -1,6 +1,6 @@
 -- The command that a body spells, or its first refusal. The body's first name says which command it is: an unknown one goes
 -- first, then the value of that name, then the fields in the order written, then a missing field, then the namespace.
-use Rattle.std.specs.Prelude.{ℕ, ◌≤◌, if◌then◌else◌, List, All, codes, length, Result, Ok, Err}
+use Rattle.std.specs.Prelude.{◌≤◌, if◌then◌else◌, All, codes, length, Result, Ok, Err}
 use Rattle.std.specs.Str.{bytes_eq}
 use Rattle.bson.specs.Tree.{Pairs, no_pairs, pair}
 use Rattle.outcome.specs.Outcome.{◌>>=◌}

@@ -1,6 +1,6 @@
 -- A command that was read has a namespace and documents within their limits.
 use Rattle.std.proofs.Common.{◌≡◌, ℕ, ◌+◌, ◌≤◌, Bool, true, false, List, [], ◌∷◌, ◌++◌, length, Option, Some, None, Result, Ok, Err, refl, ap, subst, arith, length-append}
-use Rattle.std.specs.Prelude.{◌||◌, ◌&&◌, All, ◌==◌, nat_lt, if◌then◌else◌, codes, unwrap_or, IfOk}
+use Rattle.std.specs.Prelude.{◌||◌, ◌&&◌, All, ◌==◌, nat_lt, if◌then◌else◌, codes, IfOk}
 use Rattle.std.specs.Str.{bytes_eq}
 use Rattle.std.proofs.lemmas.Bool.{ltb-false, eqb-false}
 use Rattle.std.proofs.lemmas.List.Elements.{All-cons}
@@ -8,21 +8,21 @@ use Rattle.filter.specs.Condition.{Conditions}
 use Rattle.filter.specs.Reading.{read_filter}
 use Rattle.update.specs.Update.{Update as Change, is_replacement}
 use Rattle.update.specs.Reading.{read_update}
-use Rattle.bson.specs.Tree.{Tree, scalar, document, array, Pairs, no_pairs, pair, Items, no_items, item}
+use Rattle.bson.specs.Tree.{Tree, Pairs, no_pairs, pair, Items, no_items, item}
 use Rattle.bson.specs.Edits.{items_len}
 use Rattle.outcome.specs.Outcome.{◌>>=◌, unless, or_refused, Gives}
 use Rattle.path.specs.declared.refusal.Refusal.{Refusal}
 use Rattle.path.specs.declared.refusal.Refusal.TheVariants as refusals
 use Rattle.commands.specs.OutcomeLaws.{step_of, passed}
 use Rattle.commands.specs.Values.{text_in, bool_in, items_of, document_in, spelled_in}
-use Rattle.commands.specs.Fields.{CommonFields, read_fields, common_field, no_common}
+use Rattle.commands.specs.Fields.{CommonFields, read_fields, common_field}
 use Rattle.commands.specs.Statements.{statements_in, each_of}
 use Rattle.commands.specs.Names.{is_bad_database, is_bad_collection, is_too_long, namespace_of}
 use Rattle.commands.specs.Ping.{read_ping}
 use Rattle.commands.specs.Insert.{Insert, InsertFields, no_insert_fields, documents_in, insert_field, read_insert}
 use Rattle.commands.specs.Find.{Find, no_find_fields, find_field, query_of, read_find}
-use Rattle.commands.specs.Count.{Count, read_count}
-use Rattle.commands.specs.Delete.{Delete, read_delete}
+use Rattle.commands.specs.Count.{read_count}
+use Rattle.commands.specs.Delete.{read_delete}
 use Rattle.commands.specs.Update.{UpdateStatement, UpdateStatementFields, no_statement_fields, statement_field, read_statement, Update, UpdateFields, no_update_fields, update_statements_in, update_field, read_update_command, IsRead}
 use Rattle.commands.specs.Aggregate.{Aggregate, AggregateFields, no_aggregate_fields, aggregate_field, read_aggregate}
 use Rattle.commands.specs.Command.{Command, ping, insert, find, count, delete, update, aggregate, as_command, command_of, IsBounded}

@@ -1,5 +1,5 @@
 -- `update` changes documents of a collection, statement by statement.
-use Rattle.std.specs.Prelude.{◌≡◌, ℕ, Bool, true, false, ◌&&◌, if◌then◌else◌, List, codes, Option, Some, None, Result, Ok, Err}
+use Rattle.std.specs.Prelude.{◌≡◌, ℕ, Bool, false, ◌&&◌, if◌then◌else◌, List, codes, Option, Some, None, Result, Ok, Err}
 use Rattle.std.specs.Str.{bytes_eq}
 use Rattle.bson.specs.Tree.{Tree, Pairs}
 use Rattle.filter.specs.Condition.{Conditions}

@@ -1,5 +1,5 @@
 -- What the values of the crate stand for.
-use Rattle.std.specs.Prelude.{ℕ, List, map, string_bytes}
+use Rattle.std.specs.Prelude.{List, map, string_bytes}
 use Rattle.std.specs.Borrow.{Bor}
 use Rattle.bson.specs.Tree.{Pairs}
 use Rattle.commands.specs.Command as commands

@@ -32,6 +32,8 @@ struct Outcome {
 struct Step {
     message: Vec<u8>,
     outcomes: Vec<Outcome>,
+    /// Whether it writes what stood there before too.
+    writes_back: bool,
 }
 
 /// The messages of a script, a last one for a server that opens the disk again, and the refusal for want of memory.
@@ -46,6 +48,7 @@ fn make_step(alloc: Global, message: Bytes) -> Result<Step, AllocError> {
     Ok(Step {
         message: frame(alloc, 7, 0, &message)?,
         outcomes: Vec::new(alloc),
+        writes_back: false,
     })
 }
 
@@ -125,8 +128,9 @@ fn update_step(alloc: Global) -> Result<Step, AllocError> {
         update_all_statement(alloc, &Bytes::new(alloc).int32("a", 5), &up),
         update_all_statement(alloc, &Bytes::new(alloc).int32("a", 15), &down),
     ];
-    make_step(alloc, update(alloc, &statements))?
-        .with(alloc, NOTHING, update_reply(alloc, 0, 0), NOTHING)?
+    let mut step = make_step(alloc, update(alloc, &statements))?;
+    step.writes_back = true;
+    step.with(alloc, NOTHING, update_reply(alloc, 0, 0), NOTHING)?
         .with(alloc, THREE, update_reply(alloc, 4, 4), THREE)
 }
 
@@ -254,11 +258,11 @@ fn is(reply: &[u8], wanted: &[u8]) -> bool {
 }
 
 impl Outcome {
-    /// Whether this is its answer: none is where the server stopped, which only a message that changes something may do.
-    fn is_answer(&self, reply: Option<&Vec<u8>>) -> bool {
+    /// Whether this is its answer: none is where the server stopped, which only a message that writes something may do.
+    fn is_answer(&self, reply: Option<&Vec<u8>>, writes_back: bool) -> bool {
         match reply {
             Some(reply) => is(reply, &self.reply),
-            None => self.before != self.after,
+            None => writes_back || self.before != self.after,
         }
     }
 }
@@ -271,7 +275,7 @@ impl Step {
         }
         let mut after = 0;
         for outcome in &self.outcomes {
-            if possible & outcome.before != 0 && outcome.is_answer(reply) {
+            if possible & outcome.before != 0 && outcome.is_answer(reply, self.writes_back) {
                 after |= outcome.after;
             }
         }

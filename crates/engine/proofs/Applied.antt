@@ -1,5 +1,5 @@
 -- What an update makes of a document may be stored, and keeps its `_id`.
-use Rattle.std.proofs.Common.{◌≡◌, ◌≢◌, ℕ, zero, suc, Bool, ◌∷◌, ◌<◌, ◌≤◌, List, [], ◌++◌, length, get_or, set, true, false, Option, Some, None, Result, Ok, Err, refl, sym, ap, subst, ◌∙◌, arith, inl, inr}
+use Rattle.std.proofs.Common.{◌≡◌, ◌≢◌, ℕ, zero, suc, Bool, ◌∷◌, ◌<◌, ◌≤◌, List, [], ◌++◌, length, get_or, set, true, false, Option, Some, None, Result, Ok, refl, sym, ap, subst, ◌∙◌, arith, inl, inr}
 use Rattle.std.specs.Prelude.{nat_lt, option_and_then, unwrap_or}
 use Rattle.std.specs.Str.{bytes_eq}
 use Rattle.std.specs.declared.cmp.Ordering.{Ordering}
@@ -23,7 +23,6 @@ use Rattle.path.specs.EditLaws.{if_ok_value}
 use Rattle.outcome.specs.Outcome.{◌>>=◌, fault_or}
 use Rattle.path.specs.declared.refusal.Refusal.{Refusal}
 use Rattle.path.specs.declared.refusal.Refusal.TheVariants as refusals
-use Rattle.filter.specs.Condition.{Conditions}
 use Rattle.update.specs.Update.{Update as Change}
 use Rattle.update.specs.Stored.{id_name, pairs_fault, no_array, id_of, id_first, stored_fault, judged}
 use Rattle.update.specs.Applying.{changed, apply}

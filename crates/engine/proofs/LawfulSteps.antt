@@ -2,11 +2,8 @@
 use Rattle.std.proofs.Common.{◌≡◌, ◌⊎◌, inl, inr, ℕ, zero, suc, max, min, ◌+◌, ◌-◌, ◌<◌, ◌≤◌, Bool, true, false, List, [], ◌∷◌, length, get_or, set, insert, take, drop, Option, Some, None, Result, Ok, Err, refl, sym, ap, subst, ◌∙◌, arith}
 use Rattle.std.specs.Prelude.{◌&&◌, ◌||◌, ◌^◌, not, is_some, nat_le, if◌then◌else◌, codes, unwrap_or, nat_lt, All}
 use Rattle.std.specs.Str.{bytes_eq}
-use Rattle.std.specs.Cmp.{IsTotalOrder}
 use Rattle.std.specs.Cmp.Lexicographic.{slice_cmp}
 use Rattle.std.specs.Ordering.{nat_cmp}
-use Rattle.std.specs.declared.cmp.Ordering.{Ordering}
-use Rattle.std.specs.declared.cmp.Ordering.TheVariants as orders
 use Rattle.std.proofs.lemmas.Bool.Decides.{nat_tests}
 use Rattle.std.proofs.lemmas.Cmp.{nat_list_cmp_total}
 use Rattle.std.proofs.lemmas.List.{length-set, take_all}
@@ -22,16 +19,14 @@ use Rattle.engine.specs.World.{World, Collection, Cursor, find_collection, uses,
 use Rattle.outcome.specs.Outcome.{◌>>=◌, unless, or_refused}
 use Rattle.engine.specs.Documents.{key_of, place, checked, insert_one, insert_all}
 use Rattle.update.specs.Stored.{id_first}
-use Rattle.filter.specs.Condition.{Conditions}
-use Rattle.commands.specs.Insert.{Insert}
-use Rattle.commands.specs.Find.{Query, Find}
+use Rattle.commands.specs.Find.{Query}
 use Rattle.commands.specs.Count.{Count}
 use Rattle.commands.specs.Aggregate.{Aggregate}
 use Rattle.aggregate.specs.Pipeline.{run as after_pipeline}
 use Rattle.engine.specs.Aggregate.{run_aggregate}
 use Rattle.engine.proofs.Piping.{piped_within}
 use Rattle.engine.specs.Find.{query_result as found_by, matching, window, run_find}
-use Rattle.commands.specs.Delete.{Deletion, Delete}
+use Rattle.commands.specs.Delete.{Deletion}
 use Rattle.engine.specs.Delete.{after_deletions, deleted_in, run_delete}
 use Rattle.commands.specs.Update.{UpdateStatement, Update, IsRead}
 use Rattle.engine.specs.Update.{Changed, update_from, Updated, not_updated, not_changed, updated_to, upsert_document, with_upserted, upsert, run_statement, run_statements, update_reply, judged, run_all, spelled, run_update}
@@ -40,7 +35,7 @@ use Rattle.engine.proofs.LawfulUpdates.{SameKeys, from_kept, changed_lawful}
 use Rattle.engine.specs.Refusals.{int, total, ok_reply}
 use Rattle.commands.specs.Command.{Command, ping, insert as insert_of, find as find_of, count as count_of_all, delete, update, aggregate, command_of, IsBounded}
 use Rattle.engine.specs.Lawful.{IsStored, IsWithin, IsRising, AreNamedApart, AreNumberedApart, IsKept, IsLawfulState, IsLawful}
-use Rattle.engine.specs.Places.{IsGap, collection_at, no_collection}
+use Rattle.engine.specs.Places.{collection_at, no_collection}
 use Rattle.engine.specs.Progress.{is_full, with_document}
 use Rattle.engine.specs.Cursors.{items_of_documents, batch_of, cursor_reply, open_cursor, first_batch}
 use Rattle.engine.specs.Insert.{run_insert}
@@ -55,7 +50,7 @@ use Rattle.engine.proofs.Checked.{keeps}
 use Rattle.engine.proofs.Located.{Gap, There, located}
 use Rattle.engine.proofs.Deleting.{deleted_lawful}
 use Rattle.engine.proofs.Finding.{found_within}
-use Rattle.engine.proofs.Ordered.{Rises, flipped, rises_tail, rises_insert, All-inserted, place_gap, place_there, missing, found, added, replaced}
+use Rattle.engine.proofs.Ordered.{Rises, rises_insert, All-inserted, place_gap, place_there, missing, found, added, replaced}
 use Rattle.engine.proofs.Numbers.{unused_unused, number_bounds, numbers_set, numbers_insert}
 use Rattle.engine.proofs.Rewinding.{apart_set}
 use Rattle.engine.proofs.SpelledSizes.{ping-sendable, insert-sendable, refusal-sendable, batch_items, cursor-sendable}

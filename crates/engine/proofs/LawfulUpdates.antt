@@ -1,5 +1,5 @@
 -- What an update makes of the documents of a collection keeps what was kept of them.
-use Rattle.std.proofs.Common.{◌≡◌, ◌⊎◌, inl, inr, ℕ, zero, suc, ◌<◌, ◌≤◌, Bool, true, false, List, [], ◌∷◌, ◌++◌, length, get_or, set, Option, Some, None, Result, Ok, Err, refl, sym, ap, subst, ◌∙◌, arith, append_assoc}
+use Rattle.std.proofs.Common.{◌≡◌, ◌⊎◌, inl, inr, ℕ, zero, suc, ◌<◌, Bool, true, false, List, [], ◌∷◌, ◌++◌, length, get_or, set, Option, Ok, refl, sym, ap, subst, ◌∙◌, arith, append_assoc}
 use Rattle.std.specs.Prelude.{not, if◌then◌else◌, All}
 use Rattle.std.specs.Cmp.Lexicographic.{slice_cmp}
 use Rattle.std.specs.Ordering.{nat_cmp}
@@ -15,7 +15,7 @@ use Rattle.path.specs.declared.refusal.Refusal.{Refusal}
 use Rattle.update.specs.Applying.{apply}
 use Rattle.commands.specs.OutcomeLaws.{step_of}
 use Rattle.commands.specs.Update.{UpdateStatement, IsRead}
-use Rattle.engine.specs.World.{Collection, find_collection, documents_or_none, documents_of, put_collection}
+use Rattle.engine.specs.World.{Collection, find_collection, documents_or_none, documents_of}
 use Rattle.engine.specs.Documents.{key_of}
 use Rattle.engine.specs.Lawful.{IsStored, IsRising, IsKept, IsLawfulState}
 use Rattle.engine.specs.Places.{collection_at, no_collection}

@@ -1,7 +1,6 @@
 -- Updating document after document of the collection at a place, and statement after statement.
-use Rattle.std.proofs.Common.{◌≡◌, ◌≢◌, ℕ, zero, suc, ◌+◌, ◌<◌, ◌≤◌, Bool, true, false, List, [], ◌∷◌, ◌++◌, length, take, drop, get_or, set, Option, Some, None, Result, Ok, Err, refl, sym, ap, subst, ◌∙◌, arith, append_assoc}
-use Rattle.std.specs.Prelude.{not, ◌&&◌, ◌==◌, ◌^◌, ◌-◌, nat_lt, if◌then◌else◌, OnOk}
-use Rattle.std.specs.Str.{bytes_eq}
+use Rattle.std.proofs.Common.{◌≡◌, ℕ, suc, ◌+◌, ◌<◌, ◌≤◌, Bool, true, false, List, [], ◌∷◌, ◌++◌, length, take, drop, get_or, set, Option, Result, Ok, Err, refl, sym, ap, subst, ◌∙◌, arith}
+use Rattle.std.specs.Prelude.{not, ◌&&◌, if◌then◌else◌, OnOk}
 use Rattle.std.proofs.lemmas.Grind.{get_or-set_at}
 use Rattle.std.proofs.lemmas.List.{set-set, set-get_or, length-set, take_more, take_more_set, take-append-drop, get_or_default, drop_all, take_all, drop-set-lt}
 use Rattle.std.proofs.lemmas.Slice.Eq.{bytes_eq-Decides}
@@ -9,15 +8,13 @@ use Rattle.bson.specs.Tree.{document, Pairs, no_pairs, Items, no_items, item, ap
 use Rattle.filter.specs.Matches.{matches}
 use Rattle.outcome.specs.Outcome.{◌>>=◌, unless, or_refused, Fails, Gives}
 use Rattle.path.specs.declared.refusal.Refusal.{Refusal}
-use Rattle.path.specs.declared.refusal.Refusal.TheVariants as refusals
 use Rattle.update.specs.Update.{Update as Change}
 use Rattle.update.specs.Applying.{apply}
 use Rattle.commands.specs.Update.{UpdateStatement}
-use Rattle.engine.specs.World.{Collection, documents_of, documents_or_none, find_collection, with_documents, put_collection}
-use Rattle.engine.specs.Documents.{key_of, place}
+use Rattle.engine.specs.World.{Collection, documents_of, documents_or_none, find_collection}
 use Rattle.engine.specs.Places.{collection_at, no_collection, IsThere, IsMissing}
-use Rattle.engine.specs.Progress.{Progress, Extends, Stands, is_full, with_document_at, placed_in}
-use Rattle.engine.specs.Update.{counted, spelled, modified_by, Changed, passed_over, changed_to, update_from, changed_in, Updated, not_changed, updated_to, upsert_document, with_upserted, upsert, run_statement, run_statements}
+use Rattle.engine.specs.Progress.{Progress, Extends, with_document_at}
+use Rattle.engine.specs.Update.{counted, spelled, Changed, passed_over, changed_to, update_from, changed_in, Updated, updated_to, upsert, run_statement, run_statements}
 use Rattle.engine.specs.Updating.{updated_of, changed_of, HasNone, IsQuiet, document_at, with_documents_at, UpdatesAt, UpdatesMatching, RunsMatching, UpdatesFound, RunsFound}
 use Rattle.engine.specs.declared.updates.Tally.{Tally}
 use Rattle.engine.proofs.Rewinding.{at_place, Extends-refl, Extends-trans}

@@ -1,7 +1,7 @@
 -- What running the statements of an update does to the collections of a turn: clauses of private functions.
-use Rattle.std.specs.Prelude.{◌≡◌, ℕ, ◌<◌, Bool, true, false, List, [], length, slice_set, slice_index_or, Result, Ok, Err}
+use Rattle.std.specs.Prelude.{◌≡◌, ℕ, Bool, false, List, [], slice_set, slice_index_or, Result, Ok, Err}
 use Rattle.std.specs.Str.{bytes_eq}
-use Rattle.bson.specs.Tree.{Pairs, no_pairs, Items, no_items}
+use Rattle.bson.specs.Tree.{Pairs, no_pairs, no_items}
 use Rattle.bson.specs.Lawful.{IsDocument}
 use Rattle.outcome.specs.Outcome.{Fails}
 use Rattle.path.specs.declared.refusal.Refusal.{Refusal}

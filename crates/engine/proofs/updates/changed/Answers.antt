@@ -1,4 +1,4 @@
-use Rattle.std.proofs.Common.{◌≡◌, ◌≢◌, sym, ◌∙◌}
+use Rattle.std.proofs.Common.{◌≢◌, sym, ◌∙◌}
 use Rattle.update.specs.View.{update_of}
 use Rattle.engine.proofs.Applied.{applied, other_bytes, is_change, same_document}
 use Rattle.engine.proofs.updates.changed.Goals as goal

@@ -1,6 +1,5 @@
-use Rattle.std.proofs.Common.{rules, ◌≡◌, Option, Some, None, sym, ap, ◌∙◌}
+use Rattle.std.proofs.Common.{rules, sym, ap, ◌∙◌}
 use Rattle.std.specs.Prelude.{option_map}
-use Rattle.bson.specs.Tree.{Tree}
 use Rattle.bson.specs.View.{tree}
 use Rattle.update.specs.View.{update_of}
 use Rattle.engine.proofs.Applied.{applied, upserted_stored}

@@ -1,5 +1,5 @@
 use Rattle.std.proofs.Common.{rules, ◌≡◌, length, ap, ◌∙◌}
-use Rattle.engine.specs.Progress.{Progress, turn_start_of}
+use Rattle.engine.specs.Progress.{turn_start_of}
 use Rattle.engine.proofs.Rewinding.{Extends-same, turn_start-extends}
 use Rattle.engine.proofs.collections.Collections.insert.Goals as goal
 use Rattle.engine.proofs.collections.Collections.insert.Goals.{After-undo_to}

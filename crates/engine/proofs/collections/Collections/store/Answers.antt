@@ -1,4 +1,4 @@
-use Rattle.std.proofs.Common.{◌≡◌, Result, Ok, sym, subst}
+use Rattle.std.proofs.Common.{Result, sym, subst}
 use Rattle.std.proofs.lemmas.Result.{err_from_is_err_and}
 use Rattle.engine.specs.World.{Collection}
 use Rattle.engine.specs.Documents.{key_of}

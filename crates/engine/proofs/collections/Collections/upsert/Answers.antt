@@ -1,4 +1,3 @@
-use Rattle.std.proofs.Common.{◌≡◌}
 use Rattle.engine.proofs.Rewinding.{Extends-trans}
 use Rattle.engine.proofs.UpdatingLoop.{some_upserted}
 use Rattle.engine.proofs.collections.Collections.upsert.Goals as goal

@@ -1,5 +1,5 @@
 use Rattle.std.proofs.Common.{◌≡◌, Some, Result, Ok, sym, ap, subst, ◌∙◌}
-use Rattle.std.specs.Prelude.{string_bytes, unwrap_or}
+use Rattle.std.specs.Prelude.{unwrap_or}
 use Rattle.bson.specs.Tree.{Pairs}
 use Rattle.engine.specs.World.{World}
 use Rattle.outcome.specs.Outcome.{◌>>=◌}
