@@ -1,6 +1,8 @@
-//! Finds, counts, deletes and updates, by public calls: commands written as text, asked of a whole server one after the other.
+//! Finds, counts, deletes, updates and pipelines, by public calls: commands written as text, asked of a whole server one after the other.
 #![tactic(auto)]
 
+#[cfg(test)]
+mod aggregating;
 #[cfg(test)]
 mod deleting;
 #[cfg(test)]
