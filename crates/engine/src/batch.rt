@@ -55,8 +55,8 @@ fn put_item(
     document: &Document,
 ) -> Result<(), NoMemory>
     requires { IsWithin (project projection.now document.now) }
-    ensures bytes { OnOk result (out.new.items ≡ out.old.items
-        ++ element 3 (decimal index) (frame_of (pairs_bytes (project projection.now document.now)))) }
+    ensures bytes { OnOk result (out.new.items ≡ out.old.items ++ element 3 (decimal index)
+        (frame_of (pairs_bytes (project projection.now document.now)))) }
     ensures readable { OnOk result (IsDocument (project projection.now document.now)) }
 {
     let mut buffer = Buffer::new();

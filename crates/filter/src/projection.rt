@@ -170,7 +170,8 @@ fn projection_of(
     includes: bool,
     seen: ProjectionFields,
 ) -> Result<Projection, Refusal>
-    ensures { Gives Refusal.OutOfMemory (λ p. p) result (Ok (projection_of includes (seen_of seen))) }
+    ensures { Gives Refusal.OutOfMemory (λ p. p) result
+        (Ok (projection_of includes (seen_of seen))) }
 {
     let ProjectionFields {
         fields: _,
@@ -206,7 +207,8 @@ impl ProjectionFields {
         name: &str,
         value: &Value,
     ) -> Result<ProjectionFields, Refusal>
-        ensures { Gives Refusal.OutOfMemory seen_of result (read_field name.now (tree value.now) (seen_of self)) }
+        ensures { Gives Refusal.OutOfMemory seen_of result
+            (read_field name.now (tree value.now) (seen_of self)) }
     {
         let path = path_in(alloc, name)?;
         let flag = flag_in(value)?;
