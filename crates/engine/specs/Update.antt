@@ -150,7 +150,7 @@ counts_reply matched modified upserted =
 abbrev pub update_reply : Updated → Pairs
 update_reply u = counts_reply u.matched u.modified u.upserted
 
--- a reply has room in a message, unless many documents with `_id`s of some thousand bytes were made
+-- a reply has room in a message
 abbrev pub judged : Updated → Result Updated Refusal
 judged u =
     unless (nat_lt 1048555 (length (spelled (ok_reply (update_reply u)))))

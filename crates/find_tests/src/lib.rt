@@ -24,6 +24,8 @@ mod sorting;
 #[cfg(test)]
 mod turns;
 #[cfg(test)]
+mod update_limits;
+#[cfg(test)]
 mod updating;
 #[cfg(test)]
 mod upserting;
