@@ -48,6 +48,15 @@ pub fn find_with(alloc: Global, filter: &Bytes, sort: &Bytes, projection: &Bytes
         .text("$db", "t")
 }
 
+/// `{aggregate: "c", pipeline: [..], cursor: {}, $db: "t"}`
+pub fn aggregate(alloc: Global, stages: &[Bytes]) -> Bytes {
+    Bytes::new(alloc)
+        .text("aggregate", "c")
+        .documents("pipeline", stages)
+        .document("cursor", &Bytes::new(alloc))
+        .text("$db", "t")
+}
+
 /// `{count: "c", query: .., $db: "t"}`
 pub fn count(alloc: Global, query: &Bytes) -> Bytes {
     Bytes::new(alloc)

@@ -147,6 +147,20 @@ fn refused_update_step(alloc: Global) -> Result<Step, AllocError> {
         .with(alloc, THREE, refusal(alloc, 28), THREE)
 }
 
+/// A pipeline of two stages, the second of which makes groups.
+fn aggregate_step(alloc: Global) -> Result<Step, AllocError> {
+    let sum = Bytes::new(alloc).text("$sum", "$_id");
+    let group = Bytes::new(alloc).text("_id", "$a").document("n", &sum);
+    let stages = [
+        Bytes::new(alloc).document("$match", &Bytes::new(alloc).int32("a", 5)),
+        Bytes::new(alloc).document("$group", &group),
+    ];
+    let groups = [Bytes::new(alloc).int32("_id", 5).int32("n", 4)];
+    make_step(alloc, aggregate(alloc, &stages))?
+        .with(alloc, NOTHING, batch_reply(alloc, &[]), NOTHING)?
+        .with(alloc, THREE, batch_reply(alloc, &groups), THREE)
+}
+
 fn count_step(alloc: Global) -> Result<Step, AllocError> {
     let message = count(alloc, &Bytes::new(alloc).int32("a", 5));
     make_step(alloc, message)?
@@ -179,6 +193,7 @@ fn make_script(alloc: Global) -> Result<Script, AllocError> {
     steps.push(ping_step(alloc)?)?;
     steps.push(insert_step(alloc)?)?;
     steps.push(query_step(alloc)?)?;
+    steps.push(aggregate_step(alloc)?)?;
     steps.push(update_step(alloc)?)?;
     steps.push(refused_update_step(alloc)?)?;
     steps.push(delete_step(alloc)?)?;
