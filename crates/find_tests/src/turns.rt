@@ -6,7 +6,7 @@ ghost use Rattle.engine.specs.Durable.{IsSound};
 
 use crate::session::CONFIG;
 use bson::encode;
-use engine::{Answer, ConnId, Engine, Refusal, Reply};
+use engine::{Answer, ConnId, Engine, Reply};
 use notation::document;
 use page::MemDisk;
 use std::alloc::Global;
@@ -40,21 +40,6 @@ fn answers(
         Answer::Built(document) => Ok(encode(alloc, &document)?.as_slice() == wanted.as_slice()),
         Answer::Spelled(document) => Ok(document.bytes() == wanted.as_slice()),
     }
-}
-
-/// Whether a command is refused so.
-fn refuses(
-    alloc: Global,
-    engine: &mut Engine<MemDisk>,
-    command: &str,
-    refusal: Refusal,
-) -> Result<bool, Fail>
-    requires { IsSound memory_history engine.old }
-    ensures { IsSound memory_history engine.new }
-{
-    let connection = ConnId::new(0).ok_or("connection 0")?;
-    let reply = engine.execute(connection, &document(alloc, command)?);
-    Ok(matches!(reply, Reply::Refused(other) if other == refusal))
 }
 
 const INSERT: &str = "{insert: 'c', documents: [{_id: 1}, {_id: 2}, {_id: 3}], $db: 't'}";
@@ -132,25 +117,5 @@ fn updates_and_their_commits(rt: HostRuntime) -> Result<(), Fail> {
     assert_eq!(rt; disk.calls(), 3 + 11);
     let mut engine = open(alloc, disk)?;
     assert!(rt; answers(alloc, &mut engine, FIND, UPDATED)?);
-    Ok(())
-}
-
-// in an upsert a collection too many goes before what the document is refused with
-#[test]
-fn an_upsert_into_a_collection_too_many(rt: HostRuntime) -> Result<(), Fail> {
-    let alloc = rt.alloc();
-    let mut engine = open(alloc, MemDisk::new(alloc))?;
-    'numbers: for number in 0..1_000 {
-        let insert = format!(in alloc;
-            "{{insert: 'c{number}', documents: [{{_id: 1}}], $db: 't'}}"
-        )?;
-        assert!(rt; answers(alloc, &mut engine, &insert, "{n: 1, ok: 1}")?);
-    }
-    let upsert = "{update: 'd', updates: [{q: {a: 1}, u: {$set: {b: 2}}, upsert: true}], $db: 't'}";
-    assert!(rt; refuses(alloc, &mut engine, upsert, Refusal::TooMany)?);
-    let there = "{update: 'c0', updates: [{q: {a: 1}, u: {$set: {b: 2}}, upsert: true}], $db: 't'}";
-    assert!(rt; refuses(alloc, &mut engine, there, Refusal::BadValue)?);
-    let none = "{update: 'd', updates: [{q: {a: 1}, u: {$set: {b: 2}}}], $db: 't'}";
-    assert!(rt; answers(alloc, &mut engine, none, "{n: 0, nModified: 0, ok: 1}")?);
     Ok(())
 }
