@@ -1,7 +1,7 @@
 -- Reading the items of an array, one after another.
 use Rattle.std.proofs.Common.{◌≡◌, ℕ, suc, arith, drop-cons, ◌+◌, ◌<◌, ◌≤◌, List, [], ◌∷◌, ◌++◌, length, drop, get_or, Result, Ok, Err, refl, sym, ap, ◌∙◌, append_assoc}
 use Rattle.std.proofs.lemmas.List.{append-nil, drop_all}
-use Rattle.bson.specs.Tree.{Tree, Items}
+use Rattle.bson.specs.Tree.{Tree}
 use Rattle.bson.specs.View.{tree, items_of}
 use Rattle.bson.specs.declared.value.Value.{Value}
 use Rattle.commands.specs.Statements.{each_of}

@@ -24,7 +24,7 @@ use Rattle.commands.specs.Find.{Find, no_find_fields, find_field, query_of, read
 use Rattle.commands.specs.Count.{read_count}
 use Rattle.commands.specs.Delete.{read_delete}
 use Rattle.commands.specs.Update.{UpdateStatement, UpdateStatementFields, no_statement_fields, statement_field, read_statement, Update, UpdateFields, no_update_fields, update_statements_in, update_field, read_update_command, IsRead}
-use Rattle.commands.specs.Aggregate.{Aggregate, AggregateFields, no_aggregate_fields, aggregate_field, read_aggregate}
+use Rattle.commands.specs.Aggregate.{Aggregate, no_aggregate_fields, aggregate_field, read_aggregate}
 use Rattle.commands.specs.Command.{Command, ping, insert, find, count, delete, update, aggregate, as_command, command_of, IsBounded}
 
 later_false : (a b : Bool) → (a || b) ≡ false → b ≡ false

@@ -20,7 +20,7 @@ use Rattle.value_order.specs.TotalLaws.{compare_total}
 use Rattle.bson.specs.View.{tree, pairs_of}
 use Rattle.bson.specs.declared.value.Pair.{Pair}
 use Rattle.path.specs.EditLaws.{if_ok_value}
-use Rattle.outcome.specs.Outcome.{◌>>=◌, fault_or}
+use Rattle.outcome.specs.Outcome.{fault_or}
 use Rattle.path.specs.declared.refusal.Refusal.{Refusal}
 use Rattle.path.specs.declared.refusal.Refusal.TheVariants as refusals
 use Rattle.update.specs.Update.{Update as Change}

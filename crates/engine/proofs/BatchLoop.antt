@@ -3,10 +3,9 @@ use Rattle.std.proofs.Common.{◌≡◌, ◌≢◌, ℕ, zero, suc, ◌+◌, ◌
 use Rattle.std.specs.Prelude.{◌==◌, ◌||◌, if◌then◌else◌, nat_le, All}
 use Rattle.std.specs.Borrow.{Bor}
 use Rattle.std.specs.Fmt.{decimal}
-use Rattle.std.proofs.lemmas.Bool.Decides.{nat_tests}
-use Rattle.std.proofs.lemmas.List.{append-nil, drop-map, take_all, take_at, drop_all}
+use Rattle.std.proofs.lemmas.List.{append-nil, drop-map, drop_all}
 use Rattle.std.proofs.lemmas.List.Elements.{All-append, All-head, All-drop}
-use Rattle.bson.specs.Tree.{document, Pairs, item, no_items}
+use Rattle.bson.specs.Tree.{Pairs}
 use Rattle.bson.specs.Lawful.{IsDocument}
 use Rattle.bson.specs.Spelling.{element, tree_bytes, pairs_bytes, items_bytes, frame_of}
 use Rattle.bson.specs.SizingLaws.{items_bytes-none}

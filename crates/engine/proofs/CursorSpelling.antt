@@ -8,8 +8,8 @@ use Rattle.std.proofs.lemmas.Bool.Decides.{nat_tests}
 use Rattle.std.proofs.lemmas.Int.{ints}
 use Rattle.std.proofs.lemmas.Str.{IsUtf8-from_ascii}
 use Rattle.std.specs.Borrow.{Bor}
-use Rattle.bson.specs.Tree.{document, array, Pairs, no_pairs, pair}
-use Rattle.bson.specs.Lawful.{IsName, NoZero, IsPairs, IsItems, IsDocument, pairs_levels, items_levels}
+use Rattle.bson.specs.Tree.{Pairs, no_pairs, pair}
+use Rattle.bson.specs.Lawful.{IsName, NoZero, IsPairs, IsItems, IsDocument}
 use Rattle.bson.specs.Spelling.{Spells, element, tree_bytes, pairs_bytes, items_bytes, frame_of}
 use Rattle.bson.specs.SizingLaws.{frame_of-length}
 use Rattle.engine.specs.Refusals.{int, long, words, ok_reply}

@@ -1,12 +1,9 @@
 -- An image whose root sectors are zeros holds no collection.
-use Rattle.std.proofs.Common.{◌≡◌, ℕ, zero, suc, List, [], ◌++◌, refl, sym, ap, subst, ◌∙◌, arith}
-use Rattle.std.specs.Prelude.{replicate, Result, Ok}
+use Rattle.std.proofs.Common.{◌≡◌, ℕ, zero, suc, List, [], refl, sym, subst, ◌∙◌, arith}
+use Rattle.std.specs.Prelude.{replicate, Ok}
 use Rattle.std.proofs.lemmas.List.{append-nil}
-use Rattle.roots.specs.Entries.{Entry}
 use Rattle.roots.specs.Image.{HasRoot, StandsFor}
 use Rattle.roots.specs.Root.{no_root, root_of}
-use Rattle.roots.specs.declared.root.Root.{Root}
-use Rattle.roots.specs.declared.opening.OpenFault.{OpenFault}
 use Rattle.engine.specs.Stored.{documents_to, database_entries}
 use Rattle.engine.specs.Durable.{Holds}
 use Rattle.engine.proofs.LoadingSteps.{none_lawful}

@@ -11,7 +11,6 @@ use Rattle.bson.specs.Tree.{Tree, Pairs}
 use Rattle.value_order.specs.Order.{compare}
 use Rattle.filter.specs.Matches.{matches}
 use Rattle.outcome.specs.Outcome.{◌>>=◌}
-use Rattle.path.specs.declared.refusal.Refusal.{Refusal}
 use Rattle.update.specs.Applying.{apply}
 use Rattle.commands.specs.OutcomeLaws.{step_of}
 use Rattle.commands.specs.Update.{UpdateStatement, IsRead}

@@ -1,5 +1,5 @@
 -- What a pipeline makes of stored documents is within the limits of documents that are given.
-use Rattle.std.proofs.Common.{◌≡◌, ℕ, suc, ◌≤◌, Bool, true, false, List, [], ◌∷◌, length, get_or, map, ◌∙◌, Option, Some, None, Result, Ok, refl, arith}
+use Rattle.std.proofs.Common.{◌≡◌, suc, Bool, true, false, List, [], ◌∷◌, length, get_or, map, ◌∙◌, Option, Some, None, Ok, refl, arith}
 use Rattle.std.specs.Prelude.{nat_lt, if◌then◌else◌, All}
 use Rattle.std.proofs.lemmas.Bool.Decides.{nat_tests}
 use Rattle.std.proofs.lemmas.List.Elements.{All-cons, All-head, All-tail}

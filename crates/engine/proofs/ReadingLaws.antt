@@ -1,6 +1,6 @@
 -- Commands that only read leave the collections as they are.
-use Rattle.std.proofs.Common.{◌≡◌, ⊎_elim, ℕ, ◌+◌, ◌∷◌, Bool, true, false, List, length, drop, take, refl, sym, ap, ◌∙◌}
-use Rattle.std.specs.Prelude.{◌⊎◌, nat_le, if◌then◌else◌, codes, Result, Ok, Err, unwrap_or}
+use Rattle.std.proofs.Common.{◌≡◌, ⊎_elim, ℕ, ◌+◌, ◌∷◌, Bool, true, false, List, length, drop, take, refl, ap, ◌∙◌}
+use Rattle.std.specs.Prelude.{nat_le, if◌then◌else◌, codes, Result, Ok, Err, unwrap_or}
 use Rattle.bson.specs.Tree.{Pairs}
 use Rattle.bson.specs.declared.fault.BsonFault.{BsonFault}
 use Rattle.outcome.specs.Outcome.{◌>>=◌, unless}
@@ -12,11 +12,11 @@ use Rattle.commands.specs.Aggregate.{Aggregate}
 use Rattle.aggregate.specs.Pipeline.{run as after_pipeline}
 use Rattle.engine.specs.Aggregate.{run_aggregate}
 use Rattle.commands.specs.Command.{Command, ping, insert, find, count, delete, update, aggregate, command_of}
-use Rattle.engine.specs.World.{World, Collection, documents_of}
+use Rattle.engine.specs.World.{World, documents_of}
 use Rattle.engine.specs.Cursors.{batch_of, cursor_reply, open_cursor, is_refused, next_cursor, first_batch}
 use Rattle.engine.specs.Find.{query_result, run_find}
 use Rattle.engine.specs.Count.{run_count}
-use Rattle.engine.specs.Step.{run, answered, read_and_run, step, Answers, ForMemory, RefusedBeside}
+use Rattle.engine.specs.Step.{run, answered, step, Answers, ForMemory}
 use Rattle.engine.specs.Laws.{OnlyReads, BodyOnlyReads}
 
 module _ (w : World) (connection : ℕ) where

@@ -1,5 +1,5 @@
 -- Changes that lead back, one after another.
-use Rattle.std.proofs.Common.{◌≡◌, ℕ, zero, suc, ◌+◌, ◌<◌, ◌≤◌, List, [], ◌∷◌, ◌++◌, length, get_or, set, insert, remove, refl, sym, ap, subst, ◌∙◌, append_assoc, arith, inl, inr, false, Option, Some, None, Ok, Err}
+use Rattle.std.proofs.Common.{◌≡◌, ℕ, zero, suc, ◌<◌, ◌≤◌, List, [], ◌∷◌, ◌++◌, length, get_or, set, insert, remove, refl, sym, ap, subst, ◌∙◌, append_assoc, arith, inl, inr, false, Option, Some, Ok, Err}
 use Rattle.std.specs.Prelude.{nat_le}
 use Rattle.std.proofs.lemmas.Bool.Decides.{nat_tests}
 use Rattle.std.specs.Cmp.Lexicographic.{slice_cmp}
@@ -8,7 +8,7 @@ use Rattle.std.specs.declared.cmp.Ordering.TheVariants as orders
 use Rattle.std.proofs.lemmas.Bool.{cases_eq}
 use Rattle.std.proofs.lemmas.Grind.{get_or-set_at}
 use Rattle.std.proofs.lemmas.List.{append-nil, get_or_default, get_or-set_other, set-set, set-get_or, length-set}
-use Rattle.std.proofs.lemmas.List.Edits.{length-insert, length-remove, get_or-insert_at}
+use Rattle.std.proofs.lemmas.List.Edits.{length-insert, get_or-insert_at}
 use Rattle.std.proofs.lemmas.Cmp.{nat_list_cmp_total}
 use Rattle.bson.specs.Tree.{Tree, Pairs, no_pairs}
 use Rattle.engine.specs.World.{Collection, documents_or_none, number_or, unused, with_documents}
@@ -18,7 +18,6 @@ use Rattle.engine.specs.Documents.{checked, place, insert_one}
 use Rattle.update.specs.Stored.{id_first}
 use Rattle.engine.specs.Progress.{Progress, IsProgress, without_document, with_document_at, undo, rewind, has_any, is_changed, turn_start_of, CanUndo, CanRewind, Extends, is_full, Stands, with_document}
 use Rattle.path.specs.declared.refusal.Refusal.{Refusal}
-use Rattle.path.specs.declared.refusal.Refusal.TheVariants as refusals
 use Rattle.engine.specs.declared.collections.UndoEntry.{UndoEntry}
 use Rattle.engine.specs.declared.collections.UndoEntry.TheVariants as entries
 use Rattle.engine.proofs.Ordered.{rises_insert}

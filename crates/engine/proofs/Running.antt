@@ -1,9 +1,8 @@
 -- What running a command comes to.
-use Rattle.std.proofs.Common.{◌≡◌, ℕ, zero, suc, ◌+◌, ◌-◌, ◌<◌, ◌≤◌, Bool, true, false, List, [], ◌∷◌, length, Option, Some, Result, Ok, Err, refl, sym, ap, ◌∙◌, arith}
-use Rattle.std.specs.Prelude.{◌==◌, ◌||◌, if◌then◌else◌, nat_le, codes, unwrap_or, IfOk, IfErr}
+use Rattle.std.proofs.Common.{◌≡◌, ℕ, ◌-◌, ◌<◌, ◌≤◌, Bool, true, false, List, [], length, Some, Result, Ok, Err, refl, sym, ap, ◌∙◌, arith}
+use Rattle.std.specs.Prelude.{nat_le, codes, unwrap_or, IfOk, IfErr}
 use Rattle.std.proofs.lemmas.Bool.Decides.{nat_tests}
 use Rattle.bson.specs.Tree.{Pairs, pair, no_pairs}
-use Rattle.filter.specs.Condition.{Conditions}
 use Rattle.commands.specs.Insert.{Insert}
 use Rattle.commands.specs.Find.{Query, Find}
 use Rattle.commands.specs.Count.{Count}
@@ -12,7 +11,7 @@ use Rattle.aggregate.specs.Stage.{Stage}
 use Rattle.aggregate.specs.Pipeline.{run as after_pipeline}
 use Rattle.engine.specs.Aggregate.{run_aggregate}
 use Rattle.engine.specs.Find.{query_result, matching, window, run_find}
-use Rattle.commands.specs.Delete.{Deletion, Delete}
+use Rattle.commands.specs.Delete.{Delete}
 use Rattle.commands.specs.Update.{UpdateStatement}
 use Rattle.engine.specs.Update.{Updated, update_reply, run_update}
 use Rattle.engine.specs.Updating.{RunsAll}
@@ -22,7 +21,7 @@ use Rattle.engine.specs.World.{World, Collection, find_collection, documents_of,
 use Rattle.outcome.specs.Outcome.{◌>>=◌, unless}
 use Rattle.engine.specs.Documents.{insert_all}
 use Rattle.engine.specs.Refusals.{int, total}
-use Rattle.engine.specs.Cursors.{item_size, batch_len, cursor_reply, open_cursor, batch_of, first_batch}
+use Rattle.engine.specs.Cursors.{cursor_reply, open_cursor, batch_of, first_batch}
 use Rattle.engine.specs.Insert.{run_insert}
 use Rattle.engine.specs.Count.{run_count}
 use Rattle.engine.specs.Progress.{Progress, is_full, inserted}

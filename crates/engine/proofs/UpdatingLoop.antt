@@ -6,7 +6,7 @@ use Rattle.std.proofs.lemmas.List.{set-set, set-get_or, length-set, take_more, t
 use Rattle.std.proofs.lemmas.Slice.Eq.{bytes_eq-Decides}
 use Rattle.bson.specs.Tree.{document, Pairs, no_pairs, Items, no_items, item, append_items}
 use Rattle.filter.specs.Matches.{matches}
-use Rattle.outcome.specs.Outcome.{◌>>=◌, unless, or_refused, Fails, Gives}
+use Rattle.outcome.specs.Outcome.{◌>>=◌, Fails, Gives}
 use Rattle.path.specs.declared.refusal.Refusal.{Refusal}
 use Rattle.path.specs.declared.refusal.Refusal.TheVariants as refusals
 use Rattle.update.specs.Update.{Update as Change}

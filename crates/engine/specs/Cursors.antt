@@ -1,5 +1,5 @@
 -- Batches of documents, the replies that hold them, and cursors on what a batch leaves.
-use Rattle.std.specs.Prelude.{ℕ, zero, suc, ◌+◌, ◌-◌, ◌^◌, ◌<◌, ◌≤◌, Bool, true, false, ◌||◌, ◌==◌, nat_le, if◌then◌else◌, List, [], ◌∷◌, length, take, drop, codes, Result, Ok, Err}
+use Rattle.std.specs.Prelude.{ℕ, zero, suc, ◌+◌, ◌-◌, ◌^◌, ◌<◌, ◌≤◌, Bool, true, false, ◌||◌, ◌==◌, nat_le, if◌then◌else◌, List, [], ◌∷◌, length, take, drop, codes, Result, Ok}
 use Rattle.std.specs.Fmt.{decimal}
 use Rattle.bson.specs.Tree.{document, array, Pairs, no_pairs, pair, Items, no_items, item}
 use Rattle.bson.specs.Spelling.{frame_of, pairs_bytes, element}

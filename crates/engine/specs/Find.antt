@@ -1,6 +1,6 @@
 -- `find`: what a query gives of a list of documents, as far as it goes into the first batch. Nothing here knows how the
 -- documents are kept or looked up.
-use Rattle.std.specs.Prelude.{◌≡◌, ℕ, zero, suc, ◌≤◌, List, length, map, take, drop, Option, Result, unwrap_or}
+use Rattle.std.specs.Prelude.{◌≡◌, ℕ, zero, suc, ◌≤◌, List, length, map, take, drop, Result, unwrap_or}
 use Rattle.std.specs.List.{filter}
 use Rattle.bson.specs.Tree.{Pairs}
 use Rattle.filter.specs.Condition.{Conditions}

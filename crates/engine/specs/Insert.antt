@@ -1,5 +1,5 @@
 -- `insert`: all documents are stored, or none.
-use Rattle.std.specs.Prelude.{ℕ, ◌&&◌, not, nat_le, length, codes, Result, Ok, is_some}
+use Rattle.std.specs.Prelude.{◌&&◌, not, nat_le, length, codes, Result, Ok, is_some}
 use Rattle.bson.specs.Tree.{Pairs, no_pairs, pair}
 use Rattle.outcome.specs.Outcome.{◌>>=◌, unless}
 use Rattle.path.specs.declared.refusal.Refusal.{Refusal}

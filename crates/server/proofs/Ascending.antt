@@ -1,5 +1,5 @@
 -- The connections stand in ascending order of their numbers, whatever happens to them; so a turn runs their messages in that order.
-use Rattle.std.proofs.Common.{◌≡◌, ℕ, ◌+◌, ◌<◌, ◌≤◌, Bool, true, false, List, [], ◌∷◌, ◌++◌, refl, sym, ◌∙◌, ap, arith}
+use Rattle.std.proofs.Common.{◌≡◌, ℕ, ◌<◌, Bool, true, false, List, [], ◌∷◌, ◌++◌, refl, ◌∙◌, ap, arith}
 use Rattle.std.specs.Prelude.{◌&&◌, nat_lt, Option, Some, None, Result, Ok, Err}
 use Rattle.std.specs.Ordering.{nat_cmp}
 use Rattle.std.specs.declared.cmp.Ordering.{Ordering}
@@ -11,7 +11,7 @@ use Rattle.op_msg.specs.Frame.{Frame}
 use Rattle.op_msg.specs.declared.fault.FrameFault.{FrameFault}
 use Rattle.server.specs.ServerState.{are_above, are_ascending, new_connection, add_bytes, feed_connections, drop_connection}
 use Rattle.server.specs.InOrder.{AreCalledAbove, AreCalledInOrder}
-use Rattle.server.specs.Turn.{Call, calls, call_at, front_of, connection_at, connection_after, connections_after, taken_at, connections_taken}
+use Rattle.server.specs.Turn.{Call, calls, call_at, front_of, connection_at, connections_after, taken_at, connections_taken}
 use Rattle.server.specs.declared.connection.Connection.{Connection}
 
 both : (a b : Bool) → (a && b) ≡ true → (a ≡ true) × (b ≡ true)

@@ -5,7 +5,7 @@ use Rattle.std.proofs.lemmas.Option.{slice_get_read}
 use Rattle.std.specs.Prelude.{◌⊎◌, ◌≢◌, Result, Option, Some, None, Err, Vec, Bool, true}
 use Rattle.std.specs.Global.{Global}
 use Rattle.page.specs.History.{History, KeepsWord}
-use Rattle.page.specs.Crash.{GoesOn, LeavesOnly, LeavesNow}
+use Rattle.page.specs.Crash.{GoesOn, LeavesNow}
 use Rattle.page.proofs.Moments.{goes_nowhere, goes_further, leaves_now}
 use Rattle.roots.specs.Store.{limit_of}
 use Rattle.engine.specs.World.{Collection}

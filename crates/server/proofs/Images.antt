@@ -1,5 +1,5 @@
 -- What images hold, and which states stand among which.
-use Rattle.std.proofs.Common.{⊎_elim, inr, ap, ◌∙◌, ◌≡◌, inl, ℕ, List, [], ◌∷◌, ◌++◌, refl, sym, subst, arith}
+use Rattle.std.proofs.Common.{⊎_elim, inr, ap, ◌∙◌, ◌≡◌, inl, ℕ, List, [], ◌∷◌, refl, sym, subst}
 use Rattle.std.specs.Prelude.{◌⊎◌}
 use Rattle.page.specs.History.{History}
 use Rattle.page.specs.Crash.{GoesOn, LeavesOnly, LeavesNow}

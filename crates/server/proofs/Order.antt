@@ -1,9 +1,9 @@
 -- How what a crash may leave goes on, in order of time, by one call more.
-use Rattle.std.proofs.Common.{◌≡◌, inl, inr, ⊎_elim, ℕ, ◌≤◌, ◌<◌, List, [], ◌∷◌, ◌++◌, refl, sym, subst, arith}
-use Rattle.std.specs.Prelude.{◌⊎◌, nat_le, true, false, Bool}
+use Rattle.std.proofs.Common.{◌≡◌, inl, inr, ⊎_elim, ℕ, ◌≤◌, List, [], ◌∷◌, ◌++◌, refl, sym, subst, arith}
+use Rattle.std.specs.Prelude.{nat_le, true, false, Bool}
 use Rattle.std.proofs.lemmas.Bool.Decides.{nat_tests}
 use Rattle.page.specs.History.{History, Sector, KeepsWord, IsImage}
-use Rattle.page.specs.Crash.{GoesOn, LeavesOnly, LeavesNow}
+use Rattle.page.specs.Crash.{GoesOn, LeavesOnly}
 use Rattle.engine.specs.World.{Collection}
 use Rattle.engine.specs.Durable.{Holds}
 use Rattle.server.specs.Moment.{TurnEnd, last_collections, LeavesBetween, HoldsEither, LeavesInOrder}

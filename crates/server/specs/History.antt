@@ -2,7 +2,6 @@
 -- frames in the order in which the turns handed them out. Its turns' ends are the moments at which they answered, each with the
 -- collections then, in order.
 use Rattle.std.specs.Prelude.{◌≡◌, ◌⊎◌, ◌-◌, ◌^◌, ◌<◌, ℕ, suc, ◌==◌, if◌then◌else◌, List, [], ◌∷◌, ◌++◌}
-use Rattle.engine.specs.World.{Collection}
 use Rattle.engine.specs.Step.{ForMemory}
 use Rattle.server.specs.ServerState.{ServerState, fed, ended}
 use Rattle.server.specs.Turn.{Out, Turns}

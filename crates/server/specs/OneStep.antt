@@ -1,7 +1,6 @@
 -- One step of a run: it adds a turn's frames and counts the turn, or says why the run stops.
 use Rattle.std.specs.Prelude.{◌≡◌, Bool, ℕ, ◌+◌, List, [], ◌∷◌, ◌++◌, Result, Ok, Err, Vec}
 use Rattle.std.specs.Global.{Global}
-use Rattle.server.specs.ServerState.{ServerState}
 use Rattle.engine.specs.Step.{ForMemory}
 use Rattle.server.specs.Turn.{Out, Turns, TurnFails}
 use Rattle.server.specs.Moment.{TurnEnd, Instant, end_at, last_moment}

@@ -1,5 +1,5 @@
 use Rattle.std.proofs.Common.{◌≡◌, ◌∷◌, [], List, map, Result, sym, ap, subst, ◌∙◌, refl}
-use Rattle.bson.specs.Tree.{Tree, Items}
+use Rattle.bson.specs.Tree.{Tree}
 use Rattle.bson.specs.View.{tree, items_of}
 use Rattle.bson.specs.declared.value.Value.{Value}
 use Rattle.path.specs.Reach.{items_list}

@@ -1,4 +1,4 @@
-use Rattle.std.proofs.Common.{◌≡◌, List, Result, ap, subst, ◌∙◌}
+use Rattle.std.proofs.Common.{List, Result, ap, subst, ◌∙◌}
 use Rattle.bson.specs.Tree.{Pairs}
 use Rattle.outcome.specs.Outcome.{Gives}
 use Rattle.path.specs.declared.refusal.Refusal.{Refusal}

@@ -1,13 +1,10 @@
-use Rattle.std.proofs.Common.{◌≡◌, ◌≢◌, ◌+◌, ◌-◌, ◌<◌, ◌≤◌, ◌∷◌, ℕ, Bool, true, false, List, length, drop, refl, sym, ap, subst, ◌∙◌, length-append, arith}
-use Rattle.std.specs.Prelude.{◌==◌, ◌||◌, nat_le, All}
+use Rattle.std.proofs.Common.{◌≡◌, ◌≢◌, ◌+◌, ◌-◌, ◌<◌, ◌≤◌, true, false, length, drop, refl, ap, ◌∙◌, length-append, arith}
+use Rattle.std.specs.Prelude.{◌==◌, ◌||◌, nat_le}
 use Rattle.std.specs.Fmt.{decimal}
 use Rattle.std.proofs.lemmas.Bool.Decides.{nat_tests}
-use Rattle.std.proofs.lemmas.List.{length-drop}
-use Rattle.bson.specs.Tree.{Pairs}
 use Rattle.bson.specs.Spelling.{element, frame_of, pairs_bytes}
 use Rattle.filter.specs.Projection.{project}
 use Rattle.engine.specs.Cursors.{item_size}
-use Rattle.engine.specs.Lawful.{IsWithin}
 use Rattle.engine.specs.View.{projected}
 use Rattle.engine.proofs.BatchLoop.{no_batch, projected_step, full, stops, goes_on, one_within}
 use Rattle.engine.proofs.batch.put_batch.Goals as goal

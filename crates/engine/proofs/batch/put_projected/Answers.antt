@@ -1,4 +1,4 @@
-use Rattle.std.proofs.Common.{◌≡◌, ◌++◌, ◌∙◌, List, ℕ, subst, sym}
+use Rattle.std.proofs.Common.{◌≡◌, ◌++◌, ◌∙◌, subst, sym}
 use Rattle.std.specs.Prelude.{OnOk}
 use Rattle.bson.specs.Tree.{Pairs}
 use Rattle.bson.specs.Lawful.{IsDocument}

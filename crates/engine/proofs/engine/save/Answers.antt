@@ -8,7 +8,7 @@ use Rattle.roots.specs.declared.store.Store.{Store}
 use Rattle.roots.specs.declared.free.ChainPages.{ChainPages}
 use Rattle.roots.specs.declared.store.CommitFault.{CommitFault}
 use Rattle.roots.specs.declared.store.CommitFault.TheVariants as faults
-use Rattle.roots.specs.Store.{disk_history, committed_entries, page_entries, is_stopped, version_of, limit_of, full_takes_of, HasFullCause}
+use Rattle.roots.specs.Store.{disk_history, committed_entries, page_entries, is_stopped, full_takes_of}
 use Rattle.engine.proofs.Saving.{only_full, done_or_full, map_ok, same_fault, not_both}
 use Rattle.engine.proofs.engine.save.Goals as goal
 

@@ -1,5 +1,5 @@
 use Rattle.std.proofs.Common.{◌≡◌, sym, ap, subst, ◌∙◌}
-use Rattle.std.specs.Prelude.{IfOk, length}
+use Rattle.std.specs.Prelude.{length}
 use Rattle.commands.specs.Find.{Query}
 use Rattle.engine.specs.Find.{Suffices, window, selection}
 use Rattle.commands.specs.View.{documents_at}

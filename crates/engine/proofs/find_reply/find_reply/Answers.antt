@@ -1,11 +1,10 @@
-use Rattle.std.proofs.Common.{◌≡◌, ◌+◌, ◌<◌, ◌≤◌, ◌++◌, ◌∷◌, [], ℕ, Bool, true, false, List, length, sym, ap, subst, ◌∙◌, arith}
+use Rattle.std.proofs.Common.{◌≡◌, ◌≤◌, ◌++◌, ◌∷◌, [], ℕ, Bool, true, false, List, length, sym, ap, subst, ◌∙◌, arith}
 use Rattle.std.specs.Prelude.{codes}
 use Rattle.bson.specs.Tree.{Pairs}
 use Rattle.bson.specs.Spelling.{Spells, element, tree_bytes, frame_of, pairs_bytes}
-use Rattle.bson.specs.Raw.{document_spelled}
 use Rattle.engine.specs.Refusals.{int}
 use Rattle.engine.specs.Cursors.{batch_of, IsWholeBatch}
-use Rattle.engine.specs.View.{projected, IsSendable}
+use Rattle.engine.specs.View.{projected}
 use Rattle.engine.proofs.CursorSpelling.{zeros, framed, int_short, content, reply, reply_bytes, reply_document, reply_sendable, reply_short, reply_spelled}
 use Rattle.engine.proofs.find_reply.find_reply.Goals as goal
 

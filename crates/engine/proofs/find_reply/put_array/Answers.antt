@@ -1,4 +1,4 @@
-use Rattle.std.proofs.Common.{◌+◌, length, ap, length-append, arith}
+use Rattle.std.proofs.Common.{length, ap, length-append, arith}
 use Rattle.std.specs.Prelude.{take}
 use Rattle.bson.specs.Spelling.{items_bytes}
 use Rattle.engine.specs.Cursors.{items_of_documents}

@@ -1,13 +1,10 @@
-use Rattle.std.proofs.Common.{◌≡◌, ◌+◌, ◌<◌, ◌≤◌, ◌++◌, ◌∷◌, [], List, length, take, sym, ap, subst, ◌∙◌, length-append, arith}
-use Rattle.std.specs.Prelude.{codes}
+use Rattle.std.proofs.Common.{◌≡◌, ◌≤◌, ◌++◌, List, length, ap, ◌∙◌, arith}
 use Rattle.std.proofs.lemmas.List.{take_all}
 use Rattle.bson.specs.Tree.{Pairs}
 use Rattle.bson.specs.Spelling.{items_bytes, frame_of}
-use Rattle.bson.specs.SizingLaws.{frame_of-length}
-use Rattle.engine.specs.Cursors.{items_of_documents, cursor_pairs, cursor_reply}
-use Rattle.engine.specs.Refusals.{ok_reply}
+use Rattle.engine.specs.Cursors.{items_of_documents}
 use Rattle.engine.specs.View.{projected}
-use Rattle.engine.proofs.CursorSpelling.{zeros, framed, cursor_bytes, long_short, content, cursor_short, projected_len}
+use Rattle.engine.proofs.CursorSpelling.{framed, cursor_bytes, long_short, content, cursor_short, projected_len}
 use Rattle.engine.proofs.find_reply.put_cursor.Goals as goal
 
 pub put-requires : goal.put-requires

@@ -1,4 +1,3 @@
-use Rattle.std.proofs.Common.{◌∙◌, sym}
 use Rattle.roots.proofs.OpenSteps.{one_state}
 use Rattle.engine.specs.Stored.{database_entries}
 use Rattle.engine.proofs.LoadingOnce.{one_list}

@@ -1,8 +1,7 @@
-use Rattle.std.proofs.Common.{◌≡◌, List, sym, ap, subst, ◌∙◌}
+use Rattle.std.proofs.Common.{◌≡◌, sym, ap, subst, ◌∙◌}
 use Rattle.std.specs.Prelude.{IsTrue}
 use Rattle.roots.specs.EntryView.{entries_of}
-use Rattle.roots.specs.Entries.{Entry, entries_bytes}
-use Rattle.engine.specs.World.{Collection}
+use Rattle.roots.specs.Entries.{entries_bytes}
 use Rattle.engine.specs.Stored.{database_entries}
 use Rattle.engine.proofs.LoadingAll.{loads_all}
 use Rattle.engine.proofs.Rising.{are_ascending}

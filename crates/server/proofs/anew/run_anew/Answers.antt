@@ -1,16 +1,12 @@
-use Rattle.std.proofs.Common.{◌≡◌, ℕ, List, [], sym, ap, subst, ◌∙◌}
-use Rattle.std.specs.Prelude.{replicate}
+use Rattle.std.proofs.Common.{◌≡◌, ℕ, List, [], ap, ◌∙◌}
 use Rattle.page.specs.History.{Sector, KeepsWord, HasTime, now, reads}
 use Rattle.page.specs.Memory.{memory_history}
-use Rattle.page.specs.Replay.{blank}
 use Rattle.page.proofs.Moments.{goes_further}
-use Rattle.engine.specs.World.{World, Collection, new_world}
+use Rattle.engine.specs.World.{Collection, new_world}
 use Rattle.engine.specs.Durable.{Holds}
 use Rattle.engine.proofs.EmptyImage.{zeros_hold_nothing}
 use Rattle.server.specs.ServerState.{ServerState}
-use Rattle.server.specs.View.{state}
 use Rattle.server.specs.Durable.{disk_history, collections_of}
-use Rattle.server.specs.Anew.{new_server}
 use Rattle.server.proofs.AnewLemmas.{one_collections}
 use Rattle.server.proofs.anew.run_anew.Goals as goal
 

@@ -1,4 +1,4 @@
-use Rattle.std.proofs.Common.{◌≡◌, get_or, [], Ok, Err, true, false, refl, sym, ap, ◌∙◌, rules}
+use Rattle.std.proofs.Common.{◌≡◌, get_or, [], Ok, Err, true, false, refl, sym, ap, ◌∙◌}
 use Rattle.std.specs.Prelude.{Option, Some, None, is_some, not}
 use Rattle.std.proofs.lemmas.List.{get_or_default}
 use Rattle.op_msg.specs.Frame.{front}
@@ -6,7 +6,7 @@ use Rattle.op_msg.specs.Request.{is_waiting}
 use Rattle.op_msg.specs.declared.fault.FrameFault.{FrameFault}
 use Rattle.server.specs.declared.connection.Connection.{Connection}
 use Rattle.server.specs.ServerState.{new_connection}
-use Rattle.server.specs.Turn.{is_waiting_in, front_of, front_if_open}
+use Rattle.server.specs.Turn.{is_waiting_in, front_if_open}
 use Rattle.server.proofs.Places.{placed}
 use Rattle.server.proofs.connection.waits.Goals as goal
 

@@ -6,7 +6,6 @@ use Rattle.roots.specs.declared.store.CommitFault.{CommitFault}
 use Rattle.engine.specs.View.{world, turn_start}
 use Rattle.engine.specs.World.{World, after_undo}
 use Rattle.page.specs.History.{History}
-use Rattle.bson.specs.Tree.{Pairs}
 use Rattle.op_msg.specs.Request.{respelled}
 use Rattle.engine.specs.Step.{ForMemory}
 use Rattle.server.specs.declared.connection.Connection.{Connection}

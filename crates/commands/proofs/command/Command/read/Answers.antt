@@ -1,8 +1,4 @@
 use Rattle.bson.specs.View.{tree, pairs_of}
-use Rattle.commands.specs.Insert.{read_insert}
-use Rattle.commands.specs.Find.{read_find}
-use Rattle.commands.specs.Update.{read_update_command}
-use Rattle.commands.specs.Aggregate.{read_aggregate}
 use Rattle.commands.specs.View.{insert_read, find_read, update_read, aggregate_read}
 use Rattle.commands.specs.CommandLaws.{insert_bounded, find_bounded, update_bounded, aggregate_bounded}
 use Rattle.commands.proofs.command.Command.read.Goals as goal

@@ -1,4 +1,4 @@
-use Rattle.std.proofs.Common.{◌≡◌, ◌+◌, drop, sym, ap, ◌∙◌, Result}
+use Rattle.std.proofs.Common.{◌+◌, drop, sym, ap, ◌∙◌, Result}
 use Rattle.outcome.specs.Outcome.{◌>>=◌}
 use Rattle.path.specs.declared.refusal.Refusal.{Refusal}
 use Rattle.engine.specs.Update.{Updated, run_statements}

@@ -1,9 +1,4 @@
-use Rattle.std.proofs.Common.{◌≡◌, Bool, Result, Ok, Err}
-use Rattle.outcome.specs.Outcome.{Fails}
-use Rattle.path.specs.declared.refusal.Refusal.{Refusal}
-use Rattle.engine.specs.Updating.{RunsMatching, RunsFound}
 use Rattle.engine.proofs.UpdatingLoop.{found_there, updated_missing}
-use Rattle.path.specs.declared.refusal.Refusal.TheVariants as refusals
 use Rattle.engine.proofs.collections.Collections.update_found.Goals as goal
 
 pub returns-in-Ok-clause-runs : goal.returns-in-Ok-clause-runs

@@ -1,5 +1,4 @@
-use Rattle.std.proofs.Common.{◌≡◌, ◌<◌, ◌-◌, ℕ, List, length, sym, ap, subst, ◌∙◌, refl, arith}
-use Rattle.engine.specs.World.{Collection}
+use Rattle.std.proofs.Common.{◌≡◌, ◌<◌, ◌-◌, length, sym, ap, subst, ◌∙◌, arith}
 use Rattle.engine.specs.Places.{collection_at}
 use Rattle.engine.specs.Progress.{Progress}
 use Rattle.engine.proofs.Rewinding.{at_place}

@@ -1,10 +1,9 @@
-use Rattle.std.proofs.Common.{◌≡◌, ◌<◌, ◌≤◌, ℕ, Option, Some, None, List, length, map, Result, Ok, refl, ap, ◌∙◌, subst, sym}
+use Rattle.std.proofs.Common.{◌≡◌, ◌<◌, ◌≤◌, ℕ, Option, Some, None, List, length, Result, Ok, refl, ap, ◌∙◌, subst, sym}
 use Rattle.std.specs.Prelude.{codes, All, IfSome, IfNone}
 use Rattle.std.proofs.lemmas.Result.{err_from_is_err_and}
 use Rattle.bson.specs.Tree.{Pairs}
 use Rattle.engine.specs.Cursors.{batch_of, cursor_reply}
-use Rattle.engine.specs.World.{World, documents_of}
-use Rattle.filter.specs.Projection.{Projection}
+use Rattle.engine.specs.World.{World}
 use Rattle.aggregate.specs.Pipeline.{run as after_pipeline}
 use Rattle.aggregate.specs.View.{pipeline_of}
 use Rattle.engine.specs.Lawful.{IsWithin}

@@ -1,4 +1,4 @@
-use Rattle.std.proofs.Common.{Option, Result, Ok, Err, sym, ap, subst, ◌∙◌, min, ◌^◌, ◌-◌}
+use Rattle.std.proofs.Common.{Result, Ok, sym, ap, subst, ◌∙◌, min, ◌^◌, ◌-◌}
 use Rattle.std.specs.Prelude.{IfSome, IfNone}
 use Rattle.bson.specs.Tree.{Pairs}
 use Rattle.engine.specs.World.{World}

@@ -1,4 +1,4 @@
-use Rattle.std.proofs.Common.{◌≡◌, [], ◌∷◌, ◌++◌, ◌+◌, sym, ap, subst, ◌∙◌, rules, refl}
+use Rattle.std.proofs.Common.{◌≡◌, ◌++◌, ◌+◌, sym, ap, subst, ◌∙◌, rules, refl}
 use Rattle.std.specs.Prelude.{Result, Err}
 use Rattle.server.specs.ServerState.{fed}
 use Rattle.server.specs.declared.turn.TurnOut.{TurnOut}
@@ -7,7 +7,7 @@ use Rattle.server.specs.declared.turn.TurnFault.TheVariants as turns
 use Rattle.server.specs.declared.drive.DriveFault.{DriveFault}
 use Rattle.server.specs.declared.drive.DriveFault.TheVariants as stops
 use Rattle.server.specs.Moment.{Instant}
-use Rattle.server.specs.OneStep.{Adds, Goes}
+use Rattle.server.specs.OneStep.{Goes}
 use Rattle.server.specs.declared.drive.DriveOut.{DriveOut}
 use Rattle.server.specs.View.{state, frames_in, out_of}
 use Rattle.server.specs.Durable.{instant_of}
