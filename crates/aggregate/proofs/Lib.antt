@@ -9,3 +9,4 @@ pub mod GroupLemmas
 pub mod PlaceLemmas
 pub mod LawLemmas
 pub mod SumLemmas
+pub mod TakingLemmas

@@ -1,5 +1,6 @@
--- Which documents a pipeline takes at all: a `$match` in front tells, before anything is made of a document.
-use Rattle.std.specs.Prelude.{◌≡◌, ℕ, Bool, true, None, List, [], ◌∷◌, Result, Ok}
+-- Which documents a pipeline takes at all: a `$match` in front tells, before anything is made of a document. And which of
+-- these are enough: where it keeps the first ones, of the documents as they come or in the order of a `$sort`.
+use Rattle.std.specs.Prelude.{◌≡◌, ◌≤◌, ℕ, Bool, true, None, List, [], ◌∷◌, length, take, Result, Ok}
 use Rattle.std.specs.List.{filter}
 use Rattle.bson.specs.Tree.{Pairs}
 use Rattle.filter.specs.Matches.{matches}
@@ -19,6 +20,30 @@ takes (s ∷ stages) d = takes_by s d
 abbrev pub OnlyTaken : Type 0
 OnlyTaken = (stages : List Stage) (limit : ℕ) (ds : List Pairs)
     → run stages limit (filter (takes stages) ds) ≡ run stages limit ds
+
+-- the stages behind a `$match` in front
+abbrev pub behind_if_match : Stage → List Stage → List Stage
+behind_if_match (match_stage rules) stages = stages
+behind_if_match other stages = other ∷ stages
+
+abbrev pub behind_match : List Stage → List Stage
+behind_match [] = []
+behind_match (s ∷ stages) = behind_if_match s stages
+
+-- Of documents within the limits, as many as there may be, the first ones up to this number are enough.
+abbrev pub Suffices : List Stage → ℕ → ℕ → Type 0
+Suffices stages count most = (limit : ℕ) (ds : List Pairs) → first_fault limit ds ≡ None
+    → length ds ≤ count → run stages limit (take most ds) ≡ run stages limit ds
+
+-- the same of those that the pipeline takes
+abbrev pub SufficesTaken : List Stage → ℕ → ℕ → Type 0
+SufficesTaken stages count most = (limit : ℕ) (ds : List Pairs) → first_fault limit ds ≡ None
+    → length ds ≤ count → run stages limit (take most (filter (takes stages) ds)) ≡ run stages limit ds
+
+-- These documents are enough of those that the pipeline takes.
+abbrev pub IsEnough : List Stage → List Pairs → List Pairs → Type 0
+IsEnough stages few taken = (limit most : ℕ) (ds : List Pairs) → first_fault limit ds ≡ None
+    → taken ≡ take most (filter (takes stages) ds) → run stages limit few ≡ run stages limit taken
 
 -- what a pipeline makes of documents within the limits is within them
 abbrev pub StaysWithin : Type 0

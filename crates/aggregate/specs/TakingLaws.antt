@@ -20,7 +20,7 @@ twice {X} p (x ∷ xs) = at (p x) refl (twice p xs)
     at true e later = rw e (ap (λ (ys : List X). x ∷ ys) later)
     at false e later = later
 
-all_pass : {X : Type 0} (xs : List X) → filter (λ _. true) xs ≡ xs
+pub all_pass : {X : Type 0} (xs : List X) → filter (λ _. true) xs ≡ xs
 all_pass [] = refl
 all_pass {X} (x ∷ xs) = ap (λ (ys : List X). x ∷ ys) (all_pass xs)
 

@@ -22,6 +22,7 @@ mod pipeline;
 mod projecting;
 mod stage;
 mod stages;
+mod taking;
 mod unwinding;
 mod windows;
 

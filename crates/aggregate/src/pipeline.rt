@@ -4,11 +4,9 @@ ghost use Rattle.std.specs.Prelude.{◌≡◌, map};
 ghost use Rattle.bson.specs.View.{tree};
 ghost use Rattle.outcome.specs.Outcome.{Gives};
 ghost use Rattle.aggregate.specs.Pipeline.{read_stage, read_pipeline, after_stage, run};
-ghost use Rattle.aggregate.specs.Taking.{takes};
 ghost use Rattle.aggregate.specs.View.{stage_of, pipeline_of};
 
 use crate::limits::first_fault;
-use crate::matching::matches;
 use crate::operands::only_pair_in;
 use crate::stage::Stage;
 use crate::stages::{apply_stage, read_operand, stage_named};
@@ -91,16 +89,5 @@ impl Pipeline {
             documents = after_stage(self.alloc, stage, documents, limit)?;
         }
         Ok(documents)
-    }
-
-    /// Whether it takes a document at all: where its first stage is a `$match`, whether that matches. It makes the same
-    /// of the documents that it takes as of all of them. It takes no memory.
-    pub fn takes(&self, document: &Document) -> bool
-        ensures { result ≡ takes (pipeline_of self.now) document.now }
-    {
-        match self.stages.first() {
-            Some(Stage::Match(filter)) => matches(filter, document),
-            _ => true,
-        }
     }
 }

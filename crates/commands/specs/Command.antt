@@ -12,6 +12,9 @@ use Rattle.commands.specs.Find.{Find, read_find}
 use Rattle.commands.specs.Count.{Count, read_count}
 use Rattle.commands.specs.Delete.{Delete, read_delete}
 use Rattle.commands.specs.Aggregate.{Aggregate, read_aggregate}
+use Rattle.commands.specs.Create.{Create, read_create}
+use Rattle.commands.specs.DropCollection.{DropCollection, read_drop}
+use Rattle.commands.specs.ListCollections.{ListCollections, read_list_collections}
 use Rattle.commands.specs.Update.{UpdateStatement, Update, read_update_command, IsRead}
 
 pub data Command : Type 0 where
@@ -22,6 +25,9 @@ pub data Command : Type 0 where
   delete : Delete → Command
   update : Update → Command
   aggregate : Aggregate → Command
+  create : Create → Command
+  drop : DropCollection → Command
+  list_collections : ListCollections → Command
 
 -- what was read, as a command
 abbrev pub as_command : {X : Type 0} → (X → Command) → Result X Refusal → Result Command Refusal
@@ -38,6 +44,10 @@ command_of (pair name t ps) =
     if bytes_eq name (codes "delete") then as_command delete (read_delete t ps) else
     if bytes_eq name (codes "update") then as_command update (read_update_command t ps) else
     if bytes_eq name (codes "aggregate") then as_command aggregate (read_aggregate t ps) else
+    if bytes_eq name (codes "create") then as_command create (read_create t ps) else
+    if bytes_eq name (codes "drop") then as_command drop (read_drop t ps) else
+    if bytes_eq name (codes "listCollections")
+    then as_command list_collections (read_list_collections t ps) else
     Err refusals.CommandNotFound
 
 -- What a command that was read keeps: a namespace of at most 255 bytes, and from 1 to 1,000 documents or statements.
@@ -52,3 +62,6 @@ IsBounded (update c) =
     (length c.namespace ≤ 255) × (length c.statements ≤ 1000)
     × All (λ (s : UpdateStatement). IsRead s.change) c.statements
 IsBounded (aggregate c) = length c.namespace ≤ 255
+IsBounded (create c) = Unit {0}
+IsBounded (drop c) = length c.namespace ≤ 255
+IsBounded (list_collections c) = length c.database ≤ 63

@@ -2,6 +2,7 @@
 use Rattle.std.proofs.Common.{◌≡◌, ℕ, ◌+◌, ◌≤◌, Bool, true, false, List, [], ◌∷◌, ◌++◌, length, Option, Some, None, Result, Ok, Err, refl, ap, subst, arith, length-append}
 use Rattle.std.specs.Prelude.{◌||◌, ◌&&◌, All, ◌==◌, nat_lt, if◌then◌else◌, codes, IfOk}
 use Rattle.std.specs.Str.{bytes_eq}
+use Rattle.std.specs.List.{list_any}
 use Rattle.std.proofs.lemmas.Bool.{ltb-false, eqb-false}
 use Rattle.std.proofs.lemmas.List.Elements.{All-cons}
 use Rattle.filter.specs.Condition.{Conditions}
@@ -15,9 +16,9 @@ use Rattle.path.specs.declared.refusal.Refusal.{Refusal}
 use Rattle.path.specs.declared.refusal.Refusal.TheVariants as refusals
 use Rattle.commands.specs.OutcomeLaws.{step_of, passed}
 use Rattle.commands.specs.Values.{text_in, bool_in, items_of, document_in, spelled_in}
-use Rattle.commands.specs.Fields.{CommonFields, read_fields, common_field}
+use Rattle.commands.specs.Fields.{CommonFields, read_fields, common_field, no_common}
 use Rattle.commands.specs.Statements.{statements_in, each_of}
-use Rattle.commands.specs.Names.{is_bad_database, is_bad_collection, is_too_long, namespace_of}
+use Rattle.commands.specs.Names.{is_bad_byte, is_bad_database, is_bad_collection, is_too_long, namespace_of}
 use Rattle.commands.specs.Ping.{read_ping}
 use Rattle.commands.specs.Insert.{Insert, InsertFields, no_insert_fields, documents_in, insert_field, read_insert}
 use Rattle.commands.specs.Find.{Find, no_find_fields, find_field, query_of, read_find}
@@ -25,11 +26,19 @@ use Rattle.commands.specs.Count.{read_count}
 use Rattle.commands.specs.Delete.{read_delete}
 use Rattle.commands.specs.Update.{UpdateStatement, UpdateStatementFields, no_statement_fields, statement_field, read_statement, Update, UpdateFields, no_update_fields, update_statements_in, update_field, read_update_command, IsRead}
 use Rattle.commands.specs.Aggregate.{Aggregate, no_aggregate_fields, aggregate_field, read_aggregate}
-use Rattle.commands.specs.Command.{Command, ping, insert, find, count, delete, update, aggregate, as_command, command_of, IsBounded}
+use Rattle.commands.specs.Alone.{read_alone}
+use Rattle.commands.specs.Create.{read_create}
+use Rattle.commands.specs.DropCollection.{DropCollection, read_drop}
+use Rattle.commands.specs.ListCollections.{ListCollections, read_list_collections}
+use Rattle.commands.specs.Command.{Command, ping, insert, find, count, delete, update, aggregate, create, drop, list_collections, as_command, command_of, IsBounded}
 
 later_false : (a b : Bool) → (a || b) ≡ false → b ≡ false
 later_false true b e = absurd cc
 later_false false b e = e
+
+first_false : (a b : Bool) → (a || b) ≡ false → a ≡ false
+first_false true b e = absurd cc
+first_false false b e = refl
 
 -- ---- namespaces
 
@@ -260,6 +269,26 @@ aggregate_bounded t ps c e =
     let same : made ≡ c = cc in
     subst (λ (x : Aggregate). length x.namespace ≤ 255) same (short b.0 n.0 m.0 m.1)
 
+pub drop_bounded : (t : Tree) (ps : Pairs) (c : DropCollection) → read_drop t ps ≡ Ok c → length c.namespace ≤ 255
+drop_bounded t ps c e =
+    let r = step_of (read_alone t ps) _ c e in
+    let n = step_of (text_in t) _ r.0 r.1 in
+    let s = step_of (read_fields common_field no_common ps) _ r.0 n.2 in
+    let b = step_of (or_refused s.0.database refusals.FailedToParse) _ r.0 s.2 in
+    let made : DropCollection = record { namespace = r.0 } in
+    let same : made ≡ c = cc in
+    subst (λ (x : DropCollection). length x.namespace ≤ 255) same (short b.0 n.0 r.0 b.2)
+
+pub list_collections_bounded : (t : Tree) (ps : Pairs) (c : ListCollections) → read_list_collections t ps ≡ Ok c → length c.database ≤ 63
+list_collections_bounded t ps c e =
+    let s = step_of (read_fields common_field no_common ps) _ c e in
+    let b = step_of (or_refused s.0.database refusals.FailedToParse) _ c s.2 in
+    let made : ListCollections = record { database = b.0 } in
+    let p = passed (is_bad_database b.0) refusals.InvalidNamespace (Ok made) c b.2 in
+    let same : made ≡ c = cc in
+    let few = ltb-false 63 (length b.0) (first_false (nat_lt 63 (length b.0)) (list_any is_bad_byte b.0) (later_false (length b.0 == 0) (nat_lt 63 (length b.0) || list_any is_bad_byte b.0) p.0)) in
+    subst (λ (x : ListCollections). length x.database ≤ 63) same few
+
 -- what was read is bounded, so the command is
 made_bounded : {X : Type 0} (make : X → Command) (read : Result X Refusal) (c : Command) → ((x : X) → read ≡ Ok x → IsBounded (make x)) → as_command make read ≡ Ok c → IsBounded c
 made_bounded {X} make read c keeps e =
@@ -268,21 +297,26 @@ made_bounded {X} make read c keeps e =
     let same : make s.0 ≡ c = cc in
     subst IsBounded same (keeps s.0 s.1)
 
+-- what is so of one reading and of another is so of the one that a name chooses
+chosen_bounded : (b : Bool) (one other : Result Command Refusal) (c : Command) → (one ≡ Ok c → IsBounded c) → (other ≡ Ok c → IsBounded c) → (if b then one else other) ≡ Ok c → IsBounded c
+chosen_bounded true one other c first second e = first e
+chosen_bounded false one other c first second e = second e
+
 pub bounded : (ps : Pairs) (c : Command) → command_of ps ≡ Ok c → IsBounded c
 unfolding command_of
 bounded no_pairs c e = absurd cc
-bounded (pair name t ps) c e = at (bytes_eq name (codes "ping")) (bytes_eq name (codes "insert")) (bytes_eq name (codes "find")) (bytes_eq name (codes "count")) (bytes_eq name (codes "delete")) (bytes_eq name (codes "update")) (bytes_eq name (codes "aggregate")) e
-  where
-    at : (is_ping is_insert is_find is_count is_delete is_update is_aggregate : Bool)
-        → (if is_ping then as_command (λ _. ping) (read_ping t ps) else (if is_insert then as_command insert (read_insert t ps) else (if is_find then as_command find (read_find t ps) else (if is_count then as_command count (read_count t ps) else (if is_delete then as_command delete (read_delete t ps) else (if is_update then as_command update (read_update_command t ps) else (if is_aggregate then as_command aggregate (read_aggregate t ps) else Err refusals.CommandNotFound))))))) ≡ Ok c → IsBounded c
-    at true is_insert is_find is_count is_delete is_update is_aggregate e = made_bounded (λ _. ping) (read_ping t ps) c (λ x h. tt) e
-    at false true is_find is_count is_delete is_update is_aggregate e = made_bounded insert (read_insert t ps) c (insert_bounded t ps) e
-    at false false true is_count is_delete is_update is_aggregate e = made_bounded find (read_find t ps) c (find_bounded t ps) e
-    at false false false true is_delete is_update is_aggregate e = made_bounded count (read_count t ps) c (λ x h. tt) e
-    at false false false false true is_update is_aggregate e = made_bounded delete (read_delete t ps) c (λ x h. tt) e
-    at false false false false false true is_aggregate e = made_bounded update (read_update_command t ps) c (update_bounded t ps) e
-    at false false false false false false true e = made_bounded aggregate (read_aggregate t ps) c (aggregate_bounded t ps) e
-    at false false false false false false false e = absurd cc
+bounded (pair name t ps) c e =
+    chosen_bounded (bytes_eq name (codes "ping")) _ _ c (made_bounded (λ _. ping) (read_ping t ps) c (λ x h. tt))
+    (chosen_bounded (bytes_eq name (codes "insert")) _ _ c (made_bounded insert (read_insert t ps) c (insert_bounded t ps))
+    (chosen_bounded (bytes_eq name (codes "find")) _ _ c (made_bounded find (read_find t ps) c (find_bounded t ps))
+    (chosen_bounded (bytes_eq name (codes "count")) _ _ c (made_bounded count (read_count t ps) c (λ x h. tt))
+    (chosen_bounded (bytes_eq name (codes "delete")) _ _ c (made_bounded delete (read_delete t ps) c (λ x h. tt))
+    (chosen_bounded (bytes_eq name (codes "update")) _ _ c (made_bounded update (read_update_command t ps) c (update_bounded t ps))
+    (chosen_bounded (bytes_eq name (codes "aggregate")) _ _ c (made_bounded aggregate (read_aggregate t ps) c (aggregate_bounded t ps))
+    (chosen_bounded (bytes_eq name (codes "create")) _ _ c (made_bounded create (read_create t ps) c (λ x h. tt))
+    (chosen_bounded (bytes_eq name (codes "drop")) _ _ c (made_bounded drop (read_drop t ps) c (drop_bounded t ps))
+    (chosen_bounded (bytes_eq name (codes "listCollections")) _ _ c (made_bounded list_collections (read_list_collections t ps) c (list_collections_bounded t ps))
+    (λ f. absurd cc)))))))))) e
 
 -- a reader that gives what was planned gives a bounded command
 pub gives-bounded : {X : Type 0} (view : X → Command) (planned : Result Command Refusal) (r : Result X Refusal) → Gives refusals.OutOfMemory view r planned → ((c : Command) → planned ≡ Ok c → IsBounded c) → IfOk r (λ x. IsBounded (view x))

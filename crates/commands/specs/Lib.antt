@@ -9,6 +9,10 @@ pub mod Count
 pub mod Delete
 pub mod Update
 pub mod Aggregate
+pub mod Alone
+pub mod Create
+pub mod DropCollection
+pub mod ListCollections
 pub mod Command
 pub mod View
 pub mod OutcomeLaws

@@ -9,6 +9,9 @@ use Rattle.commands.specs.Count as counts
 use Rattle.commands.specs.Delete as deletes
 use Rattle.commands.specs.Update as updates
 use Rattle.commands.specs.Aggregate as aggregates
+use Rattle.commands.specs.Create as creates
+use Rattle.commands.specs.DropCollection as drops
+use Rattle.commands.specs.ListCollections as lists
 use Rattle.aggregate.specs.View.{pipeline_of}
 use Rattle.commands.specs.declared.insert.Insert.{Insert}
 use Rattle.commands.specs.declared.find.Find.{Find}
@@ -16,6 +19,9 @@ use Rattle.commands.specs.declared.count.Count.{Count}
 use Rattle.commands.specs.declared.delete.Delete.{Delete}
 use Rattle.commands.specs.declared.updates.Update.{Update}
 use Rattle.commands.specs.declared.aggregation.Aggregate.{Aggregate}
+use Rattle.commands.specs.declared.create.Create.{Create}
+use Rattle.commands.specs.declared.drop_collection.DropCollection.{DropCollection}
+use Rattle.commands.specs.declared.list_collections.ListCollections.{ListCollections}
 use Rattle.commands.specs.declared.command.Command.{Command}
 use Rattle.commands.specs.declared.command.Command.TheVariants as cases
 
@@ -51,6 +57,15 @@ aggregate_read c = record {
   batch_size = c.batch_size;
 }
 
+abbrev pub create_read : Create → creates.Create
+create_read c = record { namespace = string_bytes c.namespace }
+
+abbrev pub drop_read : DropCollection → drops.DropCollection
+drop_read c = record { namespace = string_bytes c.namespace }
+
+abbrev pub list_collections_read : ListCollections → lists.ListCollections
+list_collections_read c = record { database = c.database.now }
+
 abbrev pub command_read : Command → commands.Command
 command_read cases.Ping = commands.ping
 command_read (cases.Insert c) = commands.insert (insert_read c)
@@ -59,3 +74,6 @@ command_read (cases.Count c) = commands.count (count_read c)
 command_read (cases.Delete c) = commands.delete (delete_read c)
 command_read (cases.Update c) = commands.update (update_read c)
 command_read (cases.Aggregate c) = commands.aggregate (aggregate_read c)
+command_read (cases.Create c) = commands.create (create_read c)
+command_read (cases.Drop c) = commands.drop (drop_read c)
+command_read (cases.ListCollections c) = commands.list_collections (list_collections_read c)

@@ -7,9 +7,12 @@ ghost use Rattle.commands.specs.View.{command_read};
 
 use crate::aggregation::{Aggregate, read_aggregate};
 use crate::count::{Count, read_count};
+use crate::create::{Create, read_create};
 use crate::delete::{Delete, read_delete};
+use crate::drop_collection::{DropCollection, read_drop};
 use crate::find::{Find, read_find};
 use crate::insert::{Insert, read_insert};
+use crate::list_collections::{ListCollections, read_list_collections};
 use crate::ping::read_ping;
 use crate::updates::{Update, read_update};
 use bson::Document;
@@ -26,6 +29,9 @@ pub enum Command<'a> {
     Delete(Delete),
     Update(Update),
     Aggregate(Aggregate),
+    Create(Create),
+    Drop(DropCollection),
+    ListCollections(ListCollections<'a>),
 }
 
 impl<'a> Command<'a> {
@@ -59,6 +65,13 @@ impl<'a> Command<'a> {
             Ok(Command::Update(read_update(alloc, value, rest)?))
         } else if name == "aggregate" {
             Ok(Command::Aggregate(read_aggregate(alloc, value, rest)?))
+        } else if name == "create" {
+            Ok(Command::Create(read_create(alloc, value, rest)?))
+        } else if name == "drop" {
+            Ok(Command::Drop(read_drop(alloc, value, rest)?))
+        } else if name == "listCollections" {
+            let read = read_list_collections(alloc, value, rest)?;
+            Ok(Command::ListCollections(read))
         } else {
             Err(Refusal::CommandNotFound)
         }

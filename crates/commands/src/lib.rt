@@ -2,12 +2,16 @@
 #![tactic(auto)]
 
 mod aggregation;
+mod alone;
 mod command;
 mod count;
+mod create;
 mod delete;
+mod drop_collection;
 mod fields;
 mod find;
 mod insert;
+mod list_collections;
 mod names;
 mod ping;
 mod statements;
@@ -17,8 +21,11 @@ mod values;
 pub use aggregation::Aggregate;
 pub use command::Command;
 pub use count::Count;
+pub use create::Create;
 pub use delete::{Delete, Deletion};
+pub use drop_collection::DropCollection;
 pub use find::{Find, Query};
 pub use insert::Insert;
+pub use list_collections::ListCollections;
 pub use names::NAMESPACE_LIMIT;
 pub use updates::{Update, UpdateStatement};

@@ -1,7 +1,7 @@
 //! Laws of the definitions and rows worked by hand, as contracts.
 
 ghost use Rattle.filter.specs.ProjectionLaws.{NoLarger, IncludesNamedFields};
-ghost use Rattle.filter.specs.SortLaws.{OrdersStably, SortsByFirstKey};
+ghost use Rattle.filter.specs.SortLaws.{OrdersStably, SortsFrontOnce, SortsByFirstKey};
 ghost use Rattle.filter.specs.Rows.{MatchRows, RefusalRows, SortRows, ProjectionRows};
 
 /// What filters hold of.
@@ -32,6 +32,11 @@ pub fn leaves_no_more()
 /// A sort leaves the same documents, none below an earlier one, and those that tie in the order given.
 pub fn orders_stably()
     ensures { OrdersStably }
+{}
+
+/// The front of documents in order is in order already: the same sort leaves it as it is.
+pub fn sorts_front_once()
+    ensures { SortsFrontOnce }
 {}
 
 /// A document's key at a field is one of the keys that it has there, and none of them precedes it.

@@ -1,0 +1,31 @@
+//! `drop`: a collection is taken away.
+
+ghost use Rattle.bson.specs.View.{tree, pairs_of};
+ghost use Rattle.outcome.specs.Outcome.{Gives};
+ghost use Rattle.commands.specs.DropCollection.{read_drop};
+ghost use Rattle.commands.specs.View.{drop_read};
+
+use crate::alone::read_alone;
+use bson::{Pair, Value};
+use path::Refusal;
+use std::alloc::Global;
+
+/// A collection to be taken away.
+#[derive(Drop)]
+pub struct DropCollection {
+    pub namespace: String,
+}
+
+/// Reads a `drop` from the value of its name, which is the collection's, and its further fields.
+pub(crate) fn read_drop(
+    alloc: Global,
+    collection: &Value,
+    pairs: &[Pair],
+) -> Result<DropCollection, Refusal>
+    ensures { Gives Refusal.OutOfMemory drop_read result
+        (read_drop (tree collection.now) (pairs_of pairs.now)) }
+{
+    Ok(DropCollection {
+        namespace: read_alone(alloc, collection, pairs)?,
+    })
+}
