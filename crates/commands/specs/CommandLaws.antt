@@ -286,7 +286,7 @@ list_collections_bounded t ps c e =
     let made : ListCollections = record { database = b.0 } in
     let p = passed (is_bad_database b.0) refusals.InvalidNamespace (Ok made) c b.2 in
     let same : made ≡ c = cc in
-    let few = ltb-false 63 (length b.0) (first_false (nat_lt 63 (length b.0)) (list_any is_bad_byte b.0) (later_false (length b.0 == 0) (nat_lt 63 (length b.0) || list_any is_bad_byte b.0) p.0)) in
+    let few = ltb-false 63 (length b.0) (later_false (length b.0 == 0) (nat_lt 63 (length b.0)) (first_false (length b.0 == 0 || nat_lt 63 (length b.0)) (list_any is_bad_byte b.0) p.0)) in
     subst (λ (x : ListCollections). length x.database ≤ 63) same few
 
 -- what was read is bounded, so the command is

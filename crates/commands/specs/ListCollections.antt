@@ -15,4 +15,4 @@ read_list_collections t ps = do
   found ← read_fields common_field no_common ps
   database ← or_refused found.database refusals.FailedToParse
   unless (is_bad_database database) refusals.InvalidNamespace
-  (Ok (record { database = database }))
+      (Ok (record { database = database }))

@@ -1,5 +1,5 @@
 -- Lists in rising order by a key: what a search answers, and what an insert and a removal keep.
-use Rattle.std.proofs.Common.{◌≡◌, ℕ, zero, suc, ◌+◌, ◌-◌, ◌<◌, ◌≤◌, inl, inr, Bool, false, true, List, [], ◌∷◌, length, get_or, set, insert, take, drop, Some, None, Result, Ok, Err, refl, sym, ap, subst, ◌∙◌, arith}
+use Rattle.std.proofs.Common.{◌≡◌, ℕ, zero, suc, ◌+◌, ◌-◌, ◌<◌, ◌≤◌, inl, inr, Bool, false, true, List, [], ◌∷◌, length, get_or, set, insert, remove, take, drop, Some, None, Result, Ok, Err, refl, sym, ap, subst, ◌∙◌, arith}
 use Rattle.std.specs.Prelude.{option_map, if◌then◌else◌}
 use Rattle.std.specs.Str.{bytes_eq}
 use Rattle.std.specs.Cmp.{IsTotalOrder}
@@ -19,7 +19,7 @@ use Rattle.std.proofs.lemmas.Map.Text.{is_eq-slice_cmp}
 use Rattle.bson.specs.Tree.{Tree, Pairs}
 use Rattle.value_order.specs.Order.{compare}
 use Rattle.value_order.specs.TotalLaws.{compare_total}
-use Rattle.engine.specs.World.{Collection, by_order, find_collection, put_collection}
+use Rattle.engine.specs.World.{Collection, by_order, find_collection, put_collection, without_collection}
 use Rattle.engine.specs.Documents.{key_of, place}
 use Rattle.engine.specs.Places.{IsGap, IsPlace, by_key, by_name, no_collection, IsNamedAt}
 
@@ -174,6 +174,18 @@ found_first c cs =
 
 abbrev ByName : List Collection → Type 0
 ByName cs = Rises (slice_cmp nat_cmp) (λ (c : Collection). c.name) cs
+
+-- a collection that stands at a place is taken away there
+pub without_there : (cs : List Collection) (i : ℕ) → ByName cs → i < length cs → without_collection (get_or cs i no_collection).name cs ≡ remove cs i
+without_there [] i up within = absurd (omega arith)
+without_there (c ∷ cs) zero up within =
+    let same : by_name c.name c ≡ orders.Equal = its_own_reverse (by_name c.name c) (nat_list_cmp_total.antisymm c.name c.name) in
+    ap (λ (b : Bool). if b then cs else c ∷ without_collection c.name cs) (named_so c.name c same)
+without_there (c ∷ cs) (suc i) up within =
+    let name = (get_or cs i no_collection).name in
+    let other : bytes_eq name c.name ≡ false = not_named name c (ap is_eq (up 0 (suc i) no_collection (omega arith) within)) in
+    ap (λ (b : Bool). if b then cs else c ∷ without_collection name cs) other
+    ∙ ap (λ (ds : List Collection). c ∷ ds) (without_there cs i (rises_tail (slice_cmp nat_cmp) (λ (x : Collection). x.name) c cs up) (omega (arith, within)))
 
 pub missing : (cs : List Collection) (i : ℕ) (name : List ℕ) → IsGap (by_name name) cs i → find_collection cs name ≡ None
 missing [] i name gap = refl

@@ -1,5 +1,5 @@
 -- Changes that lead back, one after another.
-use Rattle.std.proofs.Common.{◌≡◌, ℕ, zero, suc, ◌<◌, ◌≤◌, List, [], ◌∷◌, ◌++◌, length, get_or, set, insert, remove, refl, sym, ap, subst, ◌∙◌, append_assoc, arith, inl, inr, false, Option, Some, Ok, Err}
+use Rattle.std.proofs.Common.{◌≡◌, ℕ, zero, suc, ◌+◌, ◌<◌, ◌≤◌, List, [], ◌∷◌, ◌++◌, length, get_or, set, insert, remove, refl, sym, ap, subst, ◌∙◌, append_assoc, arith, inl, inr, false, Option, Some, Ok, Err}
 use Rattle.std.specs.Prelude.{nat_le}
 use Rattle.std.proofs.lemmas.Bool.Decides.{nat_tests}
 use Rattle.std.specs.Cmp.Lexicographic.{slice_cmp}
@@ -8,7 +8,8 @@ use Rattle.std.specs.declared.cmp.Ordering.TheVariants as orders
 use Rattle.std.proofs.lemmas.Bool.{cases_eq}
 use Rattle.std.proofs.lemmas.Grind.{get_or-set_at}
 use Rattle.std.proofs.lemmas.List.{append-nil, get_or_default, get_or-set_other, set-set, set-get_or, length-set}
-use Rattle.std.proofs.lemmas.List.Edits.{length-insert, get_or-insert_at}
+use Rattle.std.proofs.lemmas.List.Edits.{length-insert, length-remove, get_or-insert_at, get_or-remove_below, get_or-remove_above}
+use Rattle.std.proofs.lemmas.List.Quantifiers.{all_pairs_remove}
 use Rattle.std.proofs.lemmas.Cmp.{nat_list_cmp_total}
 use Rattle.bson.specs.Tree.{Tree, Pairs, no_pairs}
 use Rattle.engine.specs.World.{Collection, documents_or_none, number_or, unused, with_documents}
@@ -20,7 +21,7 @@ use Rattle.engine.specs.Progress.{Progress, IsProgress, without_document, with_d
 use Rattle.path.specs.declared.refusal.Refusal.{Refusal}
 use Rattle.engine.specs.declared.collections.UndoEntry.{UndoEntry}
 use Rattle.engine.specs.declared.collections.UndoEntry.TheVariants as entries
-use Rattle.engine.proofs.Ordered.{rises_insert}
+use Rattle.engine.proofs.Ordered.{flipped, rises_insert}
 
 pub rewind-append : (xs ys : List UndoEntry) (cs : List Collection) → rewind (xs ++ ys) cs ≡ rewind xs (rewind ys cs)
 rewind-append [] ys cs = refl
@@ -119,8 +120,13 @@ remove-insert (y ∷ ys) zero x h = refl
 remove-insert {X} (y ∷ ys) (suc i) x h = ap (λ (zs : List X). y ∷ zs) (remove-insert ys i x (omega arith))
 
 module _ (p : Progress) (now : List Collection) (x : UndoEntry) (apart : AreNamedApart now) (can : CanUndo x now) (back : undo x now ≡ p.now) where
-  pub IsProgress-push : CanRewind p.changes p.now → IsProgress (record { now = now; changes = p.changes ++ x ∷ [] })
-  IsProgress-push h = record { apart = apart; undoable = CanRewind-push p.changes x now can (subst (CanRewind p.changes) (sym back) h) }
+  pub IsProgress-push : (room : ℕ) → length now ≤ 1000 → 1000 ≤ room → CanRewind p.changes p.now → IsProgress (record { now = now; changes = p.changes ++ x ∷ [] }) room
+  IsProgress-push room few spare h = record {
+    apart = apart;
+    undoable = CanRewind-push p.changes x now can (subst (CanRewind p.changes) (sym back) h);
+    few = few;
+    spare = spare;
+  }
 
   pub Extends-push : Extends p (record { now = now; changes = p.changes ++ x ∷ [] })
   Extends-push = record { more = x ∷ []; noted = refl; back = back }
@@ -212,6 +218,44 @@ module _ (cs : List Collection) (at : ℕ) (c : Collection) (gap : IsGap (by_nam
 
   pub apart-made : AreNamedApart cs → AreNamedApart (insert cs at c)
   apart-made h = rises_insert nat_list_cmp_total (λ (x : Collection). x.name) cs at c h gap
+
+-- ---- a collection is dropped
+
+insert-remove : {X : Type 0} (xs : List X) (i : ℕ) (d : X) → i < length xs → insert (remove xs i) i (get_or xs i d) ≡ xs
+insert-remove [] i d h = absurd (omega arith)
+insert-remove (x ∷ xs) zero d h = refl
+insert-remove {X} (x ∷ xs) (suc i) d h = ap (λ (ys : List X). x ∷ ys) (insert-remove xs i d (omega arith))
+
+module _ (cs : List Collection) (at : ℕ) (within : at < length cs) (apart : AreNamedApart cs) where
+  abbrev gone : Collection
+  gone = collection_at cs at
+
+  before_gone : (k : ℕ) (d : Collection) → k < at → by_name gone.name (get_or (remove cs at) k d) ≡ orders.Less
+  before_gone k d below =
+      ap (by_name gone.name) (get_or-remove_below cs at d k below within)
+      ∙ ap (λ (c : Collection). slice_cmp nat_cmp (get_or cs k d).name c.name) (sym (get_or_default cs at d no_collection within)) ∙ apart k at d below within
+
+  after_gone : (k : ℕ) (d : Collection) → at ≤ k → k < length (remove cs at) → by_name gone.name (get_or (remove cs at) k d) ≡ orders.Greater
+  after_gone k d from below =
+      let up : slice_cmp nat_cmp gone.name (get_or cs (k + 1) d).name ≡ orders.Less =
+      ap (λ (c : Collection). slice_cmp nat_cmp c.name (get_or cs (k + 1) d).name) (sym (get_or_default cs at d no_collection within)) ∙ apart at (k + 1) d (omega (arith, from)) (omega (arith, below, length-remove cs at within)) in
+      ap (by_name gone.name) (get_or-remove_above cs at d k from within) ∙ flipped nat_list_cmp_total gone.name (get_or cs (k + 1) d).name orders.Less up
+
+  gap-dropped : IsGap (by_name gone.name) (remove cs at) at
+  gap-dropped = record {
+    within = omega (arith, length-remove cs at within);
+    before = λ k d from below. before_gone k d below;
+    after = after_gone;
+  }
+
+  pub undo-dropped : undo (entries.Dropped at gone) (remove cs at) ≡ cs
+  undo-dropped = insert-remove cs at no_collection within
+
+  pub CanUndo-dropped : length cs ≤ 1000 → CanUndo (entries.Dropped at gone) (remove cs at)
+  CanUndo-dropped few = (gap-dropped, omega (arith, few, length-remove cs at within))
+
+  pub apart-dropped : AreNamedApart (remove cs at)
+  apart-dropped = all_pairs_remove (λ (a b : Collection). slice_cmp nat_cmp a.name b.name ≡ orders.Less) cs at within apart
 
 -- ---- what a document makes of a collection
 

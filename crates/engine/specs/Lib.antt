@@ -8,6 +8,9 @@ pub mod Count
 pub mod Delete
 pub mod Update
 pub mod Aggregate
+pub mod Create
+pub mod DropCollection
+pub mod ListCollections
 pub mod Step
 pub mod Lawful
 pub mod Places

@@ -1,5 +1,5 @@
 -- The collections during a turn: as they stand, and what undoes each change of the turn.
-use Rattle.std.specs.Prelude.{◌≡◌, ◌≢◌, ◌⊎◌, ℕ, Bool, ◌<◌, ◌-◌, ◌&&◌, not, nat_le, true, false, List, [], ◌∷◌, ◌++◌, length, slice_set, remove, Result, Ok, is_some, refl}
+use Rattle.std.specs.Prelude.{◌≡◌, ◌≢◌, ◌⊎◌, ℕ, Bool, ◌<◌, ◌≤◌, ◌-◌, ◌&&◌, not, nat_le, true, false, List, [], ◌∷◌, ◌++◌, length, slice_set, insert, remove, Result, Ok, is_some, refl}
 use Rattle.std.proofs.Common.{inl, inr}
 use Rattle.std.specs.Coded.{Coded, code_by, coded×, coded⊎, coded_ℕ, coded_list}
 use Rattle.bson.specs.Tree.{Pairs}
@@ -10,7 +10,7 @@ use Rattle.engine.specs.Documents.{key_of, place, insert_one, insert_all}
 use Rattle.commands.specs.Delete.{Deletion}
 use Rattle.engine.specs.Delete.{after_deletions, deleted_in}
 use Rattle.engine.specs.Lawful.{IsHeld, AreNamedApart, collection_code}
-use Rattle.engine.specs.Places.{collection_at}
+use Rattle.engine.specs.Places.{IsGap, by_name, collection_at}
 use Rattle.path.specs.declared.refusal.Refusal.{Refusal}
 use Rattle.path.specs.declared.refusal.Refusal.TheVariants as refusals
 use Rattle.engine.specs.declared.collections.UndoEntry.{UndoEntry}
@@ -32,6 +32,7 @@ undo (entries.Replaced at before) cs =
     slice_set cs at (record (collection_at cs at) { documents = before })
 undo (entries.Changed at place before) cs =
     slice_set cs at (with_document_at place before (collection_at cs at))
+undo (entries.Dropped at before) cs = insert cs at before
 
 -- the collections as they were before these changes, of which the last is undone first
 abbrev pub rewind : List UndoEntry → List Collection → List Collection
@@ -48,6 +49,7 @@ CanUndo (entries.Replaced at before) cs =
 CanUndo (entries.Changed at place before) cs =
     (at < length cs) × (place < length (collection_at cs at).documents)
     × IsHeld (with_document_at place before (collection_at cs at))
+CanUndo (entries.Dropped at before) cs = IsGap (by_name before.name) cs at × (length cs < 1000)
 
 abbrev pub CanRewind : List UndoEntry → List Collection → Type 0
 CanRewind [] cs = Unit {0}
@@ -58,9 +60,12 @@ pub record Progress : Type 0 where
   pub now : List Collection
   pub changes : List UndoEntry
 
-pub record IsProgress (p : Progress) : Type 0 where
+-- The list of collections has room for as many as there may be, so that a dropped one is put back without memory.
+pub record IsProgress (p : Progress) (room : ℕ) : Type 0 where
   pub apart : AreNamedApart p.now
   pub undoable : CanRewind p.changes p.now
+  pub few : length p.now ≤ 1000
+  pub spare : 1000 ≤ room
 
 -- the collections as they were at the beginning of the turn
 abbrev pub turn_start_of : Progress → List Collection
@@ -138,30 +143,34 @@ pub record LeavesAll (name : List ℕ) (deletions : List Deletion)
 -- ---- a progress is told apart by its collections and its changes
 
 abbrev pub ChangeSum : Type 0
-ChangeSum = ℕ ⊎ ((ℕ × ℕ) ⊎ ((ℕ × List Pairs) ⊎ ((ℕ × ℕ) × Pairs)))
+ChangeSum = ℕ ⊎ ((ℕ × ℕ) ⊎ ((ℕ × List Pairs) ⊎ (((ℕ × ℕ) × Pairs) ⊎ (ℕ × Collection))))
 
 abbrev pub change_sum : UndoEntry → ChangeSum
 change_sum (entries.Made at) = inl at
 change_sum (entries.Stored at place) = inr (inl (at, place))
 change_sum (entries.Replaced at before) = inr (inr (inl (at, before)))
-change_sum (entries.Changed at place before) = inr (inr (inr ((at, place), before)))
+change_sum (entries.Changed at place before) = inr (inr (inr (inl ((at, place), before))))
+change_sum (entries.Dropped at before) = inr (inr (inr (inr (at, before))))
 
 abbrev pub sum_change : ChangeSum → UndoEntry
 sum_change (inl at) = entries.Made at
 sum_change (inr (inl x)) = entries.Stored x.0 x.1
 sum_change (inr (inr (inl x))) = entries.Replaced x.0 x.1
-sum_change (inr (inr (inr x))) = entries.Changed x.0.0 x.0.1 x.1
+sum_change (inr (inr (inr (inl x)))) = entries.Changed x.0.0 x.0.1 x.1
+sum_change (inr (inr (inr (inr x)))) = entries.Dropped x.0 x.1
 
 pub sum_change-change_sum : (change : UndoEntry) → sum_change (change_sum change) ≡ change
 sum_change-change_sum (entries.Made at) = refl
 sum_change-change_sum (entries.Stored at place) = refl
 sum_change-change_sum (entries.Replaced at before) = refl
 sum_change-change_sum (entries.Changed at place before) = refl
+sum_change-change_sum (entries.Dropped at before) = refl
 
 abbrev pub change_code : Coded UndoEntry
 change_code = code_by ChangeSum
     (coded⊎ coded_ℕ (coded⊎ (coded× coded_ℕ coded_ℕ) (coded⊎
-    (coded× coded_ℕ (coded_list coded_pairs)) (coded× (coded× coded_ℕ coded_ℕ) coded_pairs))))
+    (coded× coded_ℕ (coded_list coded_pairs)) (coded⊎
+    (coded× (coded× coded_ℕ coded_ℕ) coded_pairs) (coded× coded_ℕ collection_code)))))
     change_sum sum_change sum_change-change_sum
 
 abbrev pub progress_code : Coded Progress

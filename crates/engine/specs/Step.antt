@@ -5,7 +5,7 @@ use Rattle.bson.specs.declared.fault.BsonFault.{BsonFault}
 use Rattle.outcome.specs.Outcome.{◌>>=◌}
 use Rattle.path.specs.declared.refusal.Refusal.{Refusal}
 use Rattle.path.specs.declared.refusal.Refusal.TheVariants as refusals
-use Rattle.commands.specs.Command.{Command, ping, insert, find, count, delete, update, aggregate, command_of}
+use Rattle.commands.specs.Command.{Command, ping, insert, find, count, delete, update, aggregate, create, drop, list_collections, command_of}
 use Rattle.engine.specs.World.{World}
 use Rattle.engine.specs.Refusals.{refusal_reply, ok_reply}
 use Rattle.engine.specs.Insert.{run_insert}
@@ -13,6 +13,9 @@ use Rattle.engine.specs.Find.{run_find}
 use Rattle.engine.specs.Count.{run_count}
 use Rattle.engine.specs.Delete.{run_delete}
 use Rattle.engine.specs.Aggregate.{run_aggregate}
+use Rattle.engine.specs.Create.{run_create}
+use Rattle.engine.specs.DropCollection.{run_drop}
+use Rattle.engine.specs.ListCollections.{run_list_collections}
 use Rattle.engine.specs.Update.{Updated, not_updated, run_statements, run_update}
 
 -- the table of what commands do
@@ -24,6 +27,9 @@ run world connection (count c) = run_count world c
 run world connection (delete c) = run_delete world c
 run world connection (update c) = run_update world c
 run world connection (aggregate c) = run_aggregate world connection c
+run world connection (create c) = run_create world c
+run world connection (drop c) = run_drop world c
+run world connection (list_collections c) = run_list_collections world c
 
 -- a refusal leaves the world as it was
 abbrev pub answered : World → Result (World × Pairs) Refusal → World × Pairs

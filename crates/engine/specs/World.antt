@@ -81,6 +81,12 @@ put_collection new (c ∷ cs) =
     by_order (slice_cmp nat_cmp new.name c.name)
     (new ∷ c ∷ cs) (new ∷ cs) (c ∷ put_collection new cs)
 
+-- the collections without the one of this name
+abbrev pub without_collection : List ℕ → List Collection → List Collection
+without_collection name [] = []
+without_collection name (c ∷ cs) =
+    if bytes_eq name c.name then cs else c ∷ without_collection name cs
+
 -- the cursors of a connection
 abbrev pub count_of : ℕ → List Cursor → ℕ
 count_of connection [] = 0

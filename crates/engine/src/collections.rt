@@ -3,16 +3,18 @@
 //! Room for what undoes a change is made before the change. So a growth that is refused leaves all as
 //! it was, and undoing takes no memory.
 
-ghost use Rattle.std.specs.Prelude.{◌≡◌, ◌≢◌, ◌<◌, ◌≤◌, ◌+◌, true, false, [], length, slice_set, All, OnOk, OnErr, IfOk, IfErr, IfSome, IfNone, None};
+ghost use Rattle.std.specs.Prelude.{◌≡◌, ◌≢◌, ◌<◌, ◌≤◌, ◌+◌, true, false, [], length, slice_set, All, OnOk, OnErr, IfOk, IfErr, IfSome, IfNone, None, vec_capacity};
 ghost use Rattle.engine.specs.World.{documents_of, find_collection, uses, unused};
 ghost use Rattle.engine.specs.Loading.{place_numbered, IsAdded};
 ghost use Rattle.engine.specs.Lawful.{IsStored, IsHeld};
 ghost use Rattle.engine.specs.Stored.{documents_numbered};
-ghost use Rattle.engine.specs.Places.{IsNamedAt, collection_at};
+ghost use Rattle.engine.specs.Places.{IsMissing, IsNamedAt, collection_at};
 ghost use Rattle.outcome.specs.Outcome.{Does};
 ghost use Rattle.commands.specs.View.{documents_at};
 ghost use Rattle.bson.specs.Lawful.{IsDocument};
 ghost use Rattle.engine.specs.Progress.{turn_start_of, is_changed, Extends, Stands, IsFull, placed_in, with_document_at, with_document, inserted, Leaves, LeavesAll};
+ghost use Rattle.engine.specs.Create.{created};
+ghost use Rattle.engine.specs.DropCollection.{dropped};
 
 use crate::MOST_COLLECTIONS;
 use crate::collection::Collection;
@@ -67,6 +69,11 @@ enum UndoEntry {
         place: usize,
         before: SharedDocument,
     },
+    /// The collection at this place was dropped.
+    Dropped {
+        at: usize,
+        before: Collection,
+    },
 }
 
 /// What a delete leaves the collection at a place.
@@ -78,7 +85,8 @@ pub(crate) struct Rest {
     pub(crate) gone: usize,
 }
 
-/// The collections in rising order of their namespaces, and the changes of the running turn.
+/// The collections in rising order of their namespaces, and the changes of the running turn. The list has room for as many
+/// as there may be from the start, so that a dropped one is put back without memory.
 #[derive(Drop)]
 pub(crate) struct Collections {
     list: Vec<Collection>,
@@ -94,18 +102,20 @@ impl Model for Collections {
 
     ghost view = { λ a. record { now = a.list.items; changes = a.changes.items } };
 
+    ghost use Rattle.std.specs.Prelude.{vec_capacity};
+
     ghost invariant = { λ a. IsProgress
-        (record { now = a.list.items; changes = a.changes.items }) };
+        (record { now = a.list.items; changes = a.changes.items }) (vec_capacity a.list) };
 }
 
 impl Collections {
-    pub(crate) fn new(alloc: Global) -> Collections
-        ensures { result ≡ record { now = []; changes = [] } }
+    pub(crate) fn new(alloc: Global) -> Result<Collections, NoMemory>
+        ensures { IfOk result (λ collections. collections ≡ record { now = []; changes = [] }) }
     {
-        Collections {
-            list: Vec::new(alloc),
+        Ok(Collections {
+            list: Vec::with_capacity(alloc, MOST_COLLECTIONS)?,
             changes: Vec::new(alloc),
-        }
+        })
     }
 
     /// The collections, in rising order of their namespaces.
@@ -174,6 +184,25 @@ impl Collections {
         number
     }
 
+    /// Makes the missing collection of a namespace at its place; `TooMany` where it would be one too many.
+    fn make_at(&mut self, at: usize, namespace: &str) -> Result<(), Refusal>
+        requires { IsMissing namespace.now self.old.now at }
+        ensures extends { Extends self.old self.new }
+        ensures ok { OnOk result (Stands namespace.now self.old.now self.new.now at) }
+        ensures err { IfErr result (λ e. IsFull self.old.now namespace.now e) }
+        ensures same { OnErr result (self.new ≡ self.old) }
+    {
+        if MOST_COLLECTIONS <= self.list.len() {
+            return Err(Refusal::TooMany);
+        }
+        let number = self.unused();
+        let collection = Collection::new(*self.list.allocator(), namespace, number)?;
+        self.changes.reserve(1)?;
+        self.list.insert(at, collection)?;
+        self.changes.push(UndoEntry::Made { at }).unwrap();
+        Ok(())
+    }
+
     /// Where the collection of a namespace stands, which is made where it is missing; `TooMany` where it
     /// would be one too many.
     pub(crate) fn find_or_make(&mut self, namespace: &str) -> Result<usize, Refusal>
@@ -184,17 +213,42 @@ impl Collections {
         match self.place_of(namespace) {
             Ok(at) => Ok(at),
             Err(at) => {
-                if MOST_COLLECTIONS <= self.list.len() {
-                    return Err(Refusal::TooMany);
-                }
-                let number = self.unused();
-                let collection = Collection::new(*self.list.allocator(), namespace, number)?;
-                self.changes.reserve(1)?;
-                self.list.insert(at, collection)?;
-                self.changes.push(UndoEntry::Made { at }).unwrap();
+                self.make_at(at, namespace)?;
                 Ok(at)
             }
         }
+    }
+
+    /// Makes an empty collection; `NamespaceExists` where there is one of its name, `TooMany` where it would be one too
+    /// many.
+    pub(crate) fn create(&mut self, namespace: &str) -> Result<(), Refusal>
+        ensures does { Does Refusal.OutOfMemory result self.new.now
+            (created self.old.now namespace.now) }
+        ensures turn_start { turn_start_of self.new ≡ turn_start_of self.old }
+        ensures err { OnErr result (self.new ≡ self.old) }
+    {
+        match self.place_of(namespace) {
+            Ok(_) => Err(Refusal::NamespaceExists),
+            Err(at) => self.make_at(at, namespace),
+        }
+    }
+
+    /// Takes a collection away; `NamespaceNotFound` where there is none of its name.
+    pub(crate) fn drop_collection(&mut self, namespace: &str) -> Result<(), Refusal>
+        ensures does { Does Refusal.OutOfMemory result self.new.now
+            (dropped self.old.now namespace.now) }
+        ensures turn_start { turn_start_of self.new ≡ turn_start_of self.old }
+        ensures err { OnErr result (self.new ≡ self.old) }
+    {
+        let Ok(at) = self.place_of(namespace) else {
+            return Err(Refusal::NamespaceNotFound);
+        };
+        self.changes.reserve(1)?;
+        let before = self.list.remove(at);
+        self.changes
+            .push(UndoEntry::Dropped { at, before })
+            .unwrap();
+        Ok(())
     }
 
     /// Where the collection of a number stands.
@@ -340,6 +394,7 @@ impl Collections {
                 let collection = &mut self.list[at];
                 let _document = collection.put_at(place, before);
             }
+            Some(UndoEntry::Dropped { at, before }) => self.list.insert(at, before).unwrap(),
             None => unreachable!(),
         }
     }

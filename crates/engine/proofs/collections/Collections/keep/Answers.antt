@@ -1,4 +1,6 @@
-use Rattle.std.proofs.Common.{rules, ◌≡◌, ◌<◌, ℕ, List, ◌∷◌, [], ◌++◌, length, sym, ap, subst, ◌∙◌, set}
+use Rattle.std.proofs.Common.{rules, ◌≡◌, ◌<◌, ℕ, List, ◌∷◌, [], ◌++◌, length, sym, ap, subst, ◌∙◌, set, arith}
+use Rattle.std.specs.Prelude.{vec_capacity}
+use Rattle.std.proofs.lemmas.List.{length-set}
 use Rattle.bson.specs.Tree.{Pairs}
 use Rattle.engine.specs.World.{Collection}
 use Rattle.engine.specs.Lawful.{IsHeld}
@@ -55,8 +57,8 @@ module _ (c : After-unwrap) where
 
 pub invariant_of-self-2 : goal.invariant_of-self-2
 invariant_of-self-2 c =
-    subst IsProgress (same c) (IsProgress-push (old c) (set (cs c) (at c) (next c)) (change c) (apart-deleted (cs c) (at c) (left c) (within c) c.self.invariant.apart)
-    (CanUndo-deleted (cs c) (at c) (left c) (within c) (held c)) (undo-deleted (cs c) (at c) (left c) (within c)) c.self.invariant.undoable)
+    subst (λ (p : Progress). IsProgress p (vec_capacity c.self.inside.list)) (same c) (IsProgress-push (old c) (set (cs c) (at c) (next c)) (change c) (apart-deleted (cs c) (at c) (left c) (within c) c.self.invariant.apart)
+    (CanUndo-deleted (cs c) (at c) (left c) (within c) (held c)) (undo-deleted (cs c) (at c) (left c) (within c)) (vec_capacity c.self.inside.list) (omega (arith, c.self.invariant.few, length-set (cs c) (at c) (next c))) c.self.invariant.spare c.self.invariant.undoable)
 
 pub returns-clause-turn_start : goal.returns-clause-turn_start
 returns-clause-turn_start c =

@@ -1,4 +1,6 @@
-use Rattle.std.proofs.Common.{rules, ◌≡◌, ◌<◌, ◌≤◌, List, ◌∷◌, [], ◌++◌, length, sym, ap, subst, ◌∙◌, insert, set}
+use Rattle.std.proofs.Common.{rules, ◌≡◌, ◌<◌, ◌≤◌, List, ◌∷◌, [], ◌++◌, length, sym, ap, subst, ◌∙◌, insert, set, arith}
+use Rattle.std.specs.Prelude.{vec_capacity}
+use Rattle.std.proofs.lemmas.List.{length-set}
 use Rattle.bson.specs.Tree.{Pairs}
 use Rattle.engine.specs.World.{Collection}
 use Rattle.engine.specs.Places.{collection_at}
@@ -44,8 +46,8 @@ invariant_of-self-in-Err c =
     let made = IsProgress-push (record { now = cs c; changes = c.self.inside.changes.items }) (set (cs c) c.args.at (next c)) (entries.Stored c.args.at c.in-Err.place)
     (apart-stored (cs c) c.args.at c.in-Err.place c.args.document (within c) (gap c) c.self.invariant.apart)
     (CanUndo-stored (cs c) c.args.at c.in-Err.place c.args.document (within c) (gap c))
-    (undo-stored (cs c) c.args.at c.in-Err.place c.args.document (within c) (gap c)) c.self.invariant.undoable in
-    subst IsProgress (same c) made
+    (undo-stored (cs c) c.args.at c.in-Err.place c.args.document (within c) (gap c)) (vec_capacity c.self.inside.list) (omega (arith, c.self.invariant.few, length-set (cs c) c.args.at (next c))) c.self.invariant.spare c.self.invariant.undoable in
+    subst (λ (p : Progress). IsProgress p (vec_capacity c.self.inside.list)) (same c) made
 
 pub returns-in_ok-insert-in-Err-clause-extends : goal.returns-in_ok-insert-in-Err-clause-extends
 returns-in_ok-insert-in-Err-clause-extends c =

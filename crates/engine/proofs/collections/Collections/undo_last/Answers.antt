@@ -1,4 +1,7 @@
 use Rattle.std.proofs.Common.{◌≡◌, ◌<◌, List, ◌∷◌, [], ◌++◌, length, sym, ap, subst, ◌∙◌, arith, set, refl}
+use Rattle.std.specs.Prelude.{vec_capacity}
+use Rattle.std.proofs.lemmas.List.{length-set}
+use Rattle.std.proofs.lemmas.List.Edits.{length-insert, length-remove}
 use Rattle.std.specs.Cmp.Lexicographic.{slice_cmp}
 use Rattle.std.specs.Ordering.{nat_cmp}
 use Rattle.std.specs.declared.cmp.Ordering.TheVariants as orders
@@ -26,6 +29,8 @@ invariant_of-self c =
     rw c.remove-collection.ensures.items (record {
       apart = all_pairs_remove (λ (a b : Collection). slice_cmp nat_cmp a.name b.name ≡ orders.Less) c.self.inside.list.items c.in-Some-Made.at h.0 c.self.invariant.apart;
       undoable = h.1;
+      few = omega (arith, c.self.invariant.few, length-remove c.self.inside.list.items c.in-Some-Made.at h.0);
+      spare = c.self.invariant.spare;
     })
 
 pub index_mut-collection-requires : goal.index_mut-collection-requires
@@ -49,9 +54,11 @@ invariant_of-self-in-Some-Stored c =
     let at = c.in-Some-Stored.at in
     let is = at_place cs at c.index_mut-collection.result.now h.0.0 c.index_mut-collection.ensures.value in
     let new : c.remove.new.self ≡ without_document (collection_at cs at) c.in-Some-Stored.place = c.remove.ensures ∙ ap (λ (x : Collection). without_document x c.in-Some-Stored.place) is in
-    subst (λ (x : Collection). IsProgress (record { now = set cs at x; changes = c.pop.new.self.items })) (sym new) (record {
+    subst (λ (x : Collection). IsProgress (record { now = set cs at x; changes = c.pop.new.self.items }) (vec_capacity c.self.inside.list)) (sym new) (record {
       apart = apart_set cs at (without_document (collection_at cs at) c.in-Some-Stored.place) h.0.0 refl c.self.invariant.apart;
       undoable = h.1;
+      few = omega (arith, c.self.invariant.few, length-set cs at (without_document (collection_at cs at) c.in-Some-Stored.place));
+      spare = c.self.invariant.spare;
     })
 
 pub index_mut-collection-requires-in-Some-Replaced : goal.index_mut-collection-requires-in-Some-Replaced
@@ -81,9 +88,11 @@ invariant_of-self-in-Some-Replaced c =
     let new : c.replace-documents.new.self ≡ back =
     c.replace-documents.ensures.new ∙ ap (λ (x : Collection). record x { documents = c.before-in-Some-Replaced.inside.documents.items }) is
     ∙ ap (λ (ds : List Pairs). record (collection_at cs at) { documents = ds }) c.before-in-Some-Replaced.view_is in
-    subst (λ (x : Collection). IsProgress (record { now = set cs at x; changes = c.pop.new.self.items })) (sym new) (record {
+    subst (λ (x : Collection). IsProgress (record { now = set cs at x; changes = c.pop.new.self.items }) (vec_capacity c.self.inside.list)) (sym new) (record {
       apart = apart_set cs at back h.0.0 refl c.self.invariant.apart;
       undoable = h.1;
+      few = omega (arith, c.self.invariant.few, length-set cs at back);
+      spare = c.self.invariant.spare;
     })
 
 pub index_mut-collection-requires-in-Some-Changed : goal.index_mut-collection-requires-in-Some-Changed
@@ -118,7 +127,9 @@ invariant_of-self-in-Some-Changed c =
     let is = at_place cs e.at c.index_mut-collection-in-Some-Changed.result.now h.0.0 c.index_mut-collection-in-Some-Changed.ensures.value in
     let back : Collection = with_document_at e.place e.before (collection_at cs e.at) in
     let new : c.put_at-document.new.self ≡ back = c.put_at-document.ensures.new ∙ ap (λ (x : Collection). with_document_at e.place e.before x) is in
-    subst (λ (x : Collection). IsProgress (record { now = set cs e.at x; changes = c.pop.new.self.items })) (sym new) (record {
+    subst (λ (x : Collection). IsProgress (record { now = set cs e.at x; changes = c.pop.new.self.items }) (vec_capacity c.self.inside.list)) (sym new) (record {
       apart = apart_set cs e.at back h.0.0 refl c.self.invariant.apart;
       undoable = h.1;
+      few = omega (arith, c.self.invariant.few, length-set cs e.at back);
+      spare = c.self.invariant.spare;
     })
