@@ -62,6 +62,6 @@ IsBounded (update c) =
     (length c.namespace ≤ 255) × (length c.statements ≤ 1000)
     × All (λ (s : UpdateStatement). IsRead s.change) c.statements
 IsBounded (aggregate c) = length c.namespace ≤ 255
-IsBounded (create c) = Unit {0}
+IsBounded (create c) = length c.namespace ≤ 255
 IsBounded (drop c) = length c.namespace ≤ 255
 IsBounded (list_collections c) = length c.database ≤ 63

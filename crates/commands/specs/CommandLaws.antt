@@ -27,7 +27,7 @@ use Rattle.commands.specs.Delete.{read_delete}
 use Rattle.commands.specs.Update.{UpdateStatement, UpdateStatementFields, no_statement_fields, statement_field, read_statement, Update, UpdateFields, no_update_fields, update_statements_in, update_field, read_update_command, IsRead}
 use Rattle.commands.specs.Aggregate.{Aggregate, no_aggregate_fields, aggregate_field, read_aggregate}
 use Rattle.commands.specs.Alone.{read_alone}
-use Rattle.commands.specs.Create.{read_create}
+use Rattle.commands.specs.Create.{Create, read_create}
 use Rattle.commands.specs.DropCollection.{DropCollection, read_drop}
 use Rattle.commands.specs.ListCollections.{ListCollections, read_list_collections}
 use Rattle.commands.specs.Command.{Command, ping, insert, find, count, delete, update, aggregate, create, drop, list_collections, as_command, command_of, IsBounded}
@@ -269,15 +269,26 @@ aggregate_bounded t ps c e =
     let same : made ≡ c = cc in
     subst (λ (x : Aggregate). length x.namespace ≤ 255) same (short b.0 n.0 m.0 m.1)
 
+alone_bounded : (t : Tree) (ps : Pairs) (namespace : List ℕ) → read_alone t ps ≡ Ok namespace → length namespace ≤ 255
+alone_bounded t ps namespace e =
+    let n = step_of (text_in t) _ namespace e in
+    let s = step_of (read_fields common_field no_common ps) _ namespace n.2 in
+    let b = step_of (or_refused s.0.database refusals.FailedToParse) _ namespace s.2 in
+    short b.0 n.0 namespace b.2
+
+pub create_bounded : (t : Tree) (ps : Pairs) (c : Create) → read_create t ps ≡ Ok c → length c.namespace ≤ 255
+create_bounded t ps c e =
+    let r = step_of (read_alone t ps) _ c e in
+    let made : Create = record { namespace = r.0 } in
+    let same : made ≡ c = cc in
+    subst (λ (x : Create). length x.namespace ≤ 255) same (alone_bounded t ps r.0 r.1)
+
 pub drop_bounded : (t : Tree) (ps : Pairs) (c : DropCollection) → read_drop t ps ≡ Ok c → length c.namespace ≤ 255
 drop_bounded t ps c e =
     let r = step_of (read_alone t ps) _ c e in
-    let n = step_of (text_in t) _ r.0 r.1 in
-    let s = step_of (read_fields common_field no_common ps) _ r.0 n.2 in
-    let b = step_of (or_refused s.0.database refusals.FailedToParse) _ r.0 s.2 in
     let made : DropCollection = record { namespace = r.0 } in
     let same : made ≡ c = cc in
-    subst (λ (x : DropCollection). length x.namespace ≤ 255) same (short b.0 n.0 r.0 b.2)
+    subst (λ (x : DropCollection). length x.namespace ≤ 255) same (alone_bounded t ps r.0 r.1)
 
 pub list_collections_bounded : (t : Tree) (ps : Pairs) (c : ListCollections) → read_list_collections t ps ≡ Ok c → length c.database ≤ 63
 list_collections_bounded t ps c e =
@@ -313,7 +324,7 @@ bounded (pair name t ps) c e =
     (chosen_bounded (bytes_eq name (codes "delete")) _ _ c (made_bounded delete (read_delete t ps) c (λ x h. tt))
     (chosen_bounded (bytes_eq name (codes "update")) _ _ c (made_bounded update (read_update_command t ps) c (update_bounded t ps))
     (chosen_bounded (bytes_eq name (codes "aggregate")) _ _ c (made_bounded aggregate (read_aggregate t ps) c (aggregate_bounded t ps))
-    (chosen_bounded (bytes_eq name (codes "create")) _ _ c (made_bounded create (read_create t ps) c (λ x h. tt))
+    (chosen_bounded (bytes_eq name (codes "create")) _ _ c (made_bounded create (read_create t ps) c (create_bounded t ps))
     (chosen_bounded (bytes_eq name (codes "drop")) _ _ c (made_bounded drop (read_drop t ps) c (drop_bounded t ps))
     (chosen_bounded (bytes_eq name (codes "listCollections")) _ _ c (made_bounded list_collections (read_list_collections t ps) c (list_collections_bounded t ps))
     (λ f. absurd cc)))))))))) e

@@ -49,7 +49,7 @@ all_more ds (ps ∷ rest) next e =
 -- ---- in its collection
 
 -- a collection that was put is found
-put_found : (new : Collection) (cs : List Collection) → find_collection (put_collection new cs) new.name ≡ Some new
+pub put_found : (new : Collection) (cs : List Collection) → find_collection (put_collection new cs) new.name ≡ Some new
 put_found new [] = found_first new []
 put_found new (c ∷ cs) = at (slice_cmp nat_cmp new.name c.name) refl (put_found new cs)
   where

@@ -1,5 +1,5 @@
 -- A lawful world steps to a lawful world, and its replies are within their limit.
-use Rattle.std.proofs.Common.{◌≡◌, ◌⊎◌, inl, inr, ℕ, suc, max, min, ◌+◌, ◌-◌, ◌<◌, ◌≤◌, Bool, true, false, List, [], ◌∷◌, length, set, insert, take, drop, Option, Some, None, Result, Ok, Err, refl, sym, ap, subst, ◌∙◌, arith}
+use Rattle.std.proofs.Common.{◌≡◌, ◌⊎◌, inl, inr, ℕ, suc, max, min, ◌+◌, ◌-◌, ◌<◌, ◌≤◌, Bool, true, false, List, [], ◌∷◌, ◌++◌, length, length-append, map, set, insert, take, drop, Option, Some, None, Result, Ok, Err, refl, sym, ap, subst, ◌∙◌, arith}
 use Rattle.std.specs.Prelude.{◌&&◌, ◌||◌, ◌^◌, not, is_some, nat_le, if◌then◌else◌, codes, unwrap_or, nat_lt, All}
 use Rattle.std.specs.Str.{bytes_eq}
 use Rattle.std.specs.Cmp.Lexicographic.{slice_cmp}
@@ -32,8 +32,14 @@ use Rattle.commands.specs.Update.{UpdateStatement, Update, IsRead}
 use Rattle.engine.specs.Update.{Changed, update_from, Updated, not_updated, not_changed, updated_to, upsert_document, with_upserted, upsert, run_statement, run_statements, update_reply, judged, run_all, spelled, run_update}
 use Rattle.engine.proofs.Applied.{upserted_stored}
 use Rattle.engine.proofs.LawfulUpdates.{SameKeys, from_kept, changed_lawful}
-use Rattle.engine.specs.Refusals.{int, total, ok_reply}
-use Rattle.commands.specs.Command.{Command, ping, insert as insert_of, find as find_of, count as count_of_all, delete, update, aggregate, command_of, IsBounded}
+use Rattle.commands.specs.ListCollections.{ListCollections}
+use Rattle.engine.specs.Create.{created, run_create}
+use Rattle.engine.specs.DropCollection.{dropped, run_drop}
+use Rattle.engine.specs.ListCollections.{names_in, listed, run_list_collections}
+use Rattle.engine.proofs.Creating.{dropped_lawful}
+use Rattle.engine.proofs.Listing.{go_into_one}
+use Rattle.engine.specs.Refusals.{int, total, words, ok_reply}
+use Rattle.commands.specs.Command.{Command, ping, insert as insert_of, find as find_of, count as count_of_all, delete, update, aggregate, create as create_of, drop as drop_of, list_collections, command_of, IsBounded}
 use Rattle.engine.specs.Lawful.{IsStored, IsWithin, IsRising, AreNamedApart, AreNumberedApart, IsKept, IsLawfulState, IsLawful}
 use Rattle.engine.specs.Places.{collection_at, no_collection}
 use Rattle.engine.specs.Progress.{is_full, with_document}
@@ -53,7 +59,7 @@ use Rattle.engine.proofs.Finding.{found_within}
 use Rattle.engine.proofs.Ordered.{Rises, rises_insert, All-inserted, place_gap, place_there, missing, found, added, replaced}
 use Rattle.engine.proofs.Numbers.{unused_unused, number_bounds, numbers_set, numbers_insert}
 use Rattle.engine.proofs.Rewinding.{apart_set}
-use Rattle.engine.proofs.SpelledSizes.{ping-sendable, insert-sendable, refusal-sendable, batch_items, cursor-sendable}
+use Rattle.engine.proofs.SpelledSizes.{ping-sendable, insert-sendable, drop-sendable, refusal-sendable, batch_items, cursor-sendable}
 
 -- ---- documents
 
@@ -266,6 +272,48 @@ good_delete w name deletions h =
     let collections = deleted_lawful w.collections name deletions h.collections in
     good_one (record w { collections = deleted_in (find_collection w.collections name) deletions w.collections }) (pair (codes "n") (total n) no_pairs) (record { collections = collections; cursors = h.cursors }) (insert-sendable (min n (2 ^ 31 - 1)))
 
+good_create : (w : World) (name : List ℕ) → IsLawful w → length name ≤ 255 → Good (run_create w (record { namespace = name }))
+unfolding run_create
+good_create w name h short = λ x e.
+    let s = step_of (created w.collections name) (λ cs. let r : Result (World × Pairs) Refusal = Ok (record w { collections = cs }, no_pairs) in r) x e in
+    let same : (record w { collections = s.0 }, no_pairs) ≡ x = cc in
+    subst (λ (y : World × Pairs). IsLawful y.0 × IsSendable (ok_reply y.1)) same (record { collections = made s.0 s.1; cursors = h.cursors }, ping-sendable)
+  where
+    new : Collection
+    new = with_documents w.collections name []
+
+    made : (cs : List Collection) → created w.collections name ≡ Ok cs → IsLawfulState cs
+    made cs e =
+        let p = passed (is_some (find_collection w.collections name)) refusals.NamespaceExists (unless (nat_le 1000 (length w.collections)) refusals.TooMany (Ok (put_collection new w.collections))) cs e in
+        let q = passed (nat_le 1000 (length w.collections)) refusals.TooMany (Ok (put_collection new w.collections)) cs p.1 in
+        let now : put_collection new w.collections ≡ cs = cc in
+        let free : is_full w.collections name ≡ false = ap (λ (b : Bool). b && not (is_some (find_collection w.collections name))) q.0 in
+        let bounds = number_bounds w.collections name h.collections.kept (λ none. grind (arith, nat_tests, q.0)) in
+        let one : IsKept new = record {
+          lawful = record { rising = λ i j d lt within. absurd (omega (arith, within)); stored = λ k d below. absurd (omega (arith, below)) };
+          short = short;
+          least = bounds.least;
+          most = bounds.most;
+        } in
+        subst IsLawfulState now (put_kept new w.collections h.collections one free refl)
+
+good_drop : (w : World) (name : List ℕ) → IsLawful w → length name ≤ 255 → Good (run_drop w (record { namespace = name }))
+unfolding run_drop
+good_drop w name h short = λ x e.
+    let reply = pair (codes "nIndexesWas") (int 1) (pair (codes "ns") (words name) no_pairs) in
+    let s = step_of (dropped w.collections name) (λ cs. let r : Result (World × Pairs) Refusal = Ok (record w { collections = cs }, reply) in r) x e in
+    let same : (record w { collections = s.0 }, reply) ≡ x = cc in
+    subst (λ (y : World × Pairs). IsLawful y.0 × IsSendable (ok_reply y.1)) same (record { collections = dropped_lawful w.collections name s.0 h.collections s.1; cursors = h.cursors }, drop-sendable name short)
+
+good_list_collections : (w : World) (c : ListCollections) → IsLawful w → length c.database ≤ 63 → Good (run_list_collections w c)
+unfolding run_list_collections
+good_list_collections w c h short =
+    let ds = map listed (names_in (c.database ++ codes ".") w.collections) in
+    let one = go_into_one (c.database ++ codes ".") w.collections h.collections.kept h.collections.few in
+    let small : fits_in ds = subst fits_in (take_all (length ds) ds (omega arith)) (subst (λ (n : ℕ). fits_in (take n ds)) one.whole (batch_items (length ds) (900000 - 5) ds one.within)) in
+    good_one w (cursor_reply (codes "firstBatch") ds 0 (c.database ++ codes ".$cmd.listCollections")) h
+    (cursor-sendable ds 0 (c.database ++ codes ".$cmd.listCollections") small (omega (arith, short, length-append c.database (codes ".$cmd.listCollections"))))
+
 -- ---- updates
 
 -- what statements come to is lawful
@@ -333,6 +381,9 @@ good_run w connection (count_of_all c) h b = good_count w c h
 good_run w connection (delete c) h b = good_delete w c.namespace c.deletions h
 good_run w connection (update c) h b = good_update w c h b
 good_run w connection (aggregate c) h b = good_aggregate w connection c h b
+good_run w connection (create_of c) h b = good_create w c.namespace h b
+good_run w connection (drop_of c) h b = good_drop w c.namespace h b
+good_run w connection (list_collections c) h b = good_list_collections w c h b
 
 -- the world after a step, and its reply
 pub record Steps (x : World × Pairs) : Type 0 where

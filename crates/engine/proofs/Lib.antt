@@ -31,3 +31,5 @@ pub mod UpdatingLoop
 pub mod LawfulUpdates
 pub mod ReadingLaws
 pub mod EmptyImage
+pub mod Creating
+pub mod Listing

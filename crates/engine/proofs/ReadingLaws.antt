@@ -11,7 +11,9 @@ use Rattle.commands.specs.Count.{Count}
 use Rattle.commands.specs.Aggregate.{Aggregate}
 use Rattle.aggregate.specs.Pipeline.{run as after_pipeline}
 use Rattle.engine.specs.Aggregate.{run_aggregate}
-use Rattle.commands.specs.Command.{Command, ping, insert, find, count, delete, update, aggregate, command_of}
+use Rattle.commands.specs.ListCollections.{ListCollections}
+use Rattle.engine.specs.ListCollections.{run_list_collections}
+use Rattle.commands.specs.Command.{Command, ping, insert, find, count, delete, update, aggregate, create, drop as drop_of, list_collections, command_of}
 use Rattle.engine.specs.World.{World, documents_of}
 use Rattle.engine.specs.Cursors.{batch_of, cursor_reply, open_cursor, is_refused, next_cursor, first_batch}
 use Rattle.engine.specs.Find.{query_result, run_find}
@@ -56,12 +58,19 @@ module _ (w : World) (connection : ℕ) where
       at (Ok ds) = batched c.namespace ds (batch_of (unwrap_or c.batch_size 101) ds)
       at (Err e) = refl
 
+  listed_so : (c : ListCollections) → Leaves (run_list_collections w c)
+  unfolding run_list_collections
+  listed_so c = refl
+
   ran : (r : Result Command Refusal) → OnlyReads r → Leaves (r >>= run w connection)
   ran (Err e) h = refl
   ran (Ok ping) h = refl
   ran (Ok (insert c)) h = absurd h
   ran (Ok (delete c)) h = absurd h
   ran (Ok (update c)) h = absurd h
+  ran (Ok (create c)) h = absurd h
+  ran (Ok (drop_of c)) h = absurd h
+  ran (Ok (list_collections c)) h = listed_so c
   ran (Ok (count c)) h = counted c
   ran (Ok (find c)) h = found c
   ran (Ok (aggregate c)) h = aggregated c

@@ -44,6 +44,23 @@ pub insert-sendable : (n : ℕ) → IsSendable (ok_reply (pair (codes "n") (int 
 unfolding tree_bytes pairs_bytes
 insert-sendable n = lit≤ tt
 
+pub drop-sendable : (name : List ℕ) → length name ≤ 255 → IsSendable (ok_reply (pair (codes "nIndexesWas") (int 1) (pair (codes "ns") (words name) no_pairs)))
+drop-sendable name short =
+    let ok = pair (codes "ok") (int 1) no_pairs in
+    let ns = pair (codes "ns") (words name) ok in
+    let reply = pair (codes "nIndexesWas") (int 1) ns in
+    omega (
+      arith,
+      short,
+      frame_of-length (pairs_bytes reply),
+      pairs_size-pair (codes "nIndexesWas") (int 1) ns,
+      length-int 1,
+      pairs_size-pair (codes "ns") (words name) ok,
+      length-words name,
+      pairs_size-pair (codes "ok") (int 1) no_pairs,
+      ap length pairs_bytes-none,
+    )
+
 pub refusal-sendable : (r : Refusal) → IsSendable (refusal_reply r)
 unfolding tree_bytes pairs_bytes
 refusal-sendable refusals.BadValue = lit≤ tt

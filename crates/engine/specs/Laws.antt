@@ -6,7 +6,7 @@ use Rattle.engine.specs.World.{World, Collection, new_world}
 use Rattle.engine.specs.Lawful.{IsLawful}
 use Rattle.engine.specs.Durable.{Holds}
 use Rattle.path.specs.declared.refusal.Refusal.{Refusal}
-use Rattle.commands.specs.Command.{Command, ping, insert, find, count, delete, update, aggregate, command_of}
+use Rattle.commands.specs.Command.{Command, ping, insert, find, count, delete, update, aggregate, create, drop, list_collections, command_of}
 use Rattle.engine.specs.Step.{step, Answers, ForMemory}
 use Rattle.engine.specs.View.{IsSendable}
 
@@ -33,9 +33,12 @@ OnlyReads (Ok ping) = Unit {0}
 OnlyReads (Ok (find c)) = Unit {0}
 OnlyReads (Ok (count c)) = Unit {0}
 OnlyReads (Ok (aggregate c)) = Unit {0}
+OnlyReads (Ok (list_collections c)) = Unit {0}
 OnlyReads (Ok (insert c)) = ⊥
 OnlyReads (Ok (delete c)) = ⊥
 OnlyReads (Ok (update c)) = ⊥
+OnlyReads (Ok (create c)) = ⊥
+OnlyReads (Ok (drop c)) = ⊥
 OnlyReads (Err e) = Unit {0}
 
 abbrev pub BodyOnlyReads : Result Pairs BsonFault → Type 0

@@ -1,5 +1,5 @@
--- `listCollections`: the names of a database's collections, ascending by bytes, all in one batch.
-use Rattle.std.specs.Prelude.{ℕ, ◌+◌, nat_eq, if◌then◌else◌, List, [], ◌∷◌, ◌++◌, length, map, drop, codes, Result, Ok}
+-- `listCollections`: the names of a database's collections, in their order, all in one batch.
+use Rattle.std.specs.Prelude.{ℕ, nat_eq, if◌then◌else◌, List, [], ◌∷◌, ◌++◌, length, map, drop, codes, Option, Some, None, Result, Ok}
 use Rattle.std.specs.List.{starts_with}
 use Rattle.bson.specs.Tree.{Pairs, no_pairs, pair}
 use Rattle.path.specs.declared.refusal.Refusal.{Refusal}
@@ -8,22 +8,30 @@ use Rattle.engine.specs.World.{World, Collection}
 use Rattle.engine.specs.Cursors.{cursor_reply}
 use Rattle.engine.specs.Refusals.{words}
 
--- the names of the collections of a database, without the database
+-- what stands behind this front of a namespace
+abbrev pub name_in : List ℕ → List ℕ → Option (List ℕ)
+name_in front namespace =
+    if starts_with nat_eq namespace front then Some (drop (length front) namespace) else None
+
+abbrev pub with_name : Option (List ℕ) → List (List ℕ) → List (List ℕ)
+with_name None names = names
+with_name (Some name) names = name ∷ names
+
+-- the names behind this front, in the order of the collections
 abbrev pub names_in : List ℕ → List Collection → List (List ℕ)
-names_in database [] = []
-names_in database (c ∷ cs) =
-    if starts_with nat_eq c.name (database ++ codes ".")
-    then drop (length database + 1) c.name ∷ names_in database cs
-    else names_in database cs
+names_in front [] = []
+names_in front (c ∷ cs) = with_name (name_in front c.name) (names_in front cs)
 
 -- what is said of a collection
 abbrev pub listed : List ℕ → Pairs
 listed name =
     pair (codes "name") (words name) (pair (codes "type") (words (codes "collection")) no_pairs)
 
+-- the collections of a database, by their names without it
 unfoldable pub run_list_collections : World → ListCollections → Result (World × Pairs) Refusal
 run_list_collections world c = Ok (
   world,
-  cursor_reply (codes "firstBatch") (map listed (names_in c.database world.collections)) 0
+  cursor_reply (codes "firstBatch")
+      (map listed (names_in (c.database ++ codes ".") world.collections)) 0
       (c.database ++ codes ".$cmd.listCollections"),
 )

@@ -54,7 +54,7 @@ fn after_pipeline(
 }
 
 /// Documents, lent.
-fn lent(alloc: Global, documents: &[Document]) -> Result<Vec<&Document>, NoMemory>
+pub(crate) fn lent(alloc: Global, documents: &[Document]) -> Result<Vec<&Document>, NoMemory>
     ensures { IfOk result (λ v. documents_at v.items ≡ documents.now) }
 {
     let mut lent = Vec::with_capacity(alloc, documents.len())?;

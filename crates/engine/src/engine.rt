@@ -10,6 +10,7 @@ ghost use Rattle.engine.specs.Committing.{Saves, Commits};
 ghost use Rattle.engine.specs.Opening.{IsOpened, IsRefused};
 ghost use Rattle.engine.specs.World.{Collection, after_commit, after_undo, forget};
 ghost use Rattle.engine.specs.View.{world, turn_start, reply_of, answer_of, outcome_of, IsSendable, Runs};
+ghost use Rattle.engine.specs.Lawful.{IsLawfulState};
 ghost use Rattle.engine.specs.Step.{Answers, ForMemory, WroteNothing, read_and_run};
 ghost use Rattle.engine.specs.Durable.{Holds, disk_history, has_changes, is_stopped, IsRunning, store_of, IsSound, HasNoRoom, full_takes_of};
 
@@ -94,6 +95,7 @@ impl<D: Disk> Engine<D> {
 
     /// Reads a command and runs it.
     fn run(&mut self, connection: ConnId, body: &Document) -> Result<Answer, Refusal>
+        requires { IsLawfulState (world self.old).collections }
         ensures disk { self.new.store ≡ self.old.store }
         ensures runs { Runs (world self.old) (read_and_run (world self.old) connection body.now)
             (world self.new) (outcome_of result) }
@@ -118,6 +120,9 @@ impl<D: Disk> Engine<D> {
                 let most = c.batch_size.unwrap_or(FIRST_BATCH);
                 spelled(self.aggregate(connection, c.namespace.as_str(), &c.pipeline, most))
             }
+            Command::Create(c) => built(self.create(c.namespace.as_str())),
+            Command::Drop(c) => built(self.drop_collection(c.namespace.as_str())),
+            Command::ListCollections(c) => spelled(self.list_collections(c.database)),
         }
     }
 

@@ -237,8 +237,9 @@ fn load_pairs(alloc: Global, bytes: &[u8]) -> Result<Collections, OpenFault>
         → IsReadAs (λ collections. collections.now) result last }
     ensures fault { IfErr result IsOfBytes }
 {
-    let Ok(mut collections) = Collections::new(alloc) else {
-        return Err(OpenFault::Memory);
+    let mut collections = match Collections::new(alloc) {
+        Ok(collections) => collections,
+        Err(_) => return Err(OpenFault::Memory),
     };
     let mut rest = bytes;
     'pairs: while let Some(pair) = split_entry(rest) {

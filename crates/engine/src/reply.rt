@@ -8,6 +8,7 @@ ghost use Rattle.bson.specs.Lookup.{lookup};
 ghost use Rattle.bson.specs.Spelling.{frame_of, pairs_bytes};
 ghost use Rattle.bson.specs.Lawful.{levels};
 ghost use Rattle.engine.specs.View.{outcome_of};
+ghost use Rattle.engine.specs.ListCollections.{listed};
 ghost use Rattle.engine.specs.Refusals.{int, total, words, ok_reply, refusal_reply};
 
 use bson::{Array, BuildFault, Document, NoMemory, SpelledDocument, Text, Value};
@@ -81,7 +82,7 @@ pub(crate) fn done(mut reply: Document) -> Result<Document, NoMemory>
     Ok(reply)
 }
 
-/// The reply of a `ping`.
+/// The reply of a `ping` and of a `create`, which says no more than that it was done.
 pub(crate) fn ping_reply(alloc: Global) -> Result<Document, NoMemory>
     ensures { IfOk result (λ d. d ≡ ok_reply no_pairs) }
 {
@@ -106,6 +107,27 @@ pub(crate) fn total_reply(alloc: Global, number: usize) -> Result<Document, NoMe
     let number = number.min(i32::MAX as usize);
     put(&mut reply, "n", Value::Int32(number as i32))?;
     done(reply)
+}
+
+/// The reply of a `drop`, whose collection had no index but that of `_id`.
+pub(crate) fn drop_reply(alloc: Global, namespace: &str) -> Result<Document, NoMemory>
+    ensures { IfOk result (λ d. d ≡ ok_reply (pair (codes "nIndexesWas") (int 1)
+        (pair (codes "ns") (words namespace.now) no_pairs))) }
+{
+    let mut reply = Document::new(alloc);
+    put(&mut reply, "nIndexesWas", Value::Int32(1))?;
+    put(&mut reply, "ns", text_value(alloc, namespace)?)?;
+    done(reply)
+}
+
+/// What `listCollections` says of a collection.
+pub(crate) fn listed_document(alloc: Global, name: &str) -> Result<Document, NoMemory>
+    ensures { IfOk result (λ d. d ≡ listed name.now) }
+{
+    let mut listed = Document::new(alloc);
+    put(&mut listed, "name", text_value(alloc, name)?)?;
+    put(&mut listed, "type", text_value(alloc, "collection")?)?;
+    Ok(listed)
 }
 
 /// The document that a refusal is answered with.

@@ -1,6 +1,6 @@
 use Rattle.bson.specs.View.{tree, pairs_of}
-use Rattle.commands.specs.View.{insert_read, find_read, update_read, aggregate_read, drop_read, list_collections_read}
-use Rattle.commands.specs.CommandLaws.{insert_bounded, find_bounded, update_bounded, aggregate_bounded, drop_bounded, list_collections_bounded}
+use Rattle.commands.specs.View.{insert_read, find_read, update_read, aggregate_read, create_read, drop_read}
+use Rattle.commands.specs.CommandLaws.{insert_bounded, find_bounded, update_bounded, aggregate_bounded, create_bounded, drop_bounded}
 use Rattle.commands.proofs.command.Command.read.Goals as goal
 
 pub returns-in_ok-read_insert-clause-bounded : goal.returns-in_ok-read_insert-clause-bounded
@@ -22,3 +22,7 @@ returns-in_ok-read_aggregate-clause-bounded c =
 pub returns-in_ok-read_drop-clause-bounded : goal.returns-in_ok-read_drop-clause-bounded
 returns-in_ok-read_drop-clause-bounded c =
     drop_bounded (tree c.in-Some.first.now.value) (pairs_of c.in-Some.rest.now) (drop_read c.in_ok-read_drop.field-0) c.in_ok-read_drop.ensures
+
+pub returns-in_ok-read_create-clause-bounded : goal.returns-in_ok-read_create-clause-bounded
+returns-in_ok-read_create-clause-bounded c =
+    create_bounded (tree c.in-Some.first.now.value) (pairs_of c.in-Some.rest.now) (create_read c.in_ok-read_create.field-0) c.in_ok-read_create.ensures

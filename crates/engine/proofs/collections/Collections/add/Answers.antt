@@ -1,4 +1,5 @@
-use Rattle.std.proofs.Common.{◌≡◌, ℕ, List, [], sym, ap, subst, ◌∙◌, insert}
+use Rattle.std.proofs.Common.{◌≡◌, ℕ, List, [], sym, ap, subst, ◌∙◌, insert, arith}
+use Rattle.std.proofs.lemmas.List.Edits.{length-insert}
 use Rattle.engine.specs.World.{Collection}
 use Rattle.engine.specs.Places.{IsGap, IsMissing, by_name}
 use Rattle.engine.specs.Progress.{Progress, CanRewind}
@@ -17,4 +18,6 @@ invariant_of-self-2 c =
     rw c.in_ok-insert.ensures.items (record {
       apart = apart-made cs c.in-Err.at new gap c.self.invariant.apart;
       undoable = subst (λ (xs : List UndoEntry). CanRewind xs (insert cs c.in-Err.at new)) (sym none) tt;
+      few = omega (arith, c.len.ensures, c.self.inside.list.ok, length-insert cs c.in-Err.at new gap.within, c.if-len-ge-MOST_COLLECTIONS.false);
+      spare = omega (arith, c.self.invariant.spare, c.in_ok-insert.ensures.capacity);
     })

@@ -46,8 +46,8 @@ module _ (c : After-unwrap) where
   same : made ≡ record { now = c.insert.new.self.items; changes = c.push.new.self.items }
   same = λ i. record { now = sym put i; changes = sym pushed i }
 
-pub invariant_of-self : goal.invariant_of-self
-invariant_of-self c =
+pub invariant_of-self-2 : goal.invariant_of-self-2
+invariant_of-self-2 c =
     subst (λ (p : Progress). IsProgress p (vec_capacity c.insert.new.self)) (same c) (IsProgress-push (old c) (insert (cs c) c.args.at (new c)) (entries.Made c.args.at)
     (apart-made (cs c) c.args.at (new c) (gap c) c.self.invariant.apart) (CanUndo-made (cs c) c.args.at (new c) (gap c)) (undo-made (cs c) c.args.at (new c) (gap c)) (vec_capacity c.insert.new.self) (omega (arith, few c, length-insert (cs c) c.args.at (new c) (gap c).within)) (omega (arith, c.self.invariant.spare, c.in_ok-insert.ensures.capacity)) c.self.invariant.undoable)
 

@@ -1,4 +1,4 @@
-use Rattle.std.proofs.Common.{◌≡◌, ◌<◌, List, ◌∷◌, [], ◌++◌, length, sym, ap, subst, ◌∙◌, arith, set, refl}
+use Rattle.std.proofs.Common.{rules, insert, ◌≡◌, ◌<◌, List, ◌∷◌, [], ◌++◌, length, sym, ap, subst, ◌∙◌, arith, set, refl}
 use Rattle.std.specs.Prelude.{vec_capacity}
 use Rattle.std.proofs.lemmas.List.{length-set}
 use Rattle.std.proofs.lemmas.List.Edits.{length-insert, length-remove}
@@ -13,7 +13,7 @@ use Rattle.engine.specs.Places.{collection_at}
 use Rattle.engine.specs.Progress.{IsProgress, without_document, with_document_at}
 use Rattle.engine.specs.declared.collections.UndoEntry.{UndoEntry}
 use Rattle.engine.specs.declared.collections.UndoEntry.TheVariants as entries
-use Rattle.engine.proofs.Rewinding.{CanRewind-last, at_place, apart_set}
+use Rattle.engine.proofs.Rewinding.{CanRewind-last, at_place, apart_set, apart-made}
 use Rattle.engine.proofs.collections.Collections.undo_last.Goals as goal
 
 pub remove-collection-requires : goal.remove-collection-requires
@@ -30,7 +30,7 @@ invariant_of-self c =
       apart = all_pairs_remove (λ (a b : Collection). slice_cmp nat_cmp a.name b.name ≡ orders.Less) c.self.inside.list.items c.in-Some-Made.at h.0 c.self.invariant.apart;
       undoable = h.1;
       few = omega (arith, c.self.invariant.few, length-remove c.self.inside.list.items c.in-Some-Made.at h.0);
-      spare = c.self.invariant.spare;
+      spare = omega (arith, c.self.invariant.spare, c.remove-collection.ensures.capacity);
     })
 
 pub index_mut-collection-requires : goal.index_mut-collection-requires
@@ -132,4 +132,32 @@ invariant_of-self-in-Some-Changed c =
       undoable = h.1;
       few = omega (arith, c.self.invariant.few, length-set cs e.at back);
       spare = c.self.invariant.spare;
+    })
+
+pub insert-requires : goal.insert-requires
+insert-requires c =
+    let e = c.in-Some-Dropped in
+    let popped = e.ensures.items ∙ ap (λ (x : UndoEntry). c.pop.new.self.items ++ x ∷ []) e.field-0-is in
+    let h = CanRewind-last c.self.inside.changes.items c.pop.new.self.items (entries.Dropped e.at e.before) c.self.inside.list.items popped c.self.invariant.undoable in
+    omega (arith, h.0.0.within, c.self.inside.list.ok)
+
+pub unwrap-requires : goal.unwrap-requires
+unwrap-requires c =
+    let e = c.in-Some-Dropped in
+    let popped = e.ensures.items ∙ ap (λ (x : UndoEntry). c.pop.new.self.items ++ x ∷ []) e.field-0-is in
+    let h = CanRewind-last c.self.inside.changes.items c.pop.new.self.items (entries.Dropped e.at e.before) c.self.inside.list.items popped c.self.invariant.undoable in
+    c.insert.ensures.succeeds (omega (arith, h.0.1, c.self.inside.list.ok, c.self.invariant.spare))
+
+pub invariant_of-self-in-Some-Dropped : goal.invariant_of-self-in-Some-Dropped
+invariant_of-self-in-Some-Dropped c =
+    let e = c.in-Some-Dropped in
+    let cs = c.self.inside.list.items in
+    let popped = e.ensures.items ∙ ap (λ (x : UndoEntry). c.pop.new.self.items ++ x ∷ []) e.field-0-is in
+    let h = CanRewind-last c.self.inside.changes.items c.pop.new.self.items (entries.Dropped e.at e.before) cs popped c.self.invariant.undoable in
+    let put : c.insert.new.self.items ≡ insert cs e.at e.before = search rules in
+    rw put (record {
+      apart = apart-made cs e.at e.before h.0.0 c.self.invariant.apart;
+      undoable = h.1;
+      few = omega (arith, h.0.1, length-insert cs e.at e.before h.0.0.within);
+      spare = omega (arith, c.self.invariant.spare, c.insert.ensures.capacity);
     })

@@ -1,0 +1,129 @@
+-- The names of a database's collections, and that they all go into one batch.
+use Rattle.std.proofs.Common.{◌≡◌, ℕ, zero, suc, ◌+◌, ◌-◌, ◌*◌, ◌<◌, ◌≤◌, Bool, true, false, List, [], ◌∷◌, ◌++◌, length, drop, get_or, map, Option, Some, None, refl, sym, ap, subst, ◌∙◌, append_assoc, length-append, arith}
+use Rattle.std.specs.Prelude.{◌||◌, ◌==◌, nat_eq, nat_le, if◌then◌else◌, codes, option_map, All, MatchOption}
+use Rattle.std.specs.Borrow.{Bor}
+use Rattle.std.specs.Fmt.{decimal}
+use Rattle.std.specs.List.{starts_with, AllByRecursion}
+use Rattle.std.specs.Str.{IsCharBoundary}
+use Rattle.std.specs.Str.Pattern.{FindsTextPrefix, StripsPrefix}
+use Rattle.std.proofs.lemmas.Bool.Decides.{nat_tests}
+use Rattle.std.proofs.lemmas.Fmt.{length-decimal-le}
+use Rattle.std.proofs.lemmas.List.Elements.{All-head, All-tail, All-cons}
+use Rattle.std.proofs.lemmas.List.{length-map}
+use Rattle.std.proofs.lemmas.Str.Pattern.{starts_text}
+use Rattle.bson.specs.Tree.{Pairs, pair, no_pairs}
+use Rattle.bson.specs.SizingLaws.{frame_of-length, pairs_bytes-none, pairs_size-pair}
+use Rattle.bson.specs.Spelling.{frame_of, pairs_bytes}
+use Rattle.engine.specs.World.{Collection}
+use Rattle.engine.specs.Lawful.{IsWithin, IsKept}
+use Rattle.engine.specs.Cursors.{item_size, batch_len, batch_of}
+use Rattle.engine.specs.ListCollections.{name_in, with_name, names_in, listed}
+use Rattle.engine.specs.Refusals.{words}
+use Rattle.engine.proofs.SpelledSizes.{length-words}
+use Rattle.engine.proofs.Steps.{drop_step}
+
+-- ---- names
+
+pub name-in : (front namespace : List ℕ) (r : Option (Bor (List ℕ))) → MatchOption r (FindsTextPrefix front namespace None) (λ x. StripsPrefix (FindsTextPrefix front) namespace x.now) → option_map (λ s. s.now) r ≡ name_in front namespace
+name-in front namespace None h =
+    let is : false ≡ starts_with nat_eq namespace front = starts_text false front namespace h in
+    ap (λ (b : Bool). if b then Some (drop (length front) namespace) else None) is
+name-in front namespace (Some x) h =
+    let is : true ≡ starts_with nat_eq namespace front = starts_text true front namespace (h.0, h.1, subst (λ (k : ℕ). IsCharBoundary namespace k) (sym h.1.0) h.1.2) in
+    ap (λ (s : List ℕ). let o : Option (List ℕ) = Some s in o) (h.2 ∙ ap (λ (k : ℕ). drop k namespace) h.1.0)
+    ∙ ap (λ (b : Bool). if b then Some (drop (length front) namespace) else None) is
+
+-- what was listed so far, and what is left of the collections
+abbrev pub Lists : List ℕ → List Collection → ℕ → List Pairs → Type 0
+Lists front cs i ds = map listed (names_in front cs) ≡ ds ++ map listed (names_in front (drop i cs))
+
+pub lists-one : (front : List ℕ) (cs : List Collection) (i : ℕ) (c : Collection) (name : List ℕ) (ds next : List Pairs) → i < length cs → c ≡ get_or cs i c → name_in front c.name ≡ Some name
+    → next ≡ ds ++ listed name ∷ [] → Lists front cs i ds → Lists front cs (i + 1) next
+lists-one front cs i c name ds next within is named grown so_far =
+    so_far ∙ ap (λ (xs : List Collection). ds ++ map listed (names_in front xs)) (drop_step cs i c within is)
+    ∙ ap (λ (o : Option (List ℕ)). ds ++ map listed (with_name o (names_in front (drop (i + 1) cs)))) named
+    ∙ sym (append_assoc ds (listed name ∷ []) (map listed (names_in front (drop (i + 1) cs))))
+    ∙ ap (λ (xs : List Pairs). xs ++ map listed (names_in front (drop (i + 1) cs))) (sym grown)
+
+pub lists-none : (front : List ℕ) (cs : List Collection) (i : ℕ) (c : Collection) (ds : List Pairs) → i < length cs → c ≡ get_or cs i c → name_in front c.name ≡ None
+    → Lists front cs i ds → Lists front cs (i + 1) ds
+lists-none front cs i c ds within is none so_far =
+    so_far ∙ ap (λ (xs : List Collection). ds ++ map listed (names_in front xs)) (drop_step cs i c within is)
+    ∙ ap (λ (o : Option (List ℕ)). ds ++ map listed (with_name o (names_in front (drop (i + 1) cs)))) none
+
+-- ---- sizes
+
+abbrev Short : List ℕ → Type 0
+Short name = length name ≤ 255
+
+drop_shorter : (n : ℕ) (xs : List ℕ) → length (drop n xs) ≤ length xs
+drop_shorter zero xs = omega arith
+drop_shorter (suc n) [] = omega arith
+drop_shorter (suc n) (x ∷ xs) = omega (arith, drop_shorter n xs)
+
+names_short : (front : List ℕ) (cs : List Collection) → All IsKept cs → AllByRecursion Short (names_in front cs) × (length (names_in front cs) ≤ length cs)
+names_short front [] h = (tt, omega arith)
+names_short front (c ∷ cs) h = at (starts_with nat_eq c.name front) (names_short front cs (All-tail IsKept c cs h))
+  where
+    name : List ℕ
+    name = drop (length front) c.name
+
+    at : (b : Bool) → AllByRecursion Short (names_in front cs) × (length (names_in front cs) ≤ length cs)
+        → AllByRecursion Short (with_name (if b then Some name else None) (names_in front cs)) × (length (with_name (if b then Some name else None) (names_in front cs)) ≤ suc (length cs))
+    at true later = ((omega (arith, drop_shorter (length front) c.name, (All-head IsKept c cs h).short), later.0), omega (arith, later.1))
+    at false later = (later.0, omega (arith, later.1))
+
+listed_size : (name : List ℕ) → Short name → length (frame_of (pairs_bytes (listed name))) ≤ 400
+listed_size name short =
+    let type = pair (codes "type") (words (codes "collection")) no_pairs in
+    omega (
+      arith,
+      short,
+      frame_of-length (pairs_bytes (listed name)),
+      pairs_size-pair (codes "name") (words name) type,
+      length-words name,
+      pairs_size-pair (codes "type") (words (codes "collection")) no_pairs,
+      length-words (codes "collection"),
+      ap length pairs_bytes-none,
+    )
+
+abbrev Small : List Pairs → Type 0
+Small ds = AllByRecursion (λ d. length (frame_of (pairs_bytes d)) ≤ 400) ds
+
+listed_small : (names : List (List ℕ)) → AllByRecursion Short names → Small (map listed names)
+listed_small [] h = tt
+listed_small (n ∷ ns) h = (listed_size n h.0, listed_small ns h.1)
+
+listed_within : (names : List (List ℕ)) → AllByRecursion Short names → All IsWithin (map listed names)
+listed_within [] h = λ k d below. absurd (omega (arith, below))
+listed_within (n ∷ ns) h = All-cons IsWithin (listed n) (map listed ns) (record { size = omega (arith, listed_size n h.0); depth = omega arith }) (listed_within ns h.1)
+
+all_fit : (i most room : ℕ) (ds : List Pairs) → length ds ≤ most → i + length ds ≤ 1000 → Small ds → 410 * length ds ≤ room → batch_len i most room ds ≡ length ds
+all_fit i most room [] few within small fits = refl
+all_fit i zero room (d ∷ ds) few within small fits = absurd (omega (arith, few))
+all_fit i (suc most) room (d ∷ ds) few within small fits =
+    let digits : length (decimal i) ≤ 3 = length-decimal-le 3 i (omega arith) (omega (arith, within)) (omega (arith, within)) in
+    let size : item_size i d ≤ 410 = omega (arith, small.0, digits, length-append (decimal i) (0 ∷ frame_of (pairs_bytes d))) in
+    let fit : nat_le (item_size i d) room ≡ true = grind (arith, nat_tests, size, fits) in
+    at (i == 0) (nat_le (item_size i d) room) fit (all_fit (i + 1) most (room - item_size i d) ds (omega (arith, few)) (omega (arith, within)) small.1 (omega (arith, size, fits)))
+  where
+    at : (first one : Bool) → one ≡ true → batch_len (i + 1) most (room - item_size i d) ds ≡ length ds
+        → (if first || one then suc (batch_len (i + 1) most (room - item_size i d) ds) else 0) ≡ suc (length ds)
+    at true one e later = ap suc later
+    at false true e later = ap suc later
+    at false false e later = absurd cc
+
+-- All that is said of at most 1,000 collections goes into one batch.
+pub record GoIntoOne (ds : List Pairs) : Type 0 where
+  pub within : All IsWithin ds
+  pub whole : batch_of (length ds) ds ≡ length ds
+
+pub go_into_one : (front : List ℕ) (cs : List Collection) → All IsKept cs → length cs ≤ 1000 → GoIntoOne (map listed (names_in front cs))
+go_into_one front cs kept few =
+    let names = names_in front cs in
+    let short = names_short front cs kept in
+    let many : length (map listed names) ≡ length names = length-map names listed in
+    record {
+      within = listed_within names short.0;
+      whole = all_fit 0 (length (map listed names)) (900000 - 5) (map listed names) (omega arith) (omega (arith, many, few, short.1)) (listed_small names short.0) (omega (arith, many, few, short.1));
+    }
