@@ -1,6 +1,6 @@
 use Rattle.bson.specs.View.{tree, pairs_of}
-use Rattle.commands.specs.View.{insert_read, find_read, update_read, aggregate_read}
-use Rattle.commands.specs.CommandLaws.{insert_bounded, find_bounded, update_bounded, aggregate_bounded}
+use Rattle.commands.specs.View.{insert_read, find_read, get_more_read, kill_cursors_read, update_read, aggregate_read}
+use Rattle.commands.specs.CommandLaws.{insert_bounded, find_bounded, get_more_bounded, kill_cursors_bounded, update_bounded, aggregate_bounded}
 use Rattle.commands.proofs.command.Command.read.Goals as goal
 
 pub returns-in_ok-read_insert-clause-bounded : goal.returns-in_ok-read_insert-clause-bounded
@@ -18,3 +18,11 @@ returns-in_ok-read_update-clause-bounded c =
 pub returns-in_ok-read_aggregate-clause-bounded : goal.returns-in_ok-read_aggregate-clause-bounded
 returns-in_ok-read_aggregate-clause-bounded c =
     aggregate_bounded (tree c.in-Some.first.now.value) (pairs_of c.in-Some.rest.now) (aggregate_read c.in_ok-read_aggregate.field-0) c.in_ok-read_aggregate.ensures
+
+pub returns-in_ok-read_get_more-clause-bounded : goal.returns-in_ok-read_get_more-clause-bounded
+returns-in_ok-read_get_more-clause-bounded c =
+    get_more_bounded (tree c.in-Some.first.now.value) (pairs_of c.in-Some.rest.now) (get_more_read c.in_ok-read_get_more.field-0) c.in_ok-read_get_more.ensures
+
+pub returns-in_ok-read_kill_cursors-clause-bounded : goal.returns-in_ok-read_kill_cursors-clause-bounded
+returns-in_ok-read_kill_cursors-clause-bounded c =
+    kill_cursors_bounded (tree c.in-Some.first.now.value) (pairs_of c.in-Some.rest.now) (kill_cursors_read c.in_ok-read_kill_cursors.field-0) c.in_ok-read_kill_cursors.ensures
