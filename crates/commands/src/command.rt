@@ -58,9 +58,7 @@ impl<'a> Command<'a> {
         } else if name == "getMore" {
             Ok(Command::GetMore(read_get_more(alloc, value, rest)?))
         } else if name == "killCursors" {
-            Ok(Command::KillCursors(read_kill_cursors(
-                alloc, value, rest,
-            )?))
+            Ok(Command::KillCursors(read_kill_cursors(alloc, value, rest)?))
         } else if name == "count" {
             Ok(Command::Count(read_count(alloc, value, rest)?))
         } else if name == "delete" {
