@@ -56,9 +56,9 @@ abbrev pub is_refused : ℕ → List Cursor → ℕ → Bool
 is_refused connection cursors next =
     nat_le 16 (count_of connection cursors) || nat_le (2 ^ 63) next
 
-abbrev pub next_cursor : World → ℕ → List ℕ → List Pairs → Cursor
-next_cursor world connection namespace rest = record {
-  number = world.next;
+abbrev pub new_cursor : ℕ → ℕ → List ℕ → List Pairs → Cursor
+new_cursor number connection namespace rest = record {
+  number = number;
   connection = connection;
   namespace = namespace;
   rest = rest;
@@ -70,7 +70,7 @@ abbrev pub open_cursor : World → ℕ → List ℕ → List Pairs → Result Wo
 open_cursor world connection namespace rest =
     unless (is_refused connection world.cursors world.next) refusals.TooMany
     (Ok (record world {
-      cursors = world.cursors ++ next_cursor world connection namespace rest ∷ [];
+      cursors = world.cursors ++ new_cursor world.next connection namespace rest ∷ [];
       next = world.next + 1;
     }))
 

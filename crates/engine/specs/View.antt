@@ -3,7 +3,7 @@ use Rattle.std.specs.Prelude.{◌≡◌, ◌≤◌, ℕ, List, length, map, code
 use Rattle.bson.specs.Tree.{Pairs}
 use Rattle.bson.specs.Spelling.{frame_of, pairs_bytes}
 use Rattle.filter.specs.Projection.{Projection, project}
-use Rattle.engine.specs.World.{World, Collection}
+use Rattle.engine.specs.World.{World, Collection, CursorTable}
 use Rattle.engine.specs.Refusals.{refusal_reply, ok_reply}
 use Rattle.outcome.specs.Outcome.{Fails}
 use Rattle.engine.specs.Progress.{Progress, turn_start_of}
@@ -13,9 +13,8 @@ use Rattle.engine.specs.declared.reply.Answer.TheVariants as answers
 use Rattle.engine.specs.declared.engine.Reply.{Reply}
 use Rattle.engine.specs.declared.engine.Reply.TheVariants as replies
 use Rattle.engine.specs.declared.engine.Engine.{Engine}
-use Rattle.engine.specs.declared.cursors.Cursors.{Cursors}
-use Rattle.engine.specs.declared.find_reply.BatchKind.{BatchKind}
-use Rattle.engine.specs.declared.find_reply.BatchKind.TheVariants as batches
+use Rattle.engine.specs.declared.batch_reply.BatchKind.{BatchKind}
+use Rattle.engine.specs.declared.batch_reply.BatchKind.TheVariants as batches
 use Rattle.path.specs.declared.refusal.Refusal.TheVariants as refusals
 
 -- the reply that says that a command was done
@@ -40,9 +39,9 @@ abbrev pub batch_name : BatchKind → List ℕ
 batch_name batches.First = codes "firstBatch"
 batch_name batches.Next = codes "nextBatch"
 
-abbrev pub world_of : Progress → Cursors → World
+abbrev pub world_of : Progress → CursorTable → World
 world_of progress cursors =
-    record { collections = progress.now; cursors = cursors.list.items; next = cursors.next }
+    record { collections = progress.now; cursors = cursors.list; next = cursors.next }
 
 abbrev pub world : {D : Type 0} → Engine D → World
 world engine = world_of engine.collections engine.cursors

@@ -29,6 +29,11 @@ pub record World : Type 0 where
   pub cursors : List Cursor
   pub next : ℕ
 
+-- the open cursors, and the number of the next one
+pub record CursorTable : Type 0 where
+  pub list : List Cursor
+  pub next : ℕ
+
 abbrev pub new_world : World
 new_world = record { collections = []; cursors = []; next = 1 }
 
