@@ -114,12 +114,10 @@ cursor-sendable name batch number namespace brief small short =
 
 length-id : (i : ℕ) (id : ℤ) (ts : Items) → length (items_bytes i (item (scalar (int64 id)) ts)) ≡ length (decimal i) + 10 + length (items_bytes (i + 1) ts)
 unfolding tree_bytes items_bytes
-length-id i id ts = omega (
-  arith,
-  length-append (18 ∷ (decimal i ++ 0 ∷ to_le_bytes w64 (cast_unsigned w64 id))) (items_bytes (i + 1) ts),
-  length-append (decimal i) (0 ∷ to_le_bytes w64 (cast_unsigned w64 id)),
-  length-to_le_bytes w64 (cast_unsigned w64 id),
-)
+length-id i id ts =
+    let bytes = to_le_bytes w64 (cast_unsigned w64 id) in
+    let eight : length bytes ≡ 8 = refl in
+    omega (arith, length-append (18 ∷ (decimal i ++ 0 ∷ bytes)) (items_bytes (i + 1) ts), length-append (decimal i) (0 ∷ bytes), eight)
 
 -- so many ids have at most so many bytes
 ids_short : (i : ℕ) (ids : List ℤ) → i + length ids ≤ 1000 → length (items_bytes i (id_items ids)) ≤ 13 * length ids
@@ -138,10 +136,10 @@ kill-sendable ids few others =
       frame_of-length (pairs_bytes reply),
       pairs_size-pair (codes "cursorsKilled") (array (id_items ids.killed)) missing,
       length-array (id_items ids.killed),
-      ids_short 0 ids.killed few,
+      ids_short 0 ids.killed (omega (arith, few)),
       pairs_size-pair (codes "cursorsNotFound") (array (id_items ids.not_found)) ok,
       length-array (id_items ids.not_found),
-      ids_short 0 ids.not_found others,
+      ids_short 0 ids.not_found (omega (arith, others)),
       pairs_size-pair (codes "ok") (int 1) no_pairs,
       length-int 1,
       ap length pairs_bytes-none,
@@ -151,8 +149,13 @@ kill-sendable ids few others =
 pub told_few : (is_open : ℤ → Bool) (so_far : ToldApart) (ids : List ℤ) (most : ℕ) → length so_far.killed + length so_far.not_found + length ids ≤ most
     → (length (told_apart is_open so_far ids).killed ≤ most) × (length (told_apart is_open so_far ids).not_found ≤ most)
 told_few is_open so_far [] most few = (omega (arith, few), omega (arith, few))
-told_few is_open so_far (id ∷ ids) most few = at (is_open id && not (list_any (int_eq id) so_far.killed))
+told_few is_open so_far (id ∷ ids) most few =
+    at (is_open id && not (list_any (int_eq id) so_far.killed))
+    (λ h. told_few is_open (with_id true id so_far) ids most h) (λ h. told_few is_open (with_id false id so_far) ids most h)
   where
-    at : (b : Bool) → (length (told_apart is_open (with_id b id so_far) ids).killed ≤ most) × (length (told_apart is_open (with_id b id so_far) ids).not_found ≤ most)
-    at true = told_few is_open (with_id true id so_far) ids most (omega (arith, few, length-append so_far.killed (id ∷ [])))
-    at false = told_few is_open (with_id false id so_far) ids most (omega (arith, few, length-append so_far.not_found (id ∷ [])))
+    at : (b : Bool)
+        → (length (with_id true id so_far).killed + length (with_id true id so_far).not_found + length ids ≤ most → (length (told_apart is_open (with_id true id so_far) ids).killed ≤ most) × (length (told_apart is_open (with_id true id so_far) ids).not_found ≤ most))
+        → (length (with_id false id so_far).killed + length (with_id false id so_far).not_found + length ids ≤ most → (length (told_apart is_open (with_id false id so_far) ids).killed ≤ most) × (length (told_apart is_open (with_id false id so_far) ids).not_found ≤ most))
+        → (length (told_apart is_open (with_id b id so_far) ids).killed ≤ most) × (length (told_apart is_open (with_id b id so_far) ids).not_found ≤ most)
+    at true of_killed of_others = of_killed (omega (arith, few, length-append so_far.killed (id ∷ [])))
+    at false of_killed of_others = of_others (omega (arith, few, length-append so_far.not_found (id ∷ [])))

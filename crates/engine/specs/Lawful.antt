@@ -75,10 +75,14 @@ pub record IsOpenCursor (c : Cursor) : Type 0 where
   pub within : All IsWithin c.rest
   pub number : c.number < 2 ^ 63
 
+-- cursors hold documents within the limits
+abbrev pub AreLawfulCursors : List Cursor → Type 0
+AreLawfulCursors cs = All (λ c. All IsWithin c.rest) cs
+
 -- What is kept of a world: its collections are lawful, and a cursor holds documents within the limits.
 pub record IsLawful (world : World) : Type 0 where
   pub collections : IsLawfulState world.collections
-  pub cursors : All (λ c. All IsWithin c.rest) world.cursors
+  pub cursors : AreLawfulCursors world.cursors
 
 -- a collection is told apart by its namespace, its number and its documents
 abbrev pub collection_code : Coded Collection

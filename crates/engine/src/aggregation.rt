@@ -1,6 +1,7 @@
 //! `aggregate`: what a pipeline makes of the documents of a collection.
 
-ghost use Rattle.std.specs.Prelude.{◌≡◌, ◌≤◌, ◌<◌, Some, IfOk, All, length, map, drop};
+ghost use Rattle.std.specs.Prelude.{◌≡◌, ◌≤◌, ◌<◌, Some, IfOk, List, ◌∷◌, ◌++◌, length, drop};
+ghost use Rattle.bson.specs.Tree.{Pairs};
 ghost use Rattle.std.specs.List.{filter};
 ghost use Rattle.outcome.specs.Outcome.{Gives};
 ghost use Rattle.aggregate.specs.Pipeline.{run as after_pipeline};
@@ -53,6 +54,24 @@ fn after_pipeline(
     pipeline.run(taken, STORED_LIMIT as u32)
 }
 
+/// Passes a document over where some have to be, or moves it to where it can have several owners. It says how many have to be
+/// passed over still.
+fn pass_or_share(
+    alloc: Global,
+    shared: &mut Vec<SharedDocument>,
+    before: usize,
+    document: Document,
+) -> Result<usize, NoMemory>
+    ensures { IfOk result (λ left. (later : List Pairs) → shared.new.items ++ drop left later
+        ≡ shared.old.items ++ drop before (document ∷ later)) }
+{
+    if 0 < before {
+        return Ok(before - 1);
+    }
+    shared.push(SharedDocument::new(alloc, document)?)?;
+    Ok(0)
+}
+
 /// The documents from a place on, each moved to where it can have several owners.
 fn shared_from(
     alloc: Global,
@@ -64,11 +83,7 @@ fn shared_from(
     let mut before = place;
     let mut shared = Vec::with_capacity(alloc, documents.len().saturating_sub(place))?;
     'documents: for document in documents {
-        if before == 0 {
-            shared.push(SharedDocument::new(alloc, document)?)?;
-        } else {
-            before -= 1;
-        }
+        before = pass_or_share(alloc, &mut shared, before, document)?;
     }
     Ok(shared)
 }

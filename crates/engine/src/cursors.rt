@@ -42,7 +42,8 @@ pub(crate) struct OpenCursor {
 }
 
 impl Model for OpenCursor {
-    ghost use Rattle.std.specs.Prelude.{string_bytes};
+    ghost use Rattle.std.specs.Prelude.{◌≤◌, length, map, drop, string_bytes};
+    ghost use Rattle.filter.specs.Projection.{project};
     ghost use Rattle.engine.specs.World as worlds;
     ghost use Rattle.engine.specs.Lawful.{IsOpenCursor, cursor_code};
 

@@ -3,6 +3,7 @@
 ghost use Rattle.std.specs.Prelude.{◌≡◌, ◌≤◌, ◌&&◌, not, IfOk, OnOk, length};
 ghost use Rattle.std.specs.List.{list_any};
 ghost use Rattle.std.specs.Ordering.{int_eq};
+ghost use Rattle.bson.specs.Tree.{scalar, int64, item, no_items, append_items};
 ghost use Rattle.engine.specs.KillCursors.{no_ids, with_id, told_apart, has_cursor, id_items, kill_reply, run_kill_cursors};
 ghost use Rattle.engine.specs.Refusals.{ok_reply};
 ghost use Rattle.engine.specs.View.{world, turn_start, IsSendable, Runs};
@@ -81,13 +82,21 @@ fn tell_apart(
     Ok(told)
 }
 
+/// Adds an id to an array.
+fn add_id(array: &mut Array, id: &i64) -> Result<(), NoMemory>
+    ensures { OnOk result
+        (array.new ≡ append_items array.old (item (scalar (int64 id.now)) no_items)) }
+{
+    add(array, Value::Int64(*id))
+}
+
 /// Ids as an array.
 fn id_array(alloc: Global, ids: &[i64]) -> Result<Array, NoMemory>
     ensures { IfOk result (λ a. a ≡ id_items ids.now) }
 {
     let mut array = Array::new(alloc);
     'ids: for id in ids {
-        add(&mut array, Value::Int64(*id))?;
+        add_id(&mut array, id)?;
     }
     Ok(array)
 }
