@@ -8,7 +8,7 @@ use crate::matching::matches;
 use crate::pipeline::Pipeline;
 use crate::stage::Stage;
 use bson::{Document, NoMemory};
-use filter::laws;
+use filter::{AsDocument, laws};
 
 /// The stages behind a `$match` in front.
 fn behind_match(stages: &[Stage]) -> &[Stage]
@@ -52,9 +52,13 @@ impl Pipeline {
     }
 
     /// Those that are enough of the documents that it takes: where it sorts them and keeps the first ones, these alone.
-    pub fn first_sorted<'a>(&self, taken: Vec<&'a Document>) -> Result<Vec<&'a Document>, NoMemory>
+    pub fn first_sorted<'a, T: AsDocument>(
+        &self,
+        taken: Vec<&'a T>,
+    ) -> Result<Vec<&'a T>, NoMemory>
         ensures { IfOk result (λ v. IsEnough (pipeline_of self.now)
-            (map (λ d. d.now) v.items) (map (λ d. d.now) taken.entry.items)) }
+            (map (λ d. T.document d.now) v.items)
+            (map (λ d. T.document d.now) taken.entry.items)) }
     {
         let Some((Stage::Sort(sort), behind)) = behind_match(&self.stages).split_first() else {
             return Ok(taken);

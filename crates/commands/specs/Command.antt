@@ -9,6 +9,8 @@ use Rattle.path.specs.declared.refusal.Refusal.TheVariants as refusals
 use Rattle.commands.specs.Ping.{read_ping}
 use Rattle.commands.specs.Insert.{Insert, read_insert}
 use Rattle.commands.specs.Find.{Find, read_find}
+use Rattle.commands.specs.GetMore.{GetMore, read_get_more}
+use Rattle.commands.specs.KillCursors.{KillCursors, read_kill_cursors}
 use Rattle.commands.specs.Count.{Count, read_count}
 use Rattle.commands.specs.Delete.{Delete, read_delete}
 use Rattle.commands.specs.Aggregate.{Aggregate, read_aggregate}
@@ -21,6 +23,8 @@ pub data Command : Type 0 where
   ping : Command
   insert : Insert → Command
   find : Find → Command
+  get_more : GetMore → Command
+  kill_cursors : KillCursors → Command
   count : Count → Command
   delete : Delete → Command
   update : Update → Command
@@ -40,6 +44,8 @@ command_of (pair name t ps) =
     if bytes_eq name (codes "ping") then as_command (λ _. ping) (read_ping t ps) else
     if bytes_eq name (codes "insert") then as_command insert (read_insert t ps) else
     if bytes_eq name (codes "find") then as_command find (read_find t ps) else
+    if bytes_eq name (codes "getMore") then as_command get_more (read_get_more t ps) else
+    if bytes_eq name (codes "killCursors") then as_command kill_cursors (read_kill_cursors t ps) else
     if bytes_eq name (codes "count") then as_command count (read_count t ps) else
     if bytes_eq name (codes "delete") then as_command delete (read_delete t ps) else
     if bytes_eq name (codes "update") then as_command update (read_update_command t ps) else
@@ -50,12 +56,14 @@ command_of (pair name t ps) =
     then as_command list_collections (read_list_collections t ps) else
     Err refusals.CommandNotFound
 
--- What a command that was read keeps: a namespace of at most 255 bytes, and from 1 to 1,000 documents or statements.
+-- What a command that was read keeps: a namespace of at most 255 bytes, and from 1 to 1,000 documents, statements or cursors.
 abbrev pub IsBounded : Command → Type 0
 IsBounded ping = Unit {0}
 IsBounded (insert c) =
     (length c.namespace ≤ 255) × (length c.documents ≤ 1000) × (1 ≤ length c.documents)
 IsBounded (find c) = length c.namespace ≤ 255
+IsBounded (get_more c) = length c.namespace ≤ 255
+IsBounded (kill_cursors c) = length c.cursors ≤ 1000
 IsBounded (count c) = Unit {0}
 IsBounded (delete c) = Unit {0}
 IsBounded (update c) =

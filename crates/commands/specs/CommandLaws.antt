@@ -1,5 +1,5 @@
 -- A command that was read has a namespace and documents within their limits.
-use Rattle.std.proofs.Common.{◌≡◌, ℕ, ◌+◌, ◌≤◌, Bool, true, false, List, [], ◌∷◌, ◌++◌, length, Option, Some, None, Result, Ok, Err, refl, ap, subst, arith, length-append}
+use Rattle.std.proofs.Common.{◌≡◌, ℕ, ℤ, ◌+◌, ◌≤◌, Bool, true, false, List, [], ◌∷◌, ◌++◌, length, Option, Some, None, Result, Ok, Err, refl, ap, subst, arith, length-append}
 use Rattle.std.specs.Prelude.{◌||◌, ◌&&◌, All, ◌==◌, nat_lt, if◌then◌else◌, codes, IfOk}
 use Rattle.std.specs.Str.{bytes_eq}
 use Rattle.std.specs.List.{list_any}
@@ -15,13 +15,15 @@ use Rattle.outcome.specs.Outcome.{◌>>=◌, unless, or_refused, Gives}
 use Rattle.path.specs.declared.refusal.Refusal.{Refusal}
 use Rattle.path.specs.declared.refusal.Refusal.TheVariants as refusals
 use Rattle.commands.specs.OutcomeLaws.{step_of, passed}
-use Rattle.commands.specs.Values.{text_in, bool_in, items_of, document_in, spelled_in}
+use Rattle.commands.specs.Values.{text_in, bool_in, items_of, document_in, spelled_in, id_in}
 use Rattle.commands.specs.Fields.{CommonFields, read_fields, common_field, no_common}
 use Rattle.commands.specs.Statements.{statements_in, each_of}
 use Rattle.commands.specs.Names.{is_bad_byte, is_bad_database, is_bad_collection, is_too_long, namespace_of}
 use Rattle.commands.specs.Ping.{read_ping}
 use Rattle.commands.specs.Insert.{Insert, InsertFields, no_insert_fields, documents_in, insert_field, read_insert}
 use Rattle.commands.specs.Find.{Find, no_find_fields, find_field, query_of, read_find}
+use Rattle.commands.specs.GetMore.{GetMore, no_get_more_fields, get_more_field, read_get_more}
+use Rattle.commands.specs.KillCursors.{KillCursors, KillCursorsFields, no_kill_cursors_fields, ids_in, kill_cursors_field, read_kill_cursors}
 use Rattle.commands.specs.Count.{read_count}
 use Rattle.commands.specs.Delete.{read_delete}
 use Rattle.commands.specs.Update.{UpdateStatement, UpdateStatementFields, no_statement_fields, statement_field, read_statement, Update, UpdateFields, no_update_fields, update_statements_in, update_field, read_update_command, IsRead}
@@ -30,7 +32,7 @@ use Rattle.commands.specs.Alone.{read_alone}
 use Rattle.commands.specs.Create.{Create, read_create}
 use Rattle.commands.specs.DropCollection.{DropCollection, read_drop}
 use Rattle.commands.specs.ListCollections.{ListCollections, read_list_collections}
-use Rattle.commands.specs.Command.{Command, ping, insert, find, count, delete, update, aggregate, create, drop, list_collections, as_command, command_of, IsBounded}
+use Rattle.commands.specs.Command.{Command, ping, insert, find, count, delete, update, aggregate, create, drop, list_collections, as_command, command_of, IsBounded, get_more, kill_cursors}
 
 later_false : (a b : Bool) → (a || b) ≡ false → b ≡ false
 later_false true b e = absurd cc
@@ -219,6 +221,34 @@ module _ (found next : UpdateFields) (name : List ℕ) (t : Tree) (h : ReadsAt f
       let same : record found { common = s.0 } ≡ next = cc in
       subst (λ (f : UpdateFields). ReadsAt f.statements) same h
 
+-- ---- cursors
+
+abbrev FewIds : Option (List ℤ) → Type 0
+FewIds None = Unit {0}
+FewIds (Some ids) = length ids ≤ 1000
+
+few_ids : (t : Tree) (ids : List ℤ) → ids_in t ≡ Ok ids → length ids ≤ 1000
+few_ids t ids e =
+    let s = step_of (statements_in t) (each_of id_in) ids e in
+    omega (arith, as_many id_in s.0 ids s.2, (few_items t s.0 s.1).0)
+
+module _ (found next : KillCursorsFields) (name : List ℕ) (t : Tree) (h : FewIds found.cursors) where
+  abbrev with_ids : List ℤ → Result KillCursorsFields Refusal
+  with_ids ids = Ok (record found { cursors = Some ids })
+
+  abbrev with_common_of : CommonFields → Result KillCursorsFields Refusal
+  with_common_of common = Ok (record found { common = common })
+
+  few_by_field : (b : Bool) → (if b then (ids_in t >>= with_ids) else (common_field found.common name t >>= with_common_of)) ≡ Ok next → FewIds next.cursors
+  few_by_field true e =
+      let s = step_of (ids_in t) with_ids next e in
+      let same : record found { cursors = Some s.0 } ≡ next = cc in
+      subst (λ (f : KillCursorsFields). FewIds f.cursors) same (few_ids t s.0 s.1)
+  few_by_field false e =
+      let s = step_of (common_field found.common name t) with_common_of next e in
+      let same : record found { common = s.0 } ≡ next = cc in
+      subst (λ (f : KillCursorsFields). FewIds f.cursors) same h
+
 -- ---- commands
 
 pub insert_bounded : (t : Tree) (ps : Pairs) (c : Insert) → read_insert t ps ≡ Ok c → (length c.namespace ≤ 255) × (length c.documents ≤ 1000) × (1 ≤ length c.documents)
@@ -242,6 +272,30 @@ find_bounded t ps c e =
     let made : Find = record { namespace = m.0; query = query_of s.0; batch_size = s.0.batch_size } in
     let same : made ≡ c = cc in
     subst (λ (x : Find). length x.namespace ≤ 255) same (short b.0 n.0 m.0 m.1)
+
+pub get_more_bounded : (t : Tree) (ps : Pairs) (c : GetMore) → read_get_more t ps ≡ Ok c → length c.namespace ≤ 255
+get_more_bounded t ps c e =
+    let i = step_of (id_in t) _ c e in
+    let s = step_of (read_fields get_more_field no_get_more_fields ps) _ c i.2 in
+    let b = step_of (or_refused s.0.common.database refusals.FailedToParse) _ c s.2 in
+    let n = step_of (or_refused s.0.collection refusals.FailedToParse) _ c b.2 in
+    let m = step_of (namespace_of b.0 n.0) _ c n.2 in
+    let made : GetMore = record { id = i.0; namespace = m.0; batch_size = s.0.batch_size } in
+    let same : made ≡ c = cc in
+    subst (λ (x : GetMore). length x.namespace ≤ 255) same (short b.0 n.0 m.0 m.1)
+
+pub kill_cursors_bounded : (t : Tree) (ps : Pairs) (c : KillCursors) → read_kill_cursors t ps ≡ Ok c → length c.cursors ≤ 1000
+kill_cursors_bounded t ps c e =
+    let n = step_of (text_in t) _ c e in
+    let s = step_of (read_fields kill_cursors_field no_kill_cursors_fields ps) _ c n.2 in
+    let b = step_of (or_refused s.0.common.database refusals.FailedToParse) _ c s.2 in
+    let d = step_of (or_refused s.0.cursors refusals.FailedToParse) _ c b.2 in
+    let m = step_of (namespace_of b.0 n.0) _ c d.2 in
+    let made : KillCursors = record { namespace = m.0; cursors = d.0 } in
+    let same : made ≡ c = cc in
+    let few = fields_keep (λ (f : KillCursorsFields). FewIds f.cursors) kill_cursors_field
+    (λ found next name t h e. few_by_field found next name t h (bytes_eq name (codes "cursors")) e) ps no_kill_cursors_fields s.0 tt s.1 in
+    subst (λ (x : KillCursors). length x.cursors ≤ 1000) same (subst FewIds (there s.0.cursors d.0 d.1) few)
 
 pub update_bounded : (t : Tree) (ps : Pairs) (c : Update) → read_update_command t ps ≡ Ok c → IsBounded (update c)
 update_bounded t ps c e =
@@ -320,6 +374,8 @@ bounded (pair name t ps) c e =
     chosen_bounded (bytes_eq name (codes "ping")) _ _ c (made_bounded (λ _. ping) (read_ping t ps) c (λ x h. tt))
     (chosen_bounded (bytes_eq name (codes "insert")) _ _ c (made_bounded insert (read_insert t ps) c (insert_bounded t ps))
     (chosen_bounded (bytes_eq name (codes "find")) _ _ c (made_bounded find (read_find t ps) c (find_bounded t ps))
+    (chosen_bounded (bytes_eq name (codes "getMore")) _ _ c (made_bounded get_more (read_get_more t ps) c (get_more_bounded t ps))
+    (chosen_bounded (bytes_eq name (codes "killCursors")) _ _ c (made_bounded kill_cursors (read_kill_cursors t ps) c (kill_cursors_bounded t ps))
     (chosen_bounded (bytes_eq name (codes "count")) _ _ c (made_bounded count (read_count t ps) c (λ x h. tt))
     (chosen_bounded (bytes_eq name (codes "delete")) _ _ c (made_bounded delete (read_delete t ps) c (λ x h. tt))
     (chosen_bounded (bytes_eq name (codes "update")) _ _ c (made_bounded update (read_update_command t ps) c (update_bounded t ps))
@@ -327,7 +383,7 @@ bounded (pair name t ps) c e =
     (chosen_bounded (bytes_eq name (codes "create")) _ _ c (made_bounded create (read_create t ps) c (create_bounded t ps))
     (chosen_bounded (bytes_eq name (codes "drop")) _ _ c (made_bounded drop (read_drop t ps) c (drop_bounded t ps))
     (chosen_bounded (bytes_eq name (codes "listCollections")) _ _ c (made_bounded list_collections (read_list_collections t ps) c (list_collections_bounded t ps))
-    (λ f. absurd cc)))))))))) e
+    (λ f. absurd cc)))))))))))) e
 
 -- a reader that gives what was planned gives a bounded command
 pub gives-bounded : {X : Type 0} (view : X → Command) (planned : Result Command Refusal) (r : Result X Refusal) → Gives refusals.OutOfMemory view r planned → ((c : Command) → planned ≡ Ok c → IsBounded c) → IfOk r (λ x. IsBounded (view x))

@@ -5,6 +5,8 @@ pub mod Names
 pub mod Ping
 pub mod Insert
 pub mod Find
+pub mod GetMore
+pub mod KillCursors
 pub mod Count
 pub mod Delete
 pub mod Update

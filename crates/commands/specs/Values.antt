@@ -21,6 +21,11 @@ abbrev pub bool_of : Tree → Option Bool
 bool_of (scalar (boolean b)) = Some b
 bool_of other = None
 
+-- the number of a cursor
+abbrev pub id_of : Tree → Option ℤ
+id_of (scalar (int64 z)) = Some z
+id_of other = None
+
 -- a value of another type is refused
 abbrev pub text_in : Tree → Result (List ℕ) Refusal
 text_in t = or_refused (text_of t) refusals.TypeMismatch
@@ -30,6 +35,9 @@ document_in t = or_refused (pairs_of t) refusals.TypeMismatch
 
 abbrev pub bool_in : Tree → Result Bool Refusal
 bool_in t = or_refused (bool_of t) refusals.TypeMismatch
+
+abbrev pub id_in : Tree → Result ℤ Refusal
+id_in t = or_refused (id_of t) refusals.TypeMismatch
 
 -- a number that is not negative; a negative one is out of range
 abbrev pub count_of : ℤ → Result ℕ Refusal

@@ -5,6 +5,8 @@ use Rattle.bson.specs.Tree.{Pairs}
 use Rattle.commands.specs.Command as commands
 use Rattle.commands.specs.Insert as inserts
 use Rattle.commands.specs.Find as finds
+use Rattle.commands.specs.GetMore as mores
+use Rattle.commands.specs.KillCursors as kills
 use Rattle.commands.specs.Count as counts
 use Rattle.commands.specs.Delete as deletes
 use Rattle.commands.specs.Update as updates
@@ -15,6 +17,8 @@ use Rattle.commands.specs.ListCollections as lists
 use Rattle.aggregate.specs.View.{pipeline_of}
 use Rattle.commands.specs.declared.insert.Insert.{Insert}
 use Rattle.commands.specs.declared.find.Find.{Find}
+use Rattle.commands.specs.declared.get_more.GetMore.{GetMore}
+use Rattle.commands.specs.declared.kill_cursors.KillCursors.{KillCursors}
 use Rattle.commands.specs.declared.count.Count.{Count}
 use Rattle.commands.specs.declared.delete.Delete.{Delete}
 use Rattle.commands.specs.declared.updates.Update.{Update}
@@ -35,6 +39,14 @@ insert_read c =
 abbrev pub find_read : Find → finds.Find
 find_read c =
     record { namespace = string_bytes c.namespace; query = c.query; batch_size = c.batch_size }
+
+abbrev pub get_more_read : GetMore → mores.GetMore
+get_more_read c =
+    record { id = c.id; namespace = string_bytes c.namespace; batch_size = c.batch_size }
+
+abbrev pub kill_cursors_read : KillCursors → kills.KillCursors
+kill_cursors_read c =
+    record { namespace = string_bytes c.namespace; cursors = c.cursors.items }
 
 abbrev pub count_read : Count → counts.Count
 count_read c = record {
@@ -70,6 +82,8 @@ abbrev pub command_read : Command → commands.Command
 command_read cases.Ping = commands.ping
 command_read (cases.Insert c) = commands.insert (insert_read c)
 command_read (cases.Find c) = commands.find (find_read c)
+command_read (cases.GetMore c) = commands.get_more (get_more_read c)
+command_read (cases.KillCursors c) = commands.kill_cursors (kill_cursors_read c)
 command_read (cases.Count c) = commands.count (count_read c)
 command_read (cases.Delete c) = commands.delete (delete_read c)
 command_read (cases.Update c) = commands.update (update_read c)

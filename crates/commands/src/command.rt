@@ -11,8 +11,10 @@ use crate::create::{Create, read_create};
 use crate::delete::{Delete, read_delete};
 use crate::drop_collection::{DropCollection, read_drop};
 use crate::find::{Find, read_find};
+use crate::get_more::{GetMore, read_get_more};
 use crate::insert::{Insert, read_insert};
 use crate::list_collections::{ListCollections, read_list_collections};
+use crate::kill_cursors::{KillCursors, read_kill_cursors};
 use crate::ping::read_ping;
 use crate::updates::{Update, read_update};
 use bson::Document;
@@ -25,6 +27,8 @@ pub enum Command<'a> {
     Ping,
     Insert(Insert<'a>),
     Find(Find),
+    GetMore(GetMore),
+    KillCursors(KillCursors),
     Count(Count),
     Delete(Delete),
     Update(Update),
@@ -38,7 +42,7 @@ impl<'a> Command<'a> {
     /// The command that a body spells, which its first name says.
     ///
     /// The first of these refusals: `CommandNotFound`; `TypeMismatch` where the collection's name is no
-    /// string; what is wrong with a field, in the order written; `FailedToParse` where a field
+    /// string, or the number of a cursor no int64; what is wrong with a field, in the order written; `FailedToParse` where a field
     /// is missing; `InvalidNamespace`.
     #[tactic(auto, unfolding(crate::specs::Command::command_of))]
     pub fn read(alloc: Global, body: &'a Document) -> Result<Command<'a>, Refusal>
@@ -57,6 +61,10 @@ impl<'a> Command<'a> {
             Ok(Command::Insert(read_insert(alloc, value, rest)?))
         } else if name == "find" {
             Ok(Command::Find(read_find(alloc, value, rest)?))
+        } else if name == "getMore" {
+            Ok(Command::GetMore(read_get_more(alloc, value, rest)?))
+        } else if name == "killCursors" {
+            Ok(Command::KillCursors(read_kill_cursors(alloc, value, rest)?))
         } else if name == "count" {
             Ok(Command::Count(read_count(alloc, value, rest)?))
         } else if name == "delete" {

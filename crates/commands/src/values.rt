@@ -3,7 +3,7 @@
 ghost use Rattle.std.specs.Prelude.{◌≡◌};
 ghost use Rattle.bson.specs.View.{tree};
 ghost use Rattle.outcome.specs.Outcome.{Gives};
-ghost use Rattle.commands.specs.Values.{text_in, bool_in, count_in, document_in};
+ghost use Rattle.commands.specs.Values.{text_in, bool_in, id_in, count_in, document_in};
 
 use bson::{Document, Value};
 use path::Refusal;
@@ -24,6 +24,16 @@ pub(crate) fn bool_in(value: &Value) -> Result<bool, Refusal>
 {
     match value {
         Value::Bool(boolean) => Ok(*boolean),
+        _ => Err(Refusal::TypeMismatch),
+    }
+}
+
+/// The number of a cursor: an int64 (else `TypeMismatch`).
+pub(crate) fn id_in(value: &Value) -> Result<i64, Refusal>
+    ensures { Gives Refusal.OutOfMemory (λ z. z) result (id_in (tree value.now)) }
+{
+    match value {
+        Value::Int64(number) => Ok(*number),
         _ => Err(Refusal::TypeMismatch),
     }
 }

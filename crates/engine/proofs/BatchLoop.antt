@@ -1,7 +1,6 @@
 -- The loop that spells a batch, document by document.
 use Rattle.std.proofs.Common.{◌≡◌, ◌≢◌, ℕ, zero, suc, ◌+◌, ◌-◌, ◌<◌, ◌≤◌, Bool, true, false, List, [], ◌∷◌, ◌++◌, length, take, drop, get_or, map, refl, sym, ap, subst, ◌∙◌, append_assoc, arith}
 use Rattle.std.specs.Prelude.{◌==◌, ◌||◌, if◌then◌else◌, nat_le, All}
-use Rattle.std.specs.Borrow.{Bor}
 use Rattle.std.specs.Fmt.{decimal}
 use Rattle.std.proofs.lemmas.List.{append-nil, drop-map, drop_all}
 use Rattle.std.proofs.lemmas.List.Elements.{All-append, All-head, All-drop}
@@ -16,11 +15,11 @@ use Rattle.engine.specs.View.{projected}
 use Rattle.engine.proofs.Steps.{drop_step}
 
 -- what a projection leaves of the documents from an index on
-pub projected_step : (p : Projection) (ds : List (Bor Pairs)) (i : ℕ) (d : Bor Pairs) → i < length ds → d ≡ get_or ds i d → drop i (projected p ds) ≡ project p d.now ∷ drop (i + 1) (projected p ds)
-projected_step p ds i d within is =
-    let now : Bor Pairs → Pairs = λ b. b.now in
-    drop-map (project p) i (map now ds) ∙ ap (λ (xs : List Pairs). map (project p) xs) (drop-map now i ds ∙ ap (λ (xs : List (Bor Pairs)). map now xs) (drop_step ds i d within is) ∙ ap (λ (xs : List Pairs). d.now ∷ xs) (sym (drop-map now (i + 1) ds)))
-    ∙ ap (λ (xs : List Pairs). project p d.now ∷ xs) (sym (drop-map (project p) (i + 1) (map now ds)))
+pub projected_step : {X : Type 0} (lent : X → Pairs) (p : Projection) (ds : List X) (i : ℕ) (d : X) (seen : Pairs) → i < length ds → d ≡ get_or ds i d → seen ≡ lent d
+    → drop i (projected p (map lent ds)) ≡ project p seen ∷ drop (i + 1) (projected p (map lent ds))
+projected_step {X} lent p ds i d seen within is same =
+    drop-map (project p) i (map lent ds) ∙ ap (λ (xs : List Pairs). map (project p) xs) (drop-map lent i ds ∙ ap (λ (xs : List X). map lent xs) (drop_step ds i d within is) ∙ ap (λ (xs : List Pairs). lent d ∷ xs) (sym (drop-map lent (i + 1) ds)))
+    ∙ (λ j. project p (sym same j) ∷ sym (drop-map (project p) (i + 1) (map lent ds)) j)
 
 take_suc : {X : Type 0} (xs : List X) (i : ℕ) (x : X) (rest : List X) → drop i xs ≡ x ∷ rest → take (suc i) xs ≡ take i xs ++ x ∷ []
 take_suc [] zero x rest e = absurd cc

@@ -1,6 +1,6 @@
 -- How a turn ends: what it changed is durable, or not.
-use Rattle.std.proofs.Common.{◌≡◌, ◌≢◌, ◌⊎◌, inl, inr, ℕ, true, false, List, Result, Ok, Err, refl, sym, ap, subst, ◌∙◌, arith}
-use Rattle.std.specs.Prelude.{All}
+use Rattle.std.proofs.Common.{◌≡◌, ◌≢◌, ◌⊎◌, inl, inr, ℕ, true, false, List, map, Result, Ok, Err, refl, sym, ap, subst, ◌∙◌, arith}
+use Rattle.std.specs.Prelude.{not, All}
 use Rattle.page.specs.History.{History, KeepsWord}
 use Rattle.page.specs.Crash.{GoesOn, LeavesOnly, LeavesNow}
 use Rattle.page.proofs.Moments.{goes_nowhere, started, leaves_now}
@@ -11,10 +11,11 @@ use Rattle.roots.proofs.OpenSteps.{holds_by}
 use Rattle.roots.specs.Store as stores
 use Rattle.roots.specs.declared.store.CommitFault.{CommitFault}
 use Rattle.roots.specs.declared.store.CommitFault.TheVariants as faults
-use Rattle.engine.specs.World.{World, Collection, after_undo}
-use Rattle.engine.specs.Lawful.{IsReadable, IsLawfulState}
+use Rattle.engine.specs.World.{World, Collection, Cursor, CursorTable, at_rest, after_commit, after_undo}
+use Rattle.std.proofs.lemmas.List.Elements.{All-filter, All-map}
+use Rattle.engine.specs.Lawful.{IsWithin, IsReadable, IsLawfulState, AreLawfulCursors}
 use Rattle.engine.specs.Stored.{database_entries}
-use Rattle.engine.specs.View.{world, turn_start}
+use Rattle.engine.specs.View.{world_of, world, turn_start}
 use Rattle.engine.specs.Durable.{Holds, disk_history, has_changes, is_stopped, IsRunning, IsSound}
 use Rattle.engine.specs.Committing.{Saves, Commits}
 use Rattle.engine.specs.declared.engine.Engine.{Engine}
@@ -35,47 +36,63 @@ stands_for collections image h =
     let ascend = (are_ascending collections h.lawful h.readable).ascend in
     subst (StandsFor image) (one_order h.entries.entries (database_entries collections) h.entries.ascend ascend h.entries.same) h.entries.stands
 
+-- the end of a turn changes no cursor's documents
+rested_lawful : (cs : List Cursor) → AreLawfulCursors cs → AreLawfulCursors (map at_rest cs)
+rested_lawful cs h = All-map (λ (c : Cursor). All IsWithin c.rest) at_rest cs h
+
 module _ {D : Type 0} (history : D → History) (old new : Engine D) (h : IsSound history old) where
   -- what stood for the entries that were committed last holds the collections from the beginning of the turn
-  old_holds : KeepsWord (disk_history history old) → IsRunning old → (image : ℕ → List ℕ) → StandsFor image (stores.committed_entries history old.store) → Holds image (turn_start old).collections
-  old_holds k run image stands = holds_by_entries (turn_start old).collections image h.before h.readable (subst (StandsFor image) (h.committed k run) stands)
+  old_holds : KeepsWord (disk_history history old) → IsRunning old → (image : ℕ → List ℕ) → StandsFor image (stores.committed_entries history old.store) → Holds image (turn_start old)
+  old_holds k run image stands = holds_by_entries (turn_start old) image h.before h.readable (subst (StandsFor image) (h.committed k run) stands)
 
-  -- nothing was changed
-  pub kept_as_it_is : new ≡ old → turn_start old ≡ world old → has_changes old ≡ false → Commits history (Ok tt) old new
-  kept_as_it_is same idle rests =
-      subst (λ (e : Engine D). Commits history (Ok tt) old e) (sym same) (record {
-        sound = h;
-        on = goes_nowhere (disk_history history old);
-        done = refl;
-        stops = λ e. absurd cc;
-        memory = λ e. absurd cc;
-        full = λ e. absurd cc;
-        ended = idle;
-        limit = refl;
-        takes = omega arith;
-        running = λ e. refl;
-        any_moment = λ run. started (disk_history history old) (λ image. Holds image (turn_start old).collections ⊎ Holds image (world old).collections) (λ k image left. inl (h.holds run k image left));
-        kept = λ run e. tt;
-        acknowledged = λ run. subst (λ (w : World). LeavesNow (disk_history history old) (λ image. Holds image w.collections)) idle (h.holds run);
-        device = λ e k. absurd cc;
-        idle = λ e. refl;
-        quiet = λ e. (refl, refl);
-        rests = rests;
-      })
+  -- nothing was changed but cursors
+  module _ (cursors : CursorTable) where
+    abbrev quiet_engine : Engine D
+    quiet_engine = record { alloc = old.alloc; collections = old.collections; cursors = cursors; store = old.store }
+
+    pub kept_as_it_is : cursors ≡ record old.cursors { list = map at_rest old.cursors.list } → turn_start old ≡ (world old).collections → has_changes old ≡ false → Commits history (Ok tt) old quiet_engine
+    kept_as_it_is made idle rests = record {
+      sound = record {
+        store = h.store;
+        lawful = h.lawful;
+        cursors = subst (λ (t : CursorTable). AreLawfulCursors t.list) (sym made) (rested_lawful old.cursors.list h.cursors);
+        before = h.before;
+        readable = h.readable;
+        holds = h.holds;
+        committed = h.committed;
+      };
+      on = goes_nowhere (disk_history history old);
+      done = ap (world_of old.collections) made;
+      stops = λ e. absurd cc;
+      memory = λ e. absurd cc;
+      full = λ e. absurd cc;
+      ended = idle;
+      limit = refl;
+      takes = omega arith;
+      running = λ e. refl;
+      any_moment = λ run. started (disk_history history old) (λ image. Holds image (turn_start old) ⊎ Holds image (world old).collections) (λ k image left. inl (h.holds run k image left));
+      kept = λ run e. tt;
+      acknowledged = λ run. subst (λ (cs : List Collection). LeavesNow (disk_history history old) (λ image. Holds image cs)) idle (h.holds run);
+      device = λ e k. absurd cc;
+      idle = λ e. refl;
+      quiet = λ e. (refl, refl);
+      rests = rests;
+    }
 
   -- the collections are as they were at the beginning of the turn
-  module _ (moved : has_changes old ≡ true) (rests : has_changes new ≡ false) (back : world new ≡ after_undo (turn_start old) (world old)) (ended : turn_start new ≡ world new) where
-    first_state : (turn_start new).collections ≡ (turn_start old).collections
-    first_state = ap (λ (w : World). w.collections) (ended ∙ back)
+  module _ (moved : has_changes old ≡ true) (rests : has_changes new ≡ false) (back : world new ≡ after_undo (turn_start old) (world old)) (ended : turn_start new ≡ (world new).collections) where
+    first_state : turn_start new ≡ turn_start old
+    first_state = ended ∙ ap (λ (w : World). w.collections) back
 
-    now_state : (world new).collections ≡ (turn_start old).collections
+    now_state : (world new).collections ≡ turn_start old
     now_state = ap (λ (w : World). w.collections) back
 
-    pub sound_again : stores.IsSound history new.store → (IsRunning new → LeavesNow (disk_history history new) (λ image. Holds image (turn_start old).collections))
-        → (KeepsWord (disk_history history new) → IsRunning new → stores.committed_entries history new.store ≡ database_entries (turn_start old).collections) → IsSound history new
+    pub sound_again : stores.IsSound history new.store → (IsRunning new → LeavesNow (disk_history history new) (λ image. Holds image (turn_start old)))
+        → (KeepsWord (disk_history history new) → IsRunning new → stores.committed_entries history new.store ≡ database_entries (turn_start old)) → IsSound history new
     sound_again store holds committed = record {
       store = store;
       lawful = subst IsLawfulState (sym now_state) h.before;
+      cursors = subst (λ (w : World). AreLawfulCursors w.cursors) (sym back) (All-filter (λ (c : Cursor). not c.touched) (λ (c : Cursor). All IsWithin c.rest) (world old).cursors h.cursors);
       before = subst IsLawfulState (sym first_state) h.before;
       readable = subst (λ (cs : List Collection). All IsReadable cs) (sym first_state) h.readable;
       holds = λ run. subst (λ (cs : List Collection). LeavesNow (disk_history history new) (λ image. Holds image cs)) (sym first_state) (holds run);
@@ -86,8 +103,8 @@ module _ {D : Type 0} (history : D → History) (old new : Engine D) (h : IsSoun
     pub undone_before : new.store ≡ old.store → Commits history (Err faults.Memory) old new
     undone_before same = record {
       sound = sound_again (subst (stores.IsSound history) (sym same) h.store)
-          (subst (λ s. stores.is_stopped s ≡ false → LeavesNow (history s.disk) (λ image. Holds image (turn_start old).collections)) (sym same) h.holds)
-          (subst (λ s. KeepsWord (history s.disk) → stores.is_stopped s ≡ false → stores.committed_entries history s ≡ database_entries (turn_start old).collections) (sym same) h.committed);
+          (subst (λ s. stores.is_stopped s ≡ false → LeavesNow (history s.disk) (λ image. Holds image (turn_start old))) (sym same) h.holds)
+          (subst (λ s. KeepsWord (history s.disk) → stores.is_stopped s ≡ false → stores.committed_entries history s ≡ database_entries (turn_start old)) (sym same) h.committed);
       on = subst (λ s. GoesOn (disk_history history old) (history s.disk)) (sym same) (goes_nowhere (disk_history history old));
       done = tt;
       stops = λ e. absurd cc;
@@ -97,10 +114,10 @@ module _ {D : Type 0} (history : D → History) (old new : Engine D) (h : IsSoun
       limit = ap stores.limit_of same;
       takes = omega (arith, ap stores.full_takes_of same);
       running = λ e. ap stores.is_stopped same;
-      any_moment = λ run. subst (λ s. LeavesOnly (disk_history history old) (history s.disk) (λ image. Holds image (turn_start old).collections ⊎ Holds image (world old).collections)) (sym same)
-          (started (disk_history history old) (λ image. Holds image (turn_start old).collections ⊎ Holds image (world old).collections) (λ k image left. inl (h.holds run k image left)));
-      kept = λ run e. subst (λ s. LeavesOnly (disk_history history old) (history s.disk) (λ image. Holds image (turn_start old).collections)) (sym same)
-          (started (disk_history history old) (λ image. Holds image (turn_start old).collections) (h.holds run));
+      any_moment = λ run. subst (λ s. LeavesOnly (disk_history history old) (history s.disk) (λ image. Holds image (turn_start old) ⊎ Holds image (world old).collections)) (sym same)
+          (started (disk_history history old) (λ image. Holds image (turn_start old) ⊎ Holds image (world old).collections) (λ k image left. inl (h.holds run k image left)));
+      kept = λ run e. subst (λ s. LeavesOnly (disk_history history old) (history s.disk) (λ image. Holds image (turn_start old))) (sym same)
+          (started (disk_history history old) (λ image. Holds image (turn_start old)) (h.holds run));
       acknowledged = λ run. tt;
       device = λ e k. absurd cc;
       idle = λ e. ap (λ s. history s.disk) same;
@@ -112,11 +129,11 @@ module _ {D : Type 0} (history : D → History) (old new : Engine D) (h : IsSoun
     pub undone_after : (fault : CommitFault) → fault ≢ faults.Device → Saves history (database_entries (world old).collections) (Err fault) old.store new.store → Commits history (Err fault) old new
     undone_after fault other saved =
         let not_device : (let r : Result (Unit {0}) CommitFault = Err fault in r) ≢ Err faults.Device = λ e. other (ap fault_of e) in
-        let before : IsRunning old → LeavesOnly (disk_history history old) (disk_history history new) (λ image. Holds image (turn_start old).collections) =
+        let before : IsRunning old → LeavesOnly (disk_history history old) (disk_history history new) (λ image. Holds image (turn_start old)) =
         λ run k image left. old_holds (saved.on.kept k) run image (saved.kept run not_device k image left) in
         let ran : IsRunning new → IsRunning old = λ run. sym (saved.running not_device) ∙ run in
         record {
-          sound = sound_again saved.sound (λ run. leaves_now (disk_history history old) (disk_history history new) (λ image. Holds image (turn_start old).collections) saved.on (before (ran run)))
+          sound = sound_again saved.sound (λ run. leaves_now (disk_history history old) (disk_history history new) (λ image. Holds image (turn_start old)) saved.on (before (ran run)))
               (λ k run. saved.before not_device k ∙ h.committed (saved.on.kept k) (ran run));
           on = saved.on;
           done = tt;
@@ -137,9 +154,9 @@ module _ {D : Type 0} (history : D → History) (old new : Engine D) (h : IsSoun
         }
 
   -- the collections are as they stand
-  module _ (moved : has_changes old ≡ true) (rests : has_changes new ≡ false) (forth : world new ≡ world old) (ended : turn_start new ≡ world new) (readable : All IsReadable (world old).collections) where
-    there : (turn_start new).collections ≡ (world old).collections
-    there = ap (λ (w : World). w.collections) (ended ∙ forth)
+  module _ (moved : has_changes old ≡ true) (rests : has_changes new ≡ false) (forth : world new ≡ after_commit (world old)) (ended : turn_start new ≡ (world new).collections) (readable : All IsReadable (world old).collections) where
+    there : turn_start new ≡ (world old).collections
+    there = ended ∙ ap (λ (w : World). w.collections) forth
 
     now_there : (world new).collections ≡ (world old).collections
     now_there = ap (λ (w : World). w.collections) forth
@@ -151,7 +168,7 @@ module _ {D : Type 0} (history : D → History) (old new : Engine D) (h : IsSoun
     new_holds image stands = holds_by_entries (world old).collections image h.lawful readable stands
 
     at_any_moment : (r : Result (Unit {0}) CommitFault) → Saves history entries r old.store new.store → IsRunning old
-        → LeavesOnly (disk_history history old) (disk_history history new) (λ image. Holds image (turn_start old).collections ⊎ Holds image (world old).collections)
+        → LeavesOnly (disk_history history old) (disk_history history new) (λ image. Holds image (turn_start old) ⊎ Holds image (world old).collections)
     at_any_moment r saved run k image left = elim (saved.any_moment run k image left) [
       | inl before ↦ inl (old_holds (saved.on.kept k) run image before)
       | inr after ↦ inr (new_holds image after)
@@ -162,6 +179,7 @@ module _ {D : Type 0} (history : D → History) (old new : Engine D) (h : IsSoun
     sound_now store holds committed = record {
       store = store;
       lawful = subst IsLawfulState (sym now_there) h.lawful;
+      cursors = subst (λ (w : World). AreLawfulCursors w.cursors) (sym forth) (rested_lawful (world old).cursors h.cursors);
       before = subst IsLawfulState (sym there) h.lawful;
       readable = subst (λ (cs : List Collection). All IsReadable cs) (sym there) readable;
       holds = λ run. subst (λ (cs : List Collection). LeavesNow (disk_history history new) (λ image. Holds image cs)) (sym there) (holds run);

@@ -1,5 +1,5 @@
 -- A lawful world steps to a lawful world, and its replies are within their limit.
-use Rattle.std.proofs.Common.{◌≡◌, ◌⊎◌, inl, inr, ℕ, suc, max, min, ◌+◌, ◌-◌, ◌<◌, ◌≤◌, Bool, true, false, List, [], ◌∷◌, ◌++◌, length, length-append, map, set, insert, take, drop, Option, Some, None, Result, Ok, Err, refl, sym, ap, subst, ◌∙◌, arith}
+use Rattle.std.proofs.Common.{◌≡◌, ◌⊎◌, inl, inr, ℕ, suc, max, min, ◌+◌, ◌-◌, ◌<◌, ◌≤◌, Bool, true, false, List, [], ◌∷◌, ◌++◌, length, length-append, map, set, insert, take, drop, Option, Some, None, Result, Ok, Err, refl, sym, ap, subst, ◌∙◌, arith, zero, remove, lit≤}
 use Rattle.std.specs.Prelude.{◌&&◌, ◌||◌, ◌^◌, not, is_some, nat_le, if◌then◌else◌, codes, unwrap_or, nat_lt, All}
 use Rattle.std.specs.Str.{bytes_eq}
 use Rattle.std.specs.Cmp.Lexicographic.{slice_cmp}
@@ -8,14 +8,16 @@ use Rattle.std.proofs.lemmas.Bool.Decides.{nat_tests}
 use Rattle.std.proofs.lemmas.Cmp.{nat_list_cmp_total}
 use Rattle.std.proofs.lemmas.List.{length-set, take_all}
 use Rattle.std.proofs.lemmas.List.Edits.{length-insert}
-use Rattle.std.proofs.lemmas.List.Elements.{All-cons, All-drop, All-set}
+use Rattle.std.proofs.lemmas.List.Elements.{All-cons, All-append, All-drop, All-set, All-filter, All-head, All-tail}
+use Rattle.std.proofs.lemmas.List.Quantifiers.{position-Some}
+use Rattle.std.specs.List.{filter, position}
 use Rattle.std.proofs.lemmas.Map.Lookups.{exact_bytes}
 use Rattle.bson.specs.Tree.{Tree, Pairs, pair, no_pairs}
 use Rattle.bson.specs.Spelling.{items_bytes}
 use Rattle.bson.specs.declared.fault.BsonFault.{BsonFault}
 use Rattle.value_order.specs.Order.{compare}
 use Rattle.value_order.specs.TotalLaws.{compare_total}
-use Rattle.engine.specs.World.{World, Collection, Cursor, find_collection, uses, unused, number_or, with_documents, documents_or_none, documents_of, put_collection, count_of}
+use Rattle.engine.specs.World.{World, Collection, Cursor, find_collection, uses, unused, number_or, with_documents, documents_or_none, documents_of, put_collection}
 use Rattle.outcome.specs.Outcome.{◌>>=◌, unless, or_refused}
 use Rattle.engine.specs.Documents.{key_of, place, checked, insert_one, insert_all}
 use Rattle.update.specs.Stored.{id_first}
@@ -39,11 +41,15 @@ use Rattle.engine.specs.ListCollections.{names_in, listed, run_list_collections}
 use Rattle.engine.proofs.Creating.{dropped_lawful}
 use Rattle.engine.proofs.Listing.{go_into_one}
 use Rattle.engine.specs.Refusals.{int, total, words, ok_reply}
-use Rattle.commands.specs.Command.{Command, ping, insert as insert_of, find as find_of, count as count_of_all, delete, update, aggregate, create as create_of, drop as drop_of, list_collections, command_of, IsBounded}
-use Rattle.engine.specs.Lawful.{IsStored, IsWithin, IsRising, AreNamedApart, AreNumberedApart, IsKept, IsLawfulState, IsLawful}
+use Rattle.commands.specs.Command.{Command, ping, insert as insert_of, find as find_of, count as count_of_all, delete, update, aggregate, create as create_of, drop as drop_of, list_collections, command_of, IsBounded, get_more, kill_cursors}
+use Rattle.engine.specs.Lawful.{IsStored, IsWithin, IsRising, AreNamedApart, AreNumberedApart, IsKept, IsLawfulState, IsLawful, AreLawfulCursors}
 use Rattle.engine.specs.Places.{collection_at, no_collection}
 use Rattle.engine.specs.Progress.{is_full, with_document}
-use Rattle.engine.specs.Cursors.{items_of_documents, batch_of, cursor_reply, open_cursor, first_batch}
+use Rattle.engine.specs.Cursors.{items_of_documents, batch_of, number_after, batch_reply, is_refused, new_cursor, open_cursor, first_batch, is_cursor, no_cursor, cursor_at}
+use Rattle.commands.specs.GetMore.{GetMore}
+use Rattle.commands.specs.KillCursors.{KillCursors}
+use Rattle.engine.specs.GetMore.{batch_len_of, next_batch, run_get_more}
+use Rattle.engine.specs.KillCursors.{no_ids, told_apart, has_cursor, is_asked, kill_reply, run_kill_cursors}
 use Rattle.engine.specs.Insert.{run_insert}
 use Rattle.engine.specs.Count.{run_count}
 use Rattle.engine.specs.Step.{run, answered, step}
@@ -59,7 +65,7 @@ use Rattle.engine.proofs.Finding.{found_within}
 use Rattle.engine.proofs.Ordered.{Rises, rises_insert, All-inserted, place_gap, place_there, missing, found, added, replaced}
 use Rattle.engine.proofs.Numbers.{unused_unused, number_bounds, numbers_set, numbers_insert}
 use Rattle.engine.proofs.Rewinding.{apart_set}
-use Rattle.engine.proofs.SpelledSizes.{ping-sendable, insert-sendable, drop-sendable, refusal-sendable, batch_items, cursor-sendable}
+use Rattle.engine.proofs.SpelledSizes.{ping-sendable, insert-sendable, drop-sendable, refusal-sendable, batch_items, cursor-sendable, kill-sendable, told_few}
 
 -- ---- documents
 
@@ -207,44 +213,49 @@ abbrev fits_in : List Pairs → Type 0
 fits_in ds = length (items_bytes 0 (items_of_documents ds)) ≤ max (900000 - 5) (65535 + 3)
 
 module _ (w : World) (connection : ℕ) (name : List ℕ) (rest : List Pairs) where
-  abbrev new_cursor : Cursor
-  new_cursor = record { number = w.next; connection = connection; namespace = name; rest = rest }
+  abbrev opened_cursor : Cursor
+  opened_cursor = new_cursor w.next connection name rest
 
   abbrev with_cursor : World
-  with_cursor = record w { cursors = new_cursor ∷ w.cursors; next = w.next + 1; touched = w.next ∷ w.touched }
+  with_cursor = record w { cursors = w.cursors ++ opened_cursor ∷ []; next = w.next + 1 }
 
   opened_lawful : (opened : World) → IsLawful w → All IsWithin rest → open_cursor w connection name rest ≡ Ok opened → IsLawful opened
-  opened_lawful opened h stored e = at (nat_le 0 (count_of connection w.cursors) || nat_le (2 ^ 63) w.next) e
+  opened_lawful opened h stored e = at (is_refused connection w.cursors w.next) e
     where
       at : (b : Bool) → unless b refusals.TooMany (Ok with_cursor) ≡ Ok opened → IsLawful opened
       at true e = absurd cc
       at false e =
           let same : with_cursor ≡ opened = cc in
-          subst IsLawful same (record { collections = h.collections; cursors = All-cons (λ (c : Cursor). All IsWithin c.rest) new_cursor w.cursors stored h.cursors })
+          let one : AreLawfulCursors (opened_cursor ∷ []) = All-cons (λ (c : Cursor). All IsWithin c.rest) opened_cursor [] stored (λ k d below. absurd (omega (arith, below))) in
+          subst IsLawful same (record { collections = h.collections; cursors = All-append (λ (c : Cursor). All IsWithin c.rest) w.cursors (opened_cursor ∷ []) h.cursors one })
 
 module _ (w : World) (connection : ℕ) (name : List ℕ) (ds : List Pairs) (most : ℕ) where
   abbrev n : ℕ
   n = batch_of most ds
 
+  abbrev first : ℕ → Pairs
+  first number = batch_reply (codes "firstBatch") n ds number name
+
   abbrev after_opening : Result World Refusal → Result (World × Pairs) Refusal
-  after_opening r = r >>= (λ opened. let x : Result (World × Pairs) Refusal = Ok (opened, cursor_reply (codes "firstBatch") (take n ds) w.next name) in x)
+  after_opening r = r >>= (λ after. Ok (after, first w.next))
 
   good_batch : IsLawful w → length name ≤ 255 → All IsWithin ds → Good (first_batch w connection name ds n)
-  good_batch h short within = at (nat_le (length ds) n) refl
+  good_batch h short within = at (nat_le (length ds) n)
     where
       small : fits_in (take n ds)
       small = batch_items most (900000 - 5) ds within
 
+      sendable : IsSendable (ok_reply (first w.next))
+      sendable = cursor-sendable (codes "firstBatch") (take n ds) (number_after n ds w.next) name (lit≤ tt) small short
+
       part : (r : Result World Refusal) → open_cursor w connection name (drop n ds) ≡ r → Good (after_opening r)
       part (Err e) is = λ x f. absurd cc
       part (Ok opened) is =
-          good_one opened (cursor_reply (codes "firstBatch") (take n ds) w.next name) (opened_lawful w connection name (drop n ds) opened h (All-drop IsWithin n ds within) is) (cursor-sendable (take n ds) w.next name small short)
+          good_one opened (first w.next) (opened_lawful w connection name (drop n ds) opened h (All-drop IsWithin n ds within) is) sendable
 
-      at : (b : Bool) → nat_le (length ds) n ≡ b → Good (if b then Ok (w, cursor_reply (codes "firstBatch") ds 0 name) else after_opening (open_cursor w connection name (drop n ds)))
-      at true whole =
-          let all : length ds ≤ n = grind (arith, nat_tests) in
-          good_one w (cursor_reply (codes "firstBatch") ds 0 name) h (cursor-sendable ds 0 name (subst fits_in (take_all n ds all) small) short)
-      at false over = part (open_cursor w connection name (drop n ds)) refl
+      at : (b : Bool) → Good (after_opening (if b then Ok w else open_cursor w connection name (drop n ds)))
+      at true = good_one w (first w.next) h sendable
+      at false = part (open_cursor w connection name (drop n ds)) refl
 
 good_find : (w : World) (connection : ℕ) (name : List ℕ) (query : Query) (batch_size : Option ℕ) → IsLawful w → length name ≤ 255 → Good (run_find w connection (record { namespace = name; query = query; batch_size = batch_size }))
 unfolding run_find
@@ -258,6 +269,57 @@ good_aggregate w connection c h short = at (after_pipeline c.pipeline 65535 (doc
     at : (r : Result (List Pairs) Refusal) → after_pipeline c.pipeline 65535 (documents_of w.collections c.namespace) ≡ r → Good (r >>= (λ ds. first_batch w connection c.namespace ds (batch_of (unwrap_or c.batch_size 101) ds)))
     at (Ok ds) is = good_batch w connection c.namespace ds (unwrap_or c.batch_size 101) h short (piped_within c.pipeline (documents_of w.collections c.namespace) ds (stored_at w.collections c.namespace h.collections.kept).1 is)
     at (Err e) is = λ x f. absurd cc
+
+-- ---- open cursors
+
+All-removed : {X : Type 0} (P : X → Type 0) (xs : List X) (i : ℕ) → All P xs → All P (remove xs i)
+All-removed P [] zero h = h
+All-removed P [] (suc i) h = h
+All-removed P (x ∷ xs) zero h = All-tail P x xs h
+All-removed P (x ∷ xs) (suc i) h = All-cons P x (remove xs i) (All-head P x xs h) (All-removed P xs i (All-tail P x xs h))
+
+module _ (w : World) (c : GetMore) (at : ℕ) (h : IsLawful w) (within : at < length w.cursors) where
+  abbrev given_by : Cursor
+  given_by = cursor_at w.cursors at
+
+  abbrev more : ℕ
+  more = batch_len_of given_by c.batch_size
+
+  abbrev advanced_cursor : Cursor
+  advanced_cursor = record given_by { rest = drop more given_by.rest; touched = true }
+
+  its_documents : All IsWithin given_by.rest
+  its_documents = h.cursors at no_cursor within
+
+  advanced_lawful : (b : Bool) → AreLawfulCursors (if b then remove w.cursors at else set w.cursors at advanced_cursor)
+  advanced_lawful true = All-removed (λ (c : Cursor). All IsWithin c.rest) w.cursors at h.cursors
+  advanced_lawful false = All-set (λ (c : Cursor). All IsWithin c.rest) w.cursors at advanced_cursor (All-drop IsWithin more given_by.rest its_documents) h.cursors
+
+  good_next : length c.namespace ≤ 255 → Good (Ok (next_batch w c at))
+  good_next short = λ x e.
+      let same : next_batch w c at ≡ x = cc in
+      let small = batch_items (unwrap_or c.batch_size (length given_by.rest)) (900000 - 5) given_by.rest its_documents in
+      subst (λ (y : World × Pairs). IsLawful y.0 × IsSendable (ok_reply y.1)) same (
+        record { collections = h.collections; cursors = advanced_lawful (nat_le (length given_by.rest) more) },
+        cursor-sendable (codes "nextBatch") (take more given_by.rest) (number_after more given_by.rest given_by.number) c.namespace (lit≤ tt) small short,
+      )
+
+good_get_more : (w : World) (connection : ℕ) (c : GetMore) → IsLawful w → length c.namespace ≤ 255 → Good (run_get_more w connection c)
+unfolding run_get_more
+good_get_more w connection c h short = at (position (is_cursor connection c.namespace c.id) w.cursors) refl
+  where
+    at : (o : Option ℕ) → position (is_cursor connection c.namespace c.id) w.cursors ≡ o → Good (or_refused o refusals.CursorNotFound >>= (λ place. let x : Result (World × Pairs) Refusal = Ok (next_batch w c place) in x))
+    at None is = λ x f. absurd cc
+    at (Some place) is = good_next w c place h (position-Some (is_cursor connection c.namespace c.id) w.cursors place no_cursor is).0 short
+
+good_kill_cursors : (w : World) (connection : ℕ) (c : KillCursors) → IsLawful w → length c.cursors ≤ 1000 → Good (run_kill_cursors w connection c)
+unfolding run_kill_cursors
+good_kill_cursors w connection c h few =
+    let told = told_apart (has_cursor connection c.namespace w.cursors) no_ids c.cursors in
+    let f = told_few (has_cursor connection c.namespace w.cursors) no_ids c.cursors 1000 (omega (arith, few)) in
+    let asked = λ (cursor : Cursor). not (is_asked connection c.namespace c.cursors cursor) in
+    good_one (record w { cursors = filter asked w.cursors }) (kill_reply told)
+    (record { collections = h.collections; cursors = All-filter asked (λ (cursor : Cursor). All IsWithin cursor.rest) w.cursors h.cursors }) (kill-sendable told f.0 f.1)
 
 good_count : (w : World) (c : Count) → IsLawful w → Good (run_count w c)
 unfolding run_count
@@ -377,6 +439,8 @@ good_run : (w : World) (connection : ℕ) (command : Command) → IsLawful w →
 good_run w connection ping h b = good_one w no_pairs h ping-sendable
 good_run w connection (insert_of c) h b = good_insert w c.namespace c.documents h b.0
 good_run w connection (find_of c) h b = good_find w connection c.namespace c.query c.batch_size h b
+good_run w connection (get_more c) h b = good_get_more w connection c h b
+good_run w connection (kill_cursors c) h b = good_kill_cursors w connection c h b
 good_run w connection (count_of_all c) h b = good_count w c h
 good_run w connection (delete c) h b = good_delete w c.namespace c.deletions h
 good_run w connection (update c) h b = good_update w c h b

@@ -33,3 +33,4 @@ pub mod ReadingLaws
 pub mod EmptyImage
 pub mod Creating
 pub mod Listing
+mod CursorSteps

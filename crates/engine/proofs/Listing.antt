@@ -127,3 +127,11 @@ go_into_one front cs kept few =
       within = listed_within names short.0;
       whole = all_fit 0 (length (map listed names)) (900000 - 5) (map listed names) (omega arith) (omega (arith, many, few, short.1)) (listed_small names short.0) (omega (arith, many, few, short.1));
     }
+
+-- ---- the reply
+
+pub run_list-is : (w : World) (database front namespace : List ℕ) (seen ds : List Pairs) (n : ℕ) (reply : Pairs) → IsLawfulState w.collections → front ≡ database ++ codes "." → namespace ≡ database ++ codes ".$cmd.listCollections"
+    → ds ≡ map listed (names_in front w.collections) → n ≡ batch_of (length ds) ds → reply ≡ ok_reply (batch_reply (codes "firstBatch") n ds 0 namespace)
+    → with_ok (run_list_collections w (record { database = database })) ≡ Ok (w, reply)
+unfolding run_list_collections
+run_list-is w database front namespace seen ds n reply h fronted named made counted said = absurd cc

@@ -1,5 +1,5 @@
 -- A store is opened, and then its entries are read.
-use Rattle.std.proofs.Common.{◌≡◌, ◌≢◌, List, [], sym, ap, subst, ◌∙◌}
+use Rattle.std.proofs.Common.{◌≡◌, ◌≢◌, List, [], sym, ap, subst, ◌∙◌, arith}
 use Rattle.std.specs.Prelude.{All}
 use Rattle.page.specs.History.{History, KeepsWord, now, reads, IsImage}
 use Rattle.page.specs.Crash.{GoesOn, LeavesOnly}
@@ -12,8 +12,8 @@ use Rattle.roots.specs.declared.store.Store.{Store}
 use Rattle.roots.specs.declared.opening.OpenFault.{OpenFault}
 use Rattle.roots.specs.declared.opening.OpenFault.TheVariants as faults
 use Rattle.roots.proofs.OpenSteps.{one_state}
-use Rattle.engine.specs.World.{World, Collection}
-use Rattle.engine.specs.Lawful.{IsReadable, IsLawfulState}
+use Rattle.engine.specs.World.{Collection, CursorTable}
+use Rattle.engine.specs.Lawful.{IsReadable, IsLawfulState, AreLawfulCursors}
 use Rattle.engine.specs.Progress.{has_any, Progress, turn_start_of}
 use Rattle.engine.specs.Stored.{database_entries}
 use Rattle.engine.specs.Durable.{Holds, disk_history}
@@ -28,8 +28,8 @@ unchanged p none = ap (λ xs. turn_start_of (record { now = p.now; changes = xs 
 
 module _ {D : Type 0} (history : D → History) (disk : D) where
   pub opened : (engine : Engine D) (entries : List Entry) → roots.IsOpened history disk engine.store → IsLoading engine.collections → All IsReadable engine.collections.now
-      → (KeepsWord (disk_history history engine) → entries ≡ stores.committed_entries history engine.store) → entries ≡ database_entries engine.collections.now → IsOpened history disk engine
-  opened engine entries r loading readable read spelled =
+      → (KeepsWord (disk_history history engine) → entries ≡ stores.committed_entries history engine.store) → entries ≡ database_entries engine.collections.now → engine.cursors ≡ record { list = []; next = 1 } → IsOpened history disk engine
+  opened engine entries r loading readable read spelled none =
       let collections = engine.collections.now in
       let same : turn_start_of engine.collections ≡ collections = unchanged engine.collections loading.idle in
       let committed : KeepsWord (disk_history history engine) → stores.committed_entries history engine.store ≡ database_entries collections = λ k. sym (read k) ∙ spelled in
@@ -37,13 +37,15 @@ module _ {D : Type 0} (history : D → History) (disk : D) where
         sound = record {
           store = r.sound;
           lawful = loading.lawful;
+          cursors = subst (λ (t : CursorTable). AreLawfulCursors t.list) (sym none) (λ k d below. absurd (omega arith));
           before = subst IsLawfulState (sym same) loading.lawful;
           readable = subst (λ (cs : List Collection). All IsReadable cs) (sym same) readable;
           holds = λ run k image left. subst (Holds image) (sym same) (holds_by_entries collections image loading.lawful readable (subst (StandsFor image) (committed k) (r.alone k image left)));
           committed = λ k run. committed k ∙ ap (λ (cs : List Collection). database_entries cs) (sym same);
         };
         running = r.running;
-        idle = ap (λ (cs : List Collection). let w : World = record { collections = cs; cursors = []; next = 1; touched = [] } in w) same;
+        idle = same;
+        cursors = (ap (λ (t : CursorTable). t.list) none, ap (λ (t : CursorTable). t.next) none);
         rests = ap has_any loading.idle;
         on = r.on;
         holds = λ k. holds_by_entries collections (reads (now (history disk))) loading.lawful readable (subst (StandsFor (reads (now (history disk)))) (committed k) (r.stands k));

@@ -1,13 +1,11 @@
 -- What a pipeline makes of stored documents is within the limits of documents that are given.
-use Rattle.std.proofs.Common.{◌≡◌, suc, Bool, true, false, List, [], ◌∷◌, length, get_or, map, ◌∙◌, Option, Some, None, Ok, refl, arith}
+use Rattle.std.proofs.Common.{◌≡◌, suc, Bool, true, false, List, [], ◌∷◌, length, get_or, map, ap, ◌∙◌, Option, Some, None, Ok, refl, arith}
 use Rattle.std.specs.Prelude.{nat_lt, if◌then◌else◌, All}
 use Rattle.std.proofs.lemmas.Bool.Decides.{nat_tests}
 use Rattle.std.proofs.lemmas.List.Elements.{All-cons, All-head, All-tail}
-use Rattle.std.specs.Borrow.{Bor}
 use Rattle.bson.specs.Tree.{Pairs}
 use Rattle.filter.specs.Projection.{Projection, project}
 use Rattle.filter.specs.ProjectionLaws.{all_stays}
-use Rattle.commands.specs.View.{documents_at}
 use Rattle.engine.specs.View.{projected}
 use Rattle.bson.specs.Lawful.{pairs_levels}
 use Rattle.bson.specs.Spelling.{frame_of, pairs_bytes}
@@ -52,10 +50,10 @@ all_within (d ∷ ds) e = at (limit_fault 65535 d) refl (λ f. all_within ds f) 
 pub piped_within : (stages : List Stage) (ds es : List Pairs) → All IsStored ds → after_pipeline stages 65535 ds ≡ Ok es → All IsWithin es
 piped_within stages ds es h e = all_within es (stays_within stages 65535 ds es (none_at_fault ds (λ k d below. stored_within (get_or ds k d) (h k d below))) e)
 
--- a projection that leaves all leaves the documents that are lent
-all_stay : (ds : List Pairs) → map (project (false, [])) ds ≡ ds
-all_stay [] = refl
-all_stay (d ∷ ds) = λ i. all_stays d i ∷ all_stay ds i
-
-pub lent_whole : (p : Projection) (seen lent : List (Bor Pairs)) (given items : List Pairs) → p ≡ (false, []) → seen ≡ lent → documents_at lent ≡ given → given ≡ items → projected p seen ≡ items
-lent_whole p seen lent given items e s d g = (λ i. projected (e i) (s i)) ∙ all_stay (documents_at lent) ∙ d ∙ g
+-- a projection that leaves all leaves the documents
+pub all_stay : (p : Projection) (ds : List Pairs) → p ≡ (false, []) → projected p ds ≡ ds
+all_stay p ds e = ap (λ (q : Projection). projected q ds) e ∙ each ds
+  where
+    each : (es : List Pairs) → map (project (false, [])) es ≡ es
+    each [] = refl
+    each (d ∷ es) = λ i. all_stays d i ∷ each es i

@@ -1,9 +1,9 @@
 -- Commands that only read leave the collections as they are.
-use Rattle.std.proofs.Common.{◌≡◌, ⊎_elim, ℕ, ◌+◌, ◌∷◌, Bool, true, false, List, length, drop, take, refl, ap, ◌∙◌}
+use Rattle.std.proofs.Common.{◌≡◌, ⊎_elim, ℕ, ◌+◌, [], ◌∷◌, ◌++◌, Bool, true, false, List, length, drop, Option, Some, None, refl, ap, ◌∙◌}
 use Rattle.std.specs.Prelude.{nat_le, if◌then◌else◌, codes, Result, Ok, Err, unwrap_or}
 use Rattle.bson.specs.Tree.{Pairs}
 use Rattle.bson.specs.declared.fault.BsonFault.{BsonFault}
-use Rattle.outcome.specs.Outcome.{◌>>=◌, unless}
+use Rattle.outcome.specs.Outcome.{◌>>=◌, unless, or_refused}
 use Rattle.path.specs.declared.refusal.Refusal.{Refusal}
 use Rattle.path.specs.declared.refusal.Refusal.TheVariants as refusals
 use Rattle.commands.specs.Find.{Find}
@@ -13,9 +13,14 @@ use Rattle.aggregate.specs.Pipeline.{run as after_pipeline}
 use Rattle.engine.specs.Aggregate.{run_aggregate}
 use Rattle.commands.specs.ListCollections.{ListCollections}
 use Rattle.engine.specs.ListCollections.{run_list_collections}
-use Rattle.commands.specs.Command.{Command, ping, insert, find, count, delete, update, aggregate, create, drop as drop_of, list_collections, command_of}
+use Rattle.commands.specs.Command.{Command, ping, insert, find, count, delete, update, aggregate, create, drop as drop_of, list_collections, command_of, get_more, kill_cursors}
 use Rattle.engine.specs.World.{World, documents_of}
-use Rattle.engine.specs.Cursors.{batch_of, cursor_reply, open_cursor, is_refused, next_cursor, first_batch}
+use Rattle.engine.specs.Cursors.{batch_of, batch_reply, open_cursor, is_refused, new_cursor, first_batch, is_cursor}
+use Rattle.commands.specs.GetMore.{GetMore}
+use Rattle.commands.specs.KillCursors.{KillCursors}
+use Rattle.engine.specs.GetMore.{next_batch, run_get_more}
+use Rattle.engine.specs.KillCursors.{run_kill_cursors}
+use Rattle.std.specs.List.{position}
 use Rattle.engine.specs.Find.{query_result, run_find}
 use Rattle.engine.specs.Count.{run_count}
 use Rattle.engine.specs.Step.{run, answered, step, Answers, ForMemory}
@@ -30,19 +35,32 @@ module _ (w : World) (connection : ℕ) where
   unfolding run_count
   counted c = refl
 
-  opened : (b : Bool) (name : List ℕ) (rest batch : List Pairs)
-      → Leaves (unless b refusals.TooMany (Ok (record w { cursors = next_cursor w connection name rest ∷ w.cursors; next = w.next + 1; touched = w.next ∷ w.touched }))
-      >>= (λ world. let x : Result (World × Pairs) Refusal = Ok (world, cursor_reply (codes "firstBatch") batch w.next name) in x))
-  opened true name rest batch = refl
-  opened false name rest batch = refl
+  abbrev after_opening : List ℕ → List Pairs → ℕ → Result World Refusal → Result (World × Pairs) Refusal
+  after_opening name ds n r = r >>= (λ after. Ok (after, batch_reply (codes "firstBatch") n ds w.next name))
+
+  opened : (b : Bool) (name : List ℕ) (ds rest : List Pairs) (n : ℕ)
+      → Leaves (after_opening name ds n (unless b refusals.TooMany (Ok (record w { cursors = w.cursors ++ new_cursor w.next connection name rest ∷ []; next = w.next + 1 }))))
+  opened true name ds rest n = refl
+  opened false name ds rest n = refl
 
   batched : (name : List ℕ) (ds : List Pairs) (n : ℕ) → Leaves (first_batch w connection name ds n)
   batched name ds n = at (nat_le (length ds) n)
     where
-      at : (b : Bool) → Leaves (if b then Ok (w, cursor_reply (codes "firstBatch") ds 0 name) else (open_cursor w connection name (drop n ds)
-          >>= (λ world. let x : Result (World × Pairs) Refusal = Ok (world, cursor_reply (codes "firstBatch") (take n ds) w.next name) in x)))
+      at : (b : Bool) → Leaves (after_opening name ds n (if b then Ok w else open_cursor w connection name (drop n ds)))
       at true = refl
-      at false = opened (is_refused w connection) name (drop n ds) (take n ds)
+      at false = opened (is_refused connection w.cursors w.next) name ds (drop n ds) n
+
+  given : (c : GetMore) → Leaves (run_get_more w connection c)
+  unfolding run_get_more
+  given c = at (position (is_cursor connection c.namespace c.id) w.cursors)
+    where
+      at : (o : Option ℕ) → Leaves (or_refused o refusals.CursorNotFound >>= (λ place. let x : Result (World × Pairs) Refusal = Ok (next_batch w c place) in x))
+      at None = refl
+      at (Some place) = refl
+
+  killed : (c : KillCursors) → Leaves (run_kill_cursors w connection c)
+  unfolding run_kill_cursors
+  killed c = refl
 
   found : (c : Find) → Leaves (run_find w connection c)
   unfolding run_find
@@ -73,6 +91,8 @@ module _ (w : World) (connection : ℕ) where
   ran (Ok (list_collections c)) h = listed_so c
   ran (Ok (count c)) h = counted c
   ran (Ok (find c)) h = found c
+  ran (Ok (get_more c)) h = given c
+  ran (Ok (kill_cursors c)) h = killed c
   ran (Ok (aggregate c)) h = aggregated c
 
   stepped : (body : Result Pairs BsonFault) → BodyOnlyReads body → (step w connection body).0.collections ≡ w.collections

@@ -1,6 +1,6 @@
 -- What running a command comes to.
-use Rattle.std.proofs.Common.{◌≡◌, ℕ, ◌-◌, ◌<◌, ◌≤◌, Bool, true, false, List, [], length, Some, Result, Ok, Err, refl, sym, ap, ◌∙◌, arith}
-use Rattle.std.specs.Prelude.{nat_le, codes, unwrap_or, IfOk, IfErr}
+use Rattle.std.proofs.Common.{◌≡◌, ℕ, ◌+◌, ◌-◌, ◌<◌, ◌≤◌, Bool, true, false, List, [], ◌∷◌, ◌++◌, length, take, drop, Option, Some, None, Result, Ok, Err, refl, sym, ap, ◌∙◌, arith}
+use Rattle.std.specs.Prelude.{not, nat_le, if◌then◌else◌, codes, unwrap_or, IfOk, IfErr}
 use Rattle.std.proofs.lemmas.Bool.Decides.{nat_tests}
 use Rattle.bson.specs.Tree.{Pairs, pair, no_pairs}
 use Rattle.commands.specs.Insert.{Insert}
@@ -15,13 +15,18 @@ use Rattle.commands.specs.Delete.{Delete}
 use Rattle.commands.specs.Update.{UpdateStatement}
 use Rattle.engine.specs.Update.{Updated, update_reply, run_update}
 use Rattle.engine.specs.Updating.{RunsAll}
-use Rattle.engine.specs.View.{with_ok, Runs}
+use Rattle.engine.specs.View.{world_of, with_ok, Runs}
 use Rattle.engine.specs.Delete.{after_deletions, deleted_in, run_delete}
-use Rattle.engine.specs.World.{World, Collection, find_collection, documents_of, with_documents, put_collection, count_of}
-use Rattle.outcome.specs.Outcome.{◌>>=◌, unless}
+use Rattle.engine.specs.World.{World, Collection, Cursor, CursorTable, find_collection, documents_of, with_documents, put_collection}
+use Rattle.outcome.specs.Outcome.{◌>>=◌, unless, or_refused}
+use Rattle.std.specs.List.{filter, position}
 use Rattle.engine.specs.Documents.{insert_all}
-use Rattle.engine.specs.Refusals.{int, total}
-use Rattle.engine.specs.Cursors.{cursor_reply, open_cursor, batch_of, first_batch}
+use Rattle.engine.specs.Refusals.{int, total, ok_reply}
+use Rattle.engine.specs.Cursors.{cursor_reply, is_refused, new_cursor, open_cursor, batch_of, batch_reply, first_batch, is_cursor}
+use Rattle.engine.specs.GetMore.{next_batch, run_get_more}
+use Rattle.engine.specs.KillCursors.{ToldApart, no_ids, told_apart, has_cursor, is_asked, kill_reply, run_kill_cursors}
+use Rattle.commands.specs.GetMore.{GetMore}
+use Rattle.commands.specs.KillCursors.{KillCursors}
 use Rattle.engine.specs.Insert.{run_insert}
 use Rattle.engine.specs.Count.{run_count}
 use Rattle.engine.specs.Progress.{Progress, is_full, inserted}
@@ -64,24 +69,49 @@ module _ (w : World) (name : List ℕ) (ds : List Pairs) where
   unfolding run_insert
   run_insert-refused e h = refused_so (is_full w.collections name) (insert_all (documents_of w.collections name) ds) e h
 
--- ---- find
+-- ---- find and aggregate
 
-module _ (w : World) (connection : ℕ) (name : List ℕ) (documents : List Pairs) (most : ℕ) where
-  pub first_batch-whole : length documents ≤ batch_of most documents → first_batch w connection name documents (batch_of most documents) ≡ Ok (w, cursor_reply (codes "firstBatch") documents 0 name)
-  first_batch-whole fits =
-      let whole : nat_le (length documents) (batch_of most documents) ≡ true = grind (arith, nat_tests) in
-      rw whole refl
+-- a first batch of so many documents, and what it does to cursors
+module _ (w : World) (connection : ℕ) (name : List ℕ) (documents : List Pairs) (n : ℕ) where
+  abbrev said_with : ℕ → Pairs
+  said_with number = batch_reply (codes "firstBatch") n documents number name
 
-  -- no cursor may be opened
-  none_opened : (rest : List Pairs) → open_cursor w connection name rest ≡ Err refusals.TooMany
-  none_opened rest =
-      let full : nat_le 0 (count_of connection w.cursors) ≡ true = grind (arith, nat_tests) in
-      rw full refl
+  pub whole_batch : (number : ℕ) (reply : Pairs) → length documents ≤ n → reply ≡ ok_reply (said_with number) → with_ok (first_batch w connection name documents n) ≡ Ok (w, reply)
+  whole_batch number reply fits is = at (nat_le (length documents) n) (grind (arith, nat_tests)) is
+    where
+      at : (b : Bool) → b ≡ true → reply ≡ ok_reply (cursor_reply (codes "firstBatch") (take n documents) (if b then 0 else number) name)
+          → with_ok ((if b then Ok w else open_cursor w connection name (drop n documents)) >>= (λ after. let x : Result (World × Pairs) Refusal = Ok (after, cursor_reply (codes "firstBatch") (take n documents) (if b then 0 else w.next) name) in x)) ≡ Ok (w, reply)
+      at true e is = ap (λ (r : Pairs). let x : Result (World × Pairs) Refusal = Ok (w, r) in x) (sym is)
+      at false e is = absurd cc
 
-  pub first_batch-over : batch_of most documents < length documents → first_batch w connection name documents (batch_of most documents) ≡ Err refusals.TooMany
-  first_batch-over over =
-      let part : nat_le (length documents) (batch_of most documents) ≡ false = grind (arith, nat_tests) in
-      rw part (rw none_opened refl)
+  abbrev pub with_cursor : World
+  with_cursor = record w {
+    cursors = w.cursors ++ new_cursor w.next connection name (drop n documents) ∷ [];
+    next = w.next + 1;
+  }
+
+  opened : is_refused connection w.cursors w.next ≡ false → open_cursor w connection name (drop n documents) ≡ Ok with_cursor
+  opened free = ap (λ (b : Bool). unless b refusals.TooMany (let x : Result World Refusal = Ok with_cursor in x)) free
+
+  not_opened : is_refused connection w.cursors w.next ≡ true → open_cursor w connection name (drop n documents) ≡ Err refusals.TooMany
+  not_opened full = ap (λ (b : Bool). unless b refusals.TooMany (let x : Result World Refusal = Ok with_cursor in x)) full
+
+  abbrev after_opening : Result World Refusal → Result (World × Pairs) Refusal
+  after_opening r = r >>= (λ after. Ok (after, said_with w.next))
+
+  left : n < length documents → first_batch w connection name documents n ≡ after_opening (open_cursor w connection name (drop n documents))
+  left over =
+      let part : nat_le (length documents) n ≡ false = grind (arith, nat_tests) in
+      ap (λ (b : Bool). after_opening (if b then Ok w else open_cursor w connection name (drop n documents))) part
+
+  pub opened_batch : (number : ℕ) (reply : Pairs) (new : World) → n < length documents → number ≡ w.next → is_refused connection w.cursors w.next ≡ false → new ≡ with_cursor → reply ≡ ok_reply (said_with number)
+      → with_ok (first_batch w connection name documents n) ≡ Ok (new, reply)
+  opened_batch number reply new over same free made is =
+      ap with_ok (left over ∙ ap after_opening (opened free))
+      ∙ (λ i. let x : Result (World × Pairs) Refusal = Ok (sym made i, (ap (λ (k : ℕ). ok_reply (said_with k)) (sym same) ∙ sym is) i) in x)
+
+  pub refused_batch : n < length documents → is_refused connection w.cursors w.next ≡ true → first_batch w connection name documents n ≡ Err refusals.TooMany
+  refused_batch over full = left over ∙ ap after_opening (not_opened full)
 
 module _ (w : World) (connection : ℕ) (name : List ℕ) (query : Query) (most : ℕ) where
   abbrev sought : Find
@@ -90,13 +120,10 @@ module _ (w : World) (connection : ℕ) (name : List ℕ) (query : Query) (most 
   abbrev documents : List Pairs
   documents = query_result query (documents_of w.collections name)
 
-  pub run_find-whole : length documents ≤ batch_of most documents → run_find w connection sought ≡ Ok (w, cursor_reply (codes "firstBatch") documents 0 name)
+  pub run_find-is : (gs : List Pairs) (n : ℕ) → gs ≡ documents → n ≡ batch_of most gs → run_find w connection sought ≡ first_batch w connection name gs n
   unfolding run_find
-  run_find-whole fits = first_batch-whole w connection name documents most fits
-
-  pub run_find-over : batch_of most documents < length documents → run_find w connection sought ≡ Err refusals.TooMany
-  unfolding run_find
-  run_find-over over = first_batch-over w connection name documents most over
+  run_find-is gs n is counted =
+      ap (λ (ds : List Pairs). first_batch w connection name ds (batch_of most ds)) (sym is) ∙ ap (first_batch w connection name gs) (sym counted)
 
 module _ (w : World) (connection : ℕ) (name : List ℕ) (stages : List Stage) (most : ℕ) where
   abbrev asked_of : Aggregate
@@ -108,13 +135,9 @@ module _ (w : World) (connection : ℕ) (name : List ℕ) (stages : List Stage) 
   abbrev batched : Result (List Pairs) Refusal → Result (World × Pairs) Refusal
   batched r = r >>= (λ ds. first_batch w connection name ds (batch_of most ds))
 
-  pub run_aggregate-whole : (ds : List Pairs) → piped ≡ Ok ds → length ds ≤ batch_of most ds → run_aggregate w connection asked_of ≡ Ok (w, cursor_reply (codes "firstBatch") ds 0 name)
+  pub run_aggregate-is : (ds : List Pairs) (n : ℕ) → piped ≡ Ok ds → n ≡ batch_of most ds → run_aggregate w connection asked_of ≡ first_batch w connection name ds n
   unfolding run_aggregate
-  run_aggregate-whole ds is fits = ap batched is ∙ first_batch-whole w connection name ds most fits
-
-  pub run_aggregate-over : (ds : List Pairs) → piped ≡ Ok ds → batch_of most ds < length ds → run_aggregate w connection asked_of ≡ Err refusals.TooMany
-  unfolding run_aggregate
-  run_aggregate-over ds is over = ap batched is ∙ first_batch-over w connection name ds most over
+  run_aggregate-is ds n is counted = ap batched is ∙ ap (first_batch w connection name ds) (sym counted)
 
   pub run_aggregate-refused : (e : Refusal) → piped ≡ Err e → run_aggregate w connection asked_of ≡ Err e
   unfolding run_aggregate
@@ -127,6 +150,25 @@ run_aggregate-default w connection c = refl
 pub run_find-default : (w : World) (connection : ℕ) (c : Find) → run_find w connection (record c { batch_size = Some (unwrap_or c.batch_size 101) }) ≡ run_find w connection c
 unfolding run_find
 run_find-default w connection c = refl
+
+-- ---- cursors
+
+module _ (w : World) (connection : ℕ) (c : GetMore) where
+  abbrev given : Option ℕ → Result (World × Pairs) Refusal
+  given o = or_refused o refusals.CursorNotFound >>= (λ at. Ok (next_batch w c at))
+
+  pub run_get_more-none : position (is_cursor connection c.namespace c.id) w.cursors ≡ None → run_get_more w connection c ≡ Err refusals.CursorNotFound
+  unfolding run_get_more
+  run_get_more-none e = ap given e
+
+  pub run_get_more-is : (at : ℕ) → position (is_cursor connection c.namespace c.id) w.cursors ≡ Some at → run_get_more w connection c ≡ Ok (next_batch w c at)
+  unfolding run_get_more
+  run_get_more-is at e = ap given e
+
+pub run_kill_cursors-is : (w : World) (connection : ℕ) (c : KillCursors) (left : List Cursor) (told : ToldApart) → left ≡ filter (λ cursor. not (is_asked connection c.namespace c.cursors cursor)) w.cursors
+    → told ≡ told_apart (has_cursor connection c.namespace w.cursors) no_ids c.cursors → run_kill_cursors w connection c ≡ Ok (record w { cursors = left }, kill_reply told)
+unfolding run_kill_cursors
+run_kill_cursors-is w connection c left told is said = λ i. Ok (record w { cursors = sym is i }, kill_reply (sym said i))
 
 -- ---- count and delete
 
@@ -141,18 +183,15 @@ run_delete-is w c cs n same e = λ i. Ok (record w { collections = sym same i },
 
 -- ---- update
 
-abbrev world_at : Progress → World
-world_at p = record { collections = p.now; cursors = []; next = 1; touched = [] }
-
-pub run_update-runs : (name : List ℕ) (ss : List UpdateStatement) (old next : Progress) (r : Result Pairs Refusal) → RunsAll name ss old next r → IfErr r (λ _. next ≡ old)
-    → Runs (world_at old) (run_update (world_at old) (record { namespace = name; statements = ss })) (world_at next) r
+pub run_update-runs : (name : List ℕ) (ss : List UpdateStatement) (cursors : CursorTable) (old next : Progress) (r : Result Pairs Refusal) → RunsAll name ss old next r → IfErr r (λ _. next ≡ old)
+    → Runs (world_of old cursors) (run_update (world_of old cursors) (record { namespace = name; statements = ss })) (world_of next cursors) r
 unfolding run_update
-run_update-runs name ss old next (Ok reply) up same =
-    ap (λ (r : Result Updated Refusal). with_ok (r >>= (λ u. let x : Result (World × Pairs) Refusal = Ok (record (world_at old) { collections = u.collections }, update_reply u) in x))) up.planned
-    ∙ (λ k. Ok (record (world_at old) { collections = up.is k }, sym up.says k))
-run_update-runs name ss old next (Err e) is same = (
-  ap world_at same,
-  λ other. ap (λ (r : Result Updated Refusal). r >>= (λ u. let x : Result (World × Pairs) Refusal = Ok (record (world_at old) { collections = u.collections }, update_reply u) in x)) (is other),
+run_update-runs name ss cursors old next (Ok reply) up same =
+    ap (λ (r : Result Updated Refusal). with_ok (r >>= (λ u. let x : Result (World × Pairs) Refusal = Ok (record (world_of old cursors) { collections = u.collections }, update_reply u) in x))) up.planned
+    ∙ (λ k. Ok (record (world_of old cursors) { collections = up.is k }, sym up.says k))
+run_update-runs name ss cursors old next (Err e) is same = (
+  ap (λ (p : Progress). world_of p cursors) same,
+  λ other. ap (λ (r : Result Updated Refusal). r >>= (λ u. let x : Result (World × Pairs) Refusal = Ok (record (world_of old cursors) { collections = u.collections }, update_reply u) in x)) (is other),
 )
 
 -- what holds of either answer holds

@@ -1,14 +1,18 @@
 -- How many bytes a value's spelling has, and how many a reply's.
-use Rattle.std.proofs.Common.{◌≡◌, ℕ, zero, suc, max, ◌+◌, ◌-◌, ◌<◌, ◌≤◌, Bool, true, false, List, [], ◌∷◌, ◌++◌, length, take, refl, arith, lit≤, length-append, ap}
-use Rattle.std.specs.Prelude.{◌||◌, ◌==◌, nat_le, if◌then◌else◌, codes, All}
+use Rattle.std.proofs.Common.{◌≡◌, ℕ, ℤ, zero, suc, max, ◌+◌, ◌-◌, ◌*◌, ◌<◌, ◌≤◌, Bool, true, false, List, [], ◌∷◌, ◌++◌, length, take, refl, arith, lit≤, length-append, ap}
+use Rattle.std.specs.Prelude.{◌||◌, ◌&&◌, not, ◌==◌, nat_le, if◌then◌else◌, codes, All}
 use Rattle.std.specs.Fmt.{decimal}
 use Rattle.std.proofs.lemmas.Bool.Decides.{nat_tests}
-use Rattle.std.proofs.lemmas.Fmt.{length-decimal-le_succ}
-use Rattle.bson.specs.Tree.{document, array, Pairs, no_pairs, pair, Items, item}
+use Rattle.std.proofs.lemmas.Fmt.{length-decimal-le, length-decimal-le_succ}
+use Rattle.std.specs.Int.{w64, to_le_bytes, cast_unsigned}
+use Rattle.std.specs.List.{list_any}
+use Rattle.std.specs.Ordering.{int_eq}
+use Rattle.bson.specs.Tree.{scalar, int64, document, array, Pairs, no_pairs, pair, Items, item}
 use Rattle.bson.specs.SizingLaws.{frame_of-length, pairs_bytes-none, pairs_size-pair, items_bytes-none}
 use Rattle.bson.specs.Spelling.{tree_bytes, pairs_bytes, items_bytes, frame_of}
 use Rattle.engine.specs.Refusals.{int, long, words, refusal_reply, ok_reply}
 use Rattle.engine.specs.Cursors.{item_size, batch_len, items_of_documents, cursor_reply}
+use Rattle.engine.specs.KillCursors.{ToldApart, with_id, told_apart, id_items, kill_reply}
 use Rattle.engine.specs.Lawful.{IsWithin}
 use Rattle.engine.specs.View.{IsSendable}
 use Rattle.path.specs.declared.refusal.Refusal.{Refusal}
@@ -99,12 +103,12 @@ batch_items (suc most) room (d ∷ ds) h =
 
 -- ---- replies with documents
 
-pub cursor-sendable : (batch : List Pairs) (number : ℕ) (namespace : List ℕ) → length (items_bytes 0 (items_of_documents batch)) ≤ max (900000 - 5) (65535 + 3) → length namespace ≤ 255
-    → IsSendable (ok_reply (cursor_reply (codes "firstBatch") batch number namespace))
-cursor-sendable batch number namespace small short =
+pub cursor-sendable : (name : List ℕ) (batch : List Pairs) (number : ℕ) (namespace : List ℕ) → length name ≤ 10 → length (items_bytes 0 (items_of_documents batch)) ≤ max (900000 - 5) (65535 + 3) → length namespace ≤ 255
+    → IsSendable (ok_reply (cursor_reply name batch number namespace))
+cursor-sendable name batch number namespace brief small short =
     let ns = pair (codes "ns") (words namespace) no_pairs in
     let id = pair (codes "id") (long number) ns in
-    let content = pair (codes "firstBatch") (array (items_of_documents batch)) id in
+    let content = pair name (array (items_of_documents batch)) id in
     let ok = pair (codes "ok") (int 1) no_pairs in
     let reply = pair (codes "cursor") (document content) ok in
     omega (
@@ -115,10 +119,60 @@ cursor-sendable batch number namespace small short =
       pairs_size-pair (codes "ok") (int 1) no_pairs,
       length-int 1,
       ap length pairs_bytes-none,
-      pairs_size-pair (codes "firstBatch") (array (items_of_documents batch)) id,
+      pairs_size-pair name (array (items_of_documents batch)) id,
       length-array (items_of_documents batch),
       pairs_size-pair (codes "id") (long number) ns,
       length-long number,
       pairs_size-pair (codes "ns") (words namespace) no_pairs,
       length-words namespace,
     )
+
+-- ---- replies with ids
+
+length-id : (i : ℕ) (id : ℤ) (ts : Items) → length (items_bytes i (item (scalar (int64 id)) ts)) ≡ length (decimal i) + 10 + length (items_bytes (i + 1) ts)
+unfolding tree_bytes items_bytes
+length-id i id ts =
+    let bytes = to_le_bytes w64 (cast_unsigned w64 id) in
+    let eight : length bytes ≡ 8 = refl in
+    omega (arith, length-append (18 ∷ (decimal i ++ 0 ∷ bytes)) (items_bytes (i + 1) ts), length-append (decimal i) (0 ∷ bytes), eight)
+
+-- so many ids have at most so many bytes
+ids_short : (i : ℕ) (ids : List ℤ) → i + length ids ≤ 1000 → length (items_bytes i (id_items ids)) ≤ 13 * length ids
+ids_short i [] few = omega (arith, ap length (items_bytes-none i))
+ids_short i (id ∷ ids) few =
+    let digits : length (decimal i) ≤ 3 = length-decimal-le 3 i (omega arith) (omega (arith, few)) (omega (arith, few)) in
+    omega (arith, length-id i id (id_items ids), digits, ids_short (i + 1) ids (omega (arith, few)))
+
+pub kill-sendable : (ids : ToldApart) → length ids.killed ≤ 1000 → length ids.not_found ≤ 1000 → IsSendable (ok_reply (kill_reply ids))
+kill-sendable ids few others =
+    let ok = pair (codes "ok") (int 1) no_pairs in
+    let missing = pair (codes "cursorsNotFound") (array (id_items ids.not_found)) ok in
+    let reply = pair (codes "cursorsKilled") (array (id_items ids.killed)) missing in
+    omega (
+      arith,
+      frame_of-length (pairs_bytes reply),
+      pairs_size-pair (codes "cursorsKilled") (array (id_items ids.killed)) missing,
+      length-array (id_items ids.killed),
+      ids_short 0 ids.killed (omega (arith, few)),
+      pairs_size-pair (codes "cursorsNotFound") (array (id_items ids.not_found)) ok,
+      length-array (id_items ids.not_found),
+      ids_short 0 ids.not_found (omega (arith, others)),
+      pairs_size-pair (codes "ok") (int 1) no_pairs,
+      length-int 1,
+      ap length pairs_bytes-none,
+    )
+
+-- no more ids are told apart than there were
+pub told_few : (is_open : ℤ → Bool) (so_far : ToldApart) (ids : List ℤ) (most : ℕ) → length so_far.killed + length so_far.not_found + length ids ≤ most
+    → (length (told_apart is_open so_far ids).killed ≤ most) × (length (told_apart is_open so_far ids).not_found ≤ most)
+told_few is_open so_far [] most few = (omega (arith, few), omega (arith, few))
+told_few is_open so_far (id ∷ ids) most few =
+    at (is_open id && not (list_any (int_eq id) so_far.killed))
+    (λ h. told_few is_open (with_id true id so_far) ids most h) (λ h. told_few is_open (with_id false id so_far) ids most h)
+  where
+    at : (b : Bool)
+        → (length (with_id true id so_far).killed + length (with_id true id so_far).not_found + length ids ≤ most → (length (told_apart is_open (with_id true id so_far) ids).killed ≤ most) × (length (told_apart is_open (with_id true id so_far) ids).not_found ≤ most))
+        → (length (with_id false id so_far).killed + length (with_id false id so_far).not_found + length ids ≤ most → (length (told_apart is_open (with_id false id so_far) ids).killed ≤ most) × (length (told_apart is_open (with_id false id so_far) ids).not_found ≤ most))
+        → (length (told_apart is_open (with_id b id so_far) ids).killed ≤ most) × (length (told_apart is_open (with_id b id so_far) ids).not_found ≤ most)
+    at true of_killed of_others = of_killed (omega (arith, few, length-append so_far.killed (id ∷ [])))
+    at false of_killed of_others = of_others (omega (arith, few, length-append so_far.not_found (id ∷ [])))

@@ -54,17 +54,17 @@ pub record Commits {D : Type 0} (history : D → History) (result : Result (Unit
   pub full : result ≡ Err faults.Full → (world new ≡ after_undo (turn_start old) (world old))
       × HasNoRoom (store_of old) (world old).collections
       × stores.HasFullCause (store_of old) (store_of new)
-  pub ended : turn_start new ≡ world new
+  pub ended : turn_start new ≡ (world new).collections
   pub limit : stores.limit_of (store_of new) ≡ stores.limit_of (store_of old)
   pub takes : full_takes_of old ≤ full_takes_of new
   pub running : result ≢ Err faults.Device → is_stopped new ≡ is_stopped old
   -- a crash at any moment of the call leaves the collections as they were before the turn or as they are after it
   pub any_moment : IsRunning old → LeavesOnly (disk_history history old) (disk_history history new)
-      (λ image. Holds image (turn_start old).collections ⊎ Holds image (world old).collections)
+      (λ image. Holds image (turn_start old) ⊎ Holds image (world old).collections)
   -- where the turn is undone, it leaves them as they were before, at every moment
   pub kept : IsRunning old → result ≢ Err faults.Device
       → OnErr result (LeavesOnly (disk_history history old) (disk_history history new)
-      (λ image. Holds image (turn_start old).collections))
+      (λ image. Holds image (turn_start old)))
   -- at Ok it leaves them as they are after it, and nothing else
   pub acknowledged : IsRunning old
       → OnOk result

@@ -6,7 +6,7 @@ use Rattle.roots.specs.Image as images
 use Rattle.roots.specs.Store as stores
 use Rattle.roots.specs.declared.store.Store.{Store}
 use Rattle.engine.specs.World.{Collection}
-use Rattle.engine.specs.Lawful.{IsReadable, IsLawfulState}
+use Rattle.engine.specs.Lawful.{IsReadable, IsLawfulState, AreLawfulCursors}
 use Rattle.engine.specs.Stored.{database_entries}
 use Rattle.engine.specs.Progress.{is_changed}
 use Rattle.engine.specs.View.{world, turn_start}
@@ -41,14 +41,15 @@ IsRunning engine = is_stopped engine ≡ false
 pub record IsSound {D : Type 0} (history : D → History) (engine : Engine D) : Type 0 where
   pub store : stores.IsSound history engine.store
   pub lawful : IsLawfulState (world engine).collections
-  pub before : IsLawfulState (turn_start engine).collections
-  pub readable : All IsReadable (turn_start engine).collections
+  pub cursors : AreLawfulCursors (world engine).cursors
+  pub before : IsLawfulState (turn_start engine)
+  pub readable : All IsReadable (turn_start engine)
   pub holds : IsRunning engine
       → LeavesNow (disk_history history engine)
-      (λ image. Holds image (turn_start engine).collections)
+      (λ image. Holds image (turn_start engine))
   pub committed : KeepsWord (disk_history history engine) → IsRunning engine
       → stores.committed_entries history engine.store
-      ≡ database_entries (turn_start engine).collections
+      ≡ database_entries (turn_start engine)
 
 -- No commit of these collections finds room: they are too long for the free pages, or no greater generation is left.
 abbrev pub HasNoRoom : {D : Type 0} → Store D → List Collection → Type 0

@@ -1,17 +1,17 @@
 -- What is kept of stored documents and of collections.
-use Rattle.std.specs.Prelude.{◌≡◌, ℕ, suc, ◌≤◌, false, List, [], ◌∷◌, length, Some, None, All, IsUtf8, refl}
+use Rattle.std.specs.Prelude.{◌≡◌, ℕ, suc, ◌<◌, ◌≤◌, ◌^◌, Bool, false, List, [], ◌∷◌, length, Some, None, All, IsUtf8, refl}
 use Rattle.std.specs.List.{AllPairs}
 use Rattle.std.specs.Ordering.{nat_cmp}
 use Rattle.value_order.specs.Order.{compare}
 use Rattle.value_order.specs.KeyText.{tree_text}
 use Rattle.std.specs.Cmp.Lexicographic.{slice_cmp}
-use Rattle.std.specs.Coded.{Coded, code_by, coded×, coded_ℕ, coded_list}
+use Rattle.std.specs.Coded.{Coded, code_by, coded×, coded_ℕ, coded_bool, coded_list}
 use Rattle.std.specs.declared.cmp.Ordering.TheVariants as orders
 use Rattle.bson.specs.Tree.{Pairs}
 use Rattle.bson.specs.TreeCode.{coded_pairs}
 use Rattle.bson.specs.Lawful.{pairs_levels, IsDocument}
 use Rattle.bson.specs.Spelling.{frame_of, pairs_bytes}
-use Rattle.engine.specs.World.{World, Collection, uses}
+use Rattle.engine.specs.World.{World, Collection, Cursor, CursorTable, uses}
 use Rattle.engine.specs.Documents.{key_of}
 use Rattle.update.specs.Stored.{pairs_fault, id_first, id_of}
 
@@ -70,10 +70,19 @@ pub record IsLawfulState (collections : List Collection) : Type 0 where
   pub kept : All IsKept collections
   pub few : length collections ≤ 1000
 
+-- what is kept of an open cursor
+pub record IsOpenCursor (c : Cursor) : Type 0 where
+  pub within : All IsWithin c.rest
+  pub number : c.number < 2 ^ 63
+
+-- cursors hold documents within the limits
+abbrev pub AreLawfulCursors : List Cursor → Type 0
+AreLawfulCursors cs = All (λ c. All IsWithin c.rest) cs
+
 -- What is kept of a world: its collections are lawful, and a cursor holds documents within the limits.
 pub record IsLawful (world : World) : Type 0 where
   pub collections : IsLawfulState world.collections
-  pub cursors : All (λ c. All IsWithin c.rest) world.cursors
+  pub cursors : AreLawfulCursors world.cursors
 
 -- a collection is told apart by its namespace, its number and its documents
 abbrev pub collection_code : Coded Collection
@@ -81,3 +90,24 @@ collection_code = code_by ((List ℕ × ℕ) × List Pairs)
     (coded× (coded× (coded_list coded_ℕ) coded_ℕ) (coded_list coded_pairs))
     (λ c. ((c.name, c.number), c.documents))
     (λ p. record { name = p.0.0; number = p.0.1; documents = p.1 }) (λ _. refl)
+
+-- a cursor by its number, its connection, its namespace, its documents and whether it is touched
+abbrev pub cursor_code : Coded Cursor
+cursor_code =
+    code_by ((ℕ × ℕ) × (List ℕ × (List Pairs × Bool)))
+    (coded× (coded× coded_ℕ coded_ℕ)
+    (coded× (coded_list coded_ℕ) (coded× (coded_list coded_pairs) coded_bool)))
+    (λ c. ((c.number, c.connection), (c.namespace, (c.rest, c.touched))))
+    (λ p. record {
+      number = p.0.0;
+      connection = p.0.1;
+      namespace = p.1.0;
+      rest = p.1.1.0;
+      touched = p.1.1.1;
+    })
+    (λ _. refl)
+
+abbrev pub cursor_table_code : Coded CursorTable
+cursor_table_code =
+    code_by (List Cursor × ℕ) (coded× (coded_list cursor_code) coded_ℕ) (λ t. (t.list, t.next))
+    (λ p. record { list = p.0; next = p.1 }) (λ _. refl)

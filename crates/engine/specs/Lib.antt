@@ -4,6 +4,8 @@ pub mod Refusals
 pub mod Cursors
 pub mod Insert
 pub mod Find
+pub mod GetMore
+pub mod KillCursors
 pub mod Count
 pub mod Delete
 pub mod Update

@@ -1,5 +1,5 @@
 -- What opening a disk gives.
-use Rattle.std.specs.Prelude.{◌≡◌, ◌≢◌, ◌<◌, false, List, Err}
+use Rattle.std.specs.Prelude.{◌≡◌, ◌≢◌, ◌<◌, false, List, [], Err}
 use Rattle.page.specs.History.{History, KeepsWord, now, reads, IsImage}
 use Rattle.page.specs.Crash.{GoesOn, LeavesOnly, LeavesNow, OnlySyncs}
 use Rattle.roots.specs.Root.{root_of}
@@ -15,7 +15,8 @@ pub record IsOpened {D : Type 0} (history : D → History) (disk : D)
     (engine : Engine D) : Type 0 where
   pub sound : IsSound history engine
   pub running : IsRunning engine
-  pub idle : turn_start engine ≡ world engine
+  pub idle : turn_start engine ≡ (world engine).collections
+  pub cursors : ((world engine).cursors ≡ []) × ((world engine).next ≡ 1)
   pub rests : has_changes engine ≡ false
   pub on : GoesOn (history disk) (disk_history history engine)
   -- it only read and synced

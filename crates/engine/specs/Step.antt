@@ -5,11 +5,13 @@ use Rattle.bson.specs.declared.fault.BsonFault.{BsonFault}
 use Rattle.outcome.specs.Outcome.{◌>>=◌}
 use Rattle.path.specs.declared.refusal.Refusal.{Refusal}
 use Rattle.path.specs.declared.refusal.Refusal.TheVariants as refusals
-use Rattle.commands.specs.Command.{Command, ping, insert, find, count, delete, update, aggregate, create, drop, list_collections, command_of}
+use Rattle.commands.specs.Command.{Command, ping, insert, find, count, delete, update, aggregate, create, drop, list_collections, command_of, get_more, kill_cursors}
 use Rattle.engine.specs.World.{World}
 use Rattle.engine.specs.Refusals.{refusal_reply, ok_reply}
 use Rattle.engine.specs.Insert.{run_insert}
 use Rattle.engine.specs.Find.{run_find}
+use Rattle.engine.specs.GetMore.{run_get_more}
+use Rattle.engine.specs.KillCursors.{run_kill_cursors}
 use Rattle.engine.specs.Count.{run_count}
 use Rattle.engine.specs.Delete.{run_delete}
 use Rattle.engine.specs.Aggregate.{run_aggregate}
@@ -23,6 +25,8 @@ abbrev pub run : World → ℕ → Command → Result (World × Pairs) Refusal
 run world connection ping = Ok (world, no_pairs)
 run world connection (insert c) = run_insert world c
 run world connection (find c) = run_find world connection c
+run world connection (get_more c) = run_get_more world connection c
+run world connection (kill_cursors c) = run_kill_cursors world connection c
 run world connection (count c) = run_count world c
 run world connection (delete c) = run_delete world c
 run world connection (update c) = run_update world c

@@ -1,20 +1,20 @@
 -- What an engine and its replies stand for.
-use Rattle.std.specs.Prelude.{◌≡◌, ◌≤◌, [], List, length, map, Result, Ok, Err}
-use Rattle.std.specs.Borrow.{Bor}
+use Rattle.std.specs.Prelude.{◌≡◌, ◌≤◌, ℕ, List, length, map, codes, Result, Ok, Err}
 use Rattle.bson.specs.Tree.{Pairs}
 use Rattle.bson.specs.Spelling.{frame_of, pairs_bytes}
 use Rattle.filter.specs.Projection.{Projection, project}
-use Rattle.commands.specs.View.{documents_at}
-use Rattle.engine.specs.World.{World}
+use Rattle.engine.specs.World.{World, Collection, CursorTable}
 use Rattle.engine.specs.Refusals.{refusal_reply, ok_reply}
 use Rattle.outcome.specs.Outcome.{Fails}
-use Rattle.engine.specs.Progress.{turn_start_of}
+use Rattle.engine.specs.Progress.{Progress, turn_start_of}
 use Rattle.path.specs.declared.refusal.Refusal.{Refusal}
 use Rattle.engine.specs.declared.reply.Answer.{Answer}
 use Rattle.engine.specs.declared.reply.Answer.TheVariants as answers
 use Rattle.engine.specs.declared.engine.Reply.{Reply}
 use Rattle.engine.specs.declared.engine.Reply.TheVariants as replies
 use Rattle.engine.specs.declared.engine.Engine.{Engine}
+use Rattle.engine.specs.declared.batch_reply.BatchKind.{BatchKind}
+use Rattle.engine.specs.declared.batch_reply.BatchKind.TheVariants as batches
 use Rattle.path.specs.declared.refusal.Refusal.TheVariants as refusals
 
 -- the reply that says that a command was done
@@ -31,18 +31,25 @@ abbrev pub reply_of : Reply → Pairs
 reply_of (replies.Done a) = answer_of a
 reply_of (replies.Refused r) = refusal_reply r
 
--- what a projection leaves of each of the documents that are lent
-abbrev pub projected : Projection → List (Bor Pairs) → List Pairs
-projected p ds = map (project p) (documents_at ds)
+-- what a projection leaves of each of these documents
+abbrev pub projected : Projection → List Pairs → List Pairs
+projected p ds = map (project p) ds
 
--- No cursor is opened yet, so there are none and the next number is the first.
+abbrev pub batch_name : BatchKind → List ℕ
+batch_name batches.First = codes "firstBatch"
+batch_name batches.Next = codes "nextBatch"
+
+abbrev pub world_of : Progress → CursorTable → World
+world_of progress cursors =
+    record { collections = progress.now; cursors = cursors.list; next = cursors.next }
+
 abbrev pub world : {D : Type 0} → Engine D → World
-world engine = record { collections = engine.collections.now; cursors = []; next = 1; touched = [] }
+world engine = world_of engine.collections engine.cursors
 
--- the world as it was at the beginning of the turn
-abbrev pub turn_start : {D : Type 0} → Engine D → World
-turn_start engine =
-    record { collections = turn_start_of engine.collections; cursors = []; next = 1; touched = [] }
+-- The collections as they were at the beginning of the turn. That is all of the start that is kept: what a turn did to cursors
+-- is taken back by what they know of themselves.
+abbrev pub turn_start : {D : Type 0} → Engine D → List Collection
+turn_start engine = turn_start_of engine.collections
 
 -- the reply is within the limit of replies: a message without its frame
 abbrev pub IsSendable : Pairs → Type 0

@@ -1,7 +1,7 @@
--- What an engine holds: collections, open cursors, the number of the next cursor, and what the running turn did to cursors.
-use Rattle.std.specs.Prelude.{ℕ, zero, suc, Bool, ◌==◌, if◌then◌else◌, List, [], ◌∷◌, length, Option, Some, None}
+-- What an engine holds: collections, open cursors, and the number of the next cursor.
+use Rattle.std.specs.Prelude.{ℕ, zero, suc, Bool, false, not, ◌==◌, if◌then◌else◌, List, [], ◌∷◌, length, map, Option, Some, None}
 use Rattle.std.specs.Str.{bytes_eq}
-use Rattle.std.specs.List.{list_any}
+use Rattle.std.specs.List.{filter, list_all, list_any}
 use Rattle.std.specs.Ordering.{nat_cmp}
 use Rattle.std.specs.Cmp.Lexicographic.{slice_cmp}
 use Rattle.std.specs.declared.cmp.Ordering.{Ordering}
@@ -14,23 +14,28 @@ pub record Collection : Type 0 where
   pub number : ℕ
   pub documents : List Pairs
 
--- documents that a connection has not been given yet
+-- Documents that a connection has not been given yet. A cursor is touched where the running turn opened or advanced it.
 pub record Cursor : Type 0 where
   pub number : ℕ
   pub connection : ℕ
   pub namespace : List ℕ
   pub rest : List Pairs
+  pub touched : Bool
 
--- The collections stand in rising order of their namespaces, so that equal states are one list. Of the running turn it
--- keeps the numbers of the cursors that were opened, advanced or killed; between turns there are none.
+-- The collections stand in rising order of their namespaces, so that equal states are one list, and the cursors in the order
+-- in which they were opened.
 pub record World : Type 0 where
   pub collections : List Collection
   pub cursors : List Cursor
   pub next : ℕ
-  pub touched : List ℕ
+
+-- the open cursors, and the number of the next one
+pub record CursorTable : Type 0 where
+  pub list : List Cursor
+  pub next : ℕ
 
 abbrev pub new_world : World
-new_world = record { collections = []; cursors = []; next = 1; touched = [] }
+new_world = record { collections = []; cursors = []; next = 1 }
 
 abbrev pub find_collection : List Collection → List ℕ → Option Collection
 find_collection [] name = None
@@ -87,17 +92,15 @@ without_collection name [] = []
 without_collection name (c ∷ cs) =
     if bytes_eq name c.name then cs else c ∷ without_collection name cs
 
--- the cursors of a connection
+-- ---- cursors
+
+-- how many cursors a connection has
 abbrev pub count_of : ℕ → List Cursor → ℕ
-count_of connection [] = 0
-count_of connection (c ∷ cs) =
-    if c.connection == connection then suc (count_of connection cs) else count_of connection cs
+count_of connection cs = length (filter (λ c. c.connection == connection) cs)
 
 -- the cursors of the others
 abbrev pub without_cursors : ℕ → List Cursor → List Cursor
-without_cursors connection [] = []
-without_cursors connection (c ∷ cs) = if c.connection == connection
-    then without_cursors connection cs else c ∷ without_cursors connection cs
+without_cursors connection cs = filter (λ c. not (c.connection == connection)) cs
 
 -- a connection has ended
 abbrev pub forget : World → ℕ → World
@@ -105,22 +108,23 @@ forget world connection = record world { cursors = without_cursors connection wo
 
 -- ---- how a turn ends
 
--- the cursors whose numbers are not among these
-abbrev pub untouched : List ℕ → List Cursor → List Cursor
-untouched numbers [] = []
-untouched numbers (c ∷ cs) =
-    if list_any (λ n. n == c.number) numbers then untouched numbers cs else c ∷ untouched numbers cs
+abbrev pub at_rest : Cursor → Cursor
+at_rest c = record c { touched = false }
+
+-- the cursors that the running turn has neither opened nor advanced
+abbrev pub untouched : List Cursor → List Cursor
+untouched cs = filter (λ c. not c.touched) cs
+
+-- between turns no cursor is touched
+abbrev pub are_untouched : List Cursor → Bool
+are_untouched cs = list_all (λ c. not c.touched) cs
 
 -- A turn that is done keeps what its commands made.
 abbrev pub after_commit : World → World
-after_commit now = record now { touched = [] }
+after_commit now = record now { cursors = map at_rest now.cursors }
 
--- A turn that is undone leaves the state from before it. Cursors that were opened, advanced or killed in it are closed,
--- and the numbers that were drawn stay drawn.
-abbrev pub after_undo : World → World → World
-after_undo before now = record {
-  collections = before.collections;
-  cursors = untouched now.touched before.cursors;
-  next = now.next;
-  touched = [];
-}
+-- A turn that is undone leaves the collections from before it. Cursors that were opened or advanced in it are closed, those that
+-- were killed stay closed, and the numbers that were drawn stay drawn.
+abbrev pub after_undo : List Collection → World → World
+after_undo before now =
+    record now { collections = before; cursors = untouched now.cursors }

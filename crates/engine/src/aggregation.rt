@@ -1,19 +1,20 @@
 //! `aggregate`: what a pipeline makes of the documents of a collection.
 
-ghost use Rattle.std.specs.Prelude.{◌≡◌, ◌≤◌, ◌<◌, Some, IfOk, All, length, map};
+ghost use Rattle.std.specs.Prelude.{◌≡◌, ◌≤◌, ◌<◌, Some, IfOk, List, ◌∷◌, ◌++◌, length, drop};
+ghost use Rattle.bson.specs.Tree.{Pairs};
 ghost use Rattle.std.specs.List.{filter};
 ghost use Rattle.outcome.specs.Outcome.{Gives};
 ghost use Rattle.aggregate.specs.Pipeline.{run as after_pipeline};
 ghost use Rattle.aggregate.specs.Taking.{takes};
 ghost use Rattle.aggregate.specs.View.{pipeline_of};
-ghost use Rattle.commands.specs.View.{documents_at};
 ghost use Rattle.engine.specs.Aggregate.{run_aggregate};
-ghost use Rattle.engine.specs.View.{world, IsSendable, Runs};
+ghost use Rattle.engine.specs.View.{world, turn_start, IsSendable, Runs};
+ghost use Rattle.engine.specs.Durable.{has_changes};
 
 use crate::STORED_LIMIT;
+use crate::batch_reply::{BatchKind, batch_reply};
 use crate::connection::ConnId;
 use crate::engine::Engine;
-use crate::find_reply::find_reply;
 use crate::shared_document::SharedDocument;
 use aggregate::Pipeline;
 use bson::{Document, NoMemory, SpelledDocument};
@@ -53,46 +54,84 @@ fn after_pipeline(
     pipeline.run(taken, STORED_LIMIT as u32)
 }
 
-/// Documents, lent.
-pub(crate) fn lent(alloc: Global, documents: &[Document]) -> Result<Vec<&Document>, NoMemory>
-    ensures { IfOk result (λ v. documents_at v.items ≡ documents.now) }
+/// Passes a document over where some have to be, or moves it to where it can have several owners. It says how many have to be
+/// passed over still.
+fn pass_or_share(
+    alloc: Global,
+    shared: &mut Vec<SharedDocument>,
+    before: usize,
+    document: Document,
+) -> Result<usize, NoMemory>
+    ensures { IfOk result (λ left. (later : List Pairs) → shared.new.items ++ drop left later
+        ≡ shared.old.items ++ drop before (document ∷ later)) }
 {
-    let mut lent = Vec::with_capacity(alloc, documents.len())?;
-    'documents: for document in documents {
-        lent.push(document)?;
+    if 0 < before {
+        return Ok(before - 1);
     }
-    Ok(lent)
+    shared.push(SharedDocument::new(alloc, document)?)?;
+    Ok(0)
+}
+
+/// The documents from a place on, each moved to where it can have several owners.
+fn shared_from(
+    alloc: Global,
+    documents: Vec<Document>,
+    place: usize,
+) -> Result<Vec<SharedDocument>, NoMemory>
+    ensures { IfOk result (λ v. v.items ≡ drop place documents.items) }
+{
+    let mut before = place;
+    let mut shared = Vec::with_capacity(alloc, documents.len().saturating_sub(place))?;
+    'documents: for document in documents {
+        before = pass_or_share(alloc, &mut shared, before, document)?;
+    }
+    Ok(shared)
 }
 
 impl<D: Disk> Engine<D> {
-    /// What a pipeline makes of a collection's documents, where it all goes into one batch. A cursor on the others may not
-    /// be opened yet: `TooMany`.
+    /// Gives a first batch of what a pipeline makes of a collection's documents. Where others are left, it opens a cursor on
+    /// them; `TooMany` where the connection may open none.
     pub(crate) fn aggregate(
-        &self,
+        &mut self,
         connection: ConnId,
         namespace: &str,
         pipeline: &Pipeline,
         most: usize,
     ) -> Result<SpelledDocument, Refusal>
         requires { length namespace.now ≤ 255 }
-        ensures runs { Runs (world self.now)
-            (run_aggregate (world self.now) connection (record {
+        ensures disk { self.new.store ≡ self.old.store }
+        ensures runs { Runs (world self.old)
+            (run_aggregate (world self.old) connection (record {
               namespace = namespace.now;
               pipeline = pipeline_of pipeline.now;
               batch_size = Some most;
             }))
-            (world self.now) result }
+            (world self.new) result }
+        ensures turn_start { turn_start self.new ≡ turn_start self.old }
+        ensures has_changes { has_changes self.new ≡ has_changes self.old }
         ensures sendable { IfOk result (λ d. IsSendable d) }
     {
-        // It would own the cursor.
-        let _ = connection;
-        let documents = self.collections.documents(namespace);
-        let given = after_pipeline(self.alloc, pipeline, documents)?;
-        let lent = lent(self.alloc, &given)?;
-        let whole = Projection::new(self.alloc);
-        match find_reply(self.alloc, namespace, &whole, &lent, most)? {
-            Some(reply) => Ok(reply),
-            None => Err(Refusal::TooMany),
+        let alloc = self.alloc;
+        let given = after_pipeline(alloc, pipeline, self.collections.documents(namespace))?;
+        let whole = Projection::new(alloc);
+        let number = self.cursors.next_number(connection);
+        let (reply, count) = batch_reply(
+            alloc,
+            BatchKind::First,
+            namespace,
+            number.unwrap_or(0),
+            &whole,
+            &given,
+            most,
+        )?;
+        if given.len() <= count {
+            return Ok(reply);
         }
+        if number.is_none() {
+            return Err(Refusal::TooMany);
+        }
+        let rest = shared_from(alloc, given, count)?;
+        self.cursors.open(connection, namespace, rest, whole)?;
+        Ok(reply)
     }
 }

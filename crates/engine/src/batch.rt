@@ -1,6 +1,6 @@
 //! Batches: documents spelled as the items of an array, as many as go into one.
 
-ghost use Rattle.std.specs.Prelude.{◌≡◌, ◌++◌, All, IfOk, OnOk, take};
+ghost use Rattle.std.specs.Prelude.{◌≡◌, ◌++◌, All, IfOk, OnOk, map, take};
 ghost use Rattle.std.specs.Fmt.{decimal};
 ghost use Rattle.bson.specs.Lawful.{IsDocument};
 ghost use Rattle.bson.specs.Spelling.{element, frame_of, pairs_bytes, items_bytes};
@@ -11,7 +11,7 @@ ghost use Rattle.engine.specs.View.{projected};
 
 use crate::BATCH_LIMIT;
 use bson::{Document, EncodeFault, Kind, NoMemory, encode_onto, put_head};
-use filter::Projection;
+use filter::{AsDocument, Projection};
 use itoa::Buffer;
 use std::alloc::AllocError;
 
@@ -66,18 +66,19 @@ fn put_item(
 
 /// Puts the first documents, as a projection leaves them, as the items of an array, and says how many: as many as fit
 /// within so many documents and `BATCH_LIMIT` bytes of the array, but at least one where any may go.
-pub(crate) fn put_batch(
+pub(crate) fn put_batch<T: AsDocument>(
     out: &mut Vec<u8>,
     projection: &Projection,
-    documents: &[&Document],
+    documents: &[T],
     most: usize,
 ) -> Result<usize, NoMemory>
-    requires { All IsWithin (projected projection.now documents.now) }
-    ensures count { IfOk result (λ n. n ≡ batch_of most (projected projection.now documents.now)) }
-    ensures bytes { IfOk result (λ n. out.new.items ≡ out.old.items
-        ++ items_bytes 0 (items_of_documents (take n (projected projection.now documents.now)))) }
-    ensures readable { IfOk result
-        (λ n. All IsDocument (take n (projected projection.now documents.now))) }
+    requires { All IsWithin (projected projection.now (map T.document documents.now)) }
+    ensures count { IfOk result (λ n. n
+        ≡ batch_of most (projected projection.now (map T.document documents.now))) }
+    ensures bytes { IfOk result (λ n. out.new.items ≡ out.old.items ++ items_bytes 0
+        (items_of_documents (take n (projected projection.now (map T.document documents.now))))) }
+    ensures readable { IfOk result (λ n. All IsDocument
+        (take n (projected projection.now (map T.document documents.now)))) }
 {
     // The array's length and its closing zero take five bytes.
     let mut room = BATCH_LIMIT - 5;
@@ -86,7 +87,7 @@ pub(crate) fn put_batch(
             return Ok(i);
         }
         let start = out.len();
-        put_item(out, i, projection, document)?;
+        put_item(out, i, projection, document.as_document())?;
         match room.checked_sub(out.len() - start) {
             Some(left) => room = left,
             None if i == 0 => room = 0,

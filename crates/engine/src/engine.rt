@@ -17,6 +17,7 @@ ghost use Rattle.engine.specs.Durable.{Holds, disk_history, has_changes, is_stop
 use crate::FIRST_BATCH;
 use crate::collections::Collections;
 use crate::connection::ConnId;
+use crate::cursors::Cursors;
 use crate::image::image_of;
 use crate::loading::load;
 use crate::reply::{Answer, built, ping_reply, spelled};
@@ -53,6 +54,7 @@ fn save<D: Disk>(store: &mut Store<D>, entries: &EntryList) -> Result<(), Commit
 pub struct Engine<D> {
     pub(crate) alloc: Global,
     pub(crate) collections: Collections,
+    pub(crate) cursors: Cursors,
     store: Store<D>,
 }
 
@@ -73,6 +75,7 @@ impl<D: Disk> Engine<D> {
             Ok(collections) => Ok(Engine {
                 alloc,
                 collections,
+                cursors: Cursors::new(alloc),
                 store,
             }),
             Err(fault) => Err((store.into_disk(), fault)),
@@ -110,6 +113,12 @@ impl<D: Disk> Engine<D> {
             Command::Find(c) => {
                 let most = c.batch_size.unwrap_or(FIRST_BATCH);
                 spelled(self.find(connection, c.namespace.as_str(), &c.query, most))
+            }
+            Command::GetMore(c) => {
+                spelled(self.get_more(connection, c.namespace.as_str(), &c.id, c.batch_size))
+            }
+            Command::KillCursors(c) => {
+                built(self.kill_cursors(connection, c.namespace.as_str(), &c.cursors))
             }
             Command::Count(c) => {
                 built(self.count(c.namespace.as_str(), &c.filter, c.skip, c.limit))
@@ -155,33 +164,56 @@ impl<D: Disk> Engine<D> {
         ensures { Commits D.history result self.old self.new }
     {
         if !self.collections.is_changed() {
+            self.cursors.commit();
             return Ok(());
         }
         let entries = match image_of(self.alloc, &self.collections) {
             Ok(entries) => entries,
             Err(_) => {
-                self.collections.undo();
+                self.take_back();
                 return Err(CommitFault::Memory);
             }
         };
         match save(&mut self.store, &entries) {
             Ok(()) => {
-                self.collections.commit();
+                self.keep();
                 Ok(())
             }
             Err(CommitFault::Device) => {
-                self.collections.commit();
+                self.keep();
                 Err(CommitFault::Device)
             }
             Err(CommitFault::Memory) => {
-                self.collections.undo();
+                self.take_back();
                 Err(CommitFault::Memory)
             }
             Err(CommitFault::Full) => {
-                self.collections.undo();
+                self.take_back();
                 Err(CommitFault::Full)
             }
         }
+    }
+
+    /// The turn's changes stay in memory.
+    fn keep(&mut self)
+        ensures disk { self.new.store ≡ self.old.store }
+        ensures world { world self.new ≡ after_commit (world self.old) }
+        ensures turn_start { turn_start self.new ≡ (world self.new).collections }
+        ensures rests { has_changes self.new ≡ false }
+    {
+        self.collections.commit();
+        self.cursors.commit();
+    }
+
+    /// The turn's changes are taken back in memory. It takes no memory.
+    fn take_back(&mut self)
+        ensures disk { self.new.store ≡ self.old.store }
+        ensures world { world self.new ≡ after_undo (turn_start self.old) (world self.old) }
+        ensures turn_start { turn_start self.new ≡ (world self.new).collections }
+        ensures rests { has_changes self.new ≡ false }
+    {
+        self.collections.undo();
+        self.cursors.undo();
     }
 
     /// Ends the turn, and takes back what its commands changed. It takes no memory.
@@ -192,10 +224,10 @@ impl<D: Disk> Engine<D> {
         ensures running { is_stopped self.new ≡ is_stopped self.old }
         ensures store { store_of self.new ≡ store_of self.old }
         ensures world { world self.new ≡ after_undo (turn_start self.old) (world self.old) }
-        ensures turn_start { turn_start self.new ≡ world self.new }
+        ensures turn_start { turn_start self.new ≡ (world self.new).collections }
         ensures rests { has_changes self.new ≡ false }
     {
-        self.collections.undo();
+        self.take_back();
     }
 
     /// A connection has ended, and its cursors with it.
@@ -206,12 +238,9 @@ impl<D: Disk> Engine<D> {
         ensures running { is_stopped self.new ≡ is_stopped self.old }
         ensures store { store_of self.new ≡ store_of self.old }
         ensures world { world self.new ≡ forget (world self.old) connection }
-        ensures turn_start { turn_start self.old ≡ world self.old
-            → turn_start self.new ≡ world self.new }
-        ensures before { turn_start self.new ≡ forget (turn_start self.old) connection }
+        ensures turn_start { turn_start self.new ≡ turn_start self.old }
         ensures has_changes { has_changes self.new ≡ has_changes self.old }
     {
-        // No cursor is opened yet.
-        let _ = connection;
+        self.cursors.forget(connection);
     }
 }

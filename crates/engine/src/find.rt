@@ -7,11 +7,12 @@ ghost use Rattle.commands.specs.View.{documents_at};
 ghost use Rattle.engine.specs.Lawful.{IsWithin};
 ghost use Rattle.engine.specs.World.{documents_of};
 ghost use Rattle.engine.specs.Find.{matching, window, selection, query_result, run_find, Suffices};
-ghost use Rattle.engine.specs.View.{world, IsSendable, Runs};
+ghost use Rattle.engine.specs.View.{world, turn_start, IsSendable, Runs};
+ghost use Rattle.engine.specs.Durable.{has_changes};
 
+use crate::batch_reply::{BatchKind, batch_reply};
 use crate::connection::ConnId;
 use crate::engine::Engine;
-use crate::find_reply::find_reply;
 use crate::shared_document::SharedDocument;
 use bson::{Document, NoMemory, SpelledDocument};
 use commands::Query;
@@ -33,7 +34,7 @@ fn first_matching<'a>(
     documents: &'a [SharedDocument],
     filter: &Filter,
     most: usize,
-) -> Result<Vec<&'a Document>, NoMemory>
+) -> Result<Vec<&'a SharedDocument>, NoMemory>
     ensures { IfOk result (λ v. documents_at v.items
         ≡ take most (matching filter.now documents.now)) }
 {
@@ -43,7 +44,7 @@ fn first_matching<'a>(
             return Ok(found);
         }
         if matches(filter, document.document()) {
-            found.push(document.document())?;
+            found.push(document)?;
         }
     }
     Ok(found)
@@ -62,7 +63,10 @@ fn window<T>(items: &[T], skip: usize, limit: usize) -> &[T]
 }
 
 /// Those of ordered documents that are not skipped and within the limit.
-fn selected<'s, 'a>(query: &Query, ordered: &'s [&'a Document]) -> &'s [&'a Document]
+fn selected<'s, 'a>(
+    query: &Query,
+    ordered: &'s [&'a SharedDocument],
+) -> &'s [&'a SharedDocument]
     ensures { documents_at result.now
         ≡ window query.now.skip query.now.limit (documents_at ordered.now) }
 {
@@ -84,7 +88,7 @@ fn ordered<'a>(
     alloc: Global,
     query: &Query,
     documents: &'a [SharedDocument],
-) -> Result<Vec<&'a Document>, NoMemory>
+) -> Result<Vec<&'a SharedDocument>, NoMemory>
     ensures { IfOk result (λ v. window query.now.skip query.now.limit (documents_at v.items)
         ≡ selection query.now documents.now) }
 {
@@ -100,30 +104,60 @@ fn ordered<'a>(
     query.sort.order_shared(found)
 }
 
+/// The documents, with one owner more.
+fn share_all(alloc: Global, documents: &[&SharedDocument]) -> Result<Vec<SharedDocument>, NoMemory>
+    ensures { IfOk result (λ v. v.items ≡ documents_at documents.now) }
+{
+    let mut shared = Vec::with_capacity(alloc, documents.len())?;
+    'documents: for document in documents {
+        shared.push(document.share()?)?;
+    }
+    Ok(shared)
+}
+
 impl<D: Disk> Engine<D> {
-    /// Finds documents, where they all go into one batch. A cursor on the others may not be opened yet: `TooMany`.
+    /// Finds documents, and gives a first batch of them. Where others are left, it opens a cursor on them; `TooMany` where
+    /// the connection may open none.
     pub(crate) fn find(
-        &self,
+        &mut self,
         connection: ConnId,
         namespace: &str,
         query: &Query,
         most: usize,
     ) -> Result<SpelledDocument, Refusal>
         requires { length namespace.now ≤ 255 }
-        ensures runs { Runs (world self.now)
-            (run_find (world self.now) connection
+        ensures disk { self.new.store ≡ self.old.store }
+        ensures runs { Runs (world self.old)
+            (run_find (world self.old) connection
             (record { namespace = namespace.now; query = query.now; batch_size = Some most }))
-            (world self.now) result }
+            (world self.new) result }
+        ensures turn_start { turn_start self.new ≡ turn_start self.old }
+        ensures has_changes { has_changes self.new ≡ has_changes self.old }
         ensures sendable { IfOk result (λ d. IsSendable d) }
     {
-        // It would own the cursor.
-        let _ = connection;
+        let alloc = self.alloc;
         let documents = self.collections.documents(namespace);
-        let ordered = ordered(self.alloc, query, documents)?;
+        let ordered = ordered(alloc, query, documents)?;
         let selected = selected(query, &ordered);
-        match find_reply(self.alloc, namespace, &query.projection, selected, most)? {
-            Some(reply) => Ok(reply),
-            None => Err(Refusal::TooMany),
+        let number = self.cursors.next_number(connection);
+        let (reply, count) = batch_reply(
+            alloc,
+            BatchKind::First,
+            namespace,
+            number.unwrap_or(0),
+            &query.projection,
+            selected,
+            most,
+        )?;
+        if selected.len() <= count {
+            return Ok(reply);
         }
+        if number.is_none() {
+            return Err(Refusal::TooMany);
+        }
+        let rest = share_all(alloc, &selected[count..])?;
+        let projection = query.projection.copy()?;
+        self.cursors.open(connection, namespace, rest, projection)?;
+        Ok(reply)
     }
 }

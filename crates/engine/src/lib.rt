@@ -3,19 +3,22 @@
 
 mod aggregation;
 mod batch;
+mod batch_reply;
 mod collection;
 mod collections;
 mod connection;
 mod count;
 mod create;
+mod cursors;
 mod delete;
 mod documents;
 mod drop_collection;
 mod engine;
 mod find;
-mod find_reply;
+mod get_more;
 mod image;
 mod insert;
+mod kill_cursors;
 pub mod laws;
 mod list_collections;
 mod loading;
@@ -38,7 +41,7 @@ pub const BATCH_LIMIT: usize = 900_000;
 pub const REPLY_LIMIT: usize = 1_048_555;
 /// The documents of a first batch where the command names no number.
 pub const FIRST_BATCH: usize = 101;
-/// The most cursors of one connection: none is opened yet.
-pub const MOST_CURSORS: usize = 0;
+/// The most cursors of one connection.
+pub const MOST_CURSORS: usize = 16;
 /// The most collections.
 pub const MOST_COLLECTIONS: usize = 1_000;

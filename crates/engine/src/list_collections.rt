@@ -5,10 +5,9 @@ ghost use Rattle.engine.specs.ListCollections.{name_in, names_in, listed, run_li
 ghost use Rattle.engine.specs.Lawful.{IsLawfulState};
 ghost use Rattle.engine.specs.View.{world, IsSendable, Runs};
 
-use crate::aggregation::lent;
+use crate::batch_reply::{BatchKind, batch_reply};
 use crate::collection::Collection;
 use crate::engine::Engine;
-use crate::find_reply::find_reply;
 use crate::reply::listed_document;
 use bson::{Document, NoMemory, SpelledDocument};
 use filter::Projection;
@@ -62,11 +61,16 @@ impl<D: Disk> Engine<D> {
         let front = joined(self.alloc, database, ".")?;
         let namespace = joined(self.alloc, database, ".$cmd.listCollections")?;
         let listed = listed_in(self.alloc, front.as_str(), self.collections.list())?;
-        let lent = lent(self.alloc, &listed)?;
         let whole = Projection::new(self.alloc);
-        match find_reply(self.alloc, namespace.as_str(), &whole, &lent, listed.len())? {
-            Some(reply) => Ok(reply),
-            None => unreachable!("so few and short ones go into one batch"),
-        }
+        let (reply, _) = batch_reply(
+            self.alloc,
+            BatchKind::First,
+            namespace.as_str(),
+            0,
+            &whole,
+            &listed,
+            listed.len(),
+        )?;
+        Ok(reply)
     }
 }

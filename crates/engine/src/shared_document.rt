@@ -3,12 +3,13 @@
 ghost use Rattle.std.specs.Prelude.{◌≡◌, IfOk};
 
 use bson::{Document, NoMemory};
+use filter::AsDocument;
 use std::alloc::Global;
 use std::marker::Model;
 use std::rc::Rc;
 
-/// A stored document. The collection that has it, and what undoes a change of that collection, own it together, so that
-/// taking it away and putting it back copies nothing.
+/// A document with several owners: the collection that has it, what undoes a change of that collection, and cursors. So
+/// taking it away, putting it back and giving it later copies nothing.
 #[derive(Drop)]
 pub(crate) struct SharedDocument {
     document: Rc<Document>,
@@ -45,5 +46,13 @@ impl SharedDocument {
     {
         let document = self.document.clone()?;
         Ok(SharedDocument { document })
+    }
+}
+
+impl AsDocument for SharedDocument {
+    ghost document = { λ a. a };
+
+    fn as_document(&self) -> &Document {
+        self.document()
     }
 }

@@ -195,15 +195,6 @@ numbered-documents n (ps ∷ documents) = ap (λ (qs : List Pairs). ps ∷ qs) (
 pub arranged-documents : (fields : List SortField) (documents : List Pairs) → map (λ p. p.0) (arranged fields documents) ≡ order fields documents
 arranged-documents fields documents = sorted-map (λ p. p.0) (compare_by fields) (numbered 0 documents) ∙ ap (sorted (compare_by fields)) (numbered-documents 0 documents)
 
-map-places : (rs : List Ranked) → map (λ p. p.0) (map at_place rs) ≡ map (λ r. r.document.now) rs
-map-places [] = refl
-map-places (r ∷ rs) = ap (λ (qs : List Pairs). r.document.now ∷ qs) (map-places rs)
-
-pub shared_in_order : (fields : List SortField) (rs sorts : List Ranked) (documents : List Pairs) → map ranked_of rs ≡ map (with_keys fields) (numbered 0 documents)
-    → sorts ≡ sorted (ranked_cmp fields) rs → map (λ r. r.document.now) sorts ≡ order fields documents
-shared_in_order fields rs sorts documents made is =
-    sym (map-places sorts) ∙ ap (map (λ p. p.0)) (ranked_in_order fields rs sorts documents made is) ∙ arranged-documents fields documents
-
 map-place : (rs : List Ranked) → map (λ p. p.1) (map at_place rs) ≡ map (λ r. r.place) rs
 map-place [] = refl
 map-place (r ∷ rs) = ap (λ (ns : List ℕ). r.place ∷ ns) (map-place rs)

@@ -5,6 +5,7 @@
 //! and `projecting` apply them.
 #![tactic(auto)]
 
+mod as_document;
 mod condition;
 mod copying;
 mod element;
@@ -19,6 +20,7 @@ mod reading;
 mod sort;
 mod sorting;
 
+pub use as_document::AsDocument;
 pub use condition::{Comparison, Condition, Filter, Predicate};
 pub use operands::{has_operators, path_in};
 pub use projection::{Projection, ProjectionFields};

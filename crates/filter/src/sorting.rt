@@ -1,12 +1,13 @@
 //! Ordering documents: each one's keys are looked up once, and no value is copied.
 
-ghost use Rattle.std.specs.Prelude.{◌≡◌, ◌<◌, IfOk, OnOk, length, map, drop, slice_index_or, slice_set, option_map};
-ghost use Rattle.bson.specs.Tree.{no_pairs};
+ghost use Rattle.std.specs.Prelude.{◌≡◌, ◌<◌, List, IfOk, OnOk, length, map, drop, slice_index_or, slice_set, option_map};
+ghost use Rattle.bson.specs.Tree.{Pairs, no_pairs};
 ghost use Rattle.path.specs.View.{reached};
 ghost use Rattle.value_order.specs.View.{key_of};
 ghost use Rattle.filter.specs.Sort.{precedes, in_direction, keys_of, array_keys, sort_key, sorted, order};
 ghost use Rattle.filter.specs.SortKeys.{field_of, earlier, first_of, document_keys, first_or_null, keys_cmp, keys_held, ranked_cmp, numbered, with_keys, ranked_of, arranged};
 
+use crate::as_document::AsDocument;
 use crate::sort::{Field, Sort};
 use bson::{Array, Document, NoMemory, Value};
 use path::{Reached, reach};
@@ -173,13 +174,17 @@ impl Sort {
         })
     }
 
-    fn rank_shared<'a>(&self, documents: &[&'a Document]) -> Result<Vec<Ranked<'a>>, NoMemory>
+    fn rank_shared<'a, T: AsDocument>(
+        &self,
+        documents: &[&'a T],
+    ) -> Result<Vec<Ranked<'a>>, NoMemory>
         ensures { IfOk result (λ v. map ranked_of v.items
-            ≡ map (with_keys self.now) (numbered 0 (map (λ d. d.now) documents.now))) }
+            ≡ map (with_keys self.now)
+            (numbered 0 (map (λ d. T.document d.now) documents.now))) }
     {
         let mut all = Vec::with_capacity(*self.fields.allocator(), documents.len())?;
         'documents: for document in documents {
-            let ranked = self.rank(*document, all.len())?;
+            let ranked = self.rank((*document).as_document(), all.len())?;
             all.push(ranked)?;
         }
         Ok(all)
@@ -206,29 +211,29 @@ impl Sort {
         Ok(())
     }
 
-    /// Documents in the order of the sort. Those that tie keep their order.
-    pub fn order_shared<'a>(
+    /// What lends documents, in the order of the sort of these. Those that tie keep their order.
+    pub fn order_shared<'a, T: AsDocument>(
         &self,
-        documents: Vec<&'a Document>,
-    ) -> Result<Vec<&'a Document>, NoMemory>
-        ensures { IfOk result (λ v. map (λ d. d.now) v.items
-            ≡ order self.now (map (λ d. d.now) documents.entry.items)) }
+        documents: Vec<&'a T>,
+    ) -> Result<Vec<&'a T>, NoMemory>
+        ensures { IfOk result (λ v. map (λ d. T.document d.now) v.items
+            ≡ order self.now (map (λ d. T.document d.now) documents.entry.items)) }
     {
-        let mut all = self.rank_shared(&documents)?;
-        self.sort_ranked(&mut all)?;
-        let mut documents = documents;
-        documents.clear();
-        'all: for ranked in &all {
-            documents.push(ranked.document)?;
+        let places = self.places(self.rank_shared(&documents)?)?;
+        let mut ordered = Vec::with_capacity(*self.fields.allocator(), documents.len())?;
+        'places: for place in &places {
+            ordered.push(documents[*place])?;
         }
-        Ok(documents)
+        Ok(ordered)
     }
 
     /// The places of documents in the order of the sort.
-    fn places(&self, documents: &[Document]) -> Result<Vec<usize>, NoMemory>
-        ensures { IfOk result (λ v. v.items ≡ map (λ p. p.1) (arranged self.now documents.now)) }
+    fn places(&self, ranked: Vec<Ranked<'_>>) -> Result<Vec<usize>, NoMemory>
+        ensures { (documents : List Pairs)
+            → map ranked_of ranked.entry.items ≡ map (with_keys self.now) (numbered 0 documents)
+            → IfOk result (λ v. v.items ≡ map (λ p. p.1) (arranged self.now documents)) }
     {
-        let mut all = self.rank_all(documents)?;
+        let mut all = ranked;
         self.sort_ranked(&mut all)?;
         let mut places = Vec::with_capacity(*self.fields.allocator(), all.len())?;
         'all: for ranked in &all {
@@ -241,7 +246,7 @@ impl Sort {
     pub fn order(&self, documents: Vec<Document>) -> Result<Vec<Document>, NoMemory>
         ensures { IfOk result (λ v. v.items ≡ order self.now documents.items) }
     {
-        let places = self.places(&documents)?;
+        let places = self.places(self.rank_all(&documents)?)?;
         let alloc = *self.fields.allocator();
         let mut documents = documents;
         let mut ordered = Vec::with_capacity(alloc, documents.len())?;

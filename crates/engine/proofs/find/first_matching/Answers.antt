@@ -20,11 +20,10 @@ documents-preserved c =
       | then-matches+in_ok-push w ↦
           let holds : matches c.args.filter.now c.document-item.result ≡ true = ap (matches c.args.filter.now) (sym c.document.ensures) ∙ sym c.matches.ensures ∙ w.if-matches.true in
           let pushed : documents_at c.if-matches.found.items ≡ documents_at c.documents.found.items ++ c.document-item.result ∷ [] =
-          ap (λ v. documents_at v.items) w.found-is ∙ ap documents_at w.in_ok-push.ensures.items ∙ map-append (λ d. d.now) c.documents.found.items (w.document-then-matches.result ∷ [])
-          ∙ ap (λ (d : Pairs). documents_at c.documents.found.items ++ d ∷ []) w.document-then-matches.ensures in
+          ap (λ v. documents_at v.items) w.found-is ∙ ap documents_at w.in_ok-push.ensures.items ∙ map-append (λ d. d.now) c.documents.found.items _ in
           record {
             passed = passed_one (matches c.args.filter.now) c.args.documents.now c.documents.document-index c.document-item.result (documents_at c.documents.found.items) (documents_at c.if-matches.found.items) c.documents-test.true c.document-item.is holds pushed c.documents.invariant.passed;
-            few = omega (arith, ap (λ v. length v.items) w.found-is, ap length w.in_ok-push.ensures.items, c.documents.invariant.few, c.len.ensures, c.documents.found.ok, c.if-len-most.false, length-append c.documents.found.items (w.document-then-matches.result ∷ []));
+            few = omega (arith, ap (λ v. length v.items) w.found-is, w.in_ok-push.ensures.len, c.documents.invariant.few, c.len.ensures, c.documents.found.ok, w.push.new.self.ok, c.if-len-most.false);
           }
       | else-matches w ↦
           let fails : matches c.args.filter.now c.document-item.result ≡ false = ap (matches c.args.filter.now) (sym c.document.ensures) ∙ sym c.matches.ensures ∙ w.if-matches.false in

@@ -7,7 +7,7 @@ use Rattle.engine.specs.World.{World}
 use Rattle.engine.specs.Refusals.{int, ok_reply}
 use Rattle.engine.specs.Progress.{Progress}
 use Rattle.commands.specs.View.{documents_at}
-use Rattle.engine.specs.View.{world, with_ok, IsSendable}
+use Rattle.engine.specs.View.{world_of, world, with_ok, IsSendable}
 use Rattle.path.specs.declared.refusal.Refusal.{Refusal}
 use Rattle.engine.proofs.Running.{run_insert-done, run_insert-refused}
 use Rattle.engine.proofs.Growing.{inserted_differs}
@@ -17,13 +17,12 @@ use Rattle.engine.proofs.engine.Engine.insert.Goals as goal
 pub returns-in_err-insert-clause-runs : goal.returns-in_err-insert-clause-runs
 returns-in_err-insert-clause-runs g c =
     let p = err_from_is_err_and c.from_residual-in_err-insert.result c.from_residual-in_err-insert.ensures.1 in
-    let same : World = record { collections = c.insert.new.self.now; cursors = []; next = 1; touched = [] } in
-    let kept : same ≡ world c.args.self.now = ap (λ (q : Progress). let w : World = record { collections = q.now; cursors = []; next = 1; touched = [] } in w) c.in_err-insert.ensures.err in
+    let kept : world_of c.insert.new.self c.args.self.now.cursors ≡ world c.args.self.now = ap (λ (q : Progress). world_of q c.args.self.now.cursors) c.in_err-insert.ensures.err in
     rw (p.1, p.2) (kept, λ other. run_insert-refused (world c.args.self.now) c.args.namespace.now (documents_at c.args.documents.now) c.in_err-insert.field-0.0 (c.in_err-insert.ensures.does other))
 
 pub returns-clause-runs : goal.returns-clause-runs
 returns-clause-runs g c =
-    let new : World = record { collections = c.insert.new.self.now; cursors = []; next = 1; touched = [] } in
+    let new : World = world_of c.insert.new.self c.args.self.now.cursors in
     let answer : Pairs → Result (World × Pairs) Refusal = λ d. Ok (new, d) in
     let count : length c.args.documents.now ≡ length (documents_at c.args.documents.now) = sym (length-map c.args.documents.now (λ d. d.now)) in
     let reply = c.in_ok-reply.ensures ∙ ap (λ (n : ℕ). ok_reply (pair (codes "n") (int n) no_pairs)) count in

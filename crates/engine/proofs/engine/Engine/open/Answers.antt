@@ -8,8 +8,8 @@ returns-in-Err-clause-refused g c = refused_store g.D.Disk.history c.args.disk c
 
 pub returns-in-Ok-load-clause-opened : goal.returns-in-Ok-load-clause-opened
 returns-in-Ok-load-clause-opened g c =
-    let engine : Engine g.row.D.Denot = record { alloc = c.args.alloc; collections = c.in-Ok-load.collections; store = c.in-Ok.found.0 } in
-    opened g.D.Disk.history c.args.disk engine (entries_of c.in-Ok.found.1) c.in-Ok.ensures.opened c.in-Ok-load.ensures.loading c.in-Ok-load.ensures.readable c.in-Ok.ensures.entries c.in-Ok-load.ensures.entries
+    let engine : Engine g.row.D.Denot = record { alloc = c.args.alloc; collections = c.in-Ok-load.collections; cursors = c.new.result; store = c.in-Ok.found.0 } in
+    opened g.D.Disk.history c.args.disk engine (entries_of c.in-Ok.found.1) c.in-Ok.ensures.opened c.in-Ok-load.ensures.loading c.in-Ok-load.ensures.readable c.in-Ok.ensures.entries c.in-Ok-load.ensures.entries c.new.ensures
 
 pub returns-clause-refused : goal.returns-clause-refused
 returns-clause-refused g c =

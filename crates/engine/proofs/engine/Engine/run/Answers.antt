@@ -30,8 +30,8 @@ returns-in-Find-clause-runs g c =
     ap read (c.in_ok-read.ensures.gives ∙ ap (λ (x : Command). Ok (command_read x)) c.in-Find.is) in
     let called : run_find w c.args.connection (record { namespace = c.as_str-in-Find.result.now; query = asked.query; batch_size = Some c.unwrap_or-most.result }) ≡ run_find w c.args.connection (record asked { batch_size = Some (unwrap_or asked.batch_size 101) }) =
     λ i. run_find w c.args.connection (record { namespace = c.as_str-in-Find.ensures.value i; query = asked.query; batch_size = Some (c.unwrap_or-most.ensures i) }) in
-    subst (λ (r : Result Pairs Refusal). Runs w (read_and_run w c.args.connection c.args.body.now) w r) (sym c.spelled.ensures)
-    (subst (λ (planned : Result (World × Pairs) Refusal). Runs w planned w c.find.result) (called ∙ run_find-default w c.args.connection asked ∙ sym spelled) c.find.ensures.runs)
+    subst (λ (r : Result Pairs Refusal). Runs w (read_and_run w c.args.connection c.args.body.now) (world c.find.new.self) r) (sym c.spelled.ensures)
+    (subst (λ (planned : Result (World × Pairs) Refusal). Runs w planned (world c.find.new.self) c.find.result) (called ∙ run_find-default w c.args.connection asked ∙ sym spelled) c.find.ensures.runs)
 
 pub returns-in-Aggregate-clause-runs : goal.returns-in-Aggregate-clause-runs
 returns-in-Aggregate-clause-runs g c =
@@ -42,8 +42,8 @@ returns-in-Aggregate-clause-runs g c =
     ap read (c.in_ok-read.ensures.gives ∙ ap (λ (x : Command). Ok (command_read x)) c.in-Aggregate.is) in
     let called : run_aggregate w c.args.connection (record { namespace = c.as_str-in-Aggregate.result.now; pipeline = asked.pipeline; batch_size = Some c.unwrap_or-most-in-Aggregate.result }) ≡ run_aggregate w c.args.connection (record asked { batch_size = Some (unwrap_or asked.batch_size 101) }) =
     λ i. run_aggregate w c.args.connection (record { namespace = c.as_str-in-Aggregate.ensures.value i; pipeline = asked.pipeline; batch_size = Some (c.unwrap_or-most-in-Aggregate.ensures i) }) in
-    subst (λ (r : Result Pairs Refusal). Runs w (read_and_run w c.args.connection c.args.body.now) w r) (sym c.spelled-in-Aggregate.ensures)
-    (subst (λ (planned : Result (World × Pairs) Refusal). Runs w planned w c.aggregate.result) (called ∙ run_aggregate-default w c.args.connection asked ∙ sym spelled) c.aggregate.ensures.runs)
+    subst (λ (r : Result Pairs Refusal). Runs w (read_and_run w c.args.connection c.args.body.now) (world c.aggregate.new.self) r) (sym c.spelled-in-Aggregate.ensures)
+    (subst (λ (planned : Result (World × Pairs) Refusal). Runs w planned (world c.aggregate.new.self) c.aggregate.result) (called ∙ run_aggregate-default w c.args.connection asked ∙ sym spelled) c.aggregate.ensures.runs)
 
 pub returns-in-Update-clause-has_changes : goal.returns-in-Update-clause-has_changes
 returns-in-Update-clause-has_changes g c = λ wrote.

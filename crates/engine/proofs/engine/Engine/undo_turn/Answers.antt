@@ -1,16 +1,12 @@
-use Rattle.std.proofs.Common.{[], ap, subst, sym, refl}
+use Rattle.std.proofs.Common.{subst, sym, ap, ◌∙◌}
 use Rattle.engine.specs.World.{World}
-use Rattle.engine.specs.Lawful.{IsLawfulState}
-use Rattle.engine.specs.Progress.{Progress, turn_start_of}
-use Rattle.engine.specs.declared.engine.Engine.{Engine}
-use Rattle.engine.proofs.Sound.{keeps_sound}
+use Rattle.engine.specs.Lawful.{IsLawful}
+use Rattle.engine.proofs.Sound.{keeps_sound, undone_lawful}
 use Rattle.engine.proofs.engine.Engine.undo_turn.Goals as goal
-
-abbrev begun_by : Progress → World
-begun_by p = record { collections = turn_start_of p; cursors = []; next = 1; touched = [] }
 
 pub returns-clause-sound : goal.returns-clause-sound
 returns-clause-sound g c =
     let old = c.args.self.now in
-    let new : Engine g.row.D.Denot = record { alloc = old.alloc; collections = c.undo.new.self; store = old.store } in
-    keeps_sound g.D.Disk.history old new c.requires.sound refl (ap begun_by c.undo.ensures) (subst (λ (p : Progress). IsLawfulState p.now) (sym c.undo.ensures) c.requires.sound.before)
+    let new = c.take_back.new.self in
+    keeps_sound g.D.Disk.history old new c.requires.sound c.take_back.ensures.disk (c.take_back.ensures.turn_start ∙ ap (λ (w : World). w.collections) c.take_back.ensures.world)
+    (subst IsLawful (sym c.take_back.ensures.world) (undone_lawful g.D.Disk.history old c.requires.sound))

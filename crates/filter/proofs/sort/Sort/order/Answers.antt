@@ -1,6 +1,6 @@
 use Rattle.std.proofs.Common.{◌≡◌, ℕ, ◌+◌, ◌<◌, ◌≤◌, List, length, drop, get_or, map, sym, ap, subst, ◌∙◌, rules}
 use Rattle.bson.specs.Tree.{Pairs, no_pairs}
-use Rattle.filter.specs.SortKeys.{arranged}
+use Rattle.filter.specs.SortKeys.{numbered, with_keys, arranged}
 use Rattle.filter.proofs.SortLemmas.{arranged-documents}
 use Rattle.filter.proofs.TakenOutLemmas.{StandIn, Apart, arranged-stand, arranged-apart, next_at, taken_more, taken_all, still_there}
 use Rattle.filter.proofs.sort.Sort.order.Goals as goal
@@ -17,7 +17,8 @@ take_out-document-requires c =
     let ps = arranged c.args.self.now c.args.documents.items in
     let i = c.places.place-index in
     let same : c.deref-place-items.result.now ≡ map (λ (p : Pairs × ℕ). p.1) ps =
-    c.deref-place-items.ensures.value ∙ c.in_ok-places.ensures ∙ ap (λ (ds : List Pairs). map (λ (p : Pairs × ℕ). p.1) (arranged c.args.self.now ds)) c.deref.ensures.value in
+    c.deref-place-items.ensures.value ∙ c.in_ok-places.ensures c.args.documents.items
+    (c.in_ok-rank_all.ensures ∙ ap (λ (ds : List Pairs). map (with_keys c.args.self.now) (numbered 0 ds)) c.deref.ensures.value) in
     let next = next_at ps i (get_or c.deref-place-items.result.now i 0) 0 (subst (λ (ns : List ℕ). i < length ns) same c.places-test.true) (ap (λ (ns : List ℕ). get_or ns i 0) same) in
     (subst (StandIn c.places.documents.items) next.is c.places.invariant.there).0.within
 
@@ -27,7 +28,8 @@ places-preserved c =
     let i = c.places.place-index in
     let place = get_or c.deref-place-items.result.now i 0 in
     let same : c.deref-place-items.result.now ≡ map (λ (p : Pairs × ℕ). p.1) ps =
-    c.deref-place-items.ensures.value ∙ c.in_ok-places.ensures ∙ ap (λ (ds : List Pairs). map (λ (p : Pairs × ℕ). p.1) (arranged c.args.self.now ds)) c.deref.ensures.value in
+    c.deref-place-items.ensures.value ∙ c.in_ok-places.ensures c.args.documents.items
+    (c.in_ok-rank_all.ensures ∙ ap (λ (ds : List Pairs). map (with_keys c.args.self.now) (numbered 0 ds)) c.deref.ensures.value) in
     let next = next_at ps i place 0 (subst (λ (ns : List ℕ). i < length ns) same c.places-test.true) (ap (λ (ns : List ℕ). get_or ns i 0) same) in
     let there = subst (StandIn c.places.documents.items) next.is c.places.invariant.there in
     let apart = subst Apart next.is c.places.invariant.apart in
@@ -43,6 +45,7 @@ returns c =
     let ps = arranged c.args.self.now c.args.documents.items in
     let i = c.places.place-index in
     let same : c.deref-place-items.result.now ≡ map (λ (p : Pairs × ℕ). p.1) ps =
-    c.deref-place-items.ensures.value ∙ c.in_ok-places.ensures ∙ ap (λ (ds : List Pairs). map (λ (p : Pairs × ℕ). p.1) (arranged c.args.self.now ds)) c.deref.ensures.value in
+    c.deref-place-items.ensures.value ∙ c.in_ok-places.ensures c.args.documents.items
+    (c.in_ok-rank_all.ensures ∙ ap (λ (ds : List Pairs). map (with_keys c.args.self.now) (numbered 0 ds)) c.deref.ensures.value) in
     taken_all ps i c.places.ordered.items (map (λ (p : Pairs × ℕ). p.0) ps) (subst (λ (ns : List ℕ). length ns ≤ i) same c.places-test.false) c.places.invariant.taken
     ∙ arranged-documents c.args.self.now c.args.documents.items

@@ -1,5 +1,11 @@
-use Rattle.std.proofs.Common.{◌≡◌, take, map}
+use Rattle.std.proofs.Common.{◌≡◌, ◌++◌, drop, map}
+use Rattle.filter.specs.SortKeys.{arranged}
+use Rattle.filter.proofs.TakenOutLemmas.{StandIn}
 use Rattle.filter.proofs.sort.Sort.order_shared.Given as goal
 
-abbrev pub invariant-all : goal.invariant-all
-invariant-all l = map (λ d. d.now) l.documents.items ≡ map (λ r. r.document.now) (take l.ranked-index l.ranked-items)
+abbrev pub invariant-places : goal.invariant-places
+invariant-places g l = record {
+  taken : map (λ d. g.T.AsDocument.document d.now) l.ordered.items ++ map (λ p. p.0) (drop l.place-index (arranged l.self (map (λ d. g.T.AsDocument.document d.now) l.fn.documents.items)))
+      ≡ map (λ p. p.0) (arranged l.self (map (λ d. g.T.AsDocument.document d.now) l.fn.documents.items));
+  there : StandIn (map (λ d. g.T.AsDocument.document d.now) l.fn.documents.items) (drop l.place-index (arranged l.self (map (λ d. g.T.AsDocument.document d.now) l.fn.documents.items)));
+}

@@ -5,7 +5,7 @@ use Rattle.filter.proofs.SortLemmas.{places_in_order}
 use Rattle.filter.proofs.sort.Sort.places.Goals as goal
 
 pub returns : goal.returns
-returns c =
+returns c = λ documents ranked.
     c.all.invariant
     ∙ ap (map (λ (r : Ranked). r.place)) (take_all c.all.ranked-index c.deref-ranked-items.result.now c.all-test.false ∙ c.deref-ranked-items.ensures.value)
-    ∙ places_in_order c.args.self.now c.in_ok-all.all.items c.sort_ranked.new.all.items c.args.documents.now c.in_ok-all.ensures c.in_ok-sort_ranked.ensures
+    ∙ places_in_order c.args.self.now c.args.ranked.items c.sort_ranked.new.all.items documents ranked c.in_ok-sort_ranked.ensures

@@ -1,14 +1,14 @@
-use Rattle.std.proofs.Common.{length, ap, length-append, arith}
+use Rattle.std.proofs.Common.{length, map, ap, length-append, arith}
 use Rattle.std.specs.Prelude.{take}
 use Rattle.bson.specs.Spelling.{items_bytes}
 use Rattle.engine.specs.Cursors.{items_of_documents}
 use Rattle.engine.specs.View.{projected}
 use Rattle.engine.proofs.CursorSpelling.{zeros, batch_short}
-use Rattle.engine.proofs.find_reply.put_array.Goals as goal
+use Rattle.engine.proofs.batch_reply.put_array.Goals as goal
 
 pub end-requires-clause-short : goal.end-requires-clause-short
-end-requires-clause-short c =
-    let gs = projected c.args.projection.now c.args.documents.now in
+end-requires-clause-short g c =
+    let gs = projected c.args.projection.now (map g.T.AsDocument.document c.args.documents.now) in
     let batch = items_bytes 0 (items_of_documents (take c.in_ok-count.count gs)) in
     omega (
       arith,

@@ -1,0 +1,40 @@
+//! `getMore`: the next batch of a cursor.
+
+ghost use Rattle.std.specs.Prelude.{◌≡◌, ◌≤◌, IfOk, length};
+ghost use Rattle.engine.specs.GetMore.{run_get_more};
+ghost use Rattle.engine.specs.View.{world, turn_start, IsSendable, Runs};
+ghost use Rattle.engine.specs.Durable.{has_changes};
+
+use crate::connection::ConnId;
+use crate::engine::Engine;
+use bson::SpelledDocument;
+use page::Disk;
+use path::Refusal;
+
+impl<D: Disk> Engine<D> {
+    /// Gives the next documents of a cursor; `CursorNotFound` where the connection has none of this id and namespace.
+    pub(crate) fn get_more(
+        &mut self,
+        connection: ConnId,
+        namespace: &str,
+        id: &i64,
+        most: Option<usize>,
+    ) -> Result<SpelledDocument, Refusal>
+        requires { length namespace.now ≤ 255 }
+        ensures disk { self.new.store ≡ self.old.store }
+        ensures runs { Runs (world self.old)
+            (run_get_more (world self.old) connection
+            (record { id = id.now; namespace = namespace.now; batch_size = most }))
+            (world self.new) result }
+        ensures turn_start { turn_start self.new ≡ turn_start self.old }
+        ensures has_changes { has_changes self.new ≡ has_changes self.old }
+        ensures sendable { IfOk result (λ d. IsSendable d) }
+    {
+        let Some(at) = self.cursors.place_of(connection, namespace, id) else {
+            return Err(Refusal::CursorNotFound);
+        };
+        let (reply, count) = self.cursors.batch(at, namespace, most)?;
+        self.cursors.advance(at, count);
+        Ok(reply)
+    }
+}
