@@ -1,5 +1,5 @@
 -- The names of a database's collections, and that they all go into one batch.
-use Rattle.std.proofs.Common.{◌≡◌, ℕ, zero, suc, ◌+◌, ◌-◌, ◌*◌, ◌<◌, ◌≤◌, Bool, true, false, List, [], ◌∷◌, ◌++◌, length, drop, get_or, map, Option, Some, None, refl, sym, ap, subst, ◌∙◌, append_assoc, length-append, arith}
+use Rattle.std.proofs.Common.{◌≡◌, ℕ, zero, suc, ◌+◌, ◌-◌, ◌*◌, ◌<◌, ◌≤◌, Bool, true, false, List, [], ◌∷◌, ◌++◌, length, drop, get_or, map, take, Option, Some, None, Result, Ok, refl, sym, ap, subst, ◌∙◌, append_assoc, length-append, arith}
 use Rattle.std.specs.Prelude.{◌||◌, ◌==◌, nat_eq, nat_le, if◌then◌else◌, codes, option_map, All, MatchOption}
 use Rattle.std.specs.Borrow.{Bor}
 use Rattle.std.specs.Fmt.{decimal}
@@ -9,16 +9,18 @@ use Rattle.std.specs.Str.Pattern.{FindsTextPrefix, StripsPrefix}
 use Rattle.std.proofs.lemmas.Bool.Decides.{nat_tests}
 use Rattle.std.proofs.lemmas.Fmt.{length-decimal-le}
 use Rattle.std.proofs.lemmas.List.Elements.{All-head, All-tail, All-cons}
-use Rattle.std.proofs.lemmas.List.{length-map}
+use Rattle.std.proofs.lemmas.List.{length-map, take_all}
 use Rattle.std.proofs.lemmas.Str.Pattern.{starts_text}
 use Rattle.bson.specs.Tree.{Pairs, pair, no_pairs}
 use Rattle.bson.specs.SizingLaws.{frame_of-length, pairs_bytes-none, pairs_size-pair}
 use Rattle.bson.specs.Spelling.{frame_of, pairs_bytes}
-use Rattle.engine.specs.World.{Collection}
-use Rattle.engine.specs.Lawful.{IsWithin, IsKept}
-use Rattle.engine.specs.Cursors.{item_size, batch_len, batch_of}
-use Rattle.engine.specs.ListCollections.{name_in, with_name, names_in, listed}
-use Rattle.engine.specs.Refusals.{words}
+use Rattle.path.specs.declared.refusal.Refusal.{Refusal}
+use Rattle.engine.specs.World.{World, Collection}
+use Rattle.engine.specs.Lawful.{IsWithin, IsKept, IsLawfulState}
+use Rattle.engine.specs.View.{with_ok}
+use Rattle.engine.specs.Cursors.{item_size, batch_len, batch_of, cursor_reply, number_after, batch_reply}
+use Rattle.engine.specs.ListCollections.{name_in, with_name, names_in, listed, run_list_collections}
+use Rattle.engine.specs.Refusals.{words, ok_reply}
 use Rattle.engine.proofs.SpelledSizes.{length-words}
 use Rattle.engine.proofs.Steps.{drop_step}
 
@@ -130,8 +132,21 @@ go_into_one front cs kept few =
 
 -- ---- the reply
 
-pub run_list-is : (w : World) (database front namespace : List ℕ) (seen ds : List Pairs) (n : ℕ) (reply : Pairs) → IsLawfulState w.collections → front ≡ database ++ codes "." → namespace ≡ database ++ codes ".$cmd.listCollections"
+zero_either : (b : Bool) → (if b then 0 else 0) ≡ 0
+zero_either true = refl
+zero_either false = refl
+
+pub run_list-is : (w : World) (database front namespace : List ℕ) (ds : List Pairs) (n : ℕ) (reply : Pairs) → IsLawfulState w.collections → front ≡ database ++ codes "." → namespace ≡ database ++ codes ".$cmd.listCollections"
     → ds ≡ map listed (names_in front w.collections) → n ≡ batch_of (length ds) ds → reply ≡ ok_reply (batch_reply (codes "firstBatch") n ds 0 namespace)
     → with_ok (run_list_collections w (record { database = database })) ≡ Ok (w, reply)
 unfolding run_list_collections
-run_list-is w database front namespace seen ds n reply h fronted named made counted said = absurd cc
+run_list-is w database front namespace ds n reply h fronted named made counted said =
+    let go = go_into_one front w.collections h.kept h.few in
+    let whole : n ≡ length ds = counted ∙ subst (λ (es : List Pairs). batch_of (length es) es ≡ length es) (sym made) go.whole in
+    let all : take n ds ≡ ds = take_all n ds (omega (arith, whole)) in
+    let none : number_after n ds 0 ≡ 0 = zero_either (nat_le (length ds) n) in
+    let last : List ℕ → List Pairs → Pairs = λ ns es. ok_reply (cursor_reply (codes "firstBatch") es 0 ns) in
+    let is : reply ≡ last namespace ds = said ∙ (λ i. ok_reply (cursor_reply (codes "firstBatch") (all i) (none i) namespace)) in
+    let made_of : List ℕ → List Pairs = λ f. map listed (names_in f w.collections) in
+    let answer : Pairs → Result (World × Pairs) Refusal = λ r. Ok (w, r) in
+    sym (ap answer (is ∙ (λ i. last (named i) (made i)) ∙ ap (λ (f : List ℕ). last (database ++ codes ".$cmd.listCollections") (made_of f)) fronted))

@@ -1,13 +1,13 @@
 //! `aggregate`: what a pipeline makes of the documents of a collection.
 
-ghost use Rattle.std.specs.Prelude.{◌≡◌, ◌≤◌, ◌<◌, Some, IfOk, List, ◌∷◌, ◌++◌, length, drop};
+ghost use Rattle.std.specs.Prelude.{◌≡◌, ◌≤◌, ◌<◌, Some, All, IfOk, List, ◌∷◌, ◌++◌, length, drop};
 ghost use Rattle.bson.specs.Tree.{Pairs};
-ghost use Rattle.std.specs.List.{filter};
 ghost use Rattle.outcome.specs.Outcome.{Gives};
 ghost use Rattle.aggregate.specs.Pipeline.{run as after_pipeline};
-ghost use Rattle.aggregate.specs.Taking.{takes};
+ghost use Rattle.commands.specs.View.{documents_at};
 ghost use Rattle.aggregate.specs.View.{pipeline_of};
-ghost use Rattle.engine.specs.Aggregate.{run_aggregate};
+ghost use Rattle.engine.specs.Lawful.{IsStored};
+ghost use Rattle.engine.specs.Aggregate.{run_aggregate, AreEnough};
 ghost use Rattle.engine.specs.View.{world, turn_start, IsSendable, Runs};
 ghost use Rattle.engine.specs.Durable.{has_changes};
 
@@ -15,6 +15,7 @@ use crate::STORED_LIMIT;
 use crate::batch_reply::{BatchKind, batch_reply};
 use crate::connection::ConnId;
 use crate::engine::Engine;
+use crate::picking::first_picked;
 use crate::shared_document::SharedDocument;
 use aggregate::Pipeline;
 use bson::{Document, NoMemory, SpelledDocument};
@@ -23,22 +24,29 @@ use page::Disk;
 use path::Refusal;
 use std::alloc::Global;
 
-/// Copies of the documents that a pipeline takes.
-fn taken(
+/// The documents that a pipeline needs: of those that it takes no more than it keeps.
+fn needed<'a>(
     alloc: Global,
     pipeline: &Pipeline,
-    documents: &[SharedDocument],
-) -> Result<Vec<Document>, NoMemory>
-    ensures { IfOk result (λ v. v.items
-        ≡ filter (takes (pipeline_of pipeline.now)) documents.now) }
+    documents: &'a [SharedDocument],
+) -> Result<Vec<&'a SharedDocument>, NoMemory>
+    ensures { IfOk result
+        (λ v. AreEnough (pipeline_of pipeline.now) (documents_at v.items) documents.now) }
 {
-    let mut taken = Vec::new(alloc);
+    let most = pipeline.most(documents.len());
+    let taken = first_picked(alloc, documents, pipeline, most)?;
+    pipeline.first_sorted(taken)
+}
+
+/// Copies of documents.
+fn copies(alloc: Global, documents: &[&SharedDocument]) -> Result<Vec<Document>, NoMemory>
+    ensures { IfOk result (λ v. v.items ≡ documents_at documents.now) }
+{
+    let mut copies = Vec::with_capacity(alloc, documents.len())?;
     'documents: for document in documents {
-        if pipeline.takes(document.document()) {
-            taken.push(document.document().copy()?)?;
-        }
+        copies.push(document.document().copy()?)?;
     }
-    Ok(taken)
+    Ok(copies)
 }
 
 /// What a pipeline makes of documents.
@@ -47,11 +55,12 @@ fn after_pipeline(
     pipeline: &Pipeline,
     documents: &[SharedDocument],
 ) -> Result<Vec<Document>, Refusal>
+    requires { All IsStored documents.now }
     ensures { Gives Refusal.OutOfMemory (λ v. v.items) result
         (after_pipeline (pipeline_of pipeline.now) 65535 documents.now) }
 {
-    let taken = taken(alloc, pipeline, documents)?;
-    pipeline.run(taken, STORED_LIMIT as u32)
+    let needed = needed(alloc, pipeline, documents)?;
+    pipeline.run(copies(alloc, &needed)?, STORED_LIMIT as u32)
 }
 
 /// Passes a document over where some have to be, or moves it to where it can have several owners. It says how many have to be

@@ -13,6 +13,7 @@ ghost use Rattle.engine.specs.Durable.{has_changes};
 use crate::batch_reply::{BatchKind, batch_reply};
 use crate::connection::ConnId;
 use crate::engine::Engine;
+use crate::picking::first_picked;
 use crate::shared_document::SharedDocument;
 use bson::{Document, NoMemory, SpelledDocument};
 use commands::Query;
@@ -26,28 +27,6 @@ pub(crate) fn matches(filter: &Filter, document: &Document) -> bool
     ensures { result ≡ matches filter.now document.now }
 {
     filter.matches(document).unwrap()
-}
-
-/// The documents that match a filter, in their order: the first ones, up to so many.
-fn first_matching<'a>(
-    alloc: Global,
-    documents: &'a [SharedDocument],
-    filter: &Filter,
-    most: usize,
-) -> Result<Vec<&'a SharedDocument>, NoMemory>
-    ensures { IfOk result (λ v. documents_at v.items
-        ≡ take most (matching filter.now documents.now)) }
-{
-    let mut found = Vec::new(alloc);
-    'documents: for document in documents {
-        if found.len() == most {
-            return Ok(found);
-        }
-        if matches(filter, document.document()) {
-            found.push(document)?;
-        }
-    }
-    Ok(found)
 }
 
 /// What is left of items without those that are skipped and those past the limit; a limit of 0 is none.
@@ -92,7 +71,7 @@ fn ordered<'a>(
     ensures { IfOk result (λ v. window query.now.skip query.now.limit (documents_at v.items)
         ≡ selection query.now documents.now) }
 {
-    let found = first_matching(
+    let found = first_picked(
         alloc,
         documents,
         &query.filter,

@@ -22,6 +22,7 @@ mod kill_cursors;
 pub mod laws;
 mod list_collections;
 mod loading;
+mod picking;
 mod refusal;
 mod reply;
 mod shared_document;

@@ -1,11 +1,10 @@
 use Rattle.std.proofs.Common.{◌≤◌, length}
-use Rattle.filter.specs.Matches.{matches}
 use Rattle.commands.specs.View.{documents_at}
 use Rattle.engine.proofs.Finding.{ArePassed}
-use Rattle.engine.proofs.find.first_matching.Given as goal
+use Rattle.engine.proofs.picking.first_picked.Given as goal
 
 abbrev pub invariant-documents : goal.invariant-documents
-invariant-documents l = record {
-  passed : ArePassed (matches l.filter) l.documents l.document-index (documents_at l.found.items);
+invariant-documents g l = record {
+  passed : ArePassed (g.P.Picks.picks l.picker) l.documents l.document-index (documents_at l.found.items);
   few : length l.found.items ≤ l.most;
 }
