@@ -1,5 +1,5 @@
 use Rattle.std.proofs.Common.{◌≡◌, ◌≤◌, ◌<◌, ℕ, ◌+◌, List, [], ◌∷◌, ◌++◌, length, map, drop, Result, Ok, false, true, refl, sym, ap, subst, ◌∙◌, arith}
-use Rattle.std.specs.Prelude.{All}
+use Rattle.std.specs.Prelude.{All, not}
 use Rattle.std.proofs.lemmas.List.{map-id}
 use Rattle.std.proofs.lemmas.List.Elements.{All-drop}
 use Rattle.std.proofs.lemmas.Result.{err_from_is_err_and}
@@ -63,7 +63,7 @@ returns-then-is_none-clause-runs g c =
     let piped = ap (after_pipeline stages 65535) (sym c.documents.ensures.documents) ∙ c.in_ok-given.ensures ∙ ap made_of (sym same) in
     let planned = run_aggregate-is w c.args.connection c.args.namespace.now stages c.args.most gs n piped c.in_ok-reply.ensures.count in
     let over : n < length gs = omega (arith, c.if-len-count.false, c.len.ensures, c.in_ok-given.given.ok, ap length same) in
-    let full = there_is_none c.next_number-number.result (is_refused c.args.connection w.cursors w.next ≡ true) (sym c.is_none.ensures ∙ c.if-is_none.true) c.next_number-number.ensures.none in
+    let full = there_is_none c.next_number-number.result (is_refused c.args.connection w.cursors w.next ≡ true) (c.is_none.ensures ∙ ap not c.if-is_none.true) c.next_number-number.ensures.none in
     (refl, λ _. planned ∙ refused_batch w c.args.connection c.args.namespace.now gs n over full)
 
 pub open-requires-clause-within : goal.open-requires-clause-within
@@ -92,7 +92,7 @@ returns-clause-runs g c =
     let rest : map (project c.new-whole.result) c.in_ok-rest.rest.items ≡ drop c.in_ok-reply.count gs =
     all_stay c.new-whole.result c.in_ok-rest.rest.items c.new-whole.ensures ∙ c.in_ok-rest.ensures ∙ ap (drop c.in_ok-reply.count) (sym same) in
     let over : n < length gs = omega (arith, c.if-len-count.false, c.len.ensures, c.in_ok-given.given.ok, ap length same) in
-    let some = sym c.is_none.ensures ∙ c.if-is_none.false in
+    let some = c.is_none.ensures ∙ ap not c.if-is_none.false in
     let number : c.unwrap_or.result ≡ w.next = c.unwrap_or.ensures ∙ there_is c.next_number-number.result (λ k. k ≡ w.next) some c.next_number-number.ensures.some in
     let free = there_is c.next_number-number.result (λ _. is_refused c.args.connection w.cursors w.next ≡ false) some c.next_number-number.ensures.free in
     let made : world_of c.args.self.now.collections c.open.new.self ≡ with_cursor w c.args.connection c.args.namespace.now gs n =

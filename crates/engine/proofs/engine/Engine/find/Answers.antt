@@ -1,6 +1,6 @@
-use Rattle.std.proofs.Common.{◌≡◌, ◌≤◌, ◌<◌, ℕ, ◌+◌, List, [], ◌∷◌, ◌++◌, length, map, drop, false, true, refl, sym, ap, subst, ◌∙◌, arith}
-use Rattle.std.specs.Prelude.{All}
-use Rattle.std.proofs.lemmas.List.{drop-map}
+use Rattle.std.proofs.Common.{◌≡◌, ◌≤◌, ◌<◌, ℕ, ◌+◌, ◌-◌, List, [], ◌∷◌, ◌++◌, length, map, drop, false, true, refl, sym, ap, subst, ◌∙◌, arith, length-drop}
+use Rattle.std.specs.Prelude.{All, not}
+use Rattle.std.proofs.lemmas.List.{drop-map, take_all}
 use Rattle.std.proofs.lemmas.List.Elements.{All-drop}
 use Rattle.bson.specs.Tree.{Pairs}
 use Rattle.filter.specs.Projection.{project}
@@ -57,7 +57,7 @@ returns-then-is_none-clause-runs g c =
     let n = c.in_ok-reply.count in
     let planned = run_find-is w c.args.connection c.args.namespace.now q c.args.most gs n given c.in_ok-reply.ensures.count in
     let over : n < length gs = omega (arith, c.if-selected-count.false, projected_len (λ d. d.now) c.query.inside.projection seen) in
-    let full = there_is_none c.next_number-number.result (is_refused c.args.connection w.cursors w.next ≡ true) (sym c.is_none.ensures ∙ c.if-is_none.true) c.next_number-number.ensures.none in
+    let full = there_is_none c.next_number-number.result (is_refused c.args.connection w.cursors w.next ≡ true) (c.is_none.ensures ∙ ap not c.if-is_none.true) c.next_number-number.ensures.none in
     (refl, λ _. planned ∙ refused_batch w c.args.connection c.args.namespace.now gs n over full)
 
 pub open-requires-clause-within : goal.open-requires-clause-within
@@ -70,8 +70,9 @@ open-requires-clause-within g c =
     let chosen : documents_at seen ≡ selection q ds = c.selected-selected.ensures ∙ ap (λ xs. window q.skip q.limit (documents_at xs)) c.deref.ensures.value ∙ c.in_ok-ordered.ensures in
     let found : gs ≡ query_result q ds = ap (map (project c.query.inside.projection)) chosen ∙ ap (λ (x : Query). map (project x.projection) (selection q ds)) c.query.view_is in
     let given : gs ≡ query_result q (documents_of w.collections c.args.namespace.now) = found ∙ ap (query_result q) c.documents-documents.ensures.documents in
+    let left = take_all (length seen - c.in_ok-reply.count) (drop c.in_ok-reply.count seen) (omega (arith, length-drop c.in_ok-reply.count seen)) in
     let rest : map (project c.in_ok-projection.projection) c.in_ok-rest.rest.items ≡ drop c.in_ok-reply.count gs =
-    (λ i. map (project (c.in_ok-projection.ensures i)) (c.in_ok-rest.ensures i)) ∙ ap (map (project c.query.inside.projection)) (sym (drop-map (λ d. d.now) c.in_ok-reply.count seen)) ∙ sym (drop-map (project c.query.inside.projection) c.in_ok-reply.count (documents_at seen)) in
+    (λ i. map (project (c.in_ok-projection.ensures i)) ((c.in_ok-rest.ensures ∙ ap documents_at left) i)) ∙ ap (map (project c.query.inside.projection)) (sym (drop-map (λ d. d.now) c.in_ok-reply.count seen)) ∙ sym (drop-map (project c.query.inside.projection) c.in_ok-reply.count (documents_at seen)) in
     subst (λ (es : List Pairs). All IsWithin es) (sym rest) (All-drop IsWithin c.in_ok-reply.count gs (subst (λ (es : List Pairs). All IsWithin es) (sym found) (found_within q ds c.documents-documents.ensures.stored)))
 
 pub returns-clause-runs : goal.returns-clause-runs
@@ -86,10 +87,11 @@ returns-clause-runs g c =
     let given : gs ≡ query_result q (documents_of w.collections c.args.namespace.now) = found ∙ ap (query_result q) c.documents-documents.ensures.documents in
     let n = c.in_ok-reply.count in
     let planned = run_find-is w c.args.connection c.args.namespace.now q c.args.most gs n given c.in_ok-reply.ensures.count in
+    let left = take_all (length seen - c.in_ok-reply.count) (drop c.in_ok-reply.count seen) (omega (arith, length-drop c.in_ok-reply.count seen)) in
     let rest : map (project c.in_ok-projection.projection) c.in_ok-rest.rest.items ≡ drop c.in_ok-reply.count gs =
-    (λ i. map (project (c.in_ok-projection.ensures i)) (c.in_ok-rest.ensures i)) ∙ ap (map (project c.query.inside.projection)) (sym (drop-map (λ d. d.now) c.in_ok-reply.count seen)) ∙ sym (drop-map (project c.query.inside.projection) c.in_ok-reply.count (documents_at seen)) in
+    (λ i. map (project (c.in_ok-projection.ensures i)) ((c.in_ok-rest.ensures ∙ ap documents_at left) i)) ∙ ap (map (project c.query.inside.projection)) (sym (drop-map (λ d. d.now) c.in_ok-reply.count seen)) ∙ sym (drop-map (project c.query.inside.projection) c.in_ok-reply.count (documents_at seen)) in
     let over : n < length gs = omega (arith, c.if-selected-count.false, projected_len (λ d. d.now) c.query.inside.projection seen) in
-    let some = sym c.is_none.ensures ∙ c.if-is_none.false in
+    let some = c.is_none.ensures ∙ ap not c.if-is_none.false in
     let number : c.unwrap_or.result ≡ w.next = c.unwrap_or.ensures ∙ there_is c.next_number-number.result (λ k. k ≡ w.next) some c.next_number-number.ensures.some in
     let free = there_is c.next_number-number.result (λ _. is_refused c.args.connection w.cursors w.next ≡ false) some c.next_number-number.ensures.free in
     let made : world_of c.args.self.now.collections c.open.new.self ≡ with_cursor w c.args.connection c.args.namespace.now gs n =
