@@ -52,10 +52,7 @@ impl Pipeline {
     }
 
     /// Those that are enough of the documents that it takes: where it sorts them and keeps the first ones, these alone.
-    pub fn first_sorted<'a, T: AsDocument>(
-        &self,
-        taken: Vec<&'a T>,
-    ) -> Result<Vec<&'a T>, NoMemory>
+    pub fn first_sorted<'a, T: AsDocument>(&self, taken: Vec<&'a T>) -> Result<Vec<&'a T>, NoMemory>
         ensures { IfOk result (λ v. IsEnough (pipeline_of self.now)
             (map (λ d. T.document d.now) v.items)
             (map (λ d. T.document d.now) taken.entry.items)) }

@@ -45,7 +45,7 @@ use Rattle.commands.specs.Command.{Command, ping, insert as insert_of, find as f
 use Rattle.engine.specs.Lawful.{IsStored, IsWithin, IsRising, AreNamedApart, AreNumberedApart, IsKept, IsLawfulState, IsLawful, AreLawfulCursors}
 use Rattle.engine.specs.Places.{collection_at, no_collection}
 use Rattle.engine.specs.Progress.{is_full, with_document}
-use Rattle.engine.specs.Cursors.{items_of_documents, batch_of, number_after, batch_reply, is_refused, new_cursor, open_cursor, first_batch, is_cursor, no_cursor, cursor_at}
+use Rattle.engine.specs.Cursors.{items_of_documents, batch_of, cursor_reply, number_after, batch_reply, is_refused, new_cursor, open_cursor, first_batch, is_cursor, no_cursor, cursor_at}
 use Rattle.commands.specs.GetMore.{GetMore}
 use Rattle.commands.specs.KillCursors.{KillCursors}
 use Rattle.engine.specs.GetMore.{batch_len_of, next_batch, run_get_more}
@@ -374,7 +374,7 @@ good_list_collections w c h short =
     let one = go_into_one (c.database ++ codes ".") w.collections h.collections.kept h.collections.few in
     let small : fits_in ds = subst fits_in (take_all (length ds) ds (omega arith)) (subst (λ (n : ℕ). fits_in (take n ds)) one.whole (batch_items (length ds) (900000 - 5) ds one.within)) in
     good_one w (cursor_reply (codes "firstBatch") ds 0 (c.database ++ codes ".$cmd.listCollections")) h
-    (cursor-sendable ds 0 (c.database ++ codes ".$cmd.listCollections") small (omega (arith, short, length-append c.database (codes ".$cmd.listCollections"))))
+    (cursor-sendable (codes "firstBatch") ds 0 (c.database ++ codes ".$cmd.listCollections") (lit≤ tt) small (omega (arith, short, length-append c.database (codes ".$cmd.listCollections"))))
 
 -- ---- updates
 

@@ -132,7 +132,10 @@ go_into_one front cs kept few =
 
 -- ---- the reply
 
-zero_either : (b : Bool) → (if b then 0 else 0) ≡ 0
+abbrev zero_if : Bool → ℕ
+zero_if b = if b then 0 else 0
+
+zero_either : (b : Bool) → zero_if b ≡ 0
 zero_either true = refl
 zero_either false = refl
 

@@ -12,6 +12,6 @@ returns c =
     let ds = c.args.documents.now in
     let taken = documents_at c.in_ok-taken.taken.items in
     if_ok c.first_sorted.result (λ v e fault.
-    e 65535 c.most.result ds fault c.in_ok-taken.ensures
+    e 65535 c.most-most.result ds fault c.in_ok-taken.ensures
     ∙ ap (after_pipeline stages 65535) c.in_ok-taken.ensures
-    ∙ c.most.ensures 65535 ds fault (omega (arith, c.len.ensures))) c.first_sorted.ensures
+    ∙ c.most-most.ensures 65535 ds fault (omega arith)) c.first_sorted.ensures

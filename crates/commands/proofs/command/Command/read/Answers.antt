@@ -26,6 +26,7 @@ returns-in_ok-read_drop-clause-bounded c =
 pub returns-in_ok-read_create-clause-bounded : goal.returns-in_ok-read_create-clause-bounded
 returns-in_ok-read_create-clause-bounded c =
     create_bounded (tree c.in-Some.first.now.value) (pairs_of c.in-Some.rest.now) (create_read c.in_ok-read_create.field-0) c.in_ok-read_create.ensures
+
 pub returns-in_ok-read_get_more-clause-bounded : goal.returns-in_ok-read_get_more-clause-bounded
 returns-in_ok-read_get_more-clause-bounded c =
     get_more_bounded (tree c.in-Some.first.now.value) (pairs_of c.in-Some.rest.now) (get_more_read c.in_ok-read_get_more.field-0) c.in_ok-read_get_more.ensures
