@@ -31,4 +31,4 @@ pub mod UpdatingLoop
 pub mod LawfulUpdates
 pub mod ReadingLaws
 pub mod EmptyImage
-mod CursorSteps
+pub mod CursorSteps

@@ -17,8 +17,7 @@ batch_len_of cursor batch_size = batch_of (unwrap_or batch_size (length cursor.r
 abbrev pub next_batch : World → GetMore → ℕ → World × Pairs
 next_batch world c at =
     let cursor = cursor_at world.cursors at in
-    let n = batch_len_of cursor c.batch_size in
-    (
+    let n = batch_len_of cursor c.batch_size in (
       record world { cursors = advanced world.cursors at n },
       batch_reply (codes "nextBatch") n cursor.rest cursor.number c.namespace,
     )

@@ -169,7 +169,9 @@ pub(crate) fn batch_reply<T: AsDocument>(
     let mut out = Vec::new(alloc);
     let start = begin_frame(&mut out)?;
     put_head(&mut out, Kind::Document, "cursor")?;
-    let count = put_cursor(&mut out, kind, namespace, number, projection, documents, most)?;
+    let count = put_cursor(
+        &mut out, kind, namespace, number, projection, documents, most,
+    )?;
     put(&mut out, "ok", &Value::Int32(1))?;
     end(&mut out, start)?;
     laws::spelled_once();

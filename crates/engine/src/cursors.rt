@@ -261,12 +261,7 @@ impl Cursors {
     }
 
     /// Where a connection's cursor of this id and namespace stands.
-    pub(crate) fn place_of(
-        &self,
-        connection: ConnId,
-        namespace: &str,
-        id: &i64,
-    ) -> Option<usize>
+    pub(crate) fn place_of(&self, connection: ConnId, namespace: &str, id: &i64) -> Option<usize>
         ensures { result ≡ position (is_cursor connection namespace.now id.now) self.now.list }
     {
         self.list

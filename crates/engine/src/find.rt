@@ -63,10 +63,7 @@ fn window<T>(items: &[T], skip: usize, limit: usize) -> &[T]
 }
 
 /// Those of ordered documents that are not skipped and within the limit.
-fn selected<'s, 'a>(
-    query: &Query,
-    ordered: &'s [&'a SharedDocument],
-) -> &'s [&'a SharedDocument]
+fn selected<'s, 'a>(query: &Query, ordered: &'s [&'a SharedDocument]) -> &'s [&'a SharedDocument]
     ensures { documents_at result.now
         ≡ window query.now.skip query.now.limit (documents_at ordered.now) }
 {

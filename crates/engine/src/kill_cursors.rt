@@ -106,8 +106,16 @@ fn kill_reply(alloc: Global, told: &ToldApart) -> Result<Document, NoMemory>
     ensures { IfOk result (λ d. d ≡ ok_reply (kill_reply told.now)) }
 {
     let mut reply = Document::new(alloc);
-    put(&mut reply, "cursorsKilled", Value::Array(id_array(alloc, &told.killed)?))?;
-    put(&mut reply, "cursorsNotFound", Value::Array(id_array(alloc, &told.not_found)?))?;
+    put(
+        &mut reply,
+        "cursorsKilled",
+        Value::Array(id_array(alloc, &told.killed)?),
+    )?;
+    put(
+        &mut reply,
+        "cursorsNotFound",
+        Value::Array(id_array(alloc, &told.not_found)?),
+    )?;
     done(reply)
 }
 
