@@ -11,7 +11,8 @@ use Rattle.roots.proofs.OpenSteps.{holds_by}
 use Rattle.roots.specs.Store as stores
 use Rattle.roots.specs.declared.store.CommitFault.{CommitFault}
 use Rattle.roots.specs.declared.store.CommitFault.TheVariants as faults
-use Rattle.engine.specs.World.{World, Collection, Cursor, CursorTable, at_rest, after_commit, after_undo}
+use Rattle.engine.specs.World.{World, Collection, Cursor, CursorTable, at_rest, are_untouched, after_commit, after_undo}
+use Rattle.engine.proofs.CursorSteps.{rested_untouched, untouched_untouched}
 use Rattle.std.proofs.lemmas.List.Elements.{All-filter, All-map}
 use Rattle.engine.specs.Lawful.{IsWithin, IsReadable, IsLawfulState, AreLawfulCursors}
 use Rattle.engine.specs.Stored.{database_entries}
@@ -77,6 +78,7 @@ module _ {D : Type 0} (history : D → History) (old new : Engine D) (h : IsSoun
       idle = λ e. refl;
       quiet = λ e. (refl, refl);
       rests = rests;
+      rested = subst (λ (t : CursorTable). are_untouched t.list ≡ true) (sym made) (rested_untouched old.cursors.list);
     }
 
   -- the collections are as they were at the beginning of the turn
@@ -98,6 +100,9 @@ module _ {D : Type 0} (history : D → History) (old new : Engine D) (h : IsSoun
       holds = λ run. subst (λ (cs : List Collection). LeavesNow (disk_history history new) (λ image. Holds image cs)) (sym first_state) (holds run);
       committed = λ k run. committed k run ∙ ap (λ (cs : List Collection). database_entries cs) (sym first_state);
     }
+
+    rested_again : are_untouched (world new).cursors ≡ true
+    rested_again = ap (λ (w : World). are_untouched w.cursors) back ∙ untouched_untouched (world old).cursors
 
     -- there was no memory for the entries
     pub undone_before : new.store ≡ old.store → Commits history (Err faults.Memory) old new
@@ -123,6 +128,7 @@ module _ {D : Type 0} (history : D → History) (old new : Engine D) (h : IsSoun
       idle = λ e. ap (λ s. history s.disk) same;
       quiet = λ e. not_both (has_changes old) moved e;
       rests = rests;
+      rested = rested_again;
     }
 
     -- nothing was committed
@@ -151,6 +157,7 @@ module _ {D : Type 0} (history : D → History) (old new : Engine D) (h : IsSoun
           idle = λ e. ap (λ s. history s.disk) (saved.idle e);
           quiet = λ e. not_both (has_changes old) moved e;
           rests = rests;
+          rested = rested_again;
         }
 
   -- the collections are as they stand
@@ -186,6 +193,9 @@ module _ {D : Type 0} (history : D → History) (old new : Engine D) (h : IsSoun
       committed = λ k run. committed k run ∙ ap (λ (cs : List Collection). database_entries cs) (sym there);
     }
 
+    rested_now : are_untouched (world new).cursors ≡ true
+    rested_now = ap (λ (w : World). are_untouched w.cursors) forth ∙ rested_untouched (world old).cursors
+
     pub committed_now : Saves history entries (Ok tt) old.store new.store → Commits history (Ok tt) old new
     committed_now saved = record {
       sound = sound_now saved.sound (λ run k image left. new_holds image (saved.acknowledged k image left)) (λ k run. saved.committed k);
@@ -205,6 +215,7 @@ module _ {D : Type 0} (history : D → History) (old new : Engine D) (h : IsSoun
       idle = λ e. ap (λ s. history s.disk) (saved.idle e);
       quiet = λ e. not_both (has_changes old) moved e;
       rests = rests;
+      rested = rested_now;
     }
 
     pub cut_now : Saves history entries (Err faults.Device) old.store new.store → Commits history (Err faults.Device) old new
@@ -228,4 +239,5 @@ module _ {D : Type 0} (history : D → History) (old new : Engine D) (h : IsSoun
           idle = λ e. ap (λ s. history s.disk) (saved.idle e);
           quiet = λ e. not_both (has_changes old) moved e;
           rests = rests;
+          rested = rested_now;
         }

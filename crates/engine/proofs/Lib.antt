@@ -33,4 +33,4 @@ pub mod ReadingLaws
 pub mod EmptyImage
 pub mod Creating
 pub mod Listing
-mod CursorSteps
+pub mod CursorSteps

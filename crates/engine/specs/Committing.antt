@@ -8,7 +8,7 @@ use Rattle.roots.specs.Store as stores
 use Rattle.roots.specs.declared.store.Store.{Store}
 use Rattle.roots.specs.declared.store.CommitFault.{CommitFault}
 use Rattle.roots.specs.declared.store.CommitFault.TheVariants as faults
-use Rattle.engine.specs.World.{after_commit, after_undo}
+use Rattle.engine.specs.World.{are_untouched, after_commit, after_undo}
 use Rattle.engine.specs.View.{world, turn_start}
 use Rattle.engine.specs.Durable.{Holds, disk_history, has_changes, is_stopped, IsRunning, store_of, IsSound, HasNoRoom, full_takes_of}
 use Rattle.engine.specs.declared.engine.Engine.{Engine}
@@ -76,3 +76,4 @@ pub record Commits {D : Type 0} (history : D → History) (result : Result (Unit
   -- where the commands changed nothing, there is nothing to write
   pub quiet : has_changes old ≡ false → (result ≡ Ok tt) × (store_of new ≡ store_of old)
   pub rests : has_changes new ≡ false
+  pub rested : are_untouched (world new).cursors ≡ true

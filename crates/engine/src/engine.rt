@@ -8,7 +8,7 @@ ghost use Rattle.roots.specs.EntryView.{entries_of};
 ghost use Rattle.roots.specs.Store as stores;
 ghost use Rattle.engine.specs.Committing.{Saves, Commits};
 ghost use Rattle.engine.specs.Opening.{IsOpened, IsRefused};
-ghost use Rattle.engine.specs.World.{Collection, after_commit, after_undo, forget};
+ghost use Rattle.engine.specs.World.{Collection, are_untouched, after_commit, after_undo, forget};
 ghost use Rattle.engine.specs.View.{world, turn_start, reply_of, answer_of, outcome_of, IsSendable, Runs};
 ghost use Rattle.engine.specs.Lawful.{IsLawfulState};
 ghost use Rattle.engine.specs.Step.{Answers, ForMemory, WroteNothing, read_and_run};
@@ -226,6 +226,7 @@ impl<D: Disk> Engine<D> {
         ensures world { world self.new ≡ after_undo (turn_start self.old) (world self.old) }
         ensures turn_start { turn_start self.new ≡ (world self.new).collections }
         ensures rests { has_changes self.new ≡ false }
+        ensures rested { are_untouched (world self.new).cursors ≡ true }
     {
         self.take_back();
     }
@@ -240,6 +241,8 @@ impl<D: Disk> Engine<D> {
         ensures world { world self.new ≡ forget (world self.old) connection }
         ensures turn_start { turn_start self.new ≡ turn_start self.old }
         ensures has_changes { has_changes self.new ≡ has_changes self.old }
+        ensures rested { are_untouched (world self.old).cursors ≡ true
+            → are_untouched (world self.new).cursors ≡ true }
     {
         self.cursors.forget(connection);
     }

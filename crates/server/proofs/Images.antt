@@ -17,36 +17,36 @@ use Rattle.server.specs.declared.turn.Core.{Core}
 
 -- between calls every image holds the collections as they are
 pub holds_now : {D : Type 0} (history : D → History) (core : Core D) → IsSound history core → IsRunning core → LeavesNow (disk_history history core) (λ image. Holds image (collections_of core))
-holds_now history core sound running = subst (λ (w : World). LeavesNow (disk_history history core) (λ image. Holds image w.collections)) core.idle (sound.holds running)
+holds_now history core sound running = subst (λ (cs : List Collection). LeavesNow (disk_history history core) (λ image. Holds image cs)) core.idle (sound.holds running)
 
 -- as long as the disk stays as it is
-pub stays : {D : Type 0} (history : D → History) (old new : Engine D) (Q : (ℕ → List ℕ) → Type 0) → engines.IsSound history old → turn_start old ≡ world old → engines.disk_history history new ≡ engines.disk_history history old → engines.IsRunning old
+pub stays : {D : Type 0} (history : D → History) (old new : Engine D) (Q : (ℕ → List ℕ) → Type 0) → engines.IsSound history old → turn_start old ≡ (world old).collections → engines.disk_history history new ≡ engines.disk_history history old → engines.IsRunning old
     → LeavesOnly (engines.disk_history history old) (engines.disk_history history new) (λ image. Holds image (world old).collections ⊎ Q image)
 stays history old new Q sound idle same running =
     subst (λ (h : History). LeavesOnly (engines.disk_history history old) h (λ image. Holds image (world old).collections ⊎ Q image)) (sym same)
     (started (engines.disk_history history old) (λ image. Holds image (world old).collections ⊎ Q image)
-    (λ k image is. inl (subst (λ (w : World). Holds image w.collections) idle (sound.holds running k image is))))
+    (λ k image is. inl (subst (λ (cs : List Collection). Holds image cs) idle (sound.holds running k image is))))
 
 -- a turn that is committed, or that the device cut
-pub moved : {D : Type 0} (history : D → History) (old mid new : Engine D) → engines.disk_history history mid ≡ engines.disk_history history old → turn_start mid ≡ world old → world new ≡ after_commit (world mid)
-    → LeavesOnly (engines.disk_history history mid) (engines.disk_history history new) (λ image. Holds image (turn_start mid).collections ⊎ Holds image (world mid).collections)
+pub moved : {D : Type 0} (history : D → History) (old mid new : Engine D) → engines.disk_history history mid ≡ engines.disk_history history old → turn_start mid ≡ (world old).collections → world new ≡ after_commit (world mid)
+    → LeavesOnly (engines.disk_history history mid) (engines.disk_history history new) (λ image. Holds image (turn_start mid) ⊎ Holds image (world mid).collections)
     → LeavesOnly (engines.disk_history history old) (engines.disk_history history new) (λ image. Holds image (world old).collections ⊎ Holds image (world new).collections)
 moved history old mid new same before after leaves =
     subst (λ (h : History). LeavesOnly h (engines.disk_history history new) (λ image. Holds image (world old).collections ⊎ Holds image (world new).collections)) same
-    (leaves_weaker (engines.disk_history history mid) (engines.disk_history history new) (λ image. Holds image (turn_start mid).collections ⊎ Holds image (world mid).collections) (λ image. Holds image (world old).collections ⊎ Holds image (world new).collections)
+    (leaves_weaker (engines.disk_history history mid) (engines.disk_history history new) (λ image. Holds image (turn_start mid) ⊎ Holds image (world mid).collections) (λ image. Holds image (world old).collections ⊎ Holds image (world new).collections)
     (λ image. ⊎_elim
-    (λ holds. inl (subst (λ (w : World). Holds image w.collections) before holds))
+    (λ holds. inl (subst (λ (cs : List Collection). Holds image cs) before holds))
     (λ holds. inr (subst (λ (w : World). Holds image w.collections) (sym after) holds)))
     leaves)
 
 -- a turn that is undone by its commit
-pub moved_back : {D : Type 0} (history : D → History) (old mid new : Engine D) → engines.disk_history history mid ≡ engines.disk_history history old → turn_start mid ≡ world old
-    → LeavesOnly (engines.disk_history history mid) (engines.disk_history history new) (λ image. Holds image (turn_start mid).collections)
+pub moved_back : {D : Type 0} (history : D → History) (old mid new : Engine D) → engines.disk_history history mid ≡ engines.disk_history history old → turn_start mid ≡ (world old).collections
+    → LeavesOnly (engines.disk_history history mid) (engines.disk_history history new) (λ image. Holds image (turn_start mid))
     → LeavesOnly (engines.disk_history history old) (engines.disk_history history new) (λ image. Holds image (world old).collections ⊎ Holds image (world new).collections)
 moved_back history old mid new same before leaves =
     subst (λ (h : History). LeavesOnly h (engines.disk_history history new) (λ image. Holds image (world old).collections ⊎ Holds image (world new).collections)) same
-    (leaves_weaker (engines.disk_history history mid) (engines.disk_history history new) (λ image. Holds image (turn_start mid).collections) (λ image. Holds image (world old).collections ⊎ Holds image (world new).collections)
-    (λ image holds. inl (subst (λ (w : World). Holds image w.collections) before holds))
+    (leaves_weaker (engines.disk_history history mid) (engines.disk_history history new) (λ image. Holds image (turn_start mid)) (λ image. Holds image (world old).collections ⊎ Holds image (world new).collections)
+    (λ image holds. inl (subst (λ (cs : List Collection). Holds image cs) before holds))
     leaves)
 
 -- a disk that stays as it is goes on
@@ -75,8 +75,8 @@ unmoved history old new sound same store = record {
 }
 
 -- between turns every image holds the collections as they are
-pub engine_holds : {D : Type 0} (history : D → History) (engine : Engine D) → engines.IsSound history engine → turn_start engine ≡ world engine → engines.IsRunning engine → LeavesNow (engines.disk_history history engine) (λ image. Holds image (world engine).collections)
-engine_holds history engine sound idle running = subst (λ (w : World). LeavesNow (engines.disk_history history engine) (λ image. Holds image w.collections)) idle (sound.holds running)
+pub engine_holds : {D : Type 0} (history : D → History) (engine : Engine D) → engines.IsSound history engine → turn_start engine ≡ (world engine).collections → engines.IsRunning engine → LeavesNow (engines.disk_history history engine) (λ image. Holds image (world engine).collections)
+engine_holds history engine sound idle running = subst (λ (cs : List Collection). LeavesNow (engines.disk_history history engine) (λ image. Holds image cs)) idle (sound.holds running)
 
 -- a call that leaves the disk and the store as they are takes no time
 pub same_moment : {D : Type 0} (history : D → History) (old new : Core D) → disk_history history new ≡ disk_history history old → store_of new ≡ store_of old → moment_of history new ≡ moment_of history old

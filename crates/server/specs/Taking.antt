@@ -97,7 +97,7 @@ pub record EndsTurn (beside : Refusal → Type 0) (NoRoom : World → Type 0) (o
   pub ends : ((given ≡ frames_of (calls connections) replies) × (new ≡ after_commit last))
       ⊎ (((given ≡ refused_frames refusals.OutOfMemory connections)
       ⊎ ((given ≡ refused_frames refusals.Full connections) × NoRoom last))
-      × (new ≡ after_undo old last))
+      × (new ≡ after_undo old.collections last))
 
 -- The messages of the connections ran, and the device failed when what they changed was to be made durable.
 pub record BreaksTurn (beside : Refusal → Type 0) (old : World) (connections : List Connection)

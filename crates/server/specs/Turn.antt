@@ -167,7 +167,7 @@ pub record Undone (beside : Refusal → Type 0) (state : ServerState) (refusal :
     closed = faults state.connections;
   }
   pub leaves : new ≡ record {
-    world = forget_all (after_undo state.world last) (faults state.connections);
+    world = forget_all (after_undo state.world.collections last) (faults state.connections);
     connections = connections_after state.connections;
   }
 

@@ -5,6 +5,7 @@ ghost use Rattle.page.specs.History.{KeepsWord};
 ghost use Rattle.page.specs.Crash.{GoesOn, LeavesOnly, LeavesNow};
 ghost use Rattle.roots.specs.Store.{limit_of};
 ghost use Rattle.op_msg.specs.Request.{reply_bytes};
+ghost use Rattle.engine.specs.World.{are_untouched};
 ghost use Rattle.engine.specs.View.{world, turn_start, reply_of, answer_of, IsSendable};
 ghost use Rattle.engine.specs.Durable.{Holds, disk_history, has_changes, is_stopped, IsRunning, store_of, IsSound};
 ghost use Rattle.path.specs.declared.refusal.Refusal.TheVariants.{OutOfMemory};
@@ -156,7 +157,7 @@ pub(crate) fn run_messages<D: Disk>(
     mut refusals: Vec<(ConnId, Vec<u8>)>,
 ) -> Option<Vec<(ConnId, Vec<u8>)>>
     requires sound { IsSound D.history engine.old }
-    requires idle { turn_start engine.old ≡ world engine.old }
+    requires idle { turn_start engine.old ≡ (world engine.old).collections }
     requires rests { has_changes engine.old ≡ false }
     requires refusals { frames_in refusals.items
         ≡ refused_frames OutOfMemory connections.old.items }
@@ -167,8 +168,9 @@ pub(crate) fn run_messages<D: Disk>(
     ensures breaks { result ≡ None
         → BreaksTurn ForMemory (world engine.old) connections.old.items (world engine.new) }
     ensures connections { connections.new.items ≡ connections_taken connections.old.items }
-    ensures idle { turn_start engine.new ≡ world engine.new }
+    ensures idle { turn_start engine.new ≡ (world engine.new).collections }
     ensures rests { has_changes engine.new ≡ false }
+    ensures rested { are_untouched (world engine.new).cursors ≡ true }
     ensures on { GoesOn (disk_history D.history engine.old) (disk_history D.history engine.new) }
     ensures any_moment { IsRunning engine.old
         → LeavesOnly (disk_history D.history engine.old) (disk_history D.history engine.new)
@@ -204,13 +206,15 @@ pub(crate) fn run_messages<D: Disk>(
 /// The cursors of connections that a fault closed end.
 pub(crate) fn forget_closed<D: Disk>(engine: &mut Engine<D>, closed: &[(ConnId, FrameFault)])
     requires sound { IsSound D.history engine.old }
-    requires idle { turn_start engine.old ≡ world engine.old }
+    requires idle { turn_start engine.old ≡ (world engine.old).collections }
+    requires rested { are_untouched (world engine.old).cursors ≡ true }
     ensures sound { IsSound D.history engine.new }
     ensures disk { disk_history D.history engine.new ≡ disk_history D.history engine.old }
     ensures running { is_stopped engine.new ≡ is_stopped engine.old }
     ensures store { store_of engine.new ≡ store_of engine.old }
     ensures world { world engine.new ≡ forget_all (world engine.old) closed.now }
-    ensures idle { turn_start engine.new ≡ world engine.new }
+    ensures idle { turn_start engine.new ≡ (world engine.new).collections }
+    ensures rested { are_untouched (world engine.new).cursors ≡ true }
     ensures has_changes { has_changes engine.new ≡ has_changes engine.old }
 {
     'closed: for (id, _) in closed {

@@ -3,7 +3,8 @@
 ghost use Rattle.std.specs.Prelude.{◌≡◌, true, false};
 ghost use Rattle.engine.specs.View.{world, turn_start};
 ghost use Rattle.engine.specs.Durable.{has_changes};
-ghost use Rattle.server.specs.WorldCode.{world_set, bool_set};
+ghost use Rattle.engine.specs.World.{are_untouched};
+ghost use Rattle.server.specs.WorldCode.{collections_set, bool_set};
 ghost use Rattle.server.specs.ServerState.{are_ascending};
 
 use crate::connection::{
@@ -68,7 +69,9 @@ pub struct Core<D> {
         ≡ true } by { bool_set (are_ascending connections.items) true },
     // no turn is open between calls
     ghost idle: { turn_start engine
-        ≡ world engine } by { world_set (turn_start engine) (world engine) },
+        ≡ (world engine).collections } by { collections_set (turn_start engine) (world engine).collections },
+    ghost rested: { are_untouched (world engine).cursors
+        ≡ true } by { bool_set (are_untouched (world engine).cursors) true },
     ghost rests: { has_changes engine ≡ false } by { bool_set (has_changes engine) false },
 }
 

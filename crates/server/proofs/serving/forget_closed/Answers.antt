@@ -1,6 +1,6 @@
-use Rattle.std.proofs.Common.{sym, ◌∙◌}
+use Rattle.std.proofs.Common.{sym, ap, ◌∙◌}
 use Rattle.engine.specs.View.{world}
-use Rattle.engine.specs.World.{forget}
+use Rattle.engine.specs.World.{World, forget}
 use Rattle.server.proofs.ConnectionsServed.{forget_all_more}
 use Rattle.server.proofs.serving.forget_closed.Goals as goal
 
@@ -18,6 +18,7 @@ closed-preserved g c =
       store = call.ensures.store ∙ inv.store;
       world_is = call.ensures.world ∙ (λ k. forget (inv.world_is k) (c.closed-item.is k).0)
           ∙ sym (forget_all_more (world c.args.engine.now) fs i d c.closed-test.true);
-      idle = call.ensures.turn_start inv.idle;
+      idle = call.ensures.turn_start ∙ inv.idle ∙ sym (ap (λ (w : World). w.collections) call.ensures.world);
+      rested = call.ensures.rested inv.rested;
       has_changes = call.ensures.has_changes ∙ inv.has_changes;
     }

@@ -1,4 +1,6 @@
 use Rattle.std.proofs.Common.{◌≡◌, take}
+use Rattle.std.proofs.Common.{true}
+use Rattle.engine.specs.World.{are_untouched}
 use Rattle.engine.specs.View.{world, turn_start}
 use Rattle.engine.specs.Durable.{disk_history, has_changes, is_stopped, store_of, IsSound}
 use Rattle.server.specs.Turn.{forget_all}
@@ -11,6 +13,7 @@ invariant-closed g l = record {
   running : is_stopped l.engine ≡ is_stopped l.initial.engine;
   store : store_of l.engine ≡ store_of l.initial.engine;
   world_is : world l.engine ≡ forget_all (world l.initial.engine) (take l.id-index l.closed);
-  idle : turn_start l.engine ≡ world l.engine;
+  idle : turn_start l.engine ≡ (world l.engine).collections;
+  rested : are_untouched (world l.engine).cursors ≡ true;
   has_changes : has_changes l.engine ≡ has_changes l.initial.engine;
 }

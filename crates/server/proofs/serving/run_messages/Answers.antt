@@ -4,7 +4,7 @@ use Rattle.std.specs.Prelude.{Result, Err, Vec}
 use Rattle.std.specs.Global.{Global}
 use Rattle.roots.specs.declared.store.CommitFault.{CommitFault}
 use Rattle.engine.specs.View.{world, turn_start}
-use Rattle.engine.specs.World.{World, after_undo}
+use Rattle.engine.specs.World.{Collection, World, after_undo}
 use Rattle.page.specs.History.{History}
 use Rattle.op_msg.specs.Request.{respelled}
 use Rattle.engine.specs.Step.{ForMemory}
@@ -42,8 +42,8 @@ returns-in-Err-Full-clause-settles g c =
     ∙ length-map (frames_in before) (λ f. (f.0, respelled f.1 full_body)) ∙ length-map before (λ f. (f.0, f.1.items)) in
     let long : length new ≡ c.args.refusals.len = search rules in
     let taken : c.deref_mut.result.now ≡ connections = search rules in
-    let world_is : world c.commit_turn.new.self ≡ after_undo (world c.args.engine.now) (world c.serve_connections.new.engine) =
-    (c.in-Err-Full.ensures.full (ap failed c.in-Err-Full.field-0-is)).0 ∙ ap (λ (w : World). after_undo w (world c.serve_connections.new.engine)) (c.serve_connections.ensures.turn_start ∙ c.requires.idle) in
+    let world_is : world c.commit_turn.new.self ≡ after_undo (world c.args.engine.now).collections (world c.serve_connections.new.engine) =
+    (c.in-Err-Full.ensures.full (ap failed c.in-Err-Full.field-0-is)).0 ∙ ap (λ (cs : List Collection). after_undo cs (world c.serve_connections.new.engine)) (c.serve_connections.ensures.turn_start ∙ c.requires.idle) in
     let serves = c.serve_connections.ensures.serves in
     let full = c.in-Err-Full.ensures.full (ap failed c.in-Err-Full.field-0-is) in
     let no_room : NoRoomFor (store_of c.args.engine.now) (store_of c.commit_turn.new.self) (world c.serve_connections.new.engine) =
@@ -64,7 +64,7 @@ returns-in-Ok-clause-settles g c =
     let e1 = c.serve_connections.new.engine in
     let e2 = c.commit_turn.new.self in
     let serve = c.serve_connections.ensures in
-    let before : turn_start e1 ≡ world e0 = serve.turn_start ∙ c.requires.idle in
+    let before : turn_start e1 ≡ (world e0).collections = serve.turn_start ∙ c.requires.idle in
     let taken : c.deref_mut.result.now ≡ c.args.connections.now.items = search rules in
     let ran = subst (λ (ls : List Connection). Runs ForMemory (world e0) (calls ls) serve.serves.replies (world e1)) taken serve.serves.runs in
     let same = ap (λ (ls : List Connection). frames_of (calls ls) serve.serves.replies) taken in
@@ -83,7 +83,7 @@ returns-in-Ok-clause-any_moment g c running =
     let e1 = c.serve_connections.new.engine in
     let e2 = c.commit_turn.new.self in
     let serve = c.serve_connections.ensures in
-    let before : turn_start e1 ≡ world e0 = serve.turn_start ∙ c.requires.idle in
+    let before : turn_start e1 ≡ (world e0).collections = serve.turn_start ∙ c.requires.idle in
     moved g.D.Disk.history e0 e1 e2 serve.disk before c.in-Ok.ensures.done (c.commit_turn.ensures.any_moment (serve.running ∙ running))
 
 pub returns-in-Ok-clause-running : goal.returns-in-Ok-clause-running
@@ -98,14 +98,14 @@ returns-in-Err-Memory-clause-settles g c =
     let e1 = c.serve_connections.new.engine in
     let e2 = c.commit_turn.new.self in
     let serve = c.serve_connections.ensures in
-    let before : turn_start e1 ≡ world e0 = serve.turn_start ∙ c.requires.idle in
+    let before : turn_start e1 ≡ (world e0).collections = serve.turn_start ∙ c.requires.idle in
     let taken : c.deref_mut.result.now ≡ c.args.connections.now.items = search rules in
     let ran = subst (λ (ls : List Connection). Runs ForMemory (world e0) (calls ls) serve.serves.replies (world e1)) taken serve.serves.runs in
     record {
       replies = serve.serves.replies;
       last = world e1;
       runs = ran;
-      ends = inr (inl c.requires.refusals, c.in-Err-Memory.ensures.memory (ap failed c.in-Err-Memory.field-0-is) ∙ ap (λ (w : World). after_undo w (world e1)) before);
+      ends = inr (inl c.requires.refusals, c.in-Err-Memory.ensures.memory (ap failed c.in-Err-Memory.field-0-is) ∙ ap (λ (cs : List Collection). after_undo cs (world e1)) before);
     }
 
 pub returns-in-Err-Memory-clause-any_moment : goal.returns-in-Err-Memory-clause-any_moment
@@ -114,7 +114,7 @@ returns-in-Err-Memory-clause-any_moment g c running =
     let e1 = c.serve_connections.new.engine in
     let e2 = c.commit_turn.new.self in
     let serve = c.serve_connections.ensures in
-    let before : turn_start e1 ≡ world e0 = serve.turn_start ∙ c.requires.idle in
+    let before : turn_start e1 ≡ (world e0).collections = serve.turn_start ∙ c.requires.idle in
     moved_back g.D.Disk.history e0 e1 e2 serve.disk before (c.in-Err-Memory.ensures.kept (serve.running ∙ running) (λ e. absurd cc))
 
 pub returns-in-Err-Memory-clause-running : goal.returns-in-Err-Memory-clause-running
@@ -126,7 +126,7 @@ returns-in-Err-Full-clause-any_moment g c running =
     let e1 = c.serve_connections.new.engine in
     let e2 = c.commit_turn.new.self in
     let serve = c.serve_connections.ensures in
-    let before : turn_start e1 ≡ world e0 = serve.turn_start ∙ c.requires.idle in
+    let before : turn_start e1 ≡ (world e0).collections = serve.turn_start ∙ c.requires.idle in
     moved_back g.D.Disk.history e0 e1 e2 serve.disk before (c.in-Err-Full.ensures.kept (serve.running ∙ running) (λ e. absurd cc))
 
 pub returns-in-Err-Full-clause-running : goal.returns-in-Err-Full-clause-running
@@ -138,7 +138,7 @@ returns-in-Err-Device-clause-breaks g c _ =
     let e1 = c.serve_connections.new.engine in
     let e2 = c.commit_turn.new.self in
     let serve = c.serve_connections.ensures in
-    let before : turn_start e1 ≡ world e0 = serve.turn_start ∙ c.requires.idle in
+    let before : turn_start e1 ≡ (world e0).collections = serve.turn_start ∙ c.requires.idle in
     let taken : c.deref_mut.result.now ≡ c.args.connections.now.items = search rules in
     let ran = subst (λ (ls : List Connection). Runs ForMemory (world e0) (calls ls) serve.serves.replies (world e1)) taken serve.serves.runs in
     record {
@@ -154,7 +154,7 @@ returns-in-Err-Device-clause-any_moment g c running =
     let e1 = c.serve_connections.new.engine in
     let e2 = c.commit_turn.new.self in
     let serve = c.serve_connections.ensures in
-    let before : turn_start e1 ≡ world e0 = serve.turn_start ∙ c.requires.idle in
+    let before : turn_start e1 ≡ (world e0).collections = serve.turn_start ∙ c.requires.idle in
     moved g.D.Disk.history e0 e1 e2 serve.disk before (c.in-Err-Device.ensures.stops (ap failed c.in-Err-Device.field-0-is)).0 (c.commit_turn.ensures.any_moment (serve.running ∙ running))
 
 pub returns-in-Err-Device-clause-stops : goal.returns-in-Err-Device-clause-stops
@@ -166,7 +166,7 @@ returns-in-Err-Device-clause-device g c _ k =
     let e1 = c.serve_connections.new.engine in
     let e2 = c.commit_turn.new.self in
     let serve = c.serve_connections.ensures in
-    let before : turn_start e1 ≡ world e0 = serve.turn_start ∙ c.requires.idle in
+    let before : turn_start e1 ≡ (world e0).collections = serve.turn_start ∙ c.requires.idle in
     ⊎_elim
     (λ stop. inl (sym serve.running ∙ stop))
     (λ failed. inr (subst (λ (h : History). h.failures < (disk_history g.D.Disk.history e2).failures) serve.disk failed))

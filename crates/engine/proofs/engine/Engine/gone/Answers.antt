@@ -1,5 +1,7 @@
-use Rattle.std.proofs.Common.{refl, subst, sym}
-use Rattle.engine.specs.World.{CursorTable}
+use Rattle.std.proofs.Common.{◌≡◌, true, refl, subst, sym}
+use Rattle.std.specs.Prelude.{◌==◌, not}
+use Rattle.engine.specs.World.{Cursor, CursorTable, are_untouched}
+use Rattle.engine.proofs.CursorSteps.{filter_untouched}
 use Rattle.engine.specs.Lawful.{IsLawful}
 use Rattle.engine.specs.View.{world_of}
 use Rattle.engine.specs.declared.engine.Engine.{Engine}
@@ -12,3 +14,7 @@ returns-clause-sound g c =
     let new : Engine g.row.D.Denot = record { alloc = old.alloc; collections = old.collections; cursors = c.forget.new.self; store = old.store } in
     keeps_sound g.D.Disk.history old new c.requires.sound refl refl
     (subst (λ (t : CursorTable). IsLawful (world_of old.collections t)) (sym c.forget.ensures) (forgotten_lawful g.D.Disk.history old c.args.connection c.requires.sound))
+
+pub returns-clause-rested : goal.returns-clause-rested
+returns-clause-rested g c = λ rests.
+    subst (λ (t : CursorTable). are_untouched t.list ≡ true) (sym c.forget.ensures) (filter_untouched (λ (x : Cursor). not (x.connection == c.args.connection)) c.args.self.now.cursors.list rests)
