@@ -34,7 +34,7 @@ pub use fault::{BsonFault, BuildFault, EncodeFault, NoMemory};
 pub use kind::Kind;
 pub use object_id::ObjectId;
 pub use raw::{RawDoc, RawValue};
-pub use reading::decode;
+pub use reading::{decode, decode_inner};
 pub use spelled::SpelledDocument;
 pub use text::Text;
 pub use value::{Array, Document, Pair, Value};

@@ -19,13 +19,14 @@ use Rattle.commands.specs.Fields.{CommonFields, read_fields, common_field}
 use Rattle.commands.specs.Statements.{statements_in, each_of}
 use Rattle.commands.specs.Names.{is_bad_database, is_bad_collection, is_too_long, namespace_of}
 use Rattle.commands.specs.Ping.{read_ping}
+use Rattle.commands.specs.Hello.{read_hello}
 use Rattle.commands.specs.Insert.{Insert, InsertFields, no_insert_fields, documents_in, insert_field, read_insert}
 use Rattle.commands.specs.Find.{Find, no_find_fields, find_field, query_of, read_find}
 use Rattle.commands.specs.Count.{read_count}
 use Rattle.commands.specs.Delete.{read_delete}
 use Rattle.commands.specs.Update.{UpdateStatement, UpdateStatementFields, no_statement_fields, statement_field, read_statement, Update, UpdateFields, no_update_fields, update_statements_in, update_field, read_update_command, IsRead}
 use Rattle.commands.specs.Aggregate.{Aggregate, no_aggregate_fields, aggregate_field, read_aggregate}
-use Rattle.commands.specs.Command.{Command, ping, insert, find, count, delete, update, aggregate, as_command, command_of, IsBounded}
+use Rattle.commands.specs.Command.{Command, ping, hello, insert, find, count, delete, update, aggregate, as_command, command_of, IsBounded}
 
 later_false : (a b : Bool) → (a || b) ≡ false → b ≡ false
 later_false true b e = absurd cc
@@ -268,21 +269,24 @@ made_bounded {X} make read c keeps e =
     let same : make s.0 ≡ c = cc in
     subst IsBounded same (keeps s.0 s.1)
 
+-- one line of the table of commands
+listed : (c : Command) (b : Bool) (first others : Result Command Refusal) → (first ≡ Ok c → IsBounded c) → (others ≡ Ok c → IsBounded c) → (if b then first else others) ≡ Ok c → IsBounded c
+listed c true first others f g e = f e
+listed c false first others f g e = g e
+
 pub bounded : (ps : Pairs) (c : Command) → command_of ps ≡ Ok c → IsBounded c
 unfolding command_of
 bounded no_pairs c e = absurd cc
-bounded (pair name t ps) c e = at (bytes_eq name (codes "ping")) (bytes_eq name (codes "insert")) (bytes_eq name (codes "find")) (bytes_eq name (codes "count")) (bytes_eq name (codes "delete")) (bytes_eq name (codes "update")) (bytes_eq name (codes "aggregate")) e
-  where
-    at : (is_ping is_insert is_find is_count is_delete is_update is_aggregate : Bool)
-        → (if is_ping then as_command (λ _. ping) (read_ping t ps) else (if is_insert then as_command insert (read_insert t ps) else (if is_find then as_command find (read_find t ps) else (if is_count then as_command count (read_count t ps) else (if is_delete then as_command delete (read_delete t ps) else (if is_update then as_command update (read_update_command t ps) else (if is_aggregate then as_command aggregate (read_aggregate t ps) else Err refusals.CommandNotFound))))))) ≡ Ok c → IsBounded c
-    at true is_insert is_find is_count is_delete is_update is_aggregate e = made_bounded (λ _. ping) (read_ping t ps) c (λ x h. tt) e
-    at false true is_find is_count is_delete is_update is_aggregate e = made_bounded insert (read_insert t ps) c (insert_bounded t ps) e
-    at false false true is_count is_delete is_update is_aggregate e = made_bounded find (read_find t ps) c (find_bounded t ps) e
-    at false false false true is_delete is_update is_aggregate e = made_bounded count (read_count t ps) c (λ x h. tt) e
-    at false false false false true is_update is_aggregate e = made_bounded delete (read_delete t ps) c (λ x h. tt) e
-    at false false false false false true is_aggregate e = made_bounded update (read_update_command t ps) c (update_bounded t ps) e
-    at false false false false false false true e = made_bounded aggregate (read_aggregate t ps) c (aggregate_bounded t ps) e
-    at false false false false false false false e = absurd cc
+bounded (pair name t ps) c e =
+    listed c (bytes_eq name (codes "ping")) (as_command (λ _. ping) (read_ping t ps)) _ (made_bounded (λ _. ping) (read_ping t ps) c (λ x h. tt))
+    (listed c (bytes_eq name (codes "hello")) (as_command (λ _. hello) (read_hello t ps)) _ (made_bounded (λ _. hello) (read_hello t ps) c (λ x h. tt))
+    (listed c (bytes_eq name (codes "insert")) (as_command insert (read_insert t ps)) _ (made_bounded insert (read_insert t ps) c (insert_bounded t ps))
+    (listed c (bytes_eq name (codes "find")) (as_command find (read_find t ps)) _ (made_bounded find (read_find t ps) c (find_bounded t ps))
+    (listed c (bytes_eq name (codes "count")) (as_command count (read_count t ps)) _ (made_bounded count (read_count t ps) c (λ x h. tt))
+    (listed c (bytes_eq name (codes "delete")) (as_command delete (read_delete t ps)) _ (made_bounded delete (read_delete t ps) c (λ x h. tt))
+    (listed c (bytes_eq name (codes "update")) (as_command update (read_update_command t ps)) _ (made_bounded update (read_update_command t ps) c (update_bounded t ps))
+    (listed c (bytes_eq name (codes "aggregate")) (as_command aggregate (read_aggregate t ps)) _ (made_bounded aggregate (read_aggregate t ps) c (aggregate_bounded t ps))
+    (λ none. absurd cc)))))))) e
 
 -- a reader that gives what was planned gives a bounded command
 pub gives-bounded : {X : Type 0} (view : X → Command) (planned : Result Command Refusal) (r : Result X Refusal) → Gives refusals.OutOfMemory view r planned → ((c : Command) → planned ≡ Ok c → IsBounded c) → IfOk r (λ x. IsBounded (view x))

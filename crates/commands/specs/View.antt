@@ -53,6 +53,7 @@ aggregate_read c = record {
 
 abbrev pub command_read : Command → commands.Command
 command_read cases.Ping = commands.ping
+command_read cases.Hello = commands.hello
 command_read (cases.Insert c) = commands.insert (insert_read c)
 command_read (cases.Find c) = commands.find (find_read c)
 command_read (cases.Count c) = commands.count (count_read c)

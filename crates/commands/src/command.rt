@@ -9,6 +9,7 @@ use crate::aggregation::{Aggregate, read_aggregate};
 use crate::count::{Count, read_count};
 use crate::delete::{Delete, read_delete};
 use crate::find::{Find, read_find};
+use crate::hello::read_hello;
 use crate::insert::{Insert, read_insert};
 use crate::ping::read_ping;
 use crate::updates::{Update, read_update};
@@ -20,6 +21,7 @@ use std::alloc::Global;
 #[derive(Drop)]
 pub enum Command<'a> {
     Ping,
+    Hello,
     Insert(Insert<'a>),
     Find(Find),
     Count(Count),
@@ -47,6 +49,9 @@ impl<'a> Command<'a> {
         if name == "ping" {
             read_ping(alloc, value, rest)?;
             Ok(Command::Ping)
+        } else if name == "hello" {
+            read_hello(alloc, value, rest)?;
+            Ok(Command::Hello)
         } else if name == "insert" {
             Ok(Command::Insert(read_insert(alloc, value, rest)?))
         } else if name == "find" {

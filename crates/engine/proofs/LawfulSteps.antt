@@ -33,11 +33,12 @@ use Rattle.engine.specs.Update.{Changed, update_from, Updated, not_updated, not_
 use Rattle.engine.proofs.Applied.{upserted_stored}
 use Rattle.engine.proofs.LawfulUpdates.{SameKeys, from_kept, changed_lawful}
 use Rattle.engine.specs.Refusals.{int, total, ok_reply}
-use Rattle.commands.specs.Command.{Command, ping, insert as insert_of, find as find_of, count as count_of_all, delete, update, aggregate, command_of, IsBounded}
+use Rattle.commands.specs.Command.{Command, ping, hello, insert as insert_of, find as find_of, count as count_of_all, delete, update, aggregate, command_of, IsBounded}
 use Rattle.engine.specs.Lawful.{IsStored, IsWithin, IsRising, AreNamedApart, AreNumberedApart, IsKept, IsLawfulState, IsLawful}
 use Rattle.engine.specs.Places.{collection_at, no_collection}
 use Rattle.engine.specs.Progress.{is_full, with_document}
 use Rattle.engine.specs.Cursors.{items_of_documents, batch_of, cursor_reply, open_cursor, first_batch}
+use Rattle.engine.specs.Hello.{hello_reply}
 use Rattle.engine.specs.Insert.{run_insert}
 use Rattle.engine.specs.Count.{run_count}
 use Rattle.engine.specs.Step.{run, answered, step}
@@ -53,7 +54,7 @@ use Rattle.engine.proofs.Finding.{found_within}
 use Rattle.engine.proofs.Ordered.{Rises, rises_insert, All-inserted, place_gap, place_there, missing, found, added, replaced}
 use Rattle.engine.proofs.Numbers.{unused_unused, number_bounds, numbers_set, numbers_insert}
 use Rattle.engine.proofs.Rewinding.{apart_set}
-use Rattle.engine.proofs.SpelledSizes.{ping-sendable, insert-sendable, refusal-sendable, batch_items, cursor-sendable}
+use Rattle.engine.proofs.SpelledSizes.{ping-sendable, hello-sendable, insert-sendable, refusal-sendable, batch_items, cursor-sendable}
 
 -- ---- documents
 
@@ -327,6 +328,7 @@ good_update w c h b = λ x e.
 
 good_run : (w : World) (connection : ℕ) (command : Command) → IsLawful w → IsBounded command → Good (run w connection command)
 good_run w connection ping h b = good_one w no_pairs h ping-sendable
+good_run w connection hello h b = good_one w (hello_reply connection) h (hello-sendable connection)
 good_run w connection (insert_of c) h b = good_insert w c.namespace c.documents h b.0
 good_run w connection (find_of c) h b = good_find w connection c.namespace c.query c.batch_size h b
 good_run w connection (count_of_all c) h b = good_count w c h

@@ -11,7 +11,7 @@ use Rattle.commands.specs.Count.{Count}
 use Rattle.commands.specs.Aggregate.{Aggregate}
 use Rattle.aggregate.specs.Pipeline.{run as after_pipeline}
 use Rattle.engine.specs.Aggregate.{run_aggregate}
-use Rattle.commands.specs.Command.{Command, ping, insert, find, count, delete, update, aggregate, command_of}
+use Rattle.commands.specs.Command.{Command, ping, hello, insert, find, count, delete, update, aggregate, command_of}
 use Rattle.engine.specs.World.{World, documents_of}
 use Rattle.engine.specs.Cursors.{batch_of, cursor_reply, open_cursor, is_refused, next_cursor, first_batch}
 use Rattle.engine.specs.Find.{query_result, run_find}
@@ -59,6 +59,7 @@ module _ (w : World) (connection : ℕ) where
   ran : (r : Result Command Refusal) → OnlyReads r → Leaves (r >>= run w connection)
   ran (Err e) h = refl
   ran (Ok ping) h = refl
+  ran (Ok hello) h = refl
   ran (Ok (insert c)) h = absurd h
   ran (Ok (delete c)) h = absurd h
   ran (Ok (update c)) h = absurd h

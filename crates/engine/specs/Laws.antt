@@ -6,7 +6,7 @@ use Rattle.engine.specs.World.{World, Collection, new_world}
 use Rattle.engine.specs.Lawful.{IsLawful}
 use Rattle.engine.specs.Durable.{Holds}
 use Rattle.path.specs.declared.refusal.Refusal.{Refusal}
-use Rattle.commands.specs.Command.{Command, ping, insert, find, count, delete, update, aggregate, command_of}
+use Rattle.commands.specs.Command.{Command, ping, hello, insert, find, count, delete, update, aggregate, command_of}
 use Rattle.engine.specs.Step.{step, Answers, ForMemory}
 use Rattle.engine.specs.View.{IsSendable}
 
@@ -30,6 +30,7 @@ HoldsOne = (image : ℕ → List ℕ) (a b : List Collection) → Holds image a 
 -- a command that only reads, or one that is refused before it runs
 abbrev pub OnlyReads : Result Command Refusal → Type 0
 OnlyReads (Ok ping) = Unit {0}
+OnlyReads (Ok hello) = Unit {0}
 OnlyReads (Ok (find c)) = Unit {0}
 OnlyReads (Ok (count c)) = Unit {0}
 OnlyReads (Ok (aggregate c)) = Unit {0}

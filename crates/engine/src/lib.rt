@@ -12,6 +12,7 @@ mod documents;
 mod engine;
 mod find;
 mod find_reply;
+mod hello;
 mod image;
 mod insert;
 pub mod laws;

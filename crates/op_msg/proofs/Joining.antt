@@ -1,0 +1,58 @@
+-- How the arrays of a message's sections grow.
+use Rattle.std.proofs.Common.{◌≡◌, ◌≢◌, ℕ, List, [], ◌∷◌, refl, sym, ap, ◌∙◌}
+use Rattle.std.specs.Prelude.{Result, Ok, Err, Option, Some, None, is_some, Bool, true, false, if◌then◌else◌}
+use Rattle.std.specs.Str.{bytes_eq}
+use Rattle.bson.proofs.TreeLaws.{ne-bytes_eq}
+use Rattle.bson.specs.EditsLaws.{append_items-none, append_items-one}
+use Rattle.bson.specs.Lawful.{Lacks}
+use Rattle.bson.specs.Lookup.{lookup}
+use Rattle.bson.specs.Reading.{Read, value_at}
+use Rattle.bson.specs.Tree.{Tree, Pairs, no_pairs, pair, Items, no_items, item, append_items}
+use Rattle.bson.specs.declared.fault.BsonFault.{BsonFault}
+use Rattle.bson.specs.declared.kind.Kind.TheVariants as kinds
+use Rattle.outcome.specs.Outcome.{◌>>=◌, unless}
+use Rattle.op_msg.specs.Frame.{Sequence, Section, body, sequence, sequences_of}
+use Rattle.op_msg.specs.Request.{array_of, with_sequence, with_sequences}
+use Rattle.op_msg.specs.View.{with_document}
+
+-- these items, and behind them those of the documents
+abbrev pub array_after : Items → List (List ℕ) → Result Items BsonFault
+array_after ts documents = array_of documents >>= λ us. Ok (append_items ts us)
+
+pub array_first : (documents : List (List ℕ)) → array_after no_items documents ≡ array_of documents
+array_first documents = by (array_of documents)
+  where
+    by : (r : Result Items BsonFault) → (r >>= λ us. Ok (append_items no_items us)) ≡ r
+    by (Ok ts) = refl
+    by (Err e) = refl
+
+pub array_last : (ts : Items) → array_after ts [] ≡ Ok ts
+array_last ts = ap (λ (us : Items). Ok us) (append_items-none ts)
+
+pub array_next : (ts : Items) (bytes : List ℕ) (documents : List (List ℕ)) → array_after ts (bytes ∷ documents) ≡ (with_document ts bytes >>= λ us. array_after us documents)
+array_next ts bytes documents = by (value_at 98 kinds.Document bytes)
+  where
+    behind : (t : Tree) (r : Result Items BsonFault) → ((r >>= λ us. Ok (item t us)) >>= λ us. Ok (append_items ts us)) ≡ (r >>= λ us. Ok (append_items (append_items ts (item t no_items)) us))
+    behind t (Ok us) = ap (λ (vs : Items). Ok vs) (sym (append_items-one ts t us))
+    behind t (Err e) = refl
+
+    by : (r : Read Tree) → ((r >>= λ first. array_of documents >>= λ others. Ok (item first.0 others)) >>= λ us. Ok (append_items ts us)) ≡ ((r >>= λ t. Ok (append_items ts (item t.0 no_items))) >>= λ us. array_after us documents)
+    by (Ok t) = behind t.0 (array_of documents)
+    by (Err e) = refl
+
+-- a section more
+pub sections_next : (ps : Pairs) (section : Section) (sections : List Section) → with_sequences ps (sequences_of (section ∷ sections)) ≡ (with_sequences ps (sequences_of (section ∷ [])) >>= λ qs. with_sequences qs (sequences_of sections))
+sections_next ps (body bytes) sections = refl
+sections_next ps (sequence found) sections = by (with_sequence ps found)
+  where
+    by : (r : Result Pairs BsonFault) → (r >>= λ qs. with_sequences qs (sequences_of sections)) ≡ ((r >>= λ qs. with_sequences qs []) >>= λ qs. with_sequences qs (sequences_of sections))
+    by (Ok qs) = refl
+    by (Err e) = refl
+
+pub not_there : (ps : Pairs) (name : List ℕ) → is_some (lookup ps name) ≡ false → Lacks ps name
+not_there no_pairs name e = tt
+not_there (pair other t ps) name e = by (bytes_eq name other) refl e (not_there ps name)
+  where
+    by : (b : Bool) → bytes_eq name other ≡ b → is_some (if b then Some t else lookup ps name) ≡ false → (is_some (lookup ps name) ≡ false → Lacks ps name) → (name ≢ other) × Lacks ps name
+    by true is e ih = absurd cc
+    by false is e ih = (ne-bytes_eq name other is, ih e)
