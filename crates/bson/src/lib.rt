@@ -31,6 +31,7 @@ mod writing;
 pub use binary::{Binary, Bytes, Subtype};
 pub use composing::{begin_frame, end_frame, put_head, put_string, put_value};
 pub use fault::{BsonFault, BuildFault, EncodeFault, NoMemory};
+pub use frames::read_name;
 pub use kind::Kind;
 pub use object_id::ObjectId;
 pub use raw::{RawDoc, RawValue};

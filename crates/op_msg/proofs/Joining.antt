@@ -1,6 +1,6 @@
 -- How the arrays of a message's sections grow.
 use Rattle.std.proofs.Common.{◌≡◌, ◌≢◌, ℕ, List, [], ◌∷◌, refl, sym, ap, ◌∙◌}
-use Rattle.std.specs.Prelude.{Result, Ok, Err, Option, Some, None, is_some, Bool, true, false, if◌then◌else◌}
+use Rattle.std.specs.Prelude.{Result, Ok, Err, Option, Some, None, option_map, is_some, Bool, true, false, if◌then◌else◌}
 use Rattle.std.specs.Str.{bytes_eq}
 use Rattle.bson.proofs.TreeLaws.{ne-bytes_eq}
 use Rattle.bson.specs.EditsLaws.{append_items-none, append_items-one}
@@ -10,8 +10,11 @@ use Rattle.bson.specs.Reading.{Read, value_at}
 use Rattle.bson.specs.Tree.{Tree, Pairs, no_pairs, pair, Items, no_items, item, append_items}
 use Rattle.bson.specs.declared.fault.BsonFault.{BsonFault}
 use Rattle.bson.specs.declared.kind.Kind.TheVariants as kinds
-use Rattle.outcome.specs.Outcome.{◌>>=◌, unless}
-use Rattle.op_msg.specs.Frame.{Sequence, Section, body, sequence, sequences_of}
+use Rattle.bson.specs.declared.fault.BsonFault.TheVariants as bson_faults
+use Rattle.outcome.specs.Outcome.{◌>>=◌, unless, Fails}
+use Rattle.op_msg.specs.Frame.{Sequence, Section, body, sequence, sequences_of, part_at, each_in, section_at, sections_in}
+use Rattle.op_msg.specs.declared.fault.FrameFault.{FrameFault}
+use Rattle.op_msg.proofs.SectionWalks.{one_more, no_more, part_shrinks, section_shrinks}
 use Rattle.op_msg.specs.Request.{array_of, with_sequence, with_sequences}
 use Rattle.op_msg.specs.View.{with_document}
 
@@ -56,3 +59,40 @@ not_there (pair other t ps) name e = by (bytes_eq name other) refl e (not_there 
     by : (b : Bool) → bytes_eq name other ≡ b → is_some (if b then Some t else lookup ps name) ≡ false → (is_some (lookup ps name) ≡ false → Lacks ps name) → (name ≢ other) × Lacks ps name
     by true is e ih = absurd cc
     by false is e ih = (ne-bytes_eq name other is, ih e)
+
+pub found_none : {X Y : Type 0} (view : X → Y) (found : Option X) (there : Option Y) → option_map view found ≡ there → is_some found ≡ false → is_some there ≡ false
+found_none view None there e none = ap is_some (sym e)
+found_none view (Some x) there e none = absurd cc
+
+-- ---- what stands at the front, as the loops take it
+
+module _ (ts : Items) (rest : List ℕ) (x : List ℕ × List ℕ) (total : Result Items BsonFault) (so_far : array_after ts (each_in part_at rest).0 ≡ total) (e : part_at rest ≡ Ok x) where
+  document_here : total ≡ (with_document ts x.0 >>= λ us. array_after us (each_in part_at x.1).0)
+  document_here =
+      sym so_far ∙ ap (λ (o : List (List ℕ) × List ℕ). array_after ts o.0) (one_more part_at part_shrinks rest x e) ∙ array_next ts x.0 (each_in part_at x.1).0
+
+  pub document_more : (us : Items) → with_document ts x.0 ≡ Ok us → array_after us (each_in part_at x.1).0 ≡ total
+  document_more us is = sym (document_here ∙ ap (λ (r : Result Items BsonFault). r >>= λ vs. array_after vs (each_in part_at x.1).0) is)
+
+  pub document_fails : (fault : BsonFault) → Fails bson_faults.Memory fault (with_document ts x.0) → Fails bson_faults.Memory fault total
+  document_fails fault f not_memory = document_here ∙ ap (λ (r : Result Items BsonFault). r >>= λ vs. array_after vs (each_in part_at x.1).0) (f not_memory)
+
+pub documents_over : (ts : Items) (rest : List ℕ) (total : Result Items BsonFault) (fault : FrameFault) → array_after ts (each_in part_at rest).0 ≡ total → part_at rest ≡ Err fault → total ≡ Ok ts
+documents_over ts rest total fault so_far e = sym so_far ∙ ap (λ (o : List (List ℕ) × List ℕ). array_after ts o.0) (no_more part_at rest fault e) ∙ array_last ts
+
+abbrev joined : Pairs → List ℕ → Result Pairs BsonFault
+joined ps rest = with_sequences ps (sequences_of (sections_in rest).0)
+
+module _ (ps : Pairs) (rest : List ℕ) (x : Section × List ℕ) (total : Result Pairs BsonFault) (so_far : joined ps rest ≡ total) (e : section_at rest ≡ Ok x) where
+  section_here : total ≡ (with_sequences ps (sequences_of (x.0 ∷ [])) >>= λ qs. joined qs x.1)
+  section_here =
+      sym so_far ∙ ap (λ (o : List Section × List ℕ). with_sequences ps (sequences_of o.0)) (one_more section_at section_shrinks rest x e) ∙ sections_next ps x.0 (sections_in x.1).0
+
+  pub section_more : (qs : Pairs) → with_sequences ps (sequences_of (x.0 ∷ [])) ≡ Ok qs → joined qs x.1 ≡ total
+  section_more qs is = sym (section_here ∙ ap (λ (r : Result Pairs BsonFault). r >>= λ us. joined us x.1) is)
+
+  pub section_fails : (fault : BsonFault) → Fails bson_faults.Memory fault (with_sequences ps (sequences_of (x.0 ∷ []))) → Fails bson_faults.Memory fault total
+  section_fails fault f not_memory = section_here ∙ ap (λ (r : Result Pairs BsonFault). r >>= λ us. joined us x.1) (f not_memory)
+
+pub sections_over : (ps : Pairs) (rest : List ℕ) (total : Result Pairs BsonFault) (fault : FrameFault) → joined ps rest ≡ total → section_at rest ≡ Err fault → total ≡ Ok ps
+sections_over ps rest total fault so_far e = sym so_far ∙ ap (λ (o : List Section × List ℕ). with_sequences ps (sequences_of o.0)) (no_more section_at rest fault e)

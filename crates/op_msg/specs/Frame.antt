@@ -5,12 +5,13 @@
 -- Flag bit 1 says that the message wants no reply. A wrong length is a fault as soon as its four bytes are there; of the faults that
 -- wait for the whole message the first of Opcode, Flags, Checksum, Section, TwoBodies and NoBody is the one. Bytes that are no whole
 -- message and have no fault are nothing yet.
-use Rattle.std.specs.Prelude.{ℕ, zero, suc, ◌+◌, ◌%◌, ◌^◌, Bool, false, true, not, ◌||◌, ◌==◌, nat_lt, nat_le, if◌then◌else◌, List, [], ◌∷◌, length, map, take, drop, Result, Ok, Err, Option, Some, None}
+use Rattle.std.specs.Prelude.{ℕ, zero, suc, ◌%◌, ◌^◌, Bool, false, true, not, ◌||◌, ◌==◌, nat_lt, if◌then◌else◌, List, [], ◌∷◌, length, map, take, drop, Result, Ok, Err, Option, Some, None}
 use Rattle.outcome.specs.Outcome.{◌>>=◌, unless}
 use Rattle.std.specs.Int.{w32, from_le_bytes}
-use Rattle.std.specs.Str.{is_utf8}
 use Rattle.bson.specs.Limits.{message_limit}
-use Rattle.bson.specs.Reading.{zero_at, stands_in}
+use Rattle.bson.specs.Reading.{stands_in}
+use Rattle.bson.specs.Reading as names
+use Rattle.bson.specs.declared.fault.BsonFault.{BsonFault}
 use Rattle.op_msg.specs.declared.fault.FrameFault.{FrameFault}
 use Rattle.op_msg.specs.declared.fault.FrameFault.TheVariants as faults
 
@@ -48,12 +49,13 @@ part_at bytes =
     (unless (nat_lt (length bytes) (number_at 0 bytes)) faults.Section
     (Ok (take (number_at 0 bytes) bytes, drop (number_at 0 bytes) bytes))))
 
--- a name in UTF-8, which the first zero ends
-unfoldable pub name_at : List ℕ → Part (List ℕ)
-name_at bytes =
-    unless (nat_le (length bytes) (zero_at bytes)) faults.Section
-    (unless (not (is_utf8 (take (zero_at bytes) bytes))) faults.Section
-    (Ok (take (zero_at bytes) bytes, drop (zero_at bytes + 1) bytes)))
+abbrev pub or_section : {X : Type 0} → Result X BsonFault → Result X FrameFault
+or_section (Ok x) = Ok x
+or_section (Err fault) = Err faults.Section
+
+-- a name as documents have it: in UTF-8, up to the first zero
+abbrev pub name_at : List ℕ → Part (List ℕ)
+name_at bytes = or_section (names.name_at bytes)
 
 -- As many as stand at the front, one behind the other, but no more than this, and the bytes that are left.
 abbrev pub each_from : {X : Type 0} → (List ℕ → List X × List ℕ) → List ℕ → Part X → List X × List ℕ
@@ -139,11 +141,11 @@ frame_of bytes =
     unless (not (number_at 12 bytes == 2013)) faults.Opcode
     (unless (nat_lt 3 (flags_of bytes)) faults.Flags
     (unless (flags_of bytes % 2 == 1) faults.Checksum (do
-      body ← body_of_all (sections_in (drop 20 bytes))
+      only ← body_of_all (sections_in (drop 20 bytes))
       Ok (record {
         number = number_at 4 bytes;
         more_to_come = flags_of bytes == 2;
-        body = body;
+        body = only;
         sequences = sequences_of (sections_in (drop 20 bytes)).0;
       }))))
 

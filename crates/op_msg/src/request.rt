@@ -75,7 +75,7 @@ fn add_sequence(
 ) -> Result<(), BsonFault>
     requires { NoZero sequence.name.now }
     ensures { Does BsonFault.Memory result document.new
-        (with_sequence document.old (sequence_of sequence)) }
+        (with_sequence document.old (sequence_of sequence.entry)) }
 {
     if document.get(sequence.name).is_some() {
         return Err(BsonFault::Repeated);
@@ -99,7 +99,7 @@ fn add_section(
 ) -> Result<(), BsonFault>
     requires { HasName (section_of section) }
     ensures { Does BsonFault.Memory result document.new
-        (with_sequences document.old (sequences_of (section_of section ∷ []))) }
+        (with_sequences document.old (sequences_of (section_of section.entry ∷ []))) }
 {
     match section {
         Section::Body(_) => Ok(()),

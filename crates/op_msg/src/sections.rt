@@ -51,30 +51,24 @@ pub(crate) fn read_part(bytes: &[u8]) -> Result<(&[u8], &[u8]), FrameFault>
 }
 
 /// A name, which the first zero ends, and what follows it.
-#[tactic(auto, unfolding(crate::specs::Frame::name_at))]
 fn read_name(bytes: &[u8]) -> Result<(&str, &[u8]), FrameFault>
     ensures { Finds (λ x. (x.0.now, x.1.now)) result (name_at bytes.now) }
 {
-    let Some(end) = bytes.iter().position(|b| *b == 0) else {
-        return Err(FrameFault::Section);
-    };
-    let (name, _) = bytes.split_at(end);
-    let (_, rest) = bytes.split_at(end + 1);
-    match str::from_utf8(name) {
-        Ok(name) => Ok((name, rest)),
+    match bson::read_name(bytes) {
+        Ok(found) => Ok(found),
         Err(_) => Err(FrameFault::Section),
     }
 }
 
-/// Whether documents fill the bytes, by their lengths.
-fn are_documents(bytes: &[u8]) -> bool
-    ensures { result ≡ not (is_more (each_in part_at bytes.now).1) }
+/// Whether bytes are left behind documents that stand one behind the other.
+fn leaves_bytes(bytes: &[u8]) -> bool
+    ensures { result ≡ is_more (each_in part_at bytes.now).1 }
 {
     let mut rest = bytes;
     'documents: while let Ok((_, after)) = read_part(rest) {
         rest = after;
     }
-    rest.is_empty()
+    !rest.is_empty()
 }
 
 /// What a section of kind 1 holds behind its size.
@@ -82,7 +76,7 @@ fn read_sequence(bytes: &[u8]) -> Result<Sequence<'_>, FrameFault>
     ensures { Finds sequence_of result (sequence_in bytes.now) }
 {
     let (name, documents) = read_name(bytes)?;
-    if !are_documents(documents) {
+    if leaves_bytes(documents) {
         return Err(FrameFault::Section);
     }
     Ok(Sequence { name, documents })
@@ -111,7 +105,7 @@ pub(crate) fn read_section(bytes: &[u8]) -> Result<(Section<'_>, &[u8]), FrameFa
 
 /// Whether it is a section of kind 1 with this name.
 fn is_named(section: Section<'_>, name: &str) -> bool
-    ensures { result ≡ stands_in (names_of (section_of section ∷ [])) name.now }
+    ensures { result ≡ stands_in (names_of (section_of section.entry ∷ [])) name.now }
 {
     match section {
         Section::Body(_) => false,
@@ -120,10 +114,10 @@ fn is_named(section: Section<'_>, name: &str) -> bool
 }
 
 /// Whether one of the sections is of kind 1 and has this name.
-fn has_name(sections: &[u8], name: &str) -> bool
-    ensures { result ≡ stands_in (names_of (sections_in sections.now).0) name.now }
+fn has_name(bytes: &[u8], name: &str) -> bool
+    ensures { result ≡ stands_in (names_of (sections_in bytes.now).0) name.now }
 {
-    let mut rest = sections;
+    let mut rest = bytes;
     'sections: while let Ok((section, after)) = read_section(rest) {
         if is_named(section, name) {
             return true;
@@ -146,7 +140,7 @@ impl<'a> Found<'a> {
     /// What is found with one section more, behind which these stand.
     fn with_section(self, section: Section<'a>, after: &[u8]) -> Found<'a>
         ensures { judged result (sections_in after.now)
-            ≡ judged self (section_of section ∷ (sections_in after.now).0, (sections_in after.now).1) }
+            ≡ judged self.entry (section_of section.entry ∷ (sections_in after.now).0, (sections_in after.now).1) }
     {
         match section {
             Section::Body(body) => Found {
@@ -164,7 +158,7 @@ impl<'a> Found<'a> {
 
     /// The one body, where behind the sections so much is left.
     fn only_body(self, left: &[u8]) -> Result<&'a [u8], FrameFault>
-        ensures { Finds (λ b. b.now) result (judged self ([], left.now)) }
+        ensures { Finds (λ b. b.now) result (judged self.entry ([], left.now)) }
     {
         if !left.is_empty() || self.has_name_twice {
             return Err(FrameFault::Section);

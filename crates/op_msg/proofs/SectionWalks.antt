@@ -1,5 +1,5 @@
--- Reading one after the other, as loops do.
-use Rattle.std.proofs.Common.{◌≡◌, ◌≢◌, ℕ, zero, suc, ◌≤◌, ◌<◌, ◌+◌, ◌==◌, ◌-◌, take, drop, List, [], ◌∷◌, length, get_or, refl, sym, ◌∙◌, ap, subst, arith, length-drop}
+-- Reading one section or document after the other, as loops do.
+use Rattle.std.proofs.Common.{◌≡◌, ◌≢◌, ℕ, zero, suc, ◌≤◌, ◌<◌, ◌+◌, ◌==◌, ◌-◌, take, drop, List, [], ◌∷◌, length, get_or, refl, sym, ◌∙◌, ap, subst, arith, length-drop, length-take}
 use Rattle.std.specs.Prelude.{Bool, true, false, not, ◌||◌, nat_lt, nat_le, if◌then◌else◌, Result, Ok, Err, Option, Some, None, option_map, is_some, map}
 use Rattle.std.specs.Str.{is_utf8, bytes_eq}
 use Rattle.std.specs.List.{list_any}
@@ -7,21 +7,27 @@ use Rattle.std.proofs.lemmas.List.Sums.{fails_before_first}
 use Rattle.bson.proofs.FrameLaws.{NoZero-take}
 use Rattle.bson.specs.Lawful.{NoZero}
 use Rattle.bson.specs.Reading.{zero_at, stands_in}
+use Rattle.bson.specs.Reading as names
+use Rattle.bson.specs.declared.fault.BsonFault.{BsonFault}
 use Rattle.outcome.specs.Outcome.{◌>>=◌, unless}
-use Rattle.op_msg.specs.Frame.{Part, Sequence, Section, body, sequence, number_at, part_at, name_at, each_from, each_by, each_in, is_more, sequence_in, body_at, sequence_at, section_at, sections_in, bodies_of, sequences_of, names_of, has_twice, only_of, body_of_all}
+use Rattle.op_msg.specs.Frame.{Part, Sequence, Section, body, sequence, number_at, part_at, or_section, name_at, each_from, each_by, each_in, is_more, sequence_in, body_at, sequence_at, section_at, sections_in, bodies_of, sequences_of, names_of, has_twice, only_of, body_of_all}
 use Rattle.op_msg.specs.View.{Finds, only_found, first_or, only_from, judged, HasName}
 use Rattle.op_msg.specs.declared.fault.FrameFault.{FrameFault}
 use Rattle.op_msg.specs.declared.fault.FrameFault.TheVariants as faults
 
 -- ---- results
 
-abbrev pub done : {A : Type 0} → A → Result A FrameFault
+abbrev pub done : {A E : Type 0} → A → Result A E
 done x = Ok x
 
-pub ok_is : {A : Type 0} (x y : A) → done x ≡ done y → x ≡ y
+pub ok_is : {A E : Type 0} (x y : A) → done {A = A} {E = E} x ≡ done y → x ≡ y
 ok_is x y e = cc
 
-pub unless_ok : {X : Type 0} (test : Bool) (fault : FrameFault) (read : Result X FrameFault) (x : X) → unless test fault read ≡ Ok x → (test ≡ false) × (read ≡ Ok x)
+section_ok : {X : Type 0} (read : Result X BsonFault) (x : X) → or_section read ≡ Ok x → read ≡ Ok x
+section_ok (Ok y) x e = cc
+section_ok (Err fault) x e = absurd cc
+
+pub unless_ok : {X E : Type 0} (test : Bool) (fault : E) (read : Result X E) (x : X) → unless test fault read ≡ Ok x → (test ≡ false) × (read ≡ Ok x)
 unless_ok true fault read x e = absurd cc
 unless_ok false fault read x e = (refl, e)
 
@@ -73,6 +79,11 @@ no_more read bytes fault e = by (length bytes)
     by zero = refl
     by (suc n) = ap (each_from (each_by read n) bytes) e
 
+-- ---- loops that go on while one stands at the front
+
+pub all_left : {X : Type 0} (read : List ℕ → Part X) (bytes rest : List ℕ) (fault : FrameFault) → (each_in read rest).1 ≡ (each_in read bytes).1 → read rest ≡ Err fault → (each_in read bytes).1 ≡ rest
+all_left read bytes rest fault same e = sym same ∙ ap (λ (o : List _ × List ℕ). o.1) (no_more read rest fault e)
+
 -- ---- documents and sections are shorter than what they stand in
 
 not_less : (k n : ℕ) → nat_lt k n ≡ false → n ≤ k
@@ -89,6 +100,16 @@ part_shrinks bytes x e =
     let len : length x.1 ≡ length bytes - n = ap (λ (y : List ℕ × List ℕ). length y.1) is ∙ length-drop n bytes in
     omega (arith, len, not_less n 5 b.0, not_less (length bytes) n c.0)
 
+pub part_long : (bytes : List ℕ) (x : List ℕ × List ℕ) → part_at bytes ≡ Ok x → 5 ≤ length x.0
+unfolding part_at
+part_long bytes x e =
+    let n = number_at 0 bytes in
+    let a = unless_ok (nat_lt (length bytes) 4) faults.Section _ x e in
+    let b = unless_ok (nat_lt n 5) faults.Section _ x a.1 in
+    let c = unless_ok (nat_lt (length bytes) n) faults.Section _ x b.1 in
+    let is : x ≡ (take n bytes, drop n bytes) = sym (ok_is _ _ c.1) in
+    omega (arith, ap (λ (y : List ℕ × List ℕ). length y.0) is, length-take n bytes, not_less n 5 b.0, not_less (length bytes) n c.0)
+
 -- a section of each kind
 either : (P : Section × List ℕ → Type 0) (a b : Bool) (bytes : List ℕ) (x : Section × List ℕ) → (body_at bytes ≡ Ok x → P x) → (sequence_at bytes ≡ Ok x → P x)
     → (if a then body_at bytes else if b then sequence_at bytes else Err faults.Section) ≡ Ok x → P x
@@ -96,7 +117,7 @@ either P true b bytes x f g e = f e
 either P false true bytes x f g e = g e
 either P false false bytes x f g e = absurd cc
 
-made : Section → List ℕ → Part Section
+abbrev made : Section → List ℕ → Part Section
 made s rest = Ok (s, rest)
 
 body_shrinks : (bytes : List ℕ) (x : Section × List ℕ) → body_at bytes ≡ Ok x → length x.1 < length bytes
@@ -126,11 +147,11 @@ section_shrinks (kind ∷ bytes) x e =
 -- ---- names have no zero
 
 name_is : (bytes : List ℕ) (x : List ℕ × List ℕ) → name_at bytes ≡ Ok x → NoZero x.0
-unfolding name_at
+unfolding names.name_at
 name_is bytes x e =
     let z = zero_at bytes in
-    let a = unless_ok (nat_le (length bytes) z) faults.Section _ x e in
-    let b = unless_ok (not (is_utf8 (take z bytes))) faults.Section _ x a.1 in
+    let a = unless_ok (nat_le (length bytes) z) _ _ x (section_ok (names.name_at bytes) x e) in
+    let b = unless_ok (not (is_utf8 (take z bytes))) _ _ x a.1 in
     subst (λ (y : List ℕ × List ℕ). NoZero y.0) (ok_is (take z bytes, drop (z + 1) bytes) x b.1) (NoZero-take z bytes (λ k below. fails_before_first (λ b. b == 0) bytes k 0 below))
 
 sequence_named : (bytes : List ℕ) (found : Sequence) → sequence_in bytes ≡ Ok found → NoZero found.name
@@ -170,3 +191,14 @@ or_again false b c = refl
 pub one_name : (section : Section) (sections : List Section) (name : List ℕ) → (stands_in (names_of (section ∷ [])) name || stands_in (names_of sections) name) ≡ stands_in (names_of (section ∷ sections)) name
 one_name (body bytes) sections name = refl
 one_name (sequence found) sections name = or_again (bytes_eq name found.name) false (stands_in (names_of sections) name)
+
+-- one section more at the front, for a name that is looked for
+pub named_here : (rest : List ℕ) (name : List ℕ) (x : Section × List ℕ) (found : Bool) → section_at rest ≡ Ok x → found ≡ stands_in (names_of (x.0 ∷ [])) name
+    → (found || stands_in (names_of (sections_in x.1).0) name) ≡ stands_in (names_of (sections_in rest).0) name
+named_here rest name x found e is =
+    ap (λ (b : Bool). b || stands_in (names_of (sections_in x.1).0) name) is ∙ one_name x.0 (sections_in x.1).0 name
+    ∙ sym (ap (λ (o : List Section × List ℕ). stands_in (names_of o.0) name) (one_more section_at section_shrinks rest x e))
+
+-- nothing was found yet
+pub judged_first : (x : List Section × List ℕ) → judged (record { body = None; has_more_bodies = false; has_name_twice = false }) x ≡ body_of_all x
+judged_first x = ap (λ (r : Result (List ℕ) FrameFault). unless (is_more x.1 || has_twice (names_of x.0)) faults.Section r) (only_first (bodies_of x.0))
