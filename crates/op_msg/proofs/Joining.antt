@@ -11,8 +11,8 @@ use Rattle.bson.specs.Tree.{Tree, Pairs, no_pairs, pair, Items, no_items, item, 
 use Rattle.bson.specs.declared.fault.BsonFault.{BsonFault}
 use Rattle.bson.specs.declared.kind.Kind.TheVariants as kinds
 use Rattle.bson.specs.declared.fault.BsonFault.TheVariants as bson_faults
-use Rattle.outcome.specs.Outcome.{◌>>=◌, unless, Fails}
-use Rattle.op_msg.specs.Frame.{Sequence, Section, body, sequence, sequences_of, part_at, each_in, section_at, sections_in}
+use Rattle.outcome.specs.Outcome.{◌>>=◌, Fails}
+use Rattle.op_msg.specs.Frame.{Section, body, sequence, sequences_of, part_at, each_in, section_at, sections_in}
 use Rattle.op_msg.specs.declared.fault.FrameFault.{FrameFault}
 use Rattle.op_msg.proofs.SectionWalks.{one_more, no_more, part_shrinks, section_shrinks}
 use Rattle.op_msg.specs.Request.{array_of, with_sequence, with_sequences}

@@ -1,8 +1,7 @@
 -- Reading one section or document after the other, as loops do.
-use Rattle.std.proofs.Common.{◌≡◌, ◌≢◌, ℕ, zero, suc, ◌≤◌, ◌<◌, ◌+◌, ◌==◌, ◌-◌, take, drop, List, [], ◌∷◌, length, get_or, refl, sym, ◌∙◌, ap, subst, arith, length-drop, length-take}
-use Rattle.std.specs.Prelude.{Bool, true, false, not, ◌||◌, nat_lt, nat_le, if◌then◌else◌, Result, Ok, Err, Option, Some, None, option_map, is_some, map}
+use Rattle.std.proofs.Common.{◌≡◌, ℕ, zero, suc, ◌≤◌, ◌<◌, ◌+◌, ◌==◌, ◌-◌, take, drop, List, [], ◌∷◌, length, refl, sym, ◌∙◌, ap, subst, arith, length-drop, length-take}
+use Rattle.std.specs.Prelude.{Bool, true, false, not, ◌||◌, nat_lt, nat_le, if◌then◌else◌, Result, Ok, Err, Some, None}
 use Rattle.std.specs.Str.{is_utf8, bytes_eq}
-use Rattle.std.specs.List.{list_any}
 use Rattle.std.proofs.lemmas.List.Sums.{fails_before_first}
 use Rattle.bson.proofs.FrameLaws.{NoZero-take}
 use Rattle.bson.specs.Lawful.{NoZero}
@@ -10,8 +9,8 @@ use Rattle.bson.specs.Reading.{zero_at, stands_in}
 use Rattle.bson.specs.Reading as names
 use Rattle.bson.specs.declared.fault.BsonFault.{BsonFault}
 use Rattle.outcome.specs.Outcome.{◌>>=◌, unless}
-use Rattle.op_msg.specs.Frame.{Part, Sequence, Section, body, sequence, number_at, part_at, or_section, name_at, each_from, each_by, each_in, is_more, sequence_in, body_at, sequence_at, section_at, sections_in, bodies_of, sequences_of, names_of, has_twice, only_of, body_of_all}
-use Rattle.op_msg.specs.View.{Finds, only_found, first_or, only_from, judged, HasName}
+use Rattle.op_msg.specs.Frame.{Part, Sequence, Section, body, sequence, number_at, part_at, or_section, name_at, each_from, each_by, each_in, is_more, sequence_in, body_at, sequence_at, section_at, sections_in, bodies_of, names_of, has_twice, only_of, body_of_all}
+use Rattle.op_msg.specs.View.{only_from, judged, HasName}
 use Rattle.op_msg.specs.declared.fault.FrameFault.{FrameFault}
 use Rattle.op_msg.specs.declared.fault.FrameFault.TheVariants as faults
 

@@ -5,7 +5,7 @@
 -- Flag bit 1 says that the message wants no reply. A wrong length is a fault as soon as its four bytes are there; of the faults that
 -- wait for the whole message the first of Opcode, Flags, Checksum, Section, TwoBodies and NoBody is the one. Bytes that are no whole
 -- message and have no fault are nothing yet.
-use Rattle.std.specs.Prelude.{ℕ, zero, suc, ◌%◌, ◌^◌, Bool, false, true, not, ◌||◌, ◌==◌, nat_lt, if◌then◌else◌, List, [], ◌∷◌, length, map, take, drop, Result, Ok, Err, Option, Some, None}
+use Rattle.std.specs.Prelude.{ℕ, zero, suc, ◌%◌, ◌^◌, Bool, false, not, ◌||◌, ◌==◌, nat_lt, if◌then◌else◌, List, [], ◌∷◌, length, map, take, drop, Result, Ok, Err, Option, Some, None}
 use Rattle.outcome.specs.Outcome.{◌>>=◌, unless}
 use Rattle.std.specs.Int.{w32, from_le_bytes}
 use Rattle.bson.specs.Limits.{message_limit}

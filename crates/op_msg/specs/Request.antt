@@ -3,7 +3,7 @@
 -- the first fault: of the body's bytes, and then of each section a name that a field has already, and its documents. A document of
 -- a section stands in an array of the message's document, so it has two of the levels less. A reply is a frame with its own
 -- number, the number of the request, no flags, and one body.
-use Rattle.std.specs.Prelude.{◌≡◌, ℕ, ◌+◌, List, [], ◌∷◌, ◌++◌, length, take, drop, Bool, true, false, if◌then◌else◌, Result, Ok, Err, Option, Some, None, is_some}
+use Rattle.std.specs.Prelude.{◌≡◌, ℕ, ◌+◌, List, [], ◌∷◌, ◌++◌, length, take, drop, Bool, true, false, Result, Ok, Err, Option, Some, None, is_some}
 use Rattle.std.specs.Int.{w32, to_le_bytes}
 use Rattle.bson.specs.declared.fault.BsonFault.TheVariants as bson_faults
 use Rattle.bson.specs.Lookup.{lookup}

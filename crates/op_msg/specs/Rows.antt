@@ -1,7 +1,6 @@
 -- Messages with sections of kind 1, worked by hand: what stands at the front of their bytes, and their documents.
-use Rattle.std.specs.Prelude.{◌≡◌, ℕ, ◌+◌, Bool, true, false, List, [], ◌∷◌, ◌++◌, length, codes, Result, Ok, Err, Option, Some, None}
-use Rattle.bson.specs.Tree.{document, array, Pairs, no_pairs, pair, no_items, item}
-use Rattle.bson.specs.declared.fault.BsonFault.{BsonFault}
+use Rattle.std.specs.Prelude.{◌≡◌, ℕ, ◌+◌, Bool, true, false, List, [], ◌∷◌, ◌++◌, length, codes, Result, Ok, Err, Option, Some}
+use Rattle.bson.specs.Tree.{document, array, no_pairs, pair, no_items, item}
 use Rattle.bson.specs.declared.fault.BsonFault.TheVariants as bson_faults
 use Rattle.op_msg.specs.Frame.{Frame, Sequence, front}
 use Rattle.op_msg.specs.Request.{le_32, body_of}

@@ -1,5 +1,5 @@
 -- What functions that read return, beside what the definitions give.
-use Rattle.std.specs.Prelude.{◌≡◌, ℕ, Bool, true, false, ◌||◌, List, [], ◌∷◌, Result, Ok, Err, Option, Some, None, option_map, is_some, if◌then◌else◌}
+use Rattle.std.specs.Prelude.{◌≡◌, ℕ, Bool, ◌||◌, List, [], ◌∷◌, Result, Ok, Err, Option, Some, None, option_map, is_some}
 use Rattle.outcome.specs.Outcome.{◌>>=◌, unless}
 use Rattle.bson.specs.Lawful.{NoZero}
 use Rattle.bson.specs.Reading.{value_at}

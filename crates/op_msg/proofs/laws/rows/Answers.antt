@@ -1,9 +1,8 @@
 use Rattle.std.proofs.Common.{refl}
 use Rattle.std.specs.Str.{is_utf8, chars}
-use Rattle.std.specs.Fmt.{digits}
 use lib.Utf8.{encode}
 use Rattle.bson.specs.Reading.{fixed_at, count_at, ended_at, content_at, scalar_at, kind_of, name_at as bson_name_at, element_by, pairs_by, value_at, length_at, document_at}
-use Rattle.op_msg.specs.Frame.{part_at, name_at, each_by, section_at, frame_of, front}
+use Rattle.op_msg.specs.Frame.{part_at, each_by, section_at, frame_of, front}
 use Rattle.op_msg.proofs.laws.rows.Goals as goal
 
 pub returns-clause-flags : goal.returns-clause-flags
@@ -19,7 +18,7 @@ returns-clause-flags c = record {
 }
 
 pub returns-clause-sections : goal.returns-clause-sections
-unfolding is_utf8 chars encode part_at name_at each_by section_at frame_of front
+unfolding is_utf8 chars encode bson_name_at part_at each_by section_at frame_of front
 returns-clause-sections c = record {
   behind = refl;
   before = refl;

@@ -1,7 +1,7 @@
 use Rattle.bson.specs.declared.fault.BuildFault.{BuildFault}
 use Rattle.bson.specs.Edits.{PushFault}
 use Rattle.bson.specs.Tree.{array}
-use Rattle.std.proofs.Common.{subst, sym, ap, ◌∙◌}
+use Rattle.std.proofs.Common.{subst, sym, ◌∙◌}
 use Rattle.op_msg.proofs.Joining.{not_there, found_none}
 use Rattle.op_msg.proofs.request.add_sequence.Goals as goal
 
