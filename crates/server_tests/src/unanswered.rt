@@ -132,3 +132,23 @@ fn three_connections_in_one_turn(rt: HostRuntime) -> Result<(), Fail> {
     assert_eq!(rt; core.into_disk().calls(), 3 + 9 + 2);
     Ok(())
 }
+
+#[test]
+fn documents_beside_the_body(rt: HostRuntime) -> Result<(), Fail> {
+    let alloc = rt.alloc();
+    let mut core = open(alloc)?;
+    let insert_beside = |number: u32, id: i32| Message::new(alloc, number)
+        .body(&Bytes::new(alloc).text("insert", "c").text("$db", "t"))
+        .documents("documents", &[id_document(alloc, id)]);
+    let out = turn_after(&mut core, 0, &insert_beside(8, 1).whole()?)?;
+    assert!(rt; is_reply(&out, &frame(alloc, 1, 8, &count_reply(alloc, 1))?));
+    let silent = insert_beside(9, 2).flags(MORE_TO_COME).whole()?;
+    let out = turn_after(&mut core, 0, &silent)?;
+    assert!(rt; out.replies.is_empty() && out.closed.is_empty());
+    let out = turn_after(&mut core, 0, &frame(alloc, 10, 0, &find(alloc))?)?;
+    let both = [id_document(alloc, 1), id_document(alloc, 2)];
+    let wanted = frame(alloc, 2, 10, &batch_reply(alloc, &both))?;
+    assert_eq!(rt; wanted.len(), 122);
+    assert!(rt; is_reply(&out, &wanted));
+    Ok(())
+}
