@@ -427,6 +427,11 @@ pub is_found : (bytes : List ℕ) (r : Result (Pairs × ℕ) BsonFault) → IsBy
 is_found bytes (Ok x) fits given = document_takes bytes x fits given
 is_found bytes (Err e) fits given = tt
 
+-- a document that was read inside so many others
+pub is_shallow : {Y : Type 0} (view : Y → Tree × List ℕ) (outer : ℕ) (bytes : List ℕ) (r : Result Y BsonFault) → outer ≤ 100 → IsBytes bytes → Gives faults.Memory view r (value_at (100 - outer) kinds.Document bytes) → IfOk r (λ x. levels (view x).0 + outer ≤ 100)
+is_shallow view outer bytes (Ok x) le fits given = omega (arith, ((value_reads (100 - outer)).takes kinds.Document bytes (view x) fits given).depth)
+is_shallow view outer bytes (Err e) le fits given = tt
+
 pub is_only : (bytes front rest : List ℕ) (ps : Pairs) (r : Result (Pairs × ℕ) BsonFault) → Gives faults.Memory (λ x. x) r (document_at bytes) → Spells front ps → bytes ≡ front ++ rest → Gives faults.Memory (λ x. x) r (Ok (ps, length front))
 is_only bytes front rest ps r given s e = subst (λ (read : Result (Pairs × ℕ) BsonFault). Gives faults.Memory (λ x. x) r read) (ap document_at e ∙ document_again front ps rest s) given
 

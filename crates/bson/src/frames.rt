@@ -119,7 +119,7 @@ pub(crate) fn first_zero(bytes: &[u8]) -> Option<usize>
 
 /// A name, which the first zero ends.
 #[tactic(auto, unfolding(crate::specs::Reading::name_at))]
-pub(crate) fn read_name(bytes: &[u8]) -> Result<(&str, &[u8]), BsonFault>
+pub fn read_name(bytes: &[u8]) -> Result<(&str, &[u8]), BsonFault>
     ensures { GivesExactly (λ x. (x.0.now, x.1.now)) result (name_at bytes.now) }
 {
     let Some(end) = first_zero(bytes) else {

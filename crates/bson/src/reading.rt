@@ -1,12 +1,13 @@
 //! Documents from bytes.
 
-ghost use Rattle.std.specs.Prelude.{◌≡◌, ℕ, ◌<◌, ◌≤◌, ◌-◌, ◌≢◌, ◌++◌, ◌||◌, List, length, take, IfOk, IfErr, Ok};
+ghost use Rattle.std.specs.Prelude.{◌≡◌, ℕ, ◌<◌, ◌≤◌, ◌+◌, ◌-◌, ◌≢◌, ◌++◌, ◌||◌, List, length, take, IfOk, IfErr, Ok};
 ghost use Rattle.std.specs.Str.{bytes_eq};
 ghost use Rattle.std.specs.Fmt.{decimal};
 ghost use Rattle.bson.specs.View.{tree};
 ghost use Rattle.outcome.specs.Outcome.{Gives, GivesExactly};
 ghost use Rattle.bson.specs.Reading.{value_at, element_by, item_by, stands_in, pairs_in, items_in, length_at, document_at};
 ghost use Rattle.bson.specs.FirstFault.{FirstFault};
+ghost use Rattle.bson.specs.Lawful.{levels};
 ghost use Rattle.bson.specs.Limits.{message_limit};
 ghost use Rattle.bson.specs.Spelling.{Spells, HasNoDocument};
 ghost use Rattle.bson.specs.Tree.{Pairs};
@@ -204,4 +205,19 @@ pub fn decode(alloc: Global, bytes: &[u8]) -> Result<(Document, usize), BsonFaul
         (λ e. e ≢ faults.Memory → FirstFault bytes.now e × HasNoDocument bytes.now) }
 {
     read_document(alloc, bytes)
+}
+
+/// The document at the front of the input, as a value that stands inside so many others, and what follows it. It may
+/// nest so many levels fewer than a document that stands alone.
+pub fn decode_inner(
+    alloc: Global,
+    outer_levels: u32,
+    bytes: &[u8],
+) -> Result<(Value, &[u8]), BsonFault>
+    requires { (1 ≤ outer_levels) × (outer_levels ≤ 100) }
+    ensures gives { Gives faults.Memory (λ x. (tree x.0, x.1.now)) result
+        (value_at (100 - outer_levels) Kind.Document bytes.now) }
+    ensures levels { IfOk result (λ x. levels (tree x.0) + outer_levels ≤ 100) }
+{
+    read_value(alloc, MOST_LEVELS - outer_levels, Kind::Document, bytes)
 }

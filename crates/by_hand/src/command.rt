@@ -13,6 +13,22 @@ pub fn ping(alloc: Global) -> Bytes {
     Bytes::new(alloc).int32("ping", 1).text("$db", "t")
 }
 
+/// `{hello: 1, $db: "t"}`
+pub fn hello(alloc: Global) -> Bytes {
+    Bytes::new(alloc).int32("hello", 1).text("$db", "t")
+}
+
+/// What a `hello` is answered on the connection of a number.
+pub fn hello_reply(alloc: Global, connection: i32) -> Bytes {
+    Bytes::new(alloc)
+        .element(0x08, "isWritablePrimary", &[1])
+        .int32("maxBsonObjectSize", 65_535)
+        .int32("maxMessageSizeBytes", 1_048_576)
+        .int32("maxWriteBatchSize", 1_000)
+        .int32("connectionId", connection)
+        .int32("ok", 1)
+}
+
 /// `{insert: "c", documents: [..], $db: "t"}`
 pub fn insert(alloc: Global, documents: &[Bytes]) -> Bytes {
     Bytes::new(alloc)

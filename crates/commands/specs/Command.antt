@@ -7,6 +7,7 @@ use Rattle.outcome.specs.Outcome.{◌>>=◌}
 use Rattle.path.specs.declared.refusal.Refusal.{Refusal}
 use Rattle.path.specs.declared.refusal.Refusal.TheVariants as refusals
 use Rattle.commands.specs.Ping.{read_ping}
+use Rattle.commands.specs.Hello.{read_hello}
 use Rattle.commands.specs.Insert.{Insert, read_insert}
 use Rattle.commands.specs.Find.{Find, read_find}
 use Rattle.commands.specs.GetMore.{GetMore, read_get_more}
@@ -21,6 +22,7 @@ use Rattle.commands.specs.Update.{UpdateStatement, Update, read_update_command, 
 
 pub data Command : Type 0 where
   ping : Command
+  hello : Command
   insert : Insert → Command
   find : Find → Command
   get_more : GetMore → Command
@@ -42,6 +44,7 @@ unfoldable pub command_of : Pairs → Result Command Refusal
 command_of no_pairs = Err refusals.CommandNotFound
 command_of (pair name t ps) =
     if bytes_eq name (codes "ping") then as_command (λ _. ping) (read_ping t ps) else
+    if bytes_eq name (codes "hello") then as_command (λ _. hello) (read_hello t ps) else
     if bytes_eq name (codes "insert") then as_command insert (read_insert t ps) else
     if bytes_eq name (codes "find") then as_command find (read_find t ps) else
     if bytes_eq name (codes "getMore") then as_command get_more (read_get_more t ps) else
@@ -59,6 +62,7 @@ command_of (pair name t ps) =
 -- What a command that was read keeps: a namespace of at most 255 bytes, and from 1 to 1,000 documents, statements or cursors.
 abbrev pub IsBounded : Command → Type 0
 IsBounded ping = Unit {0}
+IsBounded hello = Unit {0}
 IsBounded (insert c) =
     (length c.namespace ≤ 255) × (length c.documents ≤ 1000) × (1 ≤ length c.documents)
 IsBounded (find c) = length c.namespace ≤ 255

@@ -20,6 +20,7 @@ use Rattle.commands.specs.Fields.{CommonFields, read_fields, common_field, no_co
 use Rattle.commands.specs.Statements.{statements_in, each_of}
 use Rattle.commands.specs.Names.{is_bad_byte, is_bad_database, is_bad_collection, is_too_long, namespace_of}
 use Rattle.commands.specs.Ping.{read_ping}
+use Rattle.commands.specs.Hello.{read_hello}
 use Rattle.commands.specs.Insert.{Insert, InsertFields, no_insert_fields, documents_in, insert_field, read_insert}
 use Rattle.commands.specs.Find.{Find, no_find_fields, find_field, query_of, read_find}
 use Rattle.commands.specs.GetMore.{GetMore, no_get_more_fields, get_more_field, read_get_more}
@@ -32,7 +33,7 @@ use Rattle.commands.specs.Alone.{read_alone}
 use Rattle.commands.specs.Create.{Create, read_create}
 use Rattle.commands.specs.DropCollection.{DropCollection, read_drop}
 use Rattle.commands.specs.ListCollections.{ListCollections, read_list_collections}
-use Rattle.commands.specs.Command.{Command, ping, insert, find, count, delete, update, aggregate, create, drop, list_collections, as_command, command_of, IsBounded, get_more, kill_cursors}
+use Rattle.commands.specs.Command.{Command, ping, insert, find, count, delete, update, aggregate, create, drop, list_collections, as_command, command_of, IsBounded, get_more, kill_cursors, hello}
 
 later_false : (a b : Bool) → (a || b) ≡ false → b ≡ false
 later_false true b e = absurd cc
@@ -372,6 +373,7 @@ unfolding command_of
 bounded no_pairs c e = absurd cc
 bounded (pair name t ps) c e =
     chosen_bounded (bytes_eq name (codes "ping")) _ _ c (made_bounded (λ _. ping) (read_ping t ps) c (λ x h. tt))
+    (chosen_bounded (bytes_eq name (codes "hello")) _ _ c (made_bounded (λ _. hello) (read_hello t ps) c (λ x h. tt))
     (chosen_bounded (bytes_eq name (codes "insert")) _ _ c (made_bounded insert (read_insert t ps) c (insert_bounded t ps))
     (chosen_bounded (bytes_eq name (codes "find")) _ _ c (made_bounded find (read_find t ps) c (find_bounded t ps))
     (chosen_bounded (bytes_eq name (codes "getMore")) _ _ c (made_bounded get_more (read_get_more t ps) c (get_more_bounded t ps))
@@ -383,7 +385,7 @@ bounded (pair name t ps) c e =
     (chosen_bounded (bytes_eq name (codes "create")) _ _ c (made_bounded create (read_create t ps) c (create_bounded t ps))
     (chosen_bounded (bytes_eq name (codes "drop")) _ _ c (made_bounded drop (read_drop t ps) c (drop_bounded t ps))
     (chosen_bounded (bytes_eq name (codes "listCollections")) _ _ c (made_bounded list_collections (read_list_collections t ps) c (list_collections_bounded t ps))
-    (λ f. absurd cc)))))))))))) e
+    (λ f. absurd cc))))))))))))) e
 
 -- a reader that gives what was planned gives a bounded command
 pub gives-bounded : {X : Type 0} (view : X → Command) (planned : Result Command Refusal) (r : Result X Refusal) → Gives refusals.OutOfMemory view r planned → ((c : Command) → planned ≡ Ok c → IsBounded c) → IfOk r (λ x. IsBounded (view x))

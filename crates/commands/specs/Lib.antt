@@ -3,6 +3,7 @@ pub mod Fields
 pub mod Statements
 pub mod Names
 pub mod Ping
+pub mod Hello
 pub mod Insert
 pub mod Find
 pub mod GetMore

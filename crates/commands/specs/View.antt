@@ -80,6 +80,7 @@ list_collections_read c = record { database = c.database.now }
 
 abbrev pub command_read : Command → commands.Command
 command_read cases.Ping = commands.ping
+command_read cases.Hello = commands.hello
 command_read (cases.Insert c) = commands.insert (insert_read c)
 command_read (cases.Find c) = commands.find (find_read c)
 command_read (cases.GetMore c) = commands.get_more (get_more_read c)

@@ -12,6 +12,7 @@ use crate::delete::{Delete, read_delete};
 use crate::drop_collection::{DropCollection, read_drop};
 use crate::find::{Find, read_find};
 use crate::get_more::{GetMore, read_get_more};
+use crate::hello::read_hello;
 use crate::insert::{Insert, read_insert};
 use crate::kill_cursors::{KillCursors, read_kill_cursors};
 use crate::list_collections::{ListCollections, read_list_collections};
@@ -25,6 +26,7 @@ use std::alloc::Global;
 #[derive(Drop)]
 pub enum Command<'a> {
     Ping,
+    Hello,
     Insert(Insert<'a>),
     Find(Find),
     GetMore(GetMore),
@@ -57,6 +59,9 @@ impl<'a> Command<'a> {
         if name == "ping" {
             read_ping(alloc, value, rest)?;
             Ok(Command::Ping)
+        } else if name == "hello" {
+            read_hello(alloc, value, rest)?;
+            Ok(Command::Hello)
         } else if name == "insert" {
             Ok(Command::Insert(read_insert(alloc, value, rest)?))
         } else if name == "find" {

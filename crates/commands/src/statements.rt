@@ -8,7 +8,7 @@ use bson::Value;
 use path::Refusal;
 
 /// The most documents or statements of one command.
-const MOST_STATEMENTS: usize = 1_000;
+pub const MOST_STATEMENTS: usize = 1_000;
 
 /// The items of the array that a value is: at least one (else `BadValue`), and at most 1,000 (else `TooMany`);
 /// `TypeMismatch` where it is no array.

@@ -87,13 +87,19 @@ fn ping_step(alloc: Global) -> Result<Step, AllocError> {
     make_step(alloc, ping(alloc))?.with(alloc, NOTHING, ok_reply(alloc), NOTHING)
 }
 
+/// An insert of documents that stand beside the body.
 fn insert_step(alloc: Global) -> Result<Step, AllocError> {
-    make_step(alloc, insert(alloc, &three(alloc)))?.with(
-        alloc,
-        NOTHING,
-        count_reply(alloc, 3),
-        THREE,
-    )
+    let body = Bytes::new(alloc).text("insert", "c").text("$db", "t");
+    let message = Message::new(alloc, 7)
+        .body(&body)
+        .documents("documents", &three(alloc))
+        .whole()?;
+    let step = Step {
+        message,
+        outcomes: Vec::new(alloc),
+        writes_back: false,
+    };
+    step.with(alloc, NOTHING, count_reply(alloc, 3), THREE)
 }
 
 /// A find with a filter, a sort and a projection.

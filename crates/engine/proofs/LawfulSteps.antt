@@ -41,7 +41,7 @@ use Rattle.engine.specs.ListCollections.{names_in, listed, run_list_collections}
 use Rattle.engine.proofs.Creating.{dropped_lawful}
 use Rattle.engine.proofs.Listing.{go_into_one}
 use Rattle.engine.specs.Refusals.{int, total, words, ok_reply}
-use Rattle.commands.specs.Command.{Command, ping, insert as insert_of, find as find_of, count as count_of_all, delete, update, aggregate, create as create_of, drop as drop_of, list_collections, command_of, IsBounded, get_more, kill_cursors}
+use Rattle.commands.specs.Command.{Command, ping, insert as insert_of, find as find_of, count as count_of_all, delete, update, aggregate, create as create_of, drop as drop_of, list_collections, command_of, IsBounded, get_more, kill_cursors, hello}
 use Rattle.engine.specs.Lawful.{IsStored, IsWithin, IsRising, AreNamedApart, AreNumberedApart, IsKept, IsLawfulState, IsLawful, AreLawfulCursors}
 use Rattle.engine.specs.Places.{collection_at, no_collection}
 use Rattle.engine.specs.Progress.{is_full, with_document}
@@ -50,6 +50,7 @@ use Rattle.commands.specs.GetMore.{GetMore}
 use Rattle.commands.specs.KillCursors.{KillCursors}
 use Rattle.engine.specs.GetMore.{batch_len_of, next_batch, run_get_more}
 use Rattle.engine.specs.KillCursors.{no_ids, told_apart, has_cursor, is_asked, kill_reply, run_kill_cursors}
+use Rattle.engine.specs.Hello.{hello_reply}
 use Rattle.engine.specs.Insert.{run_insert}
 use Rattle.engine.specs.Count.{run_count}
 use Rattle.engine.specs.Step.{run, answered, step}
@@ -65,7 +66,7 @@ use Rattle.engine.proofs.Finding.{found_within}
 use Rattle.engine.proofs.Ordered.{Rises, rises_insert, All-inserted, place_gap, place_there, missing, found, added, replaced}
 use Rattle.engine.proofs.Numbers.{unused_unused, number_bounds, numbers_set, numbers_insert}
 use Rattle.engine.proofs.Rewinding.{apart_set}
-use Rattle.engine.proofs.SpelledSizes.{ping-sendable, insert-sendable, drop-sendable, refusal-sendable, batch_items, cursor-sendable, kill-sendable, told_few}
+use Rattle.engine.proofs.SpelledSizes.{ping-sendable, insert-sendable, drop-sendable, refusal-sendable, batch_items, cursor-sendable, kill-sendable, told_few, hello-sendable}
 
 -- ---- documents
 
@@ -437,6 +438,7 @@ good_update w c h b = λ x e.
 
 good_run : (w : World) (connection : ℕ) (command : Command) → IsLawful w → IsBounded command → Good (run w connection command)
 good_run w connection ping h b = good_one w no_pairs h ping-sendable
+good_run w connection hello h b = good_one w (hello_reply connection) h (hello-sendable connection)
 good_run w connection (insert_of c) h b = good_insert w c.namespace c.documents h b.0
 good_run w connection (find_of c) h b = good_find w connection c.namespace c.query c.batch_size h b
 good_run w connection (get_more c) h b = good_get_more w connection c h b

@@ -13,7 +13,7 @@ use Rattle.aggregate.specs.Pipeline.{run as after_pipeline}
 use Rattle.engine.specs.Aggregate.{run_aggregate}
 use Rattle.commands.specs.ListCollections.{ListCollections}
 use Rattle.engine.specs.ListCollections.{run_list_collections}
-use Rattle.commands.specs.Command.{Command, ping, insert, find, count, delete, update, aggregate, create, drop as drop_of, list_collections, command_of, get_more, kill_cursors}
+use Rattle.commands.specs.Command.{Command, ping, insert, find, count, delete, update, aggregate, create, drop as drop_of, list_collections, command_of, get_more, kill_cursors, hello}
 use Rattle.engine.specs.World.{World, documents_of}
 use Rattle.engine.specs.Cursors.{batch_of, batch_reply, open_cursor, is_refused, new_cursor, first_batch, is_cursor}
 use Rattle.commands.specs.GetMore.{GetMore}
@@ -83,6 +83,7 @@ module _ (w : World) (connection : ℕ) where
   ran : (r : Result Command Refusal) → OnlyReads r → Leaves (r >>= run w connection)
   ran (Err e) h = refl
   ran (Ok ping) h = refl
+  ran (Ok hello) h = refl
   ran (Ok (insert c)) h = absurd h
   ran (Ok (delete c)) h = absurd h
   ran (Ok (update c)) h = absurd h

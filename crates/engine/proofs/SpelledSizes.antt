@@ -13,6 +13,7 @@ use Rattle.bson.specs.Spelling.{tree_bytes, pairs_bytes, items_bytes, frame_of}
 use Rattle.engine.specs.Refusals.{int, long, words, refusal_reply, ok_reply}
 use Rattle.engine.specs.Cursors.{item_size, batch_len, items_of_documents, cursor_reply}
 use Rattle.engine.specs.KillCursors.{ToldApart, with_id, told_apart, id_items, kill_reply}
+use Rattle.engine.specs.Hello.{hello_reply}
 use Rattle.engine.specs.Lawful.{IsWithin}
 use Rattle.engine.specs.View.{IsSendable}
 use Rattle.path.specs.declared.refusal.Refusal.{Refusal}
@@ -43,6 +44,10 @@ length-long n = refl
 pub ping-sendable : IsSendable (ok_reply no_pairs)
 unfolding tree_bytes pairs_bytes
 ping-sendable = lit≤ tt
+
+pub hello-sendable : (n : ℕ) → IsSendable (ok_reply (hello_reply n))
+unfolding tree_bytes pairs_bytes
+hello-sendable n = lit≤ tt
 
 pub insert-sendable : (n : ℕ) → IsSendable (ok_reply (pair (codes "n") (int n) no_pairs))
 unfolding tree_bytes pairs_bytes

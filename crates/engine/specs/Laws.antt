@@ -6,7 +6,7 @@ use Rattle.engine.specs.World.{World, Collection, new_world}
 use Rattle.engine.specs.Lawful.{IsLawful}
 use Rattle.engine.specs.Durable.{Holds}
 use Rattle.path.specs.declared.refusal.Refusal.{Refusal}
-use Rattle.commands.specs.Command.{Command, ping, insert, find, count, delete, update, aggregate, create, drop, list_collections, command_of, get_more, kill_cursors}
+use Rattle.commands.specs.Command.{Command, ping, insert, find, count, delete, update, aggregate, create, drop, list_collections, command_of, get_more, kill_cursors, hello}
 use Rattle.engine.specs.Step.{step, Answers, ForMemory}
 use Rattle.engine.specs.View.{IsSendable}
 
@@ -30,6 +30,7 @@ HoldsOne = (image : ℕ → List ℕ) (a b : List Collection) → Holds image a 
 -- a command that only reads, or one that is refused before it runs
 abbrev pub OnlyReads : Result Command Refusal → Type 0
 OnlyReads (Ok ping) = Unit {0}
+OnlyReads (Ok hello) = Unit {0}
 OnlyReads (Ok (find c)) = Unit {0}
 OnlyReads (Ok (get_more c)) = Unit {0}
 OnlyReads (Ok (kill_cursors c)) = Unit {0}

@@ -2,6 +2,7 @@ pub mod World
 pub mod Documents
 pub mod Refusals
 pub mod Cursors
+pub mod Hello
 pub mod Insert
 pub mod Find
 pub mod GetMore

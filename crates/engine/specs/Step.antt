@@ -5,9 +5,10 @@ use Rattle.bson.specs.declared.fault.BsonFault.{BsonFault}
 use Rattle.outcome.specs.Outcome.{◌>>=◌}
 use Rattle.path.specs.declared.refusal.Refusal.{Refusal}
 use Rattle.path.specs.declared.refusal.Refusal.TheVariants as refusals
-use Rattle.commands.specs.Command.{Command, ping, insert, find, count, delete, update, aggregate, create, drop, list_collections, command_of, get_more, kill_cursors}
+use Rattle.commands.specs.Command.{Command, ping, insert, find, count, delete, update, aggregate, create, drop, list_collections, command_of, get_more, kill_cursors, hello}
 use Rattle.engine.specs.World.{World}
 use Rattle.engine.specs.Refusals.{refusal_reply, ok_reply}
+use Rattle.engine.specs.Hello.{run_hello}
 use Rattle.engine.specs.Insert.{run_insert}
 use Rattle.engine.specs.Find.{run_find}
 use Rattle.engine.specs.GetMore.{run_get_more}
@@ -23,6 +24,7 @@ use Rattle.engine.specs.Update.{Updated, not_updated, run_statements, run_update
 -- the table of what commands do
 abbrev pub run : World → ℕ → Command → Result (World × Pairs) Refusal
 run world connection ping = Ok (world, no_pairs)
+run world connection hello = run_hello world connection
 run world connection (insert c) = run_insert world c
 run world connection (find c) = run_find world connection c
 run world connection (get_more c) = run_get_more world connection c

@@ -109,6 +109,7 @@ impl<D: Disk> Engine<D> {
     {
         match Command::read(self.alloc, body)? {
             Command::Ping => Ok(Answer::Built(ping_reply(self.alloc)?)),
+            Command::Hello => built(self.hello(connection)),
             Command::Insert(c) => built(self.insert(c.namespace.as_str(), &c.documents)),
             Command::Find(c) => {
                 let most = c.batch_size.unwrap_or(FIRST_BATCH);

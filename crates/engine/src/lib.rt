@@ -16,6 +16,8 @@ mod drop_collection;
 mod engine;
 mod find;
 mod get_more;
+mod find_reply;
+mod hello;
 mod image;
 mod insert;
 mod kill_cursors;

@@ -4,3 +4,4 @@ pub mod Stream
 pub mod Request
 pub mod View
 pub mod Laws
+pub mod Rows

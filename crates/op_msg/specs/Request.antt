@@ -1,15 +1,19 @@
--- What taking the message at the front gives, and how a reply is spelled (MongoDB wire protocol, OP_MSG). A message's body is
--- the document that its bytes are, all of them, or the first fault of these bytes. A reply is a frame with its own number, the
--- number of the request, no flags, and one body.
-use Rattle.std.specs.Prelude.{◌≡◌, ℕ, ◌+◌, List, [], ◌∷◌, ◌++◌, length, take, drop, Bool, true, false, Result, Ok, Err, Option, Some, None}
+-- What taking the message at the front gives, and how a reply is spelled (MongoDB wire protocol, OP_MSG). A message's document is
+-- the one that the bytes of its body are, all of them, and behind its fields an array for each section of kind 1, in their order; or
+-- the first fault: of the body's bytes, and then of each section a name that a field has already, and its documents. A document of
+-- a section stands in an array of the message's document, so it has two of the levels less. A reply is a frame with its own
+-- number, the number of the request, no flags, and one body.
+use Rattle.std.specs.Prelude.{◌≡◌, ℕ, ◌+◌, List, [], ◌∷◌, ◌++◌, length, take, drop, Bool, true, false, Result, Ok, Err, Option, Some, None, is_some}
 use Rattle.std.specs.Int.{w32, to_le_bytes}
 use Rattle.bson.specs.declared.fault.BsonFault.TheVariants as bson_faults
-use Rattle.bson.specs.Tree.{Pairs}
+use Rattle.bson.specs.Lookup.{lookup}
+use Rattle.bson.specs.Tree.{array, Pairs, no_pairs, pair, append, Items, no_items, item}
 use Rattle.bson.specs.Spelling.{frame_of, pairs_bytes}
-use Rattle.bson.specs.Reading.{document_at}
-use Rattle.outcome.specs.Outcome.{Gives}
+use Rattle.bson.specs.Reading.{value_at, document_at}
+use Rattle.outcome.specs.Outcome.{◌>>=◌, unless, Gives}
 use Rattle.bson.specs.declared.fault.BsonFault.{BsonFault}
-use Rattle.op_msg.specs.Frame.{Frame}
+use Rattle.bson.specs.declared.kind.Kind.TheVariants as kinds
+use Rattle.op_msg.specs.Frame.{Frame, Sequence}
 use Rattle.op_msg.specs.declared.fault.FrameFault.{FrameFault}
 use Rattle.op_msg.specs.declared.request.Head.{Head}
 use Rattle.op_msg.specs.declared.request.Request.{Request}
@@ -22,9 +26,28 @@ document_alone (Err e) = Err e
 abbrev pub document_in : List ℕ → Result Pairs BsonFault
 document_in bytes = document_alone (document_at bytes)
 
+-- the array of these documents, each of which may nest 98 levels
+abbrev pub array_of : List (List ℕ) → Result Items BsonFault
+array_of [] = Ok no_items
+array_of (bytes ∷ documents) = do
+  first ← value_at 98 kinds.Document bytes
+  others ← array_of documents
+  Ok (item first.0 others)
+
+-- a document with the array of a section behind its fields
+abbrev pub with_sequence : Pairs → Sequence → Result Pairs BsonFault
+with_sequence ps sequence =
+    unless (is_some (lookup ps sequence.name)) bson_faults.Repeated (do
+      ts ← array_of sequence.documents
+      Ok (append ps (pair sequence.name (array ts) no_pairs)))
+
+abbrev pub with_sequences : Pairs → List Sequence → Result Pairs BsonFault
+with_sequences ps [] = Ok ps
+with_sequences ps (sequence ∷ later) = with_sequence ps sequence >>= λ qs. with_sequences qs later
+
 -- The document of a message. Its frame says where it ends.
 abbrev pub body_of : Frame → Result Pairs BsonFault
-body_of frame = document_in frame.body
+body_of frame = document_in frame.body >>= λ ps. with_sequences ps frame.sequences
 
 -- What a message says of itself.
 abbrev pub head_of : Result (Option (Frame × List ℕ)) FrameFault → Result (Option Head) FrameFault

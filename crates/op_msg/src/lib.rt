@@ -6,6 +6,7 @@ mod frames;
 pub mod laws;
 mod reading;
 mod request;
+mod sections;
 mod writing;
 
 pub use fault::FrameFault;

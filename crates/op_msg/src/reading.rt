@@ -1,11 +1,18 @@
 //! The message at the front of bytes.
 
-ghost use Rattle.std.specs.Prelude.{◌≡◌, ◌≤◌, ◌<◌, ◌+◌, ℕ, List, length, drop, option_map, IfOk, IfSome};
-ghost use Rattle.op_msg.specs.Frame.{number_at, part_at, body_in, frame_of, front};
+ghost use Rattle.std.specs.Prelude.{◌≡◌, ◌≤◌, ℕ, length, drop, option_map, IfOk, IfSome};
+ghost use Rattle.op_msg.specs.Frame.{frame_of, front};
 ghost use Rattle.op_msg.specs.View.{Finds, frame_in};
 
 use crate::fault::FrameFault;
+use crate::sections::{read_body, read_number};
 use bson::MESSAGE_LIMIT;
+
+/// The flag of a message with a checksum behind its sections.
+const CHECKSUM: u32 = 1;
+
+/// The flag of a message that wants no reply.
+const MORE_TO_COME: u32 = 2;
 
 /// A message before its body is read.
 #[derive(Drop)]
@@ -13,6 +20,8 @@ pub(crate) struct Message<'a> {
     pub number: u32,
     pub more_to_come: bool,
     pub body: &'a [u8],
+    /// All sections, the body among them.
+    pub sections: &'a [u8],
 }
 
 /// The message at the front of bytes, and how many bytes it has.
@@ -20,58 +29,6 @@ pub(crate) struct Message<'a> {
 pub(crate) struct Front<'a> {
     pub message: Message<'a>,
     pub len: usize,
-}
-
-/// The number in the four bytes at a place.
-fn read_number(bytes: &[u8], place: usize) -> u32
-    requires { place + 4 ≤ length bytes.now }
-    ensures { result ≡ number_at place bytes.now }
-{
-    let (_, bytes) = bytes.split_at(place);
-    u32::from_le_bytes([bytes[0], bytes[1], bytes[2], bytes[3]])
-}
-
-/// A document whose length fits, and what follows it.
-#[tactic(auto, unfolding(crate::specs::Frame::part_at))]
-fn read_part(bytes: &[u8]) -> Result<(&[u8], &[u8]), FrameFault>
-    ensures { Finds (λ x. (x.0.now, x.1.now)) result (part_at bytes.now) }
-{
-    if bytes.len() < 4 {
-        return Err(FrameFault::Section);
-    }
-    let len = read_number(bytes, 0) as usize;
-    if len < 5 {
-        return Err(FrameFault::Section);
-    }
-    if bytes.len() < len {
-        return Err(FrameFault::Section);
-    }
-    Ok(bytes.split_at(len))
-}
-
-/// The one body in the sections.
-fn read_body(bytes: &[u8]) -> Result<&[u8], FrameFault>
-    ensures { Finds (λ b. b.now) result (body_in bytes.now) }
-{
-    let mut found: Option<&[u8]> = None;
-    let mut several = false;
-    let mut rest = bytes;
-    'sections: while let Some((kind, after)) = rest.split_first() {
-        if *kind != 0 {
-            return Err(FrameFault::Section);
-        }
-        let (part, after) = read_part(after)?;
-        several = found.is_some();
-        found = Some(found.unwrap_or(part));
-        rest = after;
-    }
-    let Some(body) = found else {
-        return Err(FrameFault::NoBody);
-    };
-    if several {
-        return Err(FrameFault::TwoBodies);
-    }
-    Ok(body)
 }
 
 /// A whole message.
@@ -84,18 +41,19 @@ fn read_frame(bytes: &[u8]) -> Result<Message<'_>, FrameFault>
         return Err(FrameFault::Opcode);
     }
     let flags = read_number(bytes, 16) % 0x1_0000;
-    if 1 < flags {
+    if CHECKSUM + MORE_TO_COME < flags {
         return Err(FrameFault::Flags);
     }
-    if flags == 1 {
+    if flags % MORE_TO_COME == CHECKSUM {
         return Err(FrameFault::Checksum);
     }
     let (_, sections) = bytes.split_at(20);
     let body = read_body(sections)?;
     Ok(Message {
         number: read_number(bytes, 4),
-        more_to_come: false,
+        more_to_come: flags == MORE_TO_COME,
         body,
+        sections,
     })
 }
 

@@ -1,5 +1,5 @@
--- The first frames of a connection, and what they are answered, byte by byte: a ping, an insert of one document, a find, and an
--- insert of the same `_id` as an int64, which is refused. In one chunk the first three are a stream of three messages. The four
+-- The first frames of a connection, and what they are answered, byte by byte: a ping, an insert of one document, in the body or
+-- beside it, a find, and an insert of the same `_id` as an int64, which is refused. In one chunk the first three are a stream of three messages. The four
 -- bytes of a length that no message has are a fault as they stand.
 use Rattle.std.specs.Prelude.{◌≡◌, ℕ, false, List, [], ◌∷◌, ◌++◌, drop, codes, Result, Ok, Err, Option, Some, None}
 use Rattle.bson.specs.Tree.{no_pairs, pair}
@@ -37,6 +37,10 @@ ping_frame = 47 ∷ 0 ∷ 0 ∷ 0 ∷ 7 ∷ 0 ∷ 0 ∷ 0 ∷ 0 ∷ 0 ∷ 0 ∷ 
 abbrev pub insert_frame : List ℕ
 insert_frame = 84 ∷ 0 ∷ 0 ∷ 0 ∷ 8 ∷ 0 ∷ 0 ∷ 0 ∷ 0 ∷ 0 ∷ 0 ∷ 0 ∷ 221 ∷ 7 ∷ 0 ∷ 0 ∷ 0 ∷ 0 ∷ 0 ∷ 0 ∷ 0 ∷ 63 ∷ 0 ∷ 0 ∷ 0 ∷ 2 ∷ 105 ∷ 110 ∷ 115 ∷ 101 ∷ 114 ∷ 116 ∷ 0 ∷ 2 ∷ 0 ∷ 0 ∷ 0 ∷ 99 ∷ 0 ∷ 4 ∷ 100 ∷ 111 ∷ 99 ∷ 117 ∷ 109 ∷ 101 ∷ 110 ∷ 116 ∷ 115 ∷ 0 ∷ 22 ∷ 0 ∷ 0 ∷ 0 ∷ 3 ∷ 48 ∷ 0 ∷ 14 ∷ 0 ∷ 0 ∷ 0 ∷ 16 ∷ 95 ∷ 105 ∷ 100 ∷ 0 ∷ 1 ∷ 0 ∷ 0 ∷ 0 ∷ 0 ∷ 0 ∷ 2 ∷ 36 ∷ 100 ∷ 98 ∷ 0 ∷ 2 ∷ 0 ∷ 0 ∷ 0 ∷ 116 ∷ 0 ∷ 0 ∷ []
 
+-- {insert: "c", $db: "t"} with `documents` [{_id: 1}] in a section beside it, number 8
+abbrev pub beside_frame : List ℕ
+beside_frame = 80 ∷ 0 ∷ 0 ∷ 0 ∷ 8 ∷ 0 ∷ 0 ∷ 0 ∷ 0 ∷ 0 ∷ 0 ∷ 0 ∷ 221 ∷ 7 ∷ 0 ∷ 0 ∷ 0 ∷ 0 ∷ 0 ∷ 0 ∷ 0 ∷ 30 ∷ 0 ∷ 0 ∷ 0 ∷ 2 ∷ 105 ∷ 110 ∷ 115 ∷ 101 ∷ 114 ∷ 116 ∷ 0 ∷ 2 ∷ 0 ∷ 0 ∷ 0 ∷ 99 ∷ 0 ∷ 2 ∷ 36 ∷ 100 ∷ 98 ∷ 0 ∷ 2 ∷ 0 ∷ 0 ∷ 0 ∷ 116 ∷ 0 ∷ 0 ∷ 1 ∷ 28 ∷ 0 ∷ 0 ∷ 0 ∷ 100 ∷ 111 ∷ 99 ∷ 117 ∷ 109 ∷ 101 ∷ 110 ∷ 116 ∷ 115 ∷ 0 ∷ 14 ∷ 0 ∷ 0 ∷ 0 ∷ 16 ∷ 95 ∷ 105 ∷ 100 ∷ 0 ∷ 1 ∷ 0 ∷ 0 ∷ 0 ∷ 0 ∷ []
+
 -- {find: "c", $db: "t"}, number 9
 abbrev pub find_frame : List ℕ
 find_frame = 49 ∷ 0 ∷ 0 ∷ 0 ∷ 9 ∷ 0 ∷ 0 ∷ 0 ∷ 0 ∷ 0 ∷ 0 ∷ 0 ∷ 221 ∷ 7 ∷ 0 ∷ 0 ∷ 0 ∷ 0 ∷ 0 ∷ 0 ∷ 0 ∷ 28 ∷ 0 ∷ 0 ∷ 0 ∷ 2 ∷ 102 ∷ 105 ∷ 110 ∷ 100 ∷ 0 ∷ 2 ∷ 0 ∷ 0 ∷ 0 ∷ 99 ∷ 0 ∷ 2 ∷ 36 ∷ 100 ∷ 98 ∷ 0 ∷ 2 ∷ 0 ∷ 0 ∷ 0 ∷ 116 ∷ 0 ∷ 0 ∷ []
@@ -63,12 +67,14 @@ again_reply = 97 ∷ 0 ∷ 0 ∷ 0 ∷ 4 ∷ 0 ∷ 0 ∷ 0 ∷ 10 ∷ 0 ∷ 0 �
 
 -- the message of a frame that has a body and nothing else
 abbrev pub message : ℕ → List ℕ → Frame
-message number bytes = record { number = number; more_to_come = false; body = drop 21 bytes }
+message number bytes =
+    record { number = number; more_to_come = false; body = drop 21 bytes; sequences = [] }
 
 abbrev pub FirstRows : Type 0
 FirstRows =
     (answer 1 new_world ping_frame ≡ Some (new_world, ping_reply))
     × (answer 2 new_world insert_frame ≡ Some (one_document, insert_reply))
+    × (answer 2 new_world beside_frame ≡ Some (one_document, insert_reply))
     × (answer 3 one_document find_frame ≡ Some (one_document, find_reply))
     × (answer 4 one_document again_frame ≡ Some (one_document, again_reply))
     × Splits (ping_frame ++ insert_frame ++ find_frame) (message 7 ping_frame ∷ message 8 insert_frame ∷ message 9 find_frame ∷ []) None []

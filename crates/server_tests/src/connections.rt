@@ -14,7 +14,7 @@ use std::alloc::Global;
 use std::test::*;
 
 /// A server over a disk of zeros.
-fn open(alloc: Global) -> Result<Core<MemDisk>, Fail>
+pub(crate) fn open(alloc: Global) -> Result<Core<MemDisk>, Fail>
     ensures { IfOk result (λ core. IsSound memory_history core) }
 {
     match Core::open(alloc, MemDisk::new(alloc), CONFIG) {
@@ -38,7 +38,7 @@ fn turn_after(
 }
 
 /// Whether a turn handed out these frames and no others, in this order, each to the connection of its number.
-fn replies_are(out: &TurnOut, wanted: &[(u8, Vec<u8>)]) -> bool {
+pub(crate) fn replies_are(out: &TurnOut, wanted: &[(u8, Vec<u8>)]) -> bool {
     out.replies.len() == wanted.len()
         && out.replies.iter().zip(wanted).all(|((id, reply), (number, frame))| id.number()
             == *number

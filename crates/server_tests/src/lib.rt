@@ -10,6 +10,8 @@ mod connections;
 #[cfg(test)]
 mod first_path;
 #[cfg(test)]
+mod hello;
+#[cfg(test)]
 mod ids;
 #[cfg(test)]
 mod kept;
@@ -20,4 +22,8 @@ mod names;
 #[cfg(test)]
 mod order;
 #[cfg(test)]
+mod sections;
+#[cfg(test)]
 mod session;
+#[cfg(test)]
+mod unanswered;

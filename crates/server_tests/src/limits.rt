@@ -173,10 +173,10 @@ fn faults_of_frames(rt: HostRuntime) -> Result<(), Fail> {
     let alloc = rt.alloc();
     assert!(rt; fault(alloc, &patched(alloc, 12, &[0xdc])?)? == Some(FrameFault::Opcode));
     assert!(rt; fault(alloc, &patched(alloc, 16, &[4])?)? == Some(FrameFault::Flags));
-    // more to come is no known flag yet
-    assert!(rt; fault(alloc, &patched(alloc, 16, &[2])?)? == Some(FrameFault::Flags));
+    // a message that wants no reply is none
+    assert!(rt; fault(alloc, &patched(alloc, 16, &[2])?)?.is_none());
     assert!(rt; fault(alloc, &patched(alloc, 16, &[1])?)? == Some(FrameFault::Checksum));
-    // a section of documents is no known kind yet
+    // of kind 1, a length of 1 would stand behind the name
     assert!(rt; fault(alloc, &patched(alloc, 20, &[1])?)? == Some(FrameFault::Section));
     assert!(rt; fault(alloc, &patched(alloc, 21, &[4])?)? == Some(FrameFault::Section));
     assert!(rt; fault(alloc, &patched(alloc, 21, &[27])?)? == Some(FrameFault::Section));
