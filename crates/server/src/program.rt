@@ -17,7 +17,7 @@ use std::alloc::Global;
 use std::fs::File;
 use std::io;
 use std::io::{Read, Write};
-use std::net::{Ipv4Addr, Net, SocketAddr, TcpListener};
+use std::net::{Ipv4Addr, Net, SocketAddr, TcpListener, TcpStream};
 use std::rt::{Clock, Files};
 use thiserror::Error;
 
@@ -92,7 +92,9 @@ impl From<ServeFault> for ProgramFault {
 /// `serve FILE --port P --connections N --turns T` is `serve_on` over a port of 127.0.0.1. `listen FILE --port P
 /// [--idle-seconds S]` answers every connection of the port that comes, 64 at a time, and ends where the server has stopped.
 /// Both print `listening on 127.0.0.1:P` once the port can be connected to; port 0 is any that is free.
-pub fn run<R: AllocGlobal + Clock + Files<File = File> + Net<Listener = TcpListener>>(
+pub fn run<
+    R: AllocGlobal + Clock + Files<File = File> + Net<Listener = TcpListener, Stream = TcpStream>,
+>(
     rt: &R,
     words: &[String],
     input: &mut impl Read,
@@ -108,7 +110,9 @@ pub fn run<R: AllocGlobal + Clock + Files<File = File> + Net<Listener = TcpListe
 }
 
 /// Reads the words, opens the file, and runs the program.
-fn run_words<R: AllocGlobal + Clock + Files<File = File> + Net<Listener = TcpListener>>(
+fn run_words<
+    R: AllocGlobal + Clock + Files<File = File> + Net<Listener = TcpListener, Stream = TcpStream>,
+>(
     rt: &R,
     words: &[String],
     input: &mut impl Read,
@@ -154,7 +158,7 @@ fn open<R: AllocGlobal + Files<File = File>>(
 }
 
 /// Serves connections of a port for some turns.
-fn serve<R: AllocGlobal + Net<Listener = TcpListener>, D: Disk>(
+fn serve<R: AllocGlobal + Net<Listener = TcpListener, Stream = TcpStream>, D: Disk>(
     rt: &R,
     core: &mut Core<D>,
     served: &Served,
@@ -168,7 +172,7 @@ fn serve<R: AllocGlobal + Net<Listener = TcpListener>, D: Disk>(
 }
 
 /// Serves all connections of a port.
-fn listen<R: AllocGlobal + Clock + Net<Listener = TcpListener>, D: Disk>(
+fn listen<R: AllocGlobal + Clock + Net<Listener = TcpListener, Stream = TcpStream>, D: Disk>(
     rt: &R,
     core: &mut Core<D>,
     listened: &Listened,
@@ -182,7 +186,7 @@ fn listen<R: AllocGlobal + Clock + Net<Listener = TcpListener>, D: Disk>(
 }
 
 /// Listens on a port of this machine's own address, and says on which.
-fn bind<R: Net<Listener = TcpListener>>(
+fn bind<R: Net<Listener = TcpListener, Stream = TcpStream>>(
     rt: &R,
     port: u16,
     output: &mut impl Write,
