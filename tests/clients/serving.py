@@ -5,7 +5,7 @@ import os, resource, select, signal, socket, struct, subprocess, sys, tempfile, 
 PROGRAM = os.path.abspath(sys.argv[1])
 FOLDER = tempfile.mkdtemp(prefix="serving.")
 PATIENCE = 20.0
-signal.alarm(540)
+signal.alarm(600)
 
 
 # BSON and OP_MSG, as far as the cases need them: numbers are int32, lists are arrays.
