@@ -144,7 +144,7 @@ fn open<R: AllocGlobal + Files<File = File>>(
     rt: &R,
     file: &str,
 ) -> Result<Core<FileDisk>, ProgramFault>
-    ensures { IfOk result (λ core. IsSound unknown_history core) }
+    ensures { IfOk result (IsSound (λ _. unknown_history)) }
 {
     let disk = match FileDisk::open(rt, file, true) {
         Ok(disk) => disk,

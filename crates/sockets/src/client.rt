@@ -77,6 +77,16 @@ impl<T: Read + Write + Drop> Client<T> {
         self.readable && !self.is_over && self.outbox.is_empty()
     }
 
+    /// Whether a write is due with no further event.
+    fn may_send(&self) -> bool {
+        !self.is_over && self.writable && !self.outbox.is_empty()
+    }
+
+    /// Whether a read or a write is due with no further event.
+    pub fn is_busy(&self) -> bool {
+        self.is_due() || self.may_send()
+    }
+
     /// Reads once, where a read is due. Where replies wait, nothing is read.
     fn read(&mut self, buffer: &mut [u8]) -> Incoming
         ensures read { IsReadBy result buffer.new (T.remaining self.old.stream)
@@ -147,7 +157,7 @@ impl<T: Read + Write + Drop> Client<T> {
         ensures { self.new.is_over ≡ false → Sends self.old.outbox self.new.outbox
             (T.contents self.old.stream) (T.contents self.new.stream) }
     {
-        if self.is_over || !self.writable || self.outbox.is_empty() {
+        if !self.may_send() {
             return;
         }
         let outgoing = send_waiting(&mut self.stream, &mut self.outbox);

@@ -62,9 +62,9 @@ impl<T: Read + Write + Drop> Table<T> {
         }
     }
 
-    /// Whether there is something to do without a further event: a read, or a turn.
+    /// Whether there is something to do without a further event: a read, a write, or a turn.
     pub fn is_busy<S: Service>(&self, service: &S) -> bool {
-        self.places.iter().flatten().any(|client| client.is_due()) || self.has_messages(service)
+        self.places.iter().flatten().any(|client| client.is_busy()) || self.has_messages(service)
     }
 
     /// Whether a message of some connection waits for a turn.
