@@ -358,8 +358,8 @@ def killed():
         with Server("listen", file("killed"), "--port", port) as server:
             port = server.port
             client = Client(port)
-            there = set(found(client.ask(find())))
-            assert set(kept) <= there, sorted(set(kept) - there)
+            for identity in kept:
+                assert found(client.ask(find({"_id": identity}))) == [identity], identity
             stop, last = threading.Event(), []
 
             def work(i):
