@@ -34,11 +34,19 @@ pub struct NotTaken;
 
 /// Where a turn puts what it hands out.
 pub trait Outlet {
+    /// What a reply to a connection does.
+    ghost is_given: { Self → ℕ → List ℕ → Self → Type 0 };
+
+    /// What the closing of a connection does.
+    ghost is_closed: { Self → ℕ → Self → Type 0 };
+
     /// A reply to a connection.
-    fn reply(&mut self, connection: usize, frame: &[u8]);
+    fn reply(&mut self, connection: usize, frame: &[u8])
+        ensures given { is_given self.old connection frame.now self.new };
 
     /// The turn closed a connection.
-    fn close(&mut self, connection: usize);
+    fn close(&mut self, connection: usize)
+        ensures closed { is_closed self.old connection self.new };
 }
 
 /// Something that takes bytes of connections, numbered from 0 to 63, and answers all of them in turns.

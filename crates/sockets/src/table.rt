@@ -1,7 +1,7 @@
 //! The connections by their numbers.
 
 ghost use Rattle.std.specs.Prelude.{◌≡◌, ◌<◌, ◌≤◌, length, None, false, true, IfOk, IfSome};
-ghost use Rattle.sockets.specs.Places.{is_over_in};
+ghost use Rattle.sockets.specs.Places.{IsGivenAt, closed_at, is_over_in};
 
 use crate::client::Client;
 use crate::service::{Outlet, Service};
@@ -142,18 +142,43 @@ impl<T: Read + Write + Drop> Table<T> {
 }
 
 impl<T: Read + Write + Drop> Outlet for Table<T> {
+    ghost use Rattle.sockets.specs.Places.{IsGiven, IsClosed};
+
+    ghost is_given = { λ old i frame new. IsGiven T.contents old.places.items i frame
+        new.places.items };
+
+    ghost is_closed = { λ old i new. IsClosed old.places.items i new.places.items };
+
     fn reply(&mut self, connection: usize, frame: &[u8]) {
         let now = self.time;
-        if let Some(client) = self.get_mut(connection) {
-            client.heard = now;
-            client.reply(frame);
+        if connection < self.places.len() {
+            reply_at(&mut self.places[connection], frame, now);
         }
     }
 
     fn close(&mut self, connection: usize) {
-        if let Some(client) = self.get_mut(connection) {
-            client.end();
+        if connection < self.places.len() {
+            close_at(&mut self.places[connection]);
         }
+    }
+}
+
+/// Replies to the connection at a place.
+fn reply_at<T: Read + Write + Drop>(place: &mut Option<Client<T>>, frame: &[u8], now: Duration)
+    ensures { IsGivenAt T.contents place.old frame.now place.new }
+{
+    if let Some(client) = place {
+        client.heard = now;
+        client.reply(frame);
+    }
+}
+
+/// Ends the connection at a place.
+fn close_at<T: Read + Write + Drop>(place: &mut Option<Client<T>>)
+    ensures { place.new ≡ closed_at place.old }
+{
+    if let Some(client) = place {
+        client.end();
     }
 }
 
