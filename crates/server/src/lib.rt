@@ -7,13 +7,17 @@ mod drive;
 pub mod laws;
 mod preparing;
 pub mod program;
+mod service;
 mod serving;
 mod step;
 mod turn;
+mod words;
 
 pub use anew::run_anew;
 pub use connection::FeedFault;
 pub use drive::{DriveFault, DriveOut};
 pub use roots::{Config, OpenFault};
+pub use service::serve_on;
+pub use sockets::ServeFault;
 pub use step::Step;
 pub use turn::{Core, TurnFault, TurnOut};

@@ -1,20 +1,24 @@
 //! The program `docpage`, over any reader and writers.
 
 ghost use Rattle.std.specs.Prelude.{◌≤◌, length, IfOk};
+ghost use Rattle.page.specs.Unknown.{unknown_history};
 ghost use Rattle.server.specs.Durable.{IsSound};
 
+use crate::service::serve_on;
 use crate::turn::{Core, TurnFault, TurnOut};
+use crate::words::{Listened, Served, Task, Words, parse};
 use clap::error::ErrorKind;
-use clap::{Arg, ArgAction, Command};
 use engine::ConnId;
 use op_msg::FrameFault;
 use page::{Disk, FileDisk, FileFault};
 use roots::{Config, OpenFault};
+use sockets::ServeFault;
 use std::alloc::Global;
 use std::fs::File;
 use std::io;
 use std::io::{Read, Write};
-use std::rt::Files;
+use std::net::{Ipv4Addr, Net, SocketAddr, TcpListener, TcpStream};
+use std::rt::{Clock, Files};
 use thiserror::Error;
 
 /// The most bytes of one read.
@@ -45,6 +49,9 @@ pub enum ProgramFault {
     /// A write or a sync of the file failed.
     #[error("Stopped")]
     Stopped,
+    /// The port can't be listened on, or no connection can be taken from it.
+    #[error("Accept")]
+    Accept,
     /// The input has a fault of a frame.
     #[error("{}", .0.name())]
     Frame(FrameFault),
@@ -60,7 +67,17 @@ impl ProgramFault {
             | ProgramFault::Memory
             | ProgramFault::Device
             | ProgramFault::Stopped
+            | ProgramFault::Accept
             | ProgramFault::Frame(_) => 1,
+        }
+    }
+}
+
+impl From<ServeFault> for ProgramFault {
+    fn from(fault: ServeFault) -> ProgramFault {
+        match fault {
+            ServeFault::Accept => ProgramFault::Accept,
+            ServeFault::Stopped => ProgramFault::Stopped,
         }
     }
 }
@@ -71,7 +88,13 @@ impl ProgramFault {
 ///
 /// `exec FILE` is one connection: it reads frames from `input` and writes the replies to `output`, until the input ends. The
 /// documents are kept in the file, which is made if it is missing.
-pub fn run<R: AllocGlobal + Files<File = File>>(
+///
+/// `serve FILE --port P --connections N --turns T` is `serve_on` over a port of 127.0.0.1. `listen FILE --port P
+/// [--idle-seconds S]` answers every connection of the port that comes, 64 at a time, and ends where the server has stopped.
+/// Both print `listening on 127.0.0.1:P` once the port can be connected to; port 0 is any that is free.
+pub fn run<
+    R: AllocGlobal + Clock + Files<File = File> + Net<Listener = TcpListener, Stream = TcpStream>,
+>(
     rt: &R,
     words: &[String],
     input: &mut impl Read,
@@ -87,28 +110,27 @@ pub fn run<R: AllocGlobal + Files<File = File>>(
 }
 
 /// Reads the words, opens the file, and runs the program.
-fn run_words<R: AllocGlobal + Files<File = File>>(
+fn run_words<
+    R: AllocGlobal + Clock + Files<File = File> + Net<Listener = TcpListener, Stream = TcpStream>,
+>(
     rt: &R,
     words: &[String],
     input: &mut impl Read,
     output: &mut impl Write,
 ) -> Result<(), ProgramFault> {
-    let file = read_words(rt.alloc(), words)?;
-    let disk = match FileDisk::open(rt, &file, true) {
-        Ok(disk) => disk,
-        Err(FileFault::Locked) => return Err(ProgramFault::Locked),
-        Err(FileFault::Device) => return Err(ProgramFault::Open(OpenFault::Device)),
-    };
-    match Core::open(rt.alloc(), disk, CONFIG) {
-        Ok(mut core) => exec(rt.alloc(), &mut core, input, output),
-        Err((_, fault)) => Err(ProgramFault::Open(fault)),
+    let words = read_words(rt.alloc(), words)?;
+    let mut core = open(rt, &words.file)?;
+    match &words.task {
+        Task::Exec => exec(rt.alloc(), &mut core, input, output),
+        Task::Serve(served) => serve(rt, &mut core, served, output),
+        Task::Listen(listened) => listen(rt, &mut core, listened, output),
     }
 }
 
-/// The file that the words name for `exec`, the one program that there is.
-fn read_words(alloc: Global, words: &[String]) -> Result<String, ProgramFault> {
+/// Reads the words.
+fn read_words(alloc: Global, words: &[String]) -> Result<Words, ProgramFault> {
     match parse(alloc, words) {
-        Ok(Some(file)) => Ok(file),
+        Ok(Some(words)) => Ok(words),
         Ok(None) => Err(ProgramFault::Usage),
         Err(error) => match error.kind() {
             ErrorKind::OutOfMemory => Err(ProgramFault::Memory),
@@ -117,21 +139,67 @@ fn read_words(alloc: Global, words: &[String]) -> Result<String, ProgramFault> {
     }
 }
 
-/// Parses the words.
-fn parse(alloc: Global, words: &[String]) -> Result<Option<String>, clap::Error> {
-    let file = Arg::new(alloc, "FILE")
-        .required(true)
-        .action(ArgAction::Set);
-    let command = Command::new(alloc, "docpage")
-        .subcommand_required(true)
-        .subcommand(Command::new(alloc, "exec").arg(file)?)?;
-    let matches = command.try_get_matches_from(words)?;
-    let Some(exec) = matches.subcommand_matches("exec") else {
-        return Ok(None);
+/// Opens the file as a database, and makes it where it is missing.
+fn open<R: AllocGlobal + Files<File = File>>(
+    rt: &R,
+    file: &str,
+) -> Result<Core<FileDisk>, ProgramFault>
+    ensures { IfOk result (IsSound (λ _. unknown_history)) }
+{
+    let disk = match FileDisk::open(rt, file, true) {
+        Ok(disk) => disk,
+        Err(FileFault::Locked) => return Err(ProgramFault::Locked),
+        Err(FileFault::Device) => return Err(ProgramFault::Open(OpenFault::Device)),
     };
-    match exec.get_str("FILE") {
-        Some(file) => Ok(Some(String::from_str(alloc, file)?)),
-        None => Ok(None),
+    match Core::open(rt.alloc(), disk, CONFIG) {
+        Ok(core) => Ok(core),
+        Err((_, fault)) => Err(ProgramFault::Open(fault)),
+    }
+}
+
+/// Serves connections of a port for some turns.
+fn serve<R: AllocGlobal + Net<Listener = TcpListener, Stream = TcpStream>, D: Disk>(
+    rt: &R,
+    core: &mut Core<D>,
+    served: &Served,
+    output: &mut impl Write,
+) -> Result<(), ProgramFault>
+    requires sound { IsSound D.history core.old }
+    ensures sound { IsSound D.history core.new }
+{
+    let listener = bind(rt, served.port, output)?;
+    Ok(serve_on(rt, &listener, served.connections, served.turns, core)?)
+}
+
+/// Serves all connections of a port.
+fn listen<R: AllocGlobal + Clock + Net<Listener = TcpListener, Stream = TcpStream>, D: Disk>(
+    rt: &R,
+    core: &mut Core<D>,
+    listened: &Listened,
+    output: &mut impl Write,
+) -> Result<(), ProgramFault>
+    requires sound { IsSound D.history core.old }
+    ensures sound { IsSound D.history core.new }
+{
+    let listener = bind(rt, listened.port, output)?;
+    Ok(sockets::listen(rt, listener, listened.idle, core)?)
+}
+
+/// Listens on a port of this machine's own address, and says on which.
+fn bind<R: Net<Listener = TcpListener, Stream = TcpStream>>(
+    rt: &R,
+    port: u16,
+    output: &mut impl Write,
+) -> Result<TcpListener, ProgramFault> {
+    let Ok(listener) = TcpListener::bind(rt, SocketAddr::from((Ipv4Addr::LOCALHOST, port))) else {
+        return Err(ProgramFault::Accept);
+    };
+    let Ok(address) = listener.local_addr() else {
+        return Err(ProgramFault::Accept);
+    };
+    match writeln!(output, "listening on {address}").and(output.flush()) {
+        Ok(()) => Ok(listener),
+        Err(_) => Err(ProgramFault::Device),
     }
 }
 

@@ -1,0 +1,153 @@
+//! The words that the program is started with.
+
+ghost use Rattle.std.specs.Prelude.{◌≤◌};
+
+use clap::{Arg, ArgAction, ArgMatches, Command};
+use std::alloc::{AllocError, Global};
+use std::time::Duration;
+
+/// The most connections that a program serves.
+const MOST_CONNECTIONS: usize = 64;
+
+/// What the program is to do, over which file.
+#[derive(Drop)]
+pub(crate) struct Words {
+    pub file: String,
+    pub task: Task,
+}
+
+/// What the program is to do.
+#[derive(Drop)]
+pub(crate) enum Task {
+    /// To answer one connection, on standard input and output.
+    Exec,
+    /// To answer so many connections for so many turns.
+    Serve(Served),
+    /// To answer all connections that come.
+    Listen(Listened),
+}
+
+/// A port, and which connections are served on it for how long.
+#[derive(Drop)]
+pub(crate) struct Served {
+    pub port: u16,
+    pub connections: usize,
+    pub turns: u64,
+    ghost few: { connections ≤ 64 },
+}
+
+/// A port (0 for any that is free), and how long a connection may be silent.
+#[derive(Drop)]
+pub(crate) struct Listened {
+    pub port: u16,
+    pub idle: Option<Duration>,
+}
+
+/// Parses the words. None is said where they match but a number is out of range.
+pub(crate) fn parse(alloc: Global, words: &[String]) -> Result<Option<Words>, clap::Error> {
+    let matches = command(alloc)?.try_get_matches_from(words)?;
+    if let Some(exec) = matches.subcommand_matches("exec") {
+        return Ok(words_of(alloc, exec, Some(Task::Exec))?);
+    }
+    if let Some(serve) = matches.subcommand_matches("serve") {
+        return Ok(words_of(alloc, serve, served_of(serve))?);
+    }
+    if let Some(listen) = matches.subcommand_matches("listen") {
+        return Ok(words_of(alloc, listen, listened_of(listen))?);
+    }
+    Ok(None)
+}
+
+/// The programs and their words.
+fn command<'a>(alloc: Global) -> Result<Command<'a>, AllocError> {
+    Command::new(alloc, "docpage")
+        .subcommand_required(true)
+        .subcommand(Command::new(alloc, "exec").arg(file(alloc))?)?
+        .subcommand(
+            Command::new(alloc, "serve")
+                .arg(file(alloc))?
+                .arg(option(alloc, "port").required(true))?
+                .arg(option(alloc, "connections").required(true))?
+                .arg(option(alloc, "turns").required(true))?,
+        )?
+        .subcommand(
+            Command::new(alloc, "listen")
+                .arg(file(alloc))?
+                .arg(option(alloc, "port").required(true))?
+                .arg(option(alloc, "idle-seconds"))?,
+        )
+}
+
+/// The file of a program.
+fn file<'a>(alloc: Global) -> Arg<'a> {
+    Arg::new(alloc, "FILE")
+        .required(true)
+        .action(ArgAction::Set)
+}
+
+/// An option with a value.
+fn option<'a>(alloc: Global, name: &'a str) -> Arg<'a> {
+    Arg::new(alloc, name).long(name).action(ArgAction::Set)
+}
+
+/// The words that name a file and this task.
+fn words_of(
+    alloc: Global,
+    matches: &ArgMatches<'_>,
+    task: Option<Task>,
+) -> Result<Option<Words>, AllocError> {
+    match (matches.get_str("FILE"), task) {
+        (Some(file), Some(task)) => Ok(Some(Words {
+            file: String::from_str(alloc, file)?,
+            task,
+        })),
+        _ => Ok(None),
+    }
+}
+
+/// What `serve` is to do. A port is 1 to 65,535, and connections are 1 to 64.
+fn served_of(matches: &ArgMatches<'_>) -> Option<Task> {
+    let port = port(matches)?;
+    let connections = usize::try_from(number(matches.get_str("connections")?)?).ok()?;
+    let turns = number(matches.get_str("turns")?)?;
+    if port == 0 || connections == 0 || connections > MOST_CONNECTIONS {
+        return None;
+    }
+    Some(Task::Serve(Served {
+        port,
+        connections,
+        turns,
+    }))
+}
+
+/// What `listen` is to do. A port is 0 to 65,535, and the seconds are at least 1.
+fn listened_of(matches: &ArgMatches<'_>) -> Option<Task> {
+    let port = port(matches)?;
+    let idle = match matches.get_str("idle-seconds") {
+        Some(text) => Some(seconds(text)?),
+        None => None,
+    };
+    Some(Task::Listen(Listened { port, idle }))
+}
+
+/// The port that the words name.
+fn port(matches: &ArgMatches<'_>) -> Option<u16> {
+    u16::try_from(number(matches.get_str("port")?)?).ok()
+}
+
+/// So many seconds, and at least one.
+fn seconds(text: &str) -> Option<Duration> {
+    match number(text)? {
+        0 => None,
+        count => Some(Duration::from_secs(count)),
+    }
+}
+
+/// The number that a text of decimal digits alone spells.
+fn number(text: &str) -> Option<u64> {
+    if text.bytes().all(|byte| byte.is_ascii_digit()) {
+        text.parse::<u64>().ok()
+    } else {
+        None
+    }
+}

@@ -1,0 +1,240 @@
+//! The connections by their numbers.
+
+ghost use Rattle.std.specs.Prelude.{◌≡◌, ◌<◌, ◌≤◌, length, None, false, true, IfOk, IfSome};
+ghost use Rattle.sockets.specs.Places.{IsGivenAt, closed_at, is_over_in};
+
+use crate::client::Client;
+use crate::service::{Outlet, Service};
+use crate::stream::Incoming;
+use std::alloc::{AllocError, Global};
+use std::io::{Read, Write};
+use std::time::Duration;
+
+/// The connections, each at the place of its number. A free place has nothing of the connection that had it before.
+#[derive(Drop)]
+pub(crate) struct Table<T> {
+    pub places: Vec<Option<Client<T>>>,
+    // the time of the round
+    pub time: Duration,
+    ghost few: { length places.items ≤ 64 },
+}
+
+impl<T: Read + Write + Drop> Table<T> {
+    /// So many free places.
+    pub fn new(alloc: Global, count: usize) -> Result<Table<T>, AllocError>
+        requires { count ≤ 64 }
+    {
+        Ok(Table {
+            places: free_places(alloc, count)?,
+            time: Duration::ZERO,
+        })
+    }
+
+    /// The least free number.
+    pub fn least_free(&self) -> Option<usize>
+        ensures { IfSome result (λ i. i < length self.now.places.items) }
+    {
+        self.places.iter().position(|place| place.is_none())
+    }
+
+    /// Whether a number is free.
+    pub fn has_room(&self) -> bool {
+        self.places.iter().any(|place| place.is_none())
+    }
+
+    /// Whether no connection is open.
+    pub fn is_empty(&self) -> bool {
+        self.places.iter().all(|place| place.is_none())
+    }
+
+    /// Gives a connection a number.
+    pub fn open(&mut self, connection: usize, client: Client<T>)
+        requires { connection < length self.old.places.items }
+    {
+        self.places[connection] = Some(client);
+    }
+
+    /// The connection that has the number.
+    pub fn get_mut(&mut self, connection: usize) -> Option<&mut Client<T>> {
+        match self.places.get_mut(connection) {
+            Some(Some(client)) => Some(client),
+            _ => None,
+        }
+    }
+
+    /// Whether there is something to do without a further event: a read, a write, or a turn.
+    pub fn is_busy<S: Service>(&self, service: &S) -> bool {
+        self.places.iter().flatten().any(|client| client.is_busy()) || self.has_messages(service)
+    }
+
+    /// Whether a message of some connection waits for a turn.
+    pub fn has_messages<S: Service>(&self, service: &S) -> bool {
+        for (connection, place) in self.places.iter().enumerate() {
+            if place.is_some() && service.has_message(connection) {
+                return true;
+            }
+        }
+        false
+    }
+
+    /// Writes what waits, as far as the streams take it.
+    pub fn flush(&mut self) {
+        for place in self.places.iter_mut() {
+            if let Some(client) = place {
+                client.flush();
+            }
+        }
+    }
+
+    /// Reads once from each connection of which no message and no reply waits, in rising number.
+    pub fn read<S: Service>(&mut self, buffer: &mut [u8], service: &mut S)
+        requires sound { S.is_sound service.old }
+        ensures sound { S.is_sound service.new }
+    {
+        let now = self.time;
+        for (connection, place) in self.places.iter_mut().enumerate() {
+            read_place(place, connection, buffer, service, now);
+        }
+    }
+
+    /// Ends the connections of which nothing has come for so long.
+    pub fn end_idle(&mut self, limit: Duration) {
+        let now = self.time;
+        for place in self.places.iter_mut() {
+            if let Some(client) = place {
+                if now.saturating_sub(client.heard) >= limit {
+                    client.end();
+                }
+            }
+        }
+    }
+
+    /// How long until the first connection has been silent for so long.
+    pub fn until_idle(&self, limit: Duration) -> Duration {
+        let mut least = limit;
+        for place in &self.places {
+            if let Some(client) = place {
+                let silent = self.time.saturating_sub(client.heard);
+                least = least.min(limit.saturating_sub(silent));
+            }
+        }
+        least
+    }
+
+    /// Forgets the connections that are over. Their numbers are free.
+    pub fn settle<S: Service>(&mut self, service: &mut S)
+        requires sound { S.is_sound service.old }
+        ensures sound { S.is_sound service.new }
+    {
+        for (connection, place) in self.places.iter_mut().enumerate() {
+            settle_place(place, connection, service);
+        }
+    }
+
+    /// Ends all connections.
+    pub fn end_all(&mut self) {
+        for place in self.places.iter_mut() {
+            if let Some(client) = place {
+                client.end();
+            }
+        }
+    }
+}
+
+impl<T: Read + Write + Drop> Outlet for Table<T> {
+    ghost use Rattle.sockets.specs.Places.{IsGiven, IsClosed};
+
+    ghost is_given = { λ old i frame new. IsGiven T.contents old.places.items i frame
+        new.places.items };
+
+    ghost is_closed = { λ old i new. IsClosed old.places.items i new.places.items };
+
+    fn reply(&mut self, connection: usize, frame: &[u8]) {
+        let now = self.time;
+        if connection < self.places.len() {
+            reply_at(&mut self.places[connection], frame, now);
+        }
+    }
+
+    fn close(&mut self, connection: usize) {
+        if connection < self.places.len() {
+            close_at(&mut self.places[connection]);
+        }
+    }
+}
+
+/// Replies to the connection at a place.
+fn reply_at<T: Read + Write + Drop>(place: &mut Option<Client<T>>, frame: &[u8], now: Duration)
+    ensures { IsGivenAt T.contents place.old frame.now place.new }
+{
+    if let Some(client) = place {
+        client.heard = now;
+        client.reply(frame);
+    }
+}
+
+/// Ends the connection at a place.
+fn close_at<T: Read + Write + Drop>(place: &mut Option<Client<T>>)
+    ensures { place.new ≡ closed_at place.old }
+{
+    if let Some(client) = place {
+        client.end();
+    }
+}
+
+/// So many free places.
+fn free_places<T: Drop>(alloc: Global, count: usize) -> Result<Vec<Option<Client<T>>>, AllocError>
+    ensures { IfOk result (λ places. length places.items ≡ count) }
+{
+    let mut places = Vec::with_capacity(alloc, count)?;
+    for _ in 0..count {
+        places.push(None)?;
+    }
+    Ok(places)
+}
+
+/// Reads once from the connection at a place, where neither a message nor a reply of it waits.
+fn read_place<T: Read + Write + Drop, S: Service>(
+    place: &mut Option<Client<T>>,
+    connection: usize,
+    buffer: &mut [u8],
+    service: &mut S,
+    now: Duration,
+)
+    requires number { connection < 64 }
+    requires sound { S.is_sound service.old }
+    ensures sound { S.is_sound service.new }
+{
+    let Some(client) = place else {
+        return;
+    };
+    if !client.is_due() || service.has_message(connection) {
+        return;
+    }
+    if let Incoming::Bytes(_) = client.hand_on(connection, buffer, service) {
+        client.heard = now;
+    }
+}
+
+/// Forgets the connection at a place, where it is over: the service forgets it too, before the number is given anew.
+fn settle_place<T: Read + Write + Drop, S: Service>(
+    place: &mut Option<Client<T>>,
+    connection: usize,
+    service: &mut S,
+)
+    requires number { connection < 64 }
+    requires sound { S.is_sound service.old }
+    ensures sound { S.is_sound service.new }
+    ensures over { is_over_in place.old ≡ true
+        → (place.new ≡ None) × S.is_ended service.old connection service.new }
+    ensures open { is_over_in place.old ≡ false
+        → (place.new ≡ place.old) × (service.new ≡ service.old) }
+{
+    let Some(client) = place else {
+        return;
+    };
+    if client.is_over {
+        service.forget(connection);
+        *place = None;
+    }
+}
