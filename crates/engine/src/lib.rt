@@ -16,7 +16,6 @@ mod drop_collection;
 mod engine;
 mod find;
 mod get_more;
-mod find_reply;
 mod hello;
 mod image;
 mod insert;
