@@ -158,7 +158,7 @@ rising_set ds i new within same up a b d lt below =
 
 pub held_changed : (c : Collection) (i : ℕ) (new : Pairs) → IsHeld c → i < length c.documents → key_of new ≡ key_of (get_or c.documents i no_pairs) → IsStored new → IsDocument new → IsHeld (with_document_at i new c)
 held_changed c i new h within key stored readable = record {
-  lawful = record { rising = rising_set c.documents i new within key h.lawful.rising; stored = All-set IsStored c.documents i new stored h.lawful.stored };
+  lawful = record { rising = rising_set c.documents i new within key h.lawful.rising; stored = All-set IsStored c.documents i new stored h.lawful.stored; unindexed = h.lawful.unindexed };
   readable = record { name = h.readable.name; documents = All-set IsDocument c.documents i new readable h.readable.documents };
 }
 

@@ -17,7 +17,7 @@ use Rattle.bson.specs.Spelling.{items_bytes}
 use Rattle.bson.specs.declared.fault.BsonFault.{BsonFault}
 use Rattle.value_order.specs.Order.{compare}
 use Rattle.value_order.specs.TotalLaws.{compare_total}
-use Rattle.engine.specs.World.{World, Collection, Cursor, find_collection, uses, unused, number_or, with_documents, documents_or_none, documents_of, put_collection}
+use Rattle.engine.specs.World.{World, Collection, Cursor, find_collection, uses, unused, number_or, with_documents, documents_or_none, indexes_or_none, documents_of, put_collection}
 use Rattle.outcome.specs.Outcome.{◌>>=◌, unless, or_refused}
 use Rattle.engine.specs.Documents.{key_of, place, checked, insert_one, insert_all}
 use Rattle.update.specs.Stored.{id_first}
@@ -110,6 +110,14 @@ stored_at (c ∷ cs) name h = at (bytes_eq name c.name) (stored_at cs name (λ k
     at true later = let kept = (h 0 c (omega arith)).lawful in (kept.rising, kept.stored)
     at false later = later
 
+unindexed_at : (cs : List Collection) (name : List ℕ) → All IsKept cs → indexes_or_none (find_collection cs name) ≡ []
+unindexed_at [] name h = refl
+unindexed_at (c ∷ cs) name h = at (bytes_eq name c.name) (unindexed_at cs name (λ k d below. h (suc k) d (omega arith)))
+  where
+    at : (b : Bool) → indexes_or_none (find_collection cs name) ≡ [] → indexes_or_none (if b then Some c else find_collection cs name) ≡ []
+    at true later = (h 0 c (omega arith)).lawful.unindexed
+    at false later = later
+
 abbrev ByName : List Collection → Type 0
 ByName cs = Rises (slice_cmp nat_cmp) (λ (c : Collection). c.name) cs
 
@@ -173,7 +181,7 @@ grown_lawful cs at d grown h within e = made (insert_one (collection_at cs at).d
         let now : record old { documents = ds } ≡ grown = cc in
         let kept = h.kept at no_collection within in
         let good = kept_one old.documents d ds (kept.lawful.rising, kept.lawful.stored) is in
-        let one : IsKept grown = subst IsKept now (record { lawful = record { rising = good.0; stored = good.1 }; short = kept.short; least = kept.least; most = kept.most }) in
+        let one : IsKept grown = subst IsKept now (record { lawful = record { rising = good.0; stored = good.1; unindexed = kept.lawful.unindexed }; short = kept.short; least = kept.least; most = kept.most }) in
         record {
           apart = apart_set cs at grown within (ap (λ (x : Collection). x.name) (sym now)) h.apart;
           numbers = numbers_set cs at grown within (ap (λ (x : Collection). x.number) (sym now)) h.numbers;
@@ -201,7 +209,7 @@ good_insert w name documents h short = at (is_full w.collections name) refl
         let kept = kept_all (documents_of w.collections name) documents stored (stored_at w.collections name h.collections.kept) is in
         let new : Collection = with_documents w.collections name stored in
         let bounds = number_bounds w.collections name h.collections.kept (room w.collections name free) in
-        let one : IsKept new = record { lawful = record { rising = kept.0; stored = kept.1 }; short = short; least = bounds.least; most = bounds.most } in
+        let one : IsKept new = record { lawful = record { rising = kept.0; stored = kept.1; unindexed = unindexed_at w.collections name h.collections.kept }; short = short; least = bounds.least; most = bounds.most } in
         let p = put_kept new w.collections h.collections one free refl in
         good_one (record w { collections = put_collection new w.collections }) (pair (codes "n") (int (length documents)) no_pairs) (record { collections = p; cursors = h.cursors }) (insert-sendable (length documents))
 
@@ -353,7 +361,7 @@ good_create w name h short = λ x e.
         let free : is_full w.collections name ≡ false = ap (λ (b : Bool). b && not (is_some (find_collection w.collections name))) q.0 in
         let bounds = number_bounds w.collections name h.collections.kept (λ none. grind (arith, nat_tests, q.0)) in
         let one : IsKept new = record {
-          lawful = record { rising = λ i j d lt within. absurd (omega (arith, within)); stored = λ k d below. absurd (omega (arith, below)) };
+          lawful = record { rising = λ i j d lt within. absurd (omega (arith, within)); stored = λ k d below. absurd (omega (arith, below)); unindexed = unindexed_at w.collections name h.collections.kept };
           short = short;
           least = bounds.least;
           most = bounds.most;
@@ -393,7 +401,7 @@ statement_lawful name index s u v short read h e =
         let cs = u.collections in
         let kept = kept_place (documents_of cs name) new stored (stored_at cs name h.kept) (upserted_stored s new is) there in
         let bounds = number_bounds cs name h.kept (room cs name free) in
-        let one : IsKept (with_documents cs name stored) = record { lawful = record { rising = kept.0; stored = kept.1 }; short = short; least = bounds.least; most = bounds.most } in
+        let one : IsKept (with_documents cs name stored) = record { lawful = record { rising = kept.0; stored = kept.1; unindexed = unindexed_at cs name h.kept }; short = short; least = bounds.least; most = bounds.most } in
         put_kept (with_documents cs name stored) cs h one free refl
 
     placed : (o : Option (List Pairs)) (stored : List Pairs) → or_refused o refusals.DuplicateKey ≡ Ok stored → o ≡ Some stored

@@ -82,7 +82,7 @@ length_map (x ∷ xs) = ap suc (length_map xs)
 
 empty_kept : (c : Collection) → IsKept c → IsKept (emptied c)
 empty_kept c h = record {
-  lawful = record { rising = λ i j d lt below. absurd (omega arith); stored = λ k d below. absurd (omega arith) };
+  lawful = record { rising = λ i j d lt below. absurd (omega arith); stored = λ k d below. absurd (omega arith); unindexed = h.lawful.unindexed };
   short = h.short;
   least = h.least;
   most = h.most;

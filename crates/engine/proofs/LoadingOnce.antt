@@ -47,7 +47,7 @@ entries_same cs a b p h g =
     let named = same_name h.new.name g.new.name (ap (λ (q : Entry). q.key) same) in
     let numbered = same_entry h.new.number g.new.number ((one_spelling (frame_of (pairs_bytes (catalogue_value h.new.number))) (frame_of (pairs_bytes (catalogue_value g.new.number))) [] [] (catalogue_value h.new.number) (catalogue_value g.new.number)
     (entry_spells h.new.number h.kept.most) (entry_spells g.new.number g.kept.most) (ap (λ (q : Entry). q.value ++ []) same)).0) in
-    let one : h.new ≡ g.new = λ i. record { name = named i; number = numbered i; documents = (h.empty ∙ sym g.empty) i } in
+    let one : h.new ≡ g.new = λ i. record { name = named i; number = numbered i; documents = (h.empty ∙ sym g.empty) i; indexes = (h.kept.lawful.unindexed ∙ sym g.kept.lawful.unindexed) i } in
     h.next_is ∙ ap (λ (c : Collection). put_collection c cs) one ∙ sym g.next_is
 
 same_some : {a b : ℕ} → Some a ≡ Some b → a ≡ b

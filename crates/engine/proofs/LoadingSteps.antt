@@ -10,7 +10,7 @@ use Rattle.bson.specs.Lawful.{IsName, IsDocument}
 use Rattle.bson.specs.Spelling.{Spells, frame_of, pairs_bytes as document_bytes}
 use Rattle.roots.specs.Entries.{Entry, IsFit, entry_bytes, entries_bytes}
 use Rattle.roots.specs.EntryLaws.{one_entry}
-use Rattle.engine.specs.World.{Collection}
+use Rattle.engine.specs.World.{Collection, empty_collection}
 use Rattle.engine.specs.Lawful.{IsStored, IsKept, IsLawfulState}
 use Rattle.engine.specs.Places.{no_collection}
 use Rattle.engine.specs.Progress.{Progress}
@@ -47,9 +47,9 @@ document_spells d stored h = record { lawful = h; spelled = refl; size = omega (
 
 -- ---- what was added is lawful
 
-pub new_kept : (name : List ℕ) (number : ℕ) → length name ≤ 255 → 1 ≤ number → number ≤ 1000 → IsKept (record { name = name; number = number; documents = [] })
+pub new_kept : (name : List ℕ) (number : ℕ) → length name ≤ 255 → 1 ≤ number → number ≤ 1000 → IsKept (empty_collection name number)
 new_kept name number short least most = record {
-  lawful = record { rising = λ i j d lt below. absurd (omega arith); stored = λ k d below. absurd (omega arith) };
+  lawful = record { rising = λ i j d lt below. absurd (omega arith); stored = λ k d below. absurd (omega arith); unindexed = refl };
   short = short;
   least = least;
   most = most;
@@ -57,15 +57,15 @@ new_kept name number short least most = record {
 
 pub loading_added : (old new : Progress) (name : List ℕ) (number : ℕ) → IsLoading old → IsAdded name number old.now new.now → new.changes ≡ [] → length name ≤ 255 → 1 ≤ number → number ≤ 1000 → IsLoading new
 loading_added old new name number h added idle short least most =
-    let c : Collection = record { name = name; number = number; documents = [] } in
+    let c : Collection = empty_collection name number in
     record {
       lawful = subst IsLawfulState (sym added.next_is) (added_lawful c old.now h.lawful (new_kept name number short least most) added.missing added.fresh added.room);
       idle = idle;
     }
 
 -- an empty collection is its name and its number
-pub bare : (c : Collection) (name : List ℕ) (number : ℕ) → c.documents ≡ [] → name ≡ c.name → number ≡ c.number → (let made : Collection = record { name = name; number = number; documents = [] } in made) ≡ c
-bare c name number empty named numbered = λ i. record { name = named i; number = numbered i; documents = sym empty i }
+pub bare : (c : Collection) (name : List ℕ) (number : ℕ) → c.documents ≡ [] → c.indexes ≡ [] → name ≡ c.name → number ≡ c.number → empty_collection name number ≡ c
+bare c name number empty unindexed named numbered = λ i. record { name = named i; number = numbered i; documents = sym empty i; indexes = sym unindexed i }
 
 pub only_out_of_memory : (e : Refusal) → (e ≢ refusals.OutOfMemory → ⊥) → e ≡ refusals.OutOfMemory
 only_out_of_memory refusals.OutOfMemory h = refl

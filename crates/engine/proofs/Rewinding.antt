@@ -12,7 +12,7 @@ use Rattle.std.proofs.lemmas.List.Edits.{length-insert, length-remove, get_or-in
 use Rattle.std.proofs.lemmas.List.Quantifiers.{all_pairs_remove}
 use Rattle.std.proofs.lemmas.Cmp.{nat_list_cmp_total}
 use Rattle.bson.specs.Tree.{Tree, Pairs, no_pairs}
-use Rattle.engine.specs.World.{Collection, documents_or_none, number_or, unused, with_documents}
+use Rattle.engine.specs.World.{Collection, empty_collection, or_empty, documents_or_none, number_or, unused, with_documents}
 use Rattle.engine.specs.Lawful.{IsHeld, AreNamedApart}
 use Rattle.engine.specs.Places.{IsGap, IsMissing, by_name, collection_at, no_collection}
 use Rattle.engine.specs.Documents.{checked, place, insert_one}
@@ -280,10 +280,10 @@ not_full cs name h =
     let few : nat_le 1000 (length cs) ≡ false = grind (arith, nat_tests) in
     rw few refl
 
-pub Stands-made : (cs : List Collection) (at : ℕ) (name : List ℕ) (c : Collection) → IsMissing name cs at → c ≡ record { name = name; number = unused cs; documents = [] } → length cs < 1000 → Stands name cs (insert cs at c) at
+pub Stands-made : (cs : List Collection) (at : ℕ) (name : List ℕ) (c : Collection) → IsMissing name cs at → c ≡ empty_collection name (unused cs) → length cs < 1000 → Stands name cs (insert cs at c) at
 Stands-made cs at name c gone is few = record {
   within = omega (arith, length-insert cs at c gone.gap.within, gone.gap.within);
-  is = get_or-insert_at cs at c no_collection gone.gap.within ∙ is ∙ ap (λ (o : Option Collection). record { name = name; number = number_or (unused cs) o; documents = documents_or_none o }) (sym gone.found);
+  is = get_or-insert_at cs at c no_collection gone.gap.within ∙ is ∙ ap (λ (o : Option Collection). or_empty name (unused cs) o) (sym gone.found);
   puts = λ ds. gone.added (with_documents cs name ds) refl ∙ sym (set-insert cs at c (with_documents cs name ds) gone.gap.within);
   room = not_full cs name few;
 }

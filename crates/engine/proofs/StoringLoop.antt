@@ -21,6 +21,7 @@ pub record SoFar (start now : Progress) (at : ℕ) (left all : List Pairs) : Typ
   pub only : now.now ≡ set start.now at (collection_at now.now at)
   pub named : (collection_at now.now at).name ≡ (collection_at start.now at).name
   pub numbered : (collection_at now.now at).number ≡ (collection_at start.now at).number
+  pub indexed : (collection_at now.now at).indexes ≡ (collection_at start.now at).indexes
   pub same : insert_all (collection_at now.now at).documents left ≡ insert_all (collection_at start.now at).documents all
 
 pub begins : (start : Progress) (at : ℕ) (all : List Pairs) → at < length start.now → SoFar start start at all all
@@ -30,6 +31,7 @@ begins start at all within = record {
   only = sym (set-get_or start.now at no_collection);
   named = refl;
   numbered = refl;
+  indexed = refl;
   same = refl;
 }
 
@@ -44,6 +46,7 @@ stored_placed c ps d passed is =
 record Done (c d : Collection) (ps : Pairs) : Type 0 where
   named : d.name ≡ c.name
   numbered : d.number ≡ c.number
+  indexed : d.indexes ≡ c.indexes
   one : insert_one c.documents ps ≡ Ok d.documents
 
 with_done : (c d : Collection) (ps : Pairs) → with_document c ps ≡ Ok d → Done c d ps
@@ -53,7 +56,7 @@ with_done c d ps e = at (insert_one c.documents ps) refl e
     at (Err r) is made = absurd cc
     at (Ok ds) is made =
         let done : record c { documents = ds } ≡ d = cc in
-        record { named = ap (λ (x : Collection). x.name) (sym done); numbered = ap (λ (x : Collection). x.number) (sym done); one = is ∙ ap (λ (x : Collection). Ok x.documents) done }
+        record { named = ap (λ (x : Collection). x.name) (sym done); numbered = ap (λ (x : Collection). x.number) (sym done); indexed = ap (λ (x : Collection). x.indexes) (sym done); one = is ∙ ap (λ (x : Collection). Ok x.documents) done }
 
 module _ (start now next : Progress) (at : ℕ) (ps : Pairs) (left all : List Pairs) (far : SoFar start now at (ps ∷ left) all) where
   pub goes_on : Extends now next → with_document (collection_at now.now at) ps ≡ Ok (collection_at next.now at) → next.now ≡ set now.now at (collection_at next.now at) → SoFar start next at left all
@@ -66,6 +69,7 @@ module _ (start now next : Progress) (at : ℕ) (ps : Pairs) (left all : List Pa
         only = only ∙ ap (λ (cs : List Collection). set cs at (collection_at next.now at)) far.only ∙ set-set start.now at (collection_at now.now at) (collection_at next.now at);
         named = done.named ∙ far.named;
         numbered = done.numbered ∙ far.numbered;
+        indexed = done.indexed ∙ far.indexed;
         same = ap (λ (r : Result (List Pairs) Refusal). r >>= (λ ds. insert_all ds left)) (sym done.one) ∙ far.same;
       }
 
@@ -97,9 +101,10 @@ module _ (before : List Collection) (start : Progress) (at : ℕ) (name : List �
       let c = collection_at now.now at in
       let named : (collection_at now.now at).name ≡ name = far.named ∙ ap (λ (x : Collection). x.name) stands.is in
       let numbered : c.number ≡ (with_documents before name c.documents).number = far.numbered ∙ ap (λ (x : Collection). x.number) stands.is in
+      let indexed : c.indexes ≡ (with_documents before name c.documents).indexes = far.indexed ∙ ap (λ (x : Collection). x.indexes) stands.is in
       inserted_there ∙ ap planned (sym far.same)
       ∙ ap (λ (cs : List Collection). Ok cs) (stands.puts (collection_at now.now at).documents
-      ∙ (λ i. set start.now at (record { name = sym named i; number = sym numbered i; documents = (collection_at now.now at).documents })) ∙ sym far.only)
+      ∙ (λ i. set start.now at (record { name = sym named i; number = sym numbered i; documents = (collection_at now.now at).documents; indexes = sym indexed i })) ∙ sym far.only)
 
 pub inserted_full : (before : List Collection) (name : List ℕ) (all : List Pairs) → is_full before name ≡ true → inserted before name all ≡ Err refusals.TooMany
 inserted_full before name all full =

@@ -1,5 +1,5 @@
 -- What is kept of stored documents and of collections.
-use Rattle.std.specs.Prelude.{◌≡◌, ℕ, suc, ◌<◌, ◌≤◌, ◌^◌, Bool, false, List, [], ◌∷◌, length, Some, None, All, IsUtf8, refl}
+use Rattle.std.specs.Prelude.{◌≡◌, ℕ, Bool, suc, ◌<◌, ◌≤◌, ◌^◌, Bool, false, List, [], ◌∷◌, length, Some, None, All, IsUtf8, refl}
 use Rattle.std.specs.List.{AllPairs}
 use Rattle.std.specs.Ordering.{nat_cmp}
 use Rattle.value_order.specs.Order.{compare}
@@ -11,7 +11,7 @@ use Rattle.bson.specs.Tree.{Pairs}
 use Rattle.bson.specs.TreeCode.{coded_pairs}
 use Rattle.bson.specs.Lawful.{pairs_levels, IsDocument}
 use Rattle.bson.specs.Spelling.{frame_of, pairs_bytes}
-use Rattle.engine.specs.World.{World, Collection, Cursor, CursorTable, uses}
+use Rattle.engine.specs.World.{World, Index, Collection, Cursor, CursorTable, uses}
 use Rattle.engine.specs.Documents.{key_of}
 use Rattle.update.specs.Stored.{pairs_fault, id_first, id_of}
 
@@ -36,6 +36,7 @@ IsRising ds = AllPairs (λ d e. compare (key_of d) (key_of e) ≡ orders.Less) d
 pub record IsCollection (c : Collection) : Type 0 where
   pub rising : IsRising c.documents
   pub stored : All IsStored c.documents
+  pub unindexed : c.indexes ≡ []
 
 -- bytes spell the name and the documents
 pub record IsReadable (c : Collection) : Type 0 where
@@ -84,12 +85,29 @@ pub record IsLawful (world : World) : Type 0 where
   pub collections : IsLawfulState world.collections
   pub cursors : AreLawfulCursors world.cursors
 
--- a collection is told apart by its namespace, its number and its documents
+abbrev IndexParts : Type 0
+IndexParts = (ℕ × List ℕ) × (List (List (List ℕ) × Bool) × (Bool × Bool))
+
+abbrev index_code : Coded Index
+index_code = code_by IndexParts
+    (coded× (coded× coded_ℕ (coded_list coded_ℕ)) (coded×
+    (coded_list (coded× (coded_list (coded_list coded_ℕ)) coded_bool)) (coded× coded_bool coded_bool)))
+    (λ i. ((i.number, i.name), (i.fields, (i.unique, i.multi))))
+    (λ p. record {
+      number = p.0.0;
+      name = p.0.1;
+      fields = p.1.0;
+      unique = p.1.1.0;
+      multi = p.1.1.1;
+    }) (λ _. refl)
+
+-- a collection is told apart by its namespace, its number, its documents and its indexes
 abbrev pub collection_code : Coded Collection
-collection_code = code_by ((List ℕ × ℕ) × List Pairs)
-    (coded× (coded× (coded_list coded_ℕ) coded_ℕ) (coded_list coded_pairs))
-    (λ c. ((c.name, c.number), c.documents))
-    (λ p. record { name = p.0.0; number = p.0.1; documents = p.1 }) (λ _. refl)
+collection_code = code_by ((List ℕ × ℕ) × (List Pairs × List Index))
+    (coded× (coded× (coded_list coded_ℕ) coded_ℕ)
+    (coded× (coded_list coded_pairs) (coded_list index_code)))
+    (λ c. ((c.name, c.number), (c.documents, c.indexes)))
+    (λ p. record { name = p.0.0; number = p.0.1; documents = p.1.0; indexes = p.1.1 }) (λ _. refl)
 
 -- a cursor by its number, its connection, its namespace, its documents and whether it is touched
 abbrev pub cursor_code : Coded Cursor

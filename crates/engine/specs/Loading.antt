@@ -6,7 +6,7 @@ use Rattle.bson.specs.Lawful.{IsDocument}
 use Rattle.roots.specs.Entries.{Entry}
 use Rattle.roots.specs.declared.opening.OpenFault.{OpenFault}
 use Rattle.roots.specs.declared.opening.OpenFault.TheVariants as faults
-use Rattle.engine.specs.World.{Collection, uses, find_collection, put_collection}
+use Rattle.engine.specs.World.{Collection, empty_collection, uses, find_collection, put_collection}
 use Rattle.engine.specs.Lawful.{IsStored, IsKept, IsLawfulState}
 use Rattle.engine.specs.Places.{collection_at}
 use Rattle.engine.specs.Progress.{Progress, with_document}
@@ -47,7 +47,7 @@ pub record IsAdded (name : List ℕ) (number : ℕ) (cs next : List Collection) 
   pub missing : find_collection cs name ≡ None
   pub fresh : uses cs number ≡ false
   pub room : length cs < 1000
-  pub next_is : next ≡ put_collection (record { name = name; number = number; documents = [] }) cs
+  pub next_is : next ≡ put_collection (empty_collection name number) cs
 
 pub record AddsEntry (cs : List Collection) (pair : Entry) (next : List Collection) : Type 0 where
   pub new : Collection

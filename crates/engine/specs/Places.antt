@@ -7,7 +7,7 @@ use Rattle.std.specs.Cmp.Lexicographic.{slice_cmp}
 use Rattle.std.specs.declared.cmp.Ordering.{Ordering}
 use Rattle.std.specs.declared.cmp.Ordering.TheVariants as orders
 use Rattle.bson.specs.Tree.{Tree, Pairs}
-use Rattle.engine.specs.World.{Collection, find_collection, put_collection}
+use Rattle.engine.specs.World.{Collection, empty_collection, find_collection, put_collection}
 use Rattle.engine.specs.Documents.{key_of, place}
 
 -- what stands before a place is less by this comparison, and what stands from it on is greater
@@ -31,7 +31,7 @@ IsPlace id ds (Err i) =
     IsGap (by_key id) ds i × ((new : Pairs) → place id new ds ≡ Some (insert ds i new))
 
 abbrev pub no_collection : Collection
-no_collection = record { name = []; number = 0; documents = [] }
+no_collection = empty_collection [] 0
 
 abbrev pub collection_at : List Collection → ℕ → Collection
 collection_at cs i = slice_index_or cs i no_collection

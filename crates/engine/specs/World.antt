@@ -8,11 +8,22 @@ use Rattle.std.specs.declared.cmp.Ordering.{Ordering}
 use Rattle.std.specs.declared.cmp.Ordering.TheVariants as orders
 use Rattle.bson.specs.Tree.{Pairs}
 
--- a namespace, the number that its pairs are kept under, and its documents in rising order of `_id`
+-- An index: the number that its entries are kept under, its name, its paths and whether each is descending, whether a key may
+-- stand in one document alone, and whether a document has had an array on one of the paths.
+pub record Index : Type 0 where
+  pub number : ℕ
+  pub name : List ℕ
+  pub fields : List (List (List ℕ) × Bool)
+  pub unique : Bool
+  pub multi : Bool
+
+-- a namespace, the number that its pairs are kept under, its documents in rising order of `_id`, and its indexes in the
+-- order of making, of which none can be made yet
 pub record Collection : Type 0 where
   pub name : List ℕ
   pub number : ℕ
   pub documents : List Pairs
+  pub indexes : List Index
 
 -- Documents that a connection has not been given yet. A cursor is touched where the running turn opened or advanced it.
 pub record Cursor : Type 0 where
@@ -58,18 +69,34 @@ abbrev pub number_or : ℕ → Option Collection → ℕ
 number_or new None = new
 number_or new (Some c) = c.number
 
--- the collection of a name with these documents: under its number, or a missing one under the least that is not in use
-abbrev pub with_documents : List Collection → List ℕ → List Pairs → Collection
-with_documents collections name stored = record {
-  name = name;
-  number = number_or (unused collections) (find_collection collections name);
-  documents = stored;
-}
-
 -- a missing collection reads as empty
 abbrev pub documents_or_none : Option Collection → List Pairs
 documents_or_none None = []
 documents_or_none (Some c) = c.documents
+
+abbrev pub indexes_or_none : Option Collection → List Index
+indexes_or_none None = []
+indexes_or_none (Some c) = c.indexes
+
+abbrev pub empty_collection : List ℕ → ℕ → Collection
+empty_collection name number =
+    record { name = name; number = number; documents = []; indexes = [] }
+
+-- the collection of a name: the one that was found, or an empty one under this number
+abbrev pub or_empty : List ℕ → ℕ → Option Collection → Collection
+or_empty name new found = record {
+  name = name;
+  number = number_or new found;
+  documents = documents_or_none found;
+  indexes = indexes_or_none found;
+}
+
+-- the collection of a name with these documents: a missing one is made under the least number that is not in use
+abbrev pub with_documents : List Collection → List ℕ → List Pairs → Collection
+with_documents collections name stored =
+    record (or_empty name (unused collections) (find_collection collections name)) {
+      documents = stored;
+    }
 
 abbrev pub documents_of : List Collection → List ℕ → List Pairs
 documents_of collections name = documents_or_none (find_collection collections name)

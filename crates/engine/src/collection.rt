@@ -1,7 +1,8 @@
 //! A namespace with its documents.
 
-ghost use Rattle.std.specs.Prelude.{◌≡◌, [], ◌<◌, IfOk, OnOk, OnErr, All, IsUtf8, length, insert, remove, slice_index_or};
+ghost use Rattle.std.specs.Prelude.{◌≡◌, ◌<◌, IfOk, OnOk, OnErr, All, IsUtf8, length, insert, remove, slice_index_or};
 ghost use Rattle.bson.specs.Lawful.{IsDocument};
+ghost use Rattle.engine.specs.World.{empty_collection};
 ghost use Rattle.engine.specs.Documents.{key_of};
 ghost use Rattle.engine.specs.Lawful.{IsStored, IsHeld};
 ghost use Rattle.bson.specs.Tree.{no_pairs};
@@ -23,7 +24,7 @@ pub(crate) struct Collection {
 }
 
 impl Model for Collection {
-    ghost use Rattle.std.specs.Prelude.{string_bytes};
+    ghost use Rattle.std.specs.Prelude.{string_bytes, []};
     ghost use Rattle.engine.specs.World as worlds;
     ghost use Rattle.engine.specs.Lawful.{IsHeld, collection_code};
 
@@ -35,19 +36,21 @@ impl Model for Collection {
       name = string_bytes a.namespace;
       number = a.number;
       documents = a.documents.items;
+      indexes = [];
     } };
 
     ghost invariant = { λ a. IsHeld (record {
       name = string_bytes a.namespace;
       number = a.number;
       documents = a.documents.items;
+      indexes = [];
     }) };
 }
 
 impl Collection {
     pub(crate) fn new(alloc: Global, namespace: &str, number: u32) -> Result<Collection, NoMemory>
         ensures { IfOk result
-            (λ c. c ≡ record { name = namespace.now; number = number; documents = [] }) }
+            (λ c. c ≡ empty_collection namespace.now number) }
     {
         Ok(Collection {
             namespace: String::from_str(alloc, namespace)?,

@@ -27,7 +27,7 @@ answer number world bytes = answer_by number world (front bytes)
 
 -- a collection `t.c` that holds `{_id: 1}`
 abbrev pub one_document : World
-one_document = record { collections = record { name = codes "t.c"; number = 1; documents = pair (codes "_id") (int 1) no_pairs ∷ [] } ∷ []; cursors = []; next = 1 }
+one_document = record { collections = record { name = codes "t.c"; number = 1; documents = pair (codes "_id") (int 1) no_pairs ∷ []; indexes = [] } ∷ []; cursors = []; next = 1 }
 
 -- {ping: 1, $db: "t"}, number 7
 abbrev pub ping_frame : List ℕ

@@ -41,7 +41,7 @@ returns-in-Ok-Some-clause-adds c pair next h t v =
     let numbered : c.in-Some.number ≡ h.new.number =
     same_some (c.in-Some.ensures.number h.new.number h.kept.least h.kept.most (c.in-Ok.ensures.document (catalogue_value h.new.number) (spelled_entry c.args.value.now pair c.args.collections.now.now next h v))) in
     let named = c.as_str.ensures.value ∙ c.in-Ok-name_in.ensures.name h.new.name h.readable t in
-    let same = bare h.new c.as_str.result.now c.in-Some.number h.empty named numbered in
+    let same = bare h.new c.as_str.result.now c.in-Some.number h.empty h.kept.lawful.unindexed named numbered in
     added.next_is ∙ ap (λ (x : Collection). put_collection x c.args.collections.now.now) same ∙ sym h.next_is
 
 pub returns-in-Ok-None-clause-adds : goal.returns-in-Ok-None-clause-adds

@@ -1,4 +1,4 @@
-use Rattle.std.proofs.Common.{List, sym, subst, ap}
+use Rattle.std.proofs.Common.{List, sym, subst, ap, refl}
 use Rattle.bson.specs.Tree.{Pairs}
 use Rattle.bson.specs.Lawful.{IsDocument}
 use Rattle.value_order.specs.TotalLaws.{compare_total}
@@ -19,6 +19,7 @@ invariant_of-self-2 c =
       lawful = record {
         rising = rises_insert compare_total key_of ds c.args.place c.args.document before.lawful.rising gap;
         stored = All-inserted IsStored ds c.args.place c.args.document gap.within before.lawful.stored c.requires.stored;
+        unindexed = refl;
       };
       readable = record {
         name = before.readable.name;

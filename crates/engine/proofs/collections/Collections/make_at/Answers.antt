@@ -1,7 +1,7 @@
 use Rattle.std.proofs.Common.{rules, ◌≡◌, ◌<◌, ℕ, List, ◌∷◌, [], ◌++◌, length, sym, ap, subst, ◌∙◌, insert, arith}
 use Rattle.std.specs.Prelude.{vec_capacity}
 use Rattle.std.proofs.lemmas.List.Edits.{length-insert}
-use Rattle.engine.specs.World.{Collection, unused}
+use Rattle.engine.specs.World.{Collection, empty_collection, unused}
 use Rattle.engine.specs.Places.{IsGap, IsMissing, by_name}
 use Rattle.engine.specs.Progress.{Progress, IsProgress, Extends, Stands}
 use Rattle.engine.specs.declared.collections.UndoEntry.TheVariants as entries
@@ -28,8 +28,8 @@ module _ (c : After-unwrap) where
   few : length cs < 1000
   few = omega (arith, c.len.ensures, c.if-len-ge-MOST_COLLECTIONS.false, c.self.inside.list.ok)
 
-  numbered : new ≡ record { name = c.args.namespace.now; number = unused cs; documents = [] }
-  numbered = c.in_ok-collection.ensures ∙ ap (λ (n : ℕ). let x : Collection = record { name = c.args.namespace.now; number = n; documents = [] } in x) (c.unused-number.ensures ∙ ap (λ (p : Progress). unused p.now) (sym c.self.view_is))
+  numbered : new ≡ empty_collection c.args.namespace.now (unused cs)
+  numbered = c.in_ok-collection.ensures ∙ ap (λ (n : ℕ). empty_collection c.args.namespace.now n) (c.unused-number.ensures ∙ ap (λ (p : Progress). unused p.now) (sym c.self.view_is))
 
   put : c.insert.new.self.items ≡ insert cs c.args.at new
   put = c.in_ok-insert.ensures.items
