@@ -4,6 +4,8 @@
 #[cfg(test)]
 mod aggregating;
 #[cfg(test)]
+mod cursors;
+#[cfg(test)]
 mod deleting;
 #[cfg(test)]
 mod fields;
