@@ -32,3 +32,4 @@ pub mod LawfulUpdates
 pub mod ReadingLaws
 pub mod EmptyImage
 pub mod CursorSteps
+mod UndoneCursors
