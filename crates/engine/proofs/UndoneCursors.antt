@@ -113,9 +113,6 @@ module _ (w : World) (connection : ℕ) where
   batched : (name : List ℕ) (ds : List Pairs) (n : ℕ) → Comes (first_batch w connection name ds n)
   batched name ds n = at (nat_le (length ds) n) (is_refused connection w.cursors w.next)
     where
-      opened : Cursor
-      opened = new_cursor w.next connection name (drop n ds)
-
       at : (whole refused : Bool)
           → Comes ((if whole then Ok w else unless refused refusals.TooMany (Ok (record w { cursors = w.cursors ++ new_cursor w.next connection name (drop n ds) ∷ []; next = w.next + 1 })))
           >>= (λ after. let x : Result (World × Pairs) Refusal = Ok (after, batch_reply (codes "firstBatch") n ds w.next name) in x))
@@ -135,7 +132,7 @@ module _ (w : World) (connection : ℕ) where
   aggregated c = at (after_pipeline c.pipeline 65535 (documents_of w.collections c.namespace))
     where
       at : (r : Result (List Pairs) Refusal) → Comes (r >>= (λ ds. first_batch w connection c.namespace ds (batch_of (unwrap_or c.batch_size 101) ds)))
-      at (Ok ds) = batched c.namespace ds (batch_of (unwrap_or c.batch_size 101) ds)
+      at (Ok ds) d rests h = batched c.namespace ds (batch_of (unwrap_or c.batch_size 101) ds) d rests h
       at (Err e) d rests h = h
 
   given : (c : GetMore) → Comes (run_get_more w connection c)
@@ -160,17 +157,17 @@ module _ (w : World) (connection : ℕ) where
   ran : (r : Result Command Refusal) → Comes (r >>= run w connection)
   ran (Err e) d rests h = h
   ran (Ok ping) d rests h = h
-  ran (Ok (insert c)) = inserted c
-  ran (Ok (find c)) = found c
-  ran (Ok (get_more c)) = given c
-  ran (Ok (kill_cursors c)) = killed c
-  ran (Ok (count c)) = counted c
-  ran (Ok (delete c)) = deleted c
-  ran (Ok (update c)) = updated c
-  ran (Ok (aggregate c)) = aggregated c
+  ran (Ok (insert c)) d rests h = inserted c d rests h
+  ran (Ok (find c)) d rests h = found c d rests h
+  ran (Ok (get_more c)) d rests h = given c d rests h
+  ran (Ok (kill_cursors c)) d rests h = killed c d rests h
+  ran (Ok (count c)) d rests h = counted c d rests h
+  ran (Ok (delete c)) d rests h = deleted c d rests h
+  ran (Ok (update c)) d rests h = updated c d rests h
+  ran (Ok (aggregate c)) d rests h = aggregated c d rests h
 
   came : (body : Result Pairs BsonFault) (c : Cursor) → c.touched ≡ false → IsAmong c (step w connection body).0.cursors → IsAmong c w.cursors
-  came (Ok body) = ran (command_of body)
+  came (Ok body) c rests h = ran (command_of body) c rests h
   came (Err fault) c rests h = h
 
 -- ---- a turn

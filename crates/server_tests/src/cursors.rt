@@ -18,12 +18,7 @@ fn numbered(alloc: Global, first: i32, last: i32) -> Result<Vec<Bytes>, Fail> {
 }
 
 /// Adds a message of a connection, and a turn.
-fn push(
-    alloc: Global,
-    steps: &mut Vec<Step>,
-    connection: u8,
-    message: &Bytes,
-) -> Result<(), Fail> {
+fn push(alloc: Global, steps: &mut Vec<Step>, connection: u8, message: &Bytes) -> Result<(), Fail> {
     let id = ConnId::new(connection).ok_or("no connection")?;
     steps.push(Step::Bytes(id, frame(alloc, 5, 0, message)?))?;
     steps.push(Step::Turn)?;
@@ -33,7 +28,12 @@ fn push(
 /// An insert of `_id` 1 to 102, a find, and `getMore` by another connection and twice by its own.
 fn driven(alloc: Global) -> Result<DriveOut, Fail> {
     let mut steps = Vec::new(alloc);
-    push(alloc, &mut steps, 0, &insert(alloc, &numbered(alloc, 1, 102)?))?;
+    push(
+        alloc,
+        &mut steps,
+        0,
+        &insert(alloc, &numbered(alloc, 1, 102)?),
+    )?;
     push(alloc, &mut steps, 0, &find(alloc))?;
     push(alloc, &mut steps, 1, &get_more(alloc, 1))?;
     push(alloc, &mut steps, 0, &get_more(alloc, 1))?;
