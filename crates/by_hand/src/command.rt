@@ -141,3 +141,20 @@ pub fn batch_reply_in(alloc: Global, namespace: &str, documents: &[Bytes]) -> By
         .text("ns", namespace);
     Bytes::new(alloc).document("cursor", &cursor).int32("ok", 1)
 }
+
+/// `{getMore: <id>, collection: "c", $db: "t"}`
+pub fn get_more(alloc: Global, id: i64) -> Bytes {
+    Bytes::new(alloc)
+        .int64("getMore", id)
+        .text("collection", "c")
+        .text("$db", "t")
+}
+
+/// `{cursor: {<batch>: [..], id: <number>, ns: "t.c"}, ok: 1}`
+pub fn cursor_reply(alloc: Global, batch: &str, documents: &[Bytes], number: i64) -> Bytes {
+    let cursor = Bytes::new(alloc)
+        .documents(batch, documents)
+        .int64("id", number)
+        .text("ns", "t.c");
+    Bytes::new(alloc).document("cursor", &cursor).int32("ok", 1)
+}

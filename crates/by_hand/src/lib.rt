@@ -7,9 +7,9 @@ mod message;
 mod refusals;
 
 pub use command::{
-    aggregate, batch_reply, batch_reply_in, count, count_reply, delete, delete_statement, find,
-    find_in, find_with, hello, hello_reply, id_document, insert, insert_one, ok_reply, ping,
-    update, update_all_statement, update_reply,
+    aggregate, batch_reply, batch_reply_in, count, count_reply, cursor_reply, delete,
+    delete_statement, find, find_in, find_with, get_more, hello, hello_reply, id_document, insert,
+    insert_one, ok_reply, ping, update, update_all_statement, update_reply,
 };
 pub use document::Bytes;
 pub use message::{Message, body_of, frame};

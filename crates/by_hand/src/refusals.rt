@@ -12,6 +12,7 @@ fn words(code: i32) -> (&'static str, &'static str) {
         22 => ("InvalidBSON", "invalid BSON"),
         28 => ("PathNotViable", "path not viable"),
         40 => ("ConflictingUpdateOperators", "conflicting paths"),
+        43 => ("CursorNotFound", "no such cursor"),
         52 => ("DollarPrefixedFieldName", "name begins with $"),
         56 => ("EmptyFieldName", "empty name"),
         57 => ("DottedFieldName", "name contains ."),

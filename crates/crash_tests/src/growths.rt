@@ -20,6 +20,18 @@ const ONE_LEFT: u8 = 4;
 
 const A_LONG: u8 = 8;
 
+/// The three, and a cursor on two of them.
+const OPEN: u8 = 16;
+
+/// What stands apart from the cursor.
+fn without_cursor(possible: u8) -> u8 {
+    if possible & OPEN == 0 {
+        possible
+    } else {
+        (possible & !OPEN) | THREE
+    }
+}
+
 /// What a message is answered where this stands, apart from the number of the reply, and what stands then.
 #[derive(Drop)]
 struct Outcome {
@@ -34,6 +46,8 @@ struct Step {
     outcomes: Vec<Outcome>,
     /// Whether it writes what stood there before too.
     writes_back: bool,
+    /// Whether it asks for what the cursor has.
+    asks_cursor: bool,
 }
 
 /// The messages of a script, a last one for a server that opens the disk again, and the refusal for want of memory.
@@ -49,6 +63,7 @@ fn make_step(alloc: Global, message: Bytes) -> Result<Step, AllocError> {
         message: frame(alloc, 7, 0, &message)?,
         outcomes: Vec::new(alloc),
         writes_back: false,
+        asks_cursor: false,
     })
 }
 
@@ -112,6 +127,34 @@ fn query_step(alloc: Global) -> Result<Step, AllocError> {
     make_step(alloc, message)?
         .with(alloc, NOTHING, batch_reply(alloc, &[]), NOTHING)?
         .with(alloc, THREE, batch_reply(alloc, &falling), THREE)
+}
+
+/// A find that leaves a cursor on two of three documents.
+fn cursor_step(alloc: Global) -> Result<Step, AllocError> {
+    let first = [document(alloc, 1, 5)];
+    make_step(alloc, find(alloc).int32("batchSize", 1))?
+        .with(alloc, NOTHING, batch_reply(alloc, &[]), NOTHING)?
+        .with(
+            alloc,
+            THREE,
+            cursor_reply(alloc, "firstBatch", &first, 1),
+            OPEN,
+        )
+}
+
+/// The rest of it; where the turn of the find was undone, there is no cursor.
+fn more_step(alloc: Global) -> Result<Step, AllocError> {
+    let rest = [document(alloc, 2, 6), document(alloc, 3, 5)];
+    let mut step = make_step(alloc, get_more(alloc, 1))?;
+    step.asks_cursor = true;
+    step.with(alloc, NOTHING, refusal(alloc, 43), NOTHING)?
+        .with(alloc, THREE, refusal(alloc, 43), THREE)?
+        .with(
+            alloc,
+            OPEN,
+            cursor_reply(alloc, "nextBatch", &rest, 0),
+            THREE,
+        )
 }
 
 /// A delete of two statements, the first of which takes one of two documents.
@@ -199,6 +242,8 @@ fn make_script(alloc: Global) -> Result<Script, AllocError> {
     steps.push(ping_step(alloc)?)?;
     steps.push(insert_step(alloc)?)?;
     steps.push(query_step(alloc)?)?;
+    steps.push(cursor_step(alloc)?)?;
+    steps.push(more_step(alloc)?)?;
     steps.push(aggregate_step(alloc)?)?;
     steps.push(update_step(alloc)?)?;
     steps.push(refused_update_step(alloc)?)?;
@@ -283,14 +328,19 @@ impl Outcome {
     fn is_answer(&self, reply: Option<&Vec<u8>>, writes_back: bool) -> bool {
         match reply {
             Some(reply) => is(reply, &self.reply),
-            None => writes_back || self.before != self.after,
+            None => writes_back || without_cursor(self.before) != without_cursor(self.after),
         }
     }
 }
 
 impl Step {
     /// What may stand after a message was answered so, if that is an answer for what may have stood.
-    fn follow(&self, possible: u8, reply: Option<&Vec<u8>>, no_memory: &[u8]) -> Option<u8> {
+    fn follow(&self, stood: u8, reply: Option<&Vec<u8>>, no_memory: &[u8]) -> Option<u8> {
+        let possible = if self.asks_cursor {
+            stood
+        } else {
+            without_cursor(stood)
+        };
         if reply.is_some_and(|reply| is(reply, no_memory)) {
             return Some(possible);
         }

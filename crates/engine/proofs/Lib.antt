@@ -34,3 +34,4 @@ pub mod EmptyImage
 pub mod Creating
 pub mod Listing
 pub mod CursorSteps
+mod UndoneCursors

@@ -21,6 +21,7 @@ pub mod Progress
 pub mod Updating
 pub mod View
 pub mod Laws
+pub mod CursorLaws
 pub mod Stored
 pub mod Durable
 pub mod Loading

@@ -1,5 +1,6 @@
 //! Laws of the definitions, each the contract of a function that does nothing.
 
+ghost use Rattle.engine.specs.CursorLaws.{UndoingClosesTouched};
 ghost use Rattle.engine.specs.Laws.{BeginsLawful, StaysLawful, ReadsChangeNothing, HoldsOne, ZerosHoldNothing, RepliesSendable};
 
 /// The world that an engine begins with is lawful.
@@ -12,7 +13,7 @@ pub fn stays_lawful()
     ensures { StaysLawful }
 {}
 
-/// A `ping`, a `find` and a `count`, and what is refused before it runs, change no collection, however they are answered.
+/// A command that only reads, and what is refused before it runs, change no collection, however they are answered.
 pub fn reads_change_nothing()
     ensures { ReadsChangeNothing }
 {}
@@ -20,6 +21,11 @@ pub fn reads_change_nothing()
 /// What a lawful world replies is within `REPLY_LIMIT`.
 pub fn replies_sendable()
     ensures { RepliesSendable }
+{}
+
+/// A turn that is undone leaves exactly the cursors that none of its commands opened, advanced or killed, with what they had.
+pub fn undoing_closes_touched()
+    ensures { UndoingClosesTouched }
 {}
 
 /// A disk of zeros holds no collection.

@@ -46,7 +46,7 @@ fn pipelines(rt: HostRuntime) -> Result<(), Fail> {
 }
 
 // the fields in the order written, a missing one, the namespace, then the run
-const REFUSALS: [(&str, i32); 15] = [
+const REFUSALS: [(&str, i32); 13] = [
     ("{aggregate: 1, pipeline: 1, $db: 't'}", 14),
     ("{aggregate: 'c', pipeline: {}, cursor: 1, $db: 't'}", 14),
     (
@@ -77,15 +77,6 @@ const REFUSALS: [(&str, i32); 15] = [
     ("{aggregate: 'c', cursor: {}, $db: 't'}", 9),
     ("{aggregate: 'c', pipeline: [], cursor: {}}", 9),
     ("{aggregate: '$', pipeline: [], cursor: {}, $db: 't'}", 73),
-    // more than goes into the first batch would need a cursor
-    (
-        "{aggregate: 'c', pipeline: [], cursor: {batchSize: 3}, $db: 't'}",
-        9002,
-    ),
-    (
-        "{aggregate: 'c', pipeline: [], cursor: {batchSize: 0}, $db: 't'}",
-        9002,
-    ),
     (
         "{aggregate: 'c', pipeline: [{$match: {_id: 1}}, {$group: {_id: 1, s: {$push: '$n'}}}, {$unwind: '$s'}, {$skip: 1}], cursor: {batchSize: -1}, $db: 't'}",
         2,

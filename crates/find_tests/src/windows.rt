@@ -66,16 +66,13 @@ fn counts(rt: HostRuntime) -> Result<(), Fail> {
     Ok(())
 }
 
-const BATCH_SIZES_REFUSED: [(&str, i32); 5] = [
-    // what a batch leaves would need a cursor
-    ("{find: 'c', batchSize: 0, $db: 't'}", 9002),
-    ("{find: 'c', batchSize: 4, $db: 't'}", 9002),
-    ("{find: 'c', batchSize: 2, skip: 2, $db: 't'}", 9002),
-    ("{find: 'c', batchSize: 1, limit: 2, $db: 't'}", 9002),
-    ("{find: 'c', batchSize: 2, filter: {a: 1}, $db: 't'}", 9002),
-];
-
-const BATCH_SIZES_CASES: [(&str, &str); 6] = [
+const BATCH_SIZES_CASES: [(&str, &str); 11] = [
+    // a cursor has what a batch leaves
+    ("batchSize: 0", "[]"),
+    ("batchSize: 4", "[1, 2, 3, 4]"),
+    ("batchSize: 2, skip: 2", "[3, 4]"),
+    ("batchSize: 1, limit: 2", "[1]"),
+    ("batchSize: 2, filter: {a: 1}", "[1, 2]"),
     ("batchSize: 5", "[1, 2, 3, 4, 5]"),
     // of what is found after skip and limit
     ("batchSize: 3, skip: 2", "[3, 4, 5]"),
@@ -89,7 +86,6 @@ const BATCH_SIZES_CASES: [(&str, &str); 6] = [
 #[test]
 fn batch_sizes(rt: HostRuntime) -> Result<(), Fail> {
     let mut session = Session::filled(rt.alloc(), FIVE)?;
-    assert_eq!(rt; session.refused_otherwise(&BATCH_SIZES_REFUSED)?, None);
     assert_eq!(rt; session.found_otherwise(&BATCH_SIZES_CASES)?, None);
     Ok(())
 }
@@ -106,19 +102,18 @@ fn many(alloc: Global, count: i32) -> Result<String, Fail> {
     Ok(documents)
 }
 
-const A_BATCH_OF_NO_SIZE_REFUSED: [(&str, i32); 5] = [
-    // at most 101 where no size is said
-    ("{find: 'c', $db: 't'}", 9002),
-    (
-        "{find: 'c', sort: {a: 1}, projection: {_id: 1}, $db: 't'}",
-        9002,
-    ),
-    ("{find: 'c', skip: 2, $db: 't'}", 9002),
-    ("{find: 'c', limit: 102, $db: 't'}", 9002),
-    ("{find: 'c', limit: 1, batchSize: 0, $db: 't'}", 9002),
-];
+/// The numbers from one to another, in brackets.
+fn numbers(alloc: Global, first: i32, last: i32) -> Result<String, Fail> {
+    let mut numbers = String::from_str(alloc, "[")?;
+    for number in first..=last {
+        numbers.push_str(&format!(in alloc; "{number}, ")?)?;
+    }
+    numbers.push_str("]")?;
+    Ok(numbers)
+}
 
-const A_BATCH_OF_NO_SIZE_CASES: [(&str, &str); 4] = [
+const A_BATCH_OF_NO_SIZE_CASES: [(&str, &str); 5] = [
+    ("limit: 1, batchSize: 0", "[]"),
     ("skip: 102", "[102, 103]"),
     ("sort: {_id: -1}, skip: 101", "[2, 1, 0]"),
     ("limit: 2", "[0, 1]"),
@@ -137,10 +132,13 @@ const A_BATCH_OF_NO_SIZE_SCRIPT: [(&str, &str); 3] = [
 #[test]
 fn a_batch_of_no_size(rt: HostRuntime) -> Result<(), Fail> {
     let mut session = Session::filled(rt.alloc(), &many(rt.alloc(), 104)?)?;
-    assert_eq!(rt;
-        session.refused_otherwise(&A_BATCH_OF_NO_SIZE_REFUSED)?,
-        None
-    );
+    // at most 101 where no size is said
+    let all = numbers(rt.alloc(), 0, 100)?;
+    assert!(rt; session.finds("limit: 0", &all)?);
+    assert!(rt; session.finds("sort: {_id: 1}, projection: {_id: 1}", &all)?);
+    let later = numbers(rt.alloc(), 2, 102)?;
+    assert!(rt; session.finds("skip: 2", &later)?);
+    assert!(rt; session.finds("limit: 102", &all)?);
     assert_eq!(rt; session.found_otherwise(&A_BATCH_OF_NO_SIZE_CASES)?, None);
     assert_eq!(rt;
         session.answered_otherwise(&A_BATCH_OF_NO_SIZE_SCRIPT)?,
@@ -149,7 +147,8 @@ fn a_batch_of_no_size(rt: HostRuntime) -> Result<(), Fail> {
     // now all that is left goes into a batch
     let one = session.finds("skip: 100", "[103]")?;
     assert!(rt; one);
-    assert!(rt; !session.refuses("{find: 'c', $db: 't'}", 9002)?);
+    let rest = numbers(rt.alloc(), 3, 103)?;
+    assert!(rt; session.finds("limit: 0", &rest)?);
     Ok(())
 }
 
@@ -163,16 +162,13 @@ fn large(alloc: Global, number: i32, len: usize) -> Result<String, Fail> {
     Ok(insert)
 }
 
-const BYTES_OF_A_BATCH_REFUSED: [(&str, i32); 2] = [
+const BYTES_OF_A_BATCH_CASES: [(&str, &str); 5] = [
     // fifteen of 60,000 bytes and more are past 900,000
-    ("{find: 'c', $db: 't'}", 9002),
+    ("limit: 0", "[0, 1, 2, 3, 4, 5, 6, 7, 8, 9, 10, 11, 12, 13]"),
     (
-        "{find: 'c', batchSize: 15, sort: {_id: -1}, $db: 't'}",
-        9002,
+        "batchSize: 15, sort: {_id: -1}",
+        "[14, 13, 12, 11, 10, 9, 8, 7, 6, 5, 4, 3, 2, 1]",
     ),
-];
-
-const BYTES_OF_A_BATCH_CASES: [(&str, &str); 3] = [
     // what is given counts, not what is stored
     (
         "projection: {_id: 1}",
@@ -192,7 +188,6 @@ fn bytes_of_a_batch(rt: HostRuntime) -> Result<(), Fail> {
         let insert = large(rt.alloc(), number, 60_000)?;
         assert!(rt; session.answers(&insert, "{n: 1, ok: 1}")?);
     }
-    assert_eq!(rt; session.refused_otherwise(&BYTES_OF_A_BATCH_REFUSED)?, None);
     assert_eq!(rt; session.found_otherwise(&BYTES_OF_A_BATCH_CASES)?, None);
     Ok(())
 }

@@ -109,21 +109,25 @@ fn an_id_has_to_be_there(rt: HostRuntime) -> Result<(), Fail> {
 }
 
 #[test]
-fn a_batch_has_to_hold_all(rt: HostRuntime) -> Result<(), Fail> {
+fn a_batch_has_some(rt: HostRuntime) -> Result<(), Fail> {
     let alloc = rt.alloc();
     let mut session = Session::new(alloc).ok_or("no session")?;
     let two = [id_document(alloc, 1), id_document(alloc, 2)];
     assert!(rt; session.answers(&insert(alloc, &two), &count_reply(alloc, 2)));
     let sized = |size: i64| find(alloc).int64("batchSize", size);
-    assert!(rt; session.refuses(&sized(0), 9002));
-    assert!(rt; session.refuses(&sized(1), 9002));
+    let none: [Bytes; 0] = [];
+    assert!(rt; session.answers(&sized(0), &cursor_reply(alloc, "firstBatch", &none, 1)));
+    let first = [id_document(alloc, 1)];
+    assert!(rt; session.answers(&sized(1), &cursor_reply(alloc, "firstBatch", &first, 2)));
+    let more = get_more(alloc, 2);
+    let last = [id_document(alloc, 2)];
+    assert!(rt; session.answers(&more, &cursor_reply(alloc, "nextBatch", &last, 0)));
     assert!(rt; session.answers(&sized(2), &batch_reply(alloc, &two)));
     assert!(rt; session.answers(&sized(i64::MAX), &batch_reply(alloc, &two)));
     let empty = Bytes::new(alloc)
         .text("find", "d")
         .int32("batchSize", 0)
         .text("$db", "t");
-    let none: [Bytes; 0] = [];
     assert!(rt; session.answers(&empty, &batch_reply_in(alloc, "t.d", &none)));
     Ok(())
 }

@@ -8,6 +8,8 @@ mod chunks;
 #[cfg(test)]
 mod connections;
 #[cfg(test)]
+mod cursors;
+#[cfg(test)]
 mod first_path;
 #[cfg(test)]
 mod hello;

@@ -67,8 +67,11 @@ fn documents_of_a_command(rt: HostRuntime) -> Result<(), Fail> {
     assert!(rt; session.answers(&insert(alloc, &documents), &count_reply(alloc, 1_000)));
     documents.push(Bytes::new(alloc).null("$"))?;
     assert!(rt; session.refuses(&insert(alloc, &documents), 9002));
-    // 101 documents are a first batch, and no cursor may be opened for the others
-    assert!(rt; session.refuses(&find(alloc), 9002));
+    // 101 documents are a first batch, and a cursor has the others
+    assert!(rt; session.answer_len(&find(alloc)) > 101 * 14);
+    let more = get_more(alloc, 1);
+    assert!(rt; session.answer_len(&more) > 899 * 14);
+    assert!(rt; session.refuses(&more, 43));
     Ok(())
 }
 
@@ -100,7 +103,9 @@ fn one_byte_past_a_batch(rt: HostRuntime) -> Result<(), Fail> {
     }
     let last = [sized(alloc, 14, 3_950 - 4 - 22)];
     assert!(rt; session.answers(&insert(alloc, &last), &count_reply(alloc, 1)));
-    assert!(rt; session.refuses(&find(alloc), 9002));
+    // the last one stays for another batch
+    let len = session.answer_len(&find(alloc));
+    assert!(rt; 896_051 < len && len < 900_000);
     Ok(())
 }
 

@@ -1,0 +1,208 @@
+-- What an undone turn leaves of cursors.
+use Rattle.std.proofs.Common.{◌≡◌, ◌⊎◌, ⊎_elim, inl, inr, ℕ, zero, suc, ◌+◌, Bool, true, false, List, [], ◌∷◌, ◌++◌, length, set, remove, drop, Option, Some, None, Result, Ok, Err, refl, sym, ap, subst, ◌∙◌}
+use Rattle.std.specs.Prelude.{◌&&◌, not, nat_le, if◌then◌else◌, codes, unwrap_or}
+use Rattle.std.specs.List.{filter, position}
+use Rattle.bson.specs.Tree.{Pairs, pair, no_pairs}
+use Rattle.bson.specs.declared.fault.BsonFault.{BsonFault}
+use Rattle.outcome.specs.Outcome.{◌>>=◌, unless, or_refused}
+use Rattle.path.specs.declared.refusal.Refusal.{Refusal}
+use Rattle.path.specs.declared.refusal.Refusal.TheVariants as refusals
+use Rattle.commands.specs.Insert.{Insert}
+use Rattle.commands.specs.Find.{Find}
+use Rattle.commands.specs.GetMore.{GetMore}
+use Rattle.commands.specs.KillCursors.{KillCursors}
+use Rattle.commands.specs.Count.{Count}
+use Rattle.commands.specs.Delete.{Delete}
+use Rattle.commands.specs.Update.{Update}
+use Rattle.commands.specs.Aggregate.{Aggregate}
+use Rattle.commands.specs.Command.{Command, ping, insert, find, get_more, kill_cursors, count, delete, update, aggregate, command_of}
+use Rattle.aggregate.specs.Pipeline.{run as after_pipeline}
+use Rattle.engine.specs.World.{World, Cursor, documents_of, with_documents, put_collection, untouched, are_untouched}
+use Rattle.engine.specs.Documents.{insert_all}
+use Rattle.engine.specs.Refusals.{int}
+use Rattle.engine.specs.Progress.{is_full}
+use Rattle.engine.specs.Cursors.{batch_of, batch_reply, is_refused, new_cursor, first_batch, is_cursor, cursor_at}
+use Rattle.engine.specs.GetMore.{batch_len_of, next_batch, run_get_more}
+use Rattle.engine.specs.KillCursors.{is_asked, run_kill_cursors}
+use Rattle.engine.specs.Insert.{run_insert}
+use Rattle.engine.specs.Find.{query_result, run_find}
+use Rattle.engine.specs.Count.{run_count}
+use Rattle.engine.specs.Delete.{run_delete}
+use Rattle.engine.specs.Update.{Updated, update_reply, run_all, run_update}
+use Rattle.engine.specs.Aggregate.{run_aggregate}
+use Rattle.engine.specs.Step.{run, answered, step}
+use Rattle.engine.specs.CursorLaws.{IsAmong, after_commands, StaysOpen}
+
+-- ---- cursors of a list
+
+among_all : (p : Cursor → Bool) (c : Cursor) (cs : List Cursor) → IsAmong c (filter p cs) → IsAmong c cs
+among_all p c [] h = h
+among_all p c (d ∷ ds) h = at (p d) refl h (λ later. among_all p c ds later)
+  where
+    at : (b : Bool) → p d ≡ b → IsAmong c (if b then d ∷ filter p ds else filter p ds) → (IsAmong c (filter p ds) → IsAmong c ds) → IsAmong c (d ∷ ds)
+    at true e h later = ⊎_elim (λ same. inl same) (λ more. inr (later more)) h
+    at false e h later = inr (later h)
+
+among_kept : (p : Cursor → Bool) (c : Cursor) (cs : List Cursor) → p c ≡ true → IsAmong c cs → IsAmong c (filter p cs)
+among_kept p c [] e h = h
+among_kept p c (d ∷ ds) e h = at (p d) refl (among_kept p c ds e) h
+  where
+    at : (b : Bool) → p d ≡ b → (IsAmong c ds → IsAmong c (filter p ds)) → IsAmong c (d ∷ ds) → IsAmong c (if b then d ∷ filter p ds else filter p ds)
+    at true f later h = ⊎_elim (λ same. inl same) (λ more. inr (later more)) h
+    at false f later h = ⊎_elim (λ same. let wrong : true ≡ false = sym e ∙ ap p (sym same) ∙ f in absurd cc) (λ more. later more) h
+
+passes : (p : Cursor → Bool) (c : Cursor) (cs : List Cursor) → IsAmong c (filter p cs) → p c ≡ true
+passes p c [] h = absurd h
+passes p c (d ∷ ds) h = at (p d) refl (passes p c ds) h
+  where
+    at : (b : Bool) → p d ≡ b → (IsAmong c (filter p ds) → p c ≡ true) → IsAmong c (if b then d ∷ filter p ds else filter p ds) → p c ≡ true
+    at true f later h = ⊎_elim (λ same. ap p (sym same) ∙ f) (λ more. later more) h
+    at false f later h = later h
+
+among_one_more : (c d : Cursor) (cs : List Cursor) → IsAmong c (cs ++ d ∷ []) → IsAmong c cs ⊎ (d ≡ c)
+among_one_more c d [] h = ⊎_elim (λ same. inr same) (λ none. absurd none) h
+among_one_more c d (e ∷ es) h = ⊎_elim (λ same. inl (inl same)) (λ more. ⊎_elim (λ there. inl (inr there)) (λ same. inr same) (among_one_more c d es more)) h
+
+among_removed : (c : Cursor) (cs : List Cursor) (i : ℕ) → IsAmong c (remove cs i) → IsAmong c cs
+among_removed c [] zero h = h
+among_removed c [] (suc i) h = h
+among_removed c (d ∷ ds) zero h = inr h
+among_removed c (d ∷ ds) (suc i) h = ⊎_elim (λ same. inl same) (λ more. inr (among_removed c ds i more)) h
+
+among_set : (c e : Cursor) (cs : List Cursor) (i : ℕ) → IsAmong c (set cs i e) → IsAmong c cs ⊎ (e ≡ c)
+among_set c e [] i h = inl h
+among_set c e (d ∷ ds) zero h = ⊎_elim (λ same. inr same) (λ more. inl (inr more)) h
+among_set c e (d ∷ ds) (suc i) h = ⊎_elim (λ same. inl (inl same)) (λ more. ⊎_elim (λ there. inl (inr there)) (λ same. inr same) (among_set c e ds i more)) h
+
+-- ---- one command
+
+not_touched : (c d : Cursor) → c.touched ≡ false → d.touched ≡ true → d ≡ c → ⊥
+not_touched c d rests touched same = let wrong : true ≡ false = sym touched ∙ ap (λ (x : Cursor). x.touched) same ∙ rests in absurd cc
+
+module _ (w : World) (connection : ℕ) where
+  -- a cursor that the turn hasn't touched was open before the command
+  abbrev Comes : Result (World × Pairs) Refusal → Type 0
+  Comes r = (c : Cursor) → c.touched ≡ false → IsAmong c (answered w r).0.cursors → IsAmong c w.cursors
+
+  inserted : (c : Insert) → Comes (run_insert w c)
+  unfolding run_insert
+  inserted c = at (is_full w.collections c.namespace) (insert_all (documents_of w.collections c.namespace) c.documents)
+    where
+      at : (full : Bool) (r : Result (List Pairs) Refusal)
+          → Comes (unless full refusals.TooMany (r >>= (λ stored. let x : Result (World × Pairs) Refusal = Ok (record w { collections = put_collection (with_documents w.collections c.namespace stored) w.collections }, pair (codes "n") (int (length c.documents)) no_pairs) in x)))
+      at true r d rests h = h
+      at false (Ok stored) d rests h = h
+      at false (Err e) d rests h = h
+
+  counted : (c : Count) → Comes (run_count w c)
+  unfolding run_count
+  counted c d rests h = h
+
+  deleted : (c : Delete) → Comes (run_delete w c)
+  unfolding run_delete
+  deleted c d rests h = h
+
+  updated : (c : Update) → Comes (run_update w c)
+  unfolding run_update
+  updated c = at (run_all c.namespace c.statements w.collections)
+    where
+      at : (r : Result Updated Refusal) → Comes (r >>= (λ u. let x : Result (World × Pairs) Refusal = Ok (record w { collections = u.collections }, update_reply u) in x))
+      at (Ok u) d rests h = h
+      at (Err e) d rests h = h
+
+  batched : (name : List ℕ) (ds : List Pairs) (n : ℕ) → Comes (first_batch w connection name ds n)
+  batched name ds n = at (nat_le (length ds) n) (is_refused connection w.cursors w.next)
+    where
+      at : (whole refused : Bool)
+          → Comes ((if whole then Ok w else unless refused refusals.TooMany (Ok (record w { cursors = w.cursors ++ new_cursor w.next connection name (drop n ds) ∷ []; next = w.next + 1 })))
+          >>= (λ after. let x : Result (World × Pairs) Refusal = Ok (after, batch_reply (codes "firstBatch") n ds w.next name) in x))
+      at true refused d rests h = h
+      at false true d rests h = h
+      at false false d rests h =
+          ⊎_elim (λ there. there) (λ same. absurd (not_touched d (new_cursor w.next connection name (drop n ds)) rests refl same)) (among_one_more d (new_cursor w.next connection name (drop n ds)) w.cursors h)
+
+  found : (c : Find) → Comes (run_find w connection c)
+  unfolding run_find
+  found c =
+      let ds = query_result c.query (documents_of w.collections c.namespace) in
+      batched c.namespace ds (batch_of (unwrap_or c.batch_size 101) ds)
+
+  aggregated : (c : Aggregate) → Comes (run_aggregate w connection c)
+  unfolding run_aggregate
+  aggregated c = at (after_pipeline c.pipeline 65535 (documents_of w.collections c.namespace))
+    where
+      at : (r : Result (List Pairs) Refusal) → Comes (r >>= (λ ds. first_batch w connection c.namespace ds (batch_of (unwrap_or c.batch_size 101) ds)))
+      at (Ok ds) d rests h = batched c.namespace ds (batch_of (unwrap_or c.batch_size 101) ds) d rests h
+      at (Err e) d rests h = h
+
+  given : (c : GetMore) → Comes (run_get_more w connection c)
+  unfolding run_get_more
+  given c = at (position (is_cursor connection c.namespace c.id) w.cursors)
+    where
+      ended : (place : ℕ) (b : Bool) (d : Cursor) → d.touched ≡ false
+          → IsAmong d (if b then remove w.cursors place else set w.cursors place (record (cursor_at w.cursors place) { rest = drop (batch_len_of (cursor_at w.cursors place) c.batch_size) (cursor_at w.cursors place).rest; touched = true })) → IsAmong d w.cursors
+      ended place true d rests h = among_removed d w.cursors place h
+      ended place false d rests h =
+          let moved : Cursor = record (cursor_at w.cursors place) { rest = drop (batch_len_of (cursor_at w.cursors place) c.batch_size) (cursor_at w.cursors place).rest; touched = true } in
+          ⊎_elim (λ there. there) (λ same. absurd (not_touched d moved rests refl same)) (among_set d moved w.cursors place h)
+
+      at : (o : Option ℕ) → Comes (or_refused o refusals.CursorNotFound >>= (λ place. let x : Result (World × Pairs) Refusal = Ok (next_batch w c place) in x))
+      at None d rests h = h
+      at (Some place) d rests h = ended place (nat_le (length (cursor_at w.cursors place).rest) (batch_len_of (cursor_at w.cursors place) c.batch_size)) d rests h
+
+  killed : (c : KillCursors) → Comes (run_kill_cursors w connection c)
+  unfolding run_kill_cursors
+  killed c d rests h = among_all (λ cursor. not (is_asked connection c.namespace c.cursors cursor)) d w.cursors h
+
+  ran : (r : Result Command Refusal) → Comes (r >>= run w connection)
+  ran (Err e) d rests h = h
+  ran (Ok ping) d rests h = h
+  ran (Ok (insert c)) d rests h = inserted c d rests h
+  ran (Ok (find c)) d rests h = found c d rests h
+  ran (Ok (get_more c)) d rests h = given c d rests h
+  ran (Ok (kill_cursors c)) d rests h = killed c d rests h
+  ran (Ok (count c)) d rests h = counted c d rests h
+  ran (Ok (delete c)) d rests h = deleted c d rests h
+  ran (Ok (update c)) d rests h = updated c d rests h
+  ran (Ok (aggregate c)) d rests h = aggregated c d rests h
+
+  came : (body : Result Pairs BsonFault) (c : Cursor) → c.touched ≡ false → IsAmong c (step w connection body).0.cursors → IsAmong c w.cursors
+  came (Ok body) c rests h = ran (command_of body) c rests h
+  came (Err fault) c rests h = h
+
+-- ---- a turn
+
+first_of : (c : Cursor) (w : World) (xs : List (ℕ × Result Pairs BsonFault)) → StaysOpen c w xs → IsAmong c w.cursors
+first_of c w [] h = h
+first_of c w (x ∷ xs) h = h.0
+
+pub stayed : (c : Cursor) (w : World) (xs : List (ℕ × Result Pairs BsonFault)) → c.touched ≡ false → IsAmong c (after_commands w xs).cursors → StaysOpen c w xs
+stayed c w [] rests h = h
+stayed c w (x ∷ xs) rests h =
+    let later = stayed c (step w x.0 x.1).0 xs rests h in
+    (came w x.0 x.1 c rests (first_of c (step w x.0 x.1).0 xs later), later)
+
+pub last_of : (c : Cursor) (w : World) (xs : List (ℕ × Result Pairs BsonFault)) → StaysOpen c w xs → IsAmong c (after_commands w xs).cursors
+last_of c w [] h = h
+last_of c w (x ∷ xs) h = last_of c (step w x.0 x.1).0 xs h.1
+
+rests_among : (c : Cursor) (cs : List Cursor) → are_untouched cs ≡ true → IsAmong c cs → not c.touched ≡ true
+rests_among c [] e h = absurd h
+rests_among c (d ∷ ds) e h = at (not d.touched) refl e h (rests_among c ds)
+  where
+    at : (b : Bool) → not d.touched ≡ b → (b && are_untouched ds) ≡ true → IsAmong c (d ∷ ds) → (are_untouched ds ≡ true → IsAmong c ds → not c.touched ≡ true) → not c.touched ≡ true
+    at true r e h later = ⊎_elim (λ same. ap (λ (x : Cursor). not x.touched) (sym same) ∙ r) (λ more. later e more) h
+    at false r e h later = absurd cc
+
+is_false : (b : Bool) → not b ≡ true → b ≡ false
+is_false true e = absurd cc
+is_false false e = refl
+
+pub left_open : (c : Cursor) (w : World) (xs : List (ℕ × Result Pairs BsonFault)) → IsAmong c (untouched (after_commands w xs).cursors) → StaysOpen c w xs
+left_open c w xs h =
+    let p : Cursor → Bool = λ x. not x.touched in
+    stayed c w xs (is_false c.touched (passes p c (after_commands w xs).cursors h)) (among_all p c (after_commands w xs).cursors h)
+
+pub open_left : (c : Cursor) (w : World) (xs : List (ℕ × Result Pairs BsonFault)) → are_untouched w.cursors ≡ true → StaysOpen c w xs → IsAmong c (untouched (after_commands w xs).cursors)
+open_left c w xs rests h =
+    among_kept (λ x. not x.touched) c (after_commands w xs).cursors (rests_among c w.cursors rests (first_of c w xs h)) (last_of c w xs h)
