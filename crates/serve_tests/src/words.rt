@@ -25,17 +25,22 @@ fn words(alloc: Global, all: &[&str]) -> Result<Vec<String>, AllocError> {
 
 /// The program with these words.
 fn ended(rt: &HostRuntime, all: &[&str]) -> Result<Ending, AllocError> {
-    let words = words(rt.alloc(), all)?;
+    run_to_end(rt, &words(rt.alloc(), all)?)
+}
+
+/// The program with these words and one more.
+fn ended_with(rt: &HostRuntime, all: &[&str], last: String) -> Result<Ending, AllocError> {
+    let mut words = words(rt.alloc(), all)?;
+    words.push(last)?;
+    run_to_end(rt, &words)
+}
+
+/// How the program ends with these words.
+fn run_to_end(rt: &HostRuntime, words: &[String]) -> Result<Ending, AllocError> {
     let nothing: [u8; 0] = [];
     let mut output = Vec::new(rt.alloc());
     let mut errors = Vec::new(rt.alloc());
-    let status = run(
-        rt,
-        &words,
-        &mut nothing.as_slice(),
-        &mut output,
-        &mut errors,
-    );
+    let status = run(rt, words, &mut nothing.as_slice(), &mut output, &mut errors);
     Ok(Ending {
         status,
         output,
@@ -249,27 +254,27 @@ fn the_file_comes_before_the_port(rt: HostRuntime) -> Result<(), Fail> {
     Ok(())
 }
 
+// the port is the last word
+const SERVE_PORT: &[&str] = &[
+    "docpage",
+    "serve",
+    "port.docpage",
+    "--connections",
+    "1",
+    "--turns",
+    "1",
+    "--port",
+];
+
+const LISTEN_PORT: &[&str] = &["docpage", "listen", "port.docpage", "--port"];
+
 #[test]
 fn a_port_in_use(rt: HostRuntime) -> Result<(), Fail> {
     let listener = listener(&rt)?;
-    let port = format!(in rt.alloc(); "{}", listener.local_addr()?.port())?;
-    let file = "port.docpage";
-    let serve = ended(
-        &rt,
-        &[
-            "docpage",
-            "serve",
-            file,
-            "--port",
-            port.as_str(),
-            "--connections",
-            "1",
-            "--turns",
-            "1",
-        ],
-    )?;
-    let listen = ended(&rt, &["docpage", "listen", file, "--port", port.as_str()])?;
-    let _ = fs::remove_file(&rt, file);
+    let port = listener.local_addr()?.port();
+    let serve = ended_with(&rt, SERVE_PORT, format!(in rt.alloc(); "{port}")?)?;
+    let listen = ended_with(&rt, LISTEN_PORT, format!(in rt.alloc(); "{port}")?)?;
+    let _ = fs::remove_file(&rt, "port.docpage");
     assert_eq!(rt; serve.status, 1);
     assert!(rt; serve.output.is_empty());
     assert_eq!(rt; serve.errors.as_slice(), b"docpage: Accept\n".as_slice());

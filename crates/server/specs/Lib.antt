@@ -16,3 +16,4 @@ pub mod Chunks
 pub mod InOrder
 pub mod Streams
 pub mod Taking
+pub mod Serving

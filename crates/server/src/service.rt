@@ -1,10 +1,13 @@
 //! A server as the loops over sockets see it.
 
-ghost use Rattle.std.specs.Prelude.{◌≡◌, ◌<◌, ◌≤◌};
+ghost use Rattle.std.specs.Prelude.{◌≡◌, ◌<◌, ◌≤◌, map};
+ghost use Rattle.sockets.specs.Handing.{Hands, Closes};
+ghost use Rattle.server.specs.View.{frames_in};
 ghost use Rattle.server.specs.Durable.{IsSound};
 
-use crate::turn::{Core, TurnFault, TurnOut};
+use crate::turn::{Core, TurnFault};
 use engine::ConnId;
+use op_msg::FrameFault;
 use page::Disk;
 use sockets::{NotTaken, Outlet, ServeFault, Service, Stopped};
 use std::net::{Net, TcpListener};
@@ -12,12 +15,15 @@ use std::net::{Net, TcpListener};
 impl<D: Disk> Service for Core<D> {
     ghost use Rattle.std.specs.Prelude.{◌≡◌};
     ghost use Rattle.server.specs.ServerState.{fed, ended};
+    ghost use Rattle.server.specs.Serving.{IsAnswered};
     ghost use Rattle.server.specs.View.{state};
     ghost use Rattle.server.specs.Durable.{IsSound};
 
     ghost is_sound = { λ core. IsSound D.history core };
 
     ghost is_fed = { λ old id bytes new. state new ≡ fed (state old) id bytes };
+
+    ghost is_answered = { λ old replies closed new. IsAnswered D.history old replies closed new };
 
     ghost is_ended = { λ old id new. state new ≡ ended (state old) id };
 
@@ -35,7 +41,8 @@ impl<D: Disk> Service for Core<D> {
     fn answer<O: Outlet>(&mut self, outlet: &mut O) -> Result<(), Stopped> {
         match self.turn() {
             Ok(turn) => {
-                hand_out(&turn, outlet);
+                give_replies(&turn.replies, outlet);
+                close_connections(&turn.closed, outlet);
                 Ok(())
             }
             // No message was taken, and each waits for the next turn.
@@ -60,12 +67,20 @@ fn numbered(connection: usize) -> ConnId
     }
 }
 
-/// Hands out the replies of a turn and the connections that it closed.
-fn hand_out<O: Outlet>(turn: &TurnOut, outlet: &mut O) {
-    for (id, frame) in &turn.replies {
+/// Hands out the replies of a turn.
+fn give_replies<O: Outlet>(replies: &[(ConnId, Vec<u8>)], outlet: &mut O)
+    ensures { Hands O.is_given (frames_in replies.now) outlet.old outlet.new }
+{
+    'replies: for (id, frame) in replies {
         outlet.reply(usize::from(id.number()), frame);
     }
-    for (id, _) in &turn.closed {
+}
+
+/// Closes the connections that a turn closed.
+fn close_connections<O: Outlet>(closed: &[(ConnId, FrameFault)], outlet: &mut O)
+    ensures { Closes O.is_closed (map (λ c. c.0) closed.now) outlet.old outlet.new }
+{
+    'closed: for (id, _) in closed {
         outlet.close(usize::from(id.number()));
     }
 }

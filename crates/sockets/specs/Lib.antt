@@ -1,3 +1,4 @@
 pub mod Faults
 pub mod Stream
 pub mod Places
+pub mod Handing

@@ -2,6 +2,7 @@
 
 ghost use Rattle.std.specs.Prelude.{◌≡◌, ◌<◌, ℕ, List, IsOk, OnOk};
 ghost use Rattle.sockets.specs.Faults.{serve_fault_name};
+ghost use Rattle.sockets.specs.Handing.{Answers};
 
 /// Why serving ended.
 #[derive(Clone, Copy, Debug, PartialEq, Eq)]
@@ -57,6 +58,9 @@ pub trait Service {
     /// What bytes of a connection do.
     ghost is_fed: { Self → ℕ → List ℕ → Self → Type 0 };
 
+    /// What a turn does that hands out these replies and closes these connections.
+    ghost is_answered: { Self → List (ℕ × List ℕ) → List ℕ → Self → Type 0 };
+
     /// What the end of a connection does.
     ghost is_ended: { Self → ℕ → Self → Type 0 };
 
@@ -74,7 +78,9 @@ pub trait Service {
     /// Answers the first message of each connection, and hands out the replies.
     fn answer<O: Outlet>(&mut self, outlet: &mut O) -> Result<(), Stopped>
         requires sound { is_sound self.old }
-        ensures sound { is_sound self.new };
+        ensures sound { is_sound self.new }
+        ensures answered { OnOk result (Answers is_answered O.is_given O.is_closed self.old self.new
+            outlet.old outlet.new) };
 
     /// A connection has ended, and its number is free.
     fn forget(&mut self, connection: usize)
