@@ -21,7 +21,8 @@ pub enum FrameFault {
     Flags,
     /// A checksum behind the sections, which is not supported.
     Checksum,
-    /// A section of an unknown kind, or one that does not fit the message.
+    /// A section of an unknown kind, a size or a length of a document that is under 5 or does not fit, or a name of a
+    /// section without its zero, not in UTF-8, or standing twice.
     Section,
     /// No section that is a body.
     NoBody,
