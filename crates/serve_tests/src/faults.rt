@@ -10,8 +10,9 @@ fn an_end_in_a_frame(rt: HostRuntime) -> Result<(), Fail> {
     let listener = listener(&rt)?;
     let mut core = new_server(alloc)?;
     let message = ping_message(alloc)?;
-    let (half, _) = message.split_at(20);
-    let mut cut = client(&rt, &listener, half)?;
+    let mut half = ping_message(alloc)?;
+    half.truncate(20);
+    let mut cut = client(&rt, &listener, &half)?;
     let mut whole = client(&rt, &listener, &message)?;
     assert_eq!(rt; serve_on(&rt, &listener, 2, 1_000, &mut core), Ok(()));
     assert!(rt; received(alloc, &mut cut)?.is_empty());
