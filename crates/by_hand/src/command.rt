@@ -142,6 +142,19 @@ pub fn batch_reply_in(alloc: Global, namespace: &str, documents: &[Bytes]) -> By
     Bytes::new(alloc).document("cursor", &cursor).int32("ok", 1)
 }
 
+/// `{drop: "c", $db: "t"}`
+pub fn drop_collection(alloc: Global) -> Bytes {
+    Bytes::new(alloc).text("drop", "c").text("$db", "t")
+}
+
+/// `{nIndexesWas: 1, ns: "t.c", ok: 1}`
+pub fn drop_reply(alloc: Global) -> Bytes {
+    Bytes::new(alloc)
+        .int32("nIndexesWas", 1)
+        .text("ns", "t.c")
+        .int32("ok", 1)
+}
+
 /// `{getMore: <id>, collection: "c", $db: "t"}`
 pub fn get_more(alloc: Global, id: i64) -> Bytes {
     Bytes::new(alloc)

@@ -15,11 +15,17 @@ use Rattle.commands.specs.Count.{Count}
 use Rattle.commands.specs.Delete.{Delete}
 use Rattle.commands.specs.Update.{Update}
 use Rattle.commands.specs.Aggregate.{Aggregate}
-use Rattle.commands.specs.Command.{Command, ping, insert, find, get_more, kill_cursors, count, delete, update, aggregate, command_of}
+use Rattle.commands.specs.Create.{Create}
+use Rattle.commands.specs.DropCollection.{DropCollection}
+use Rattle.commands.specs.ListCollections.{ListCollections}
+use Rattle.engine.specs.Create.{created, run_create}
+use Rattle.engine.specs.DropCollection.{dropped, run_drop}
+use Rattle.engine.specs.ListCollections.{run_list_collections}
+use Rattle.commands.specs.Command.{Command, ping, hello, insert, find, get_more, kill_cursors, count, delete, update, aggregate, create, drop as drop_of, list_collections, command_of}
 use Rattle.aggregate.specs.Pipeline.{run as after_pipeline}
-use Rattle.engine.specs.World.{World, Cursor, documents_of, with_documents, put_collection, untouched, are_untouched}
+use Rattle.engine.specs.World.{World, Collection, Cursor, documents_of, with_documents, put_collection, untouched, are_untouched}
 use Rattle.engine.specs.Documents.{insert_all}
-use Rattle.engine.specs.Refusals.{int}
+use Rattle.engine.specs.Refusals.{int, words}
 use Rattle.engine.specs.Progress.{is_full}
 use Rattle.engine.specs.Cursors.{batch_of, batch_reply, is_refused, new_cursor, first_batch, is_cursor, cursor_at}
 use Rattle.engine.specs.GetMore.{batch_len_of, next_batch, run_get_more}
@@ -154,9 +160,31 @@ module _ (w : World) (connection : ℕ) where
   unfolding run_kill_cursors
   killed c d rests h = among_all (λ cursor. not (is_asked connection c.namespace c.cursors cursor)) d w.cursors h
 
+  made : (c : Create) → Comes (run_create w c)
+  unfolding run_create
+  made c = at (created w.collections c.namespace)
+    where
+      at : (r : Result (List Collection) Refusal) → Comes (r >>= (λ cs. let x : Result (World × Pairs) Refusal = Ok (record w { collections = cs }, no_pairs) in x))
+      at (Err e) d rests h = h
+      at (Ok cs) d rests h = h
+
+  dropped_so : (c : DropCollection) → Comes (run_drop w c)
+  unfolding run_drop
+  dropped_so c = at (dropped w.collections c.namespace)
+    where
+      at : (r : Result (List Collection) Refusal)
+          → Comes (r >>= (λ cs. let x : Result (World × Pairs) Refusal = Ok (record w { collections = cs }, pair (codes "nIndexesWas") (int 1) (pair (codes "ns") (words c.namespace) no_pairs)) in x))
+      at (Err e) d rests h = h
+      at (Ok cs) d rests h = h
+
+  listed_so : (c : ListCollections) → Comes (run_list_collections w c)
+  unfolding run_list_collections
+  listed_so c d rests h = h
+
   ran : (r : Result Command Refusal) → Comes (r >>= run w connection)
   ran (Err e) d rests h = h
   ran (Ok ping) d rests h = h
+  ran (Ok hello) d rests h = h
   ran (Ok (insert c)) d rests h = inserted c d rests h
   ran (Ok (find c)) d rests h = found c d rests h
   ran (Ok (get_more c)) d rests h = given c d rests h
@@ -165,6 +193,9 @@ module _ (w : World) (connection : ℕ) where
   ran (Ok (delete c)) d rests h = deleted c d rests h
   ran (Ok (update c)) d rests h = updated c d rests h
   ran (Ok (aggregate c)) d rests h = aggregated c d rests h
+  ran (Ok (create c)) d rests h = made c d rests h
+  ran (Ok (drop_of c)) d rests h = dropped_so c d rests h
+  ran (Ok (list_collections c)) d rests h = listed_so c d rests h
 
   came : (body : Result Pairs BsonFault) (c : Cursor) → c.touched ≡ false → IsAmong c (step w connection body).0.cursors → IsAmong c w.cursors
   came (Ok body) c rests h = ran (command_of body) c rests h

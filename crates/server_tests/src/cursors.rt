@@ -25,7 +25,7 @@ fn push(alloc: Global, steps: &mut Vec<Step>, connection: u8, message: &Bytes) -
     Ok(())
 }
 
-/// An insert of `_id` 1 to 102, a find, and `getMore` by another connection and twice by its own.
+/// An insert of `_id` 1 to 102, a find, and then, by another connection, the end of the collection and a `getMore`, and two by its own.
 fn driven(alloc: Global) -> Result<DriveOut, Fail> {
     let mut steps = Vec::new(alloc);
     push(
@@ -35,6 +35,7 @@ fn driven(alloc: Global) -> Result<DriveOut, Fail> {
         &insert(alloc, &numbered(alloc, 1, 102)?),
     )?;
     push(alloc, &mut steps, 0, &find(alloc))?;
+    push(alloc, &mut steps, 1, &drop_collection(alloc))?;
     push(alloc, &mut steps, 1, &get_more(alloc, 1))?;
     push(alloc, &mut steps, 0, &get_more(alloc, 1))?;
     push(alloc, &mut steps, 0, &get_more(alloc, 1))?;
@@ -55,15 +56,16 @@ fn is_frame(out: &DriveOut, place: usize, wanted: &[u8]) -> bool {
 fn one_document_over_a_batch(rt: HostRuntime) -> Result<(), Fail> {
     let alloc = rt.alloc();
     let out = driven(alloc)?;
-    assert_eq!(rt; out.turns, 5);
-    assert_eq!(rt; out.replies.len(), 5);
+    assert_eq!(rt; out.turns, 6);
+    assert_eq!(rt; out.replies.len(), 6);
     let first = cursor_reply(alloc, "firstBatch", &numbered(alloc, 1, 101)?, 1);
     let last = cursor_reply(alloc, "nextBatch", &numbered(alloc, 102, 102)?, 0);
     let none = refusal(alloc, 43);
     assert!(rt; is_frame(&out, 0, &frame(alloc, 1, 5, &count_reply(alloc, 102))?));
     assert!(rt; is_frame(&out, 1, &frame(alloc, 2, 5, &first)?));
-    assert!(rt; is_frame(&out, 2, &frame(alloc, 1, 5, &none)?));
-    assert!(rt; is_frame(&out, 3, &frame(alloc, 3, 5, &last)?));
-    assert!(rt; is_frame(&out, 4, &frame(alloc, 4, 5, &none)?));
+    assert!(rt; is_frame(&out, 2, &frame(alloc, 1, 5, &drop_reply(alloc))?));
+    assert!(rt; is_frame(&out, 3, &frame(alloc, 2, 5, &none)?));
+    assert!(rt; is_frame(&out, 4, &frame(alloc, 3, 5, &last)?));
+    assert!(rt; is_frame(&out, 5, &frame(alloc, 4, 5, &none)?));
     Ok(())
 }
