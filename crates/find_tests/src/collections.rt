@@ -19,7 +19,10 @@ const CREATED_AND_LISTED_SCRIPT: [(&str, &str); 14] = [
     ),
     ("{create: 'b', $db: 't'}", "{ok: 1}"),
     ("{create: 'a.z', comment: 'x', $db: 't'}", "{ok: 1}"),
-    ("{insert: 'a', documents: [{_id: 1}], $db: 't'}", "{n: 1, ok: 1}"),
+    (
+        "{insert: 'a', documents: [{_id: 1}], $db: 't'}",
+        "{n: 1, ok: 1}",
+    ),
     // another database, whose name goes on where this one's ends
     ("{create: 'c', $db: 'tt'}", "{ok: 1}"),
     ("{create: 'B', $db: 't'}", "{ok: 1}"),
@@ -34,10 +37,19 @@ const CREATED_AND_LISTED_SCRIPT: [(&str, &str); 14] = [
     ),
     // an empty collection reads as empty and takes documents
     ("{count: 'b', $db: 't'}", "{n: 0, ok: 1}"),
-    ("{insert: 'b', documents: [{_id: 7}], $db: 't'}", "{n: 1, ok: 1}"),
-    ("{drop: 'a', $db: 't'}", "{nIndexesWas: 1, ns: 't.a', ok: 1}"),
+    (
+        "{insert: 'b', documents: [{_id: 7}], $db: 't'}",
+        "{n: 1, ok: 1}",
+    ),
+    (
+        "{drop: 'a', $db: 't'}",
+        "{nIndexesWas: 1, ns: 't.a', ok: 1}",
+    ),
     ("{count: 'a', $db: 't'}", "{n: 0, ok: 1}"),
-    ("{drop: 'a.z', $db: 't'}", "{nIndexesWas: 1, ns: 't.a.z', ok: 1}"),
+    (
+        "{drop: 'a.z', $db: 't'}",
+        "{nIndexesWas: 1, ns: 't.a.z', ok: 1}",
+    ),
     (
         "{listCollections: 1, $db: 't'}",
         "{cursor: {firstBatch: [{name: 'B', type: 'collection'}, {name: 'b', type: 'collection'}], id: 0L, ns: 't.$cmd.listCollections'}, ok: 1}",
@@ -47,7 +59,10 @@ const CREATED_AND_LISTED_SCRIPT: [(&str, &str); 14] = [
 #[test]
 fn created_and_listed(rt: HostRuntime) -> Result<(), Fail> {
     let mut session = Session::new(rt.alloc())?;
-    assert_eq!(rt; session.answered_otherwise(&CREATED_AND_LISTED_SCRIPT)?, None);
+    assert_eq!(rt;
+        session.answered_otherwise(&CREATED_AND_LISTED_SCRIPT)?,
+        None
+    );
     let mut again = Session::over(rt.alloc(), session.into_disk())?;
     assert!(rt; again.answers("{count: 'b', $db: 't'}", "{n: 1, ok: 1}")?);
     assert!(rt; again.refuses("{create: 'B', $db: 't'}", 48)?);

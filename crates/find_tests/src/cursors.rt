@@ -152,7 +152,11 @@ fn filled(alloc: Global, last: i32, config: Config) -> Result<Core<MemDisk>, Fai
 
 const ONE_OVER_SCRIPT: [Row; 6] = [
     // the cursor goes on when its collection is gone
-    (1, "{drop: 'c', $db: 't'}", "{nIndexesWas: 1, ns: 't.c', ok: 1}"),
+    (
+        1,
+        "{drop: 'c', $db: 't'}",
+        "{nIndexesWas: 1, ns: 't.c', ok: 1}",
+    ),
     (0, "{count: 'c', $db: 't'}", "{n: 0, ok: 1}"),
     // it is connection 0's, and its namespace is judged first
     (1, "{getMore: 1L, collection: 'c', $db: 't'}", "43"),
