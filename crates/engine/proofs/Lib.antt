@@ -35,3 +35,4 @@ pub mod Creating
 pub mod Listing
 pub mod CursorSteps
 mod UndoneCursors
+pub mod CursorLives

@@ -22,6 +22,7 @@ pub mod Updating
 pub mod View
 pub mod Laws
 pub mod CursorLaws
+pub mod CursorLife
 pub mod Stored
 pub mod Durable
 pub mod Loading

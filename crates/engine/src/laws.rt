@@ -1,6 +1,7 @@
 //! Laws of the definitions, each the contract of a function that does nothing.
 
 ghost use Rattle.engine.specs.CursorLaws.{UndoingClosesTouched};
+ghost use Rattle.engine.specs.CursorLife.{GivesItsList, LastBatchIsWhole};
 ghost use Rattle.engine.specs.Laws.{BeginsLawful, StaysLawful, ReadsChangeNothing, HoldsOne, ZerosHoldNothing, RepliesSendable};
 
 /// The world that an engine begins with is lawful.
@@ -36,4 +37,15 @@ pub fn zeros_hold_nothing()
 /// An image of a disk holds one list of collections at most.
 pub fn holds_one()
     ensures { HoldsOne }
+{}
+
+/// What a cursor gives over its whole life: its batches, one after the other, and what is left of it are the documents that it
+/// was opened on, whatever other commands, commits, undone turns and ends of connections come between.
+pub fn gives_its_list()
+    ensures { GivesItsList }
+{}
+
+/// A batch that says 0 in place of the cursor's number has all that was left.
+pub fn last_batch_is_whole()
+    ensures { LastBatchIsWhole }
 {}
