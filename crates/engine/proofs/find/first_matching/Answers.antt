@@ -1,4 +1,4 @@
-use Rattle.std.proofs.Common.{◌≡◌, ◌++◌, ◌∷◌, [], List, true, false, sym, ap, subst, ◌+◌, ◌∙◌, ℕ, length, take, length-append, arith}
+use Rattle.std.proofs.Common.{◌≡◌, ◌++◌, ◌∷◌, [], List, true, false, sym, ap, subst, ◌+◌, ◌∙◌, ℕ, length, take, arith}
 use Rattle.std.proofs.lemmas.List.{map-append, length-map, take_all}
 use Rattle.std.specs.List.{filter}
 use Rattle.bson.specs.Tree.{Pairs}
