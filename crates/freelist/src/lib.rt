@@ -1,0 +1,8 @@
+//! The pages of a file: which are in use, which wait until nobody reads them any more, and which are free.
+#![tactic(auto)]
+
+mod book;
+mod states;
+mod turns;
+
+pub use book::{FreePages, Mark, NoMemory};
