@@ -1,1 +1,2 @@
 mod Searching
+mod Undoing

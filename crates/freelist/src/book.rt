@@ -1,9 +1,9 @@
 //! The book of a file's pages.
-ghost use Rattle.std.specs.Prelude.{◌≡◌, IfOk, OnOk, OnErr, replicate, slice_set, max, [], length};
+ghost use Rattle.std.specs.Prelude.{◌≡◌, ◌-◌, IfOk, OnOk, OnErr, replicate, slice_set, max, [], length};
 ghost use Rattle.freelist.specs.Book.{Takes, retired, committed, pinned, unpinned, undone, with_used};
 
 use crate::states::{PageState, PageStates};
-use crate::turns::{Change, Retirement, note, release, settle};
+use crate::turns::{Change, Retirement, note, release, remove_pin, settle};
 use std::alloc::{AllocError, Global};
 use std::marker::Model;
 
@@ -139,9 +139,7 @@ impl FreePages {
     pub fn unpin(&mut self, version: u64)
         ensures { self.new ≡ unpinned version self.old }
     {
-        if let Some(at) = self.pins.iter().position(|pin| *pin == version) {
-            let _pin = self.pins.remove(at);
-        }
+        remove_pin(&mut self.pins, version);
         release(&self.pins, &mut self.pages, &mut self.waiting);
     }
 

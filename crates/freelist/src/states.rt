@@ -1,6 +1,6 @@
 //! What each page of a file is.
 ghost use Rattle.std.specs.Prelude.{◌≡◌, ◌<◌, ◌^◌, IfOk, replicate, slice_set, List, length, max};
-ghost use Rattle.freelist.specs.Book.{is_in_use, least_free};
+ghost use Rattle.freelist.specs.Book.{is_in_use, is_free_state, least_free};
 
 use crate::book::NoMemory;
 use std::alloc::Global;
@@ -15,6 +15,14 @@ pub(crate) enum PageState {
     InUse,
     /// It was retired, and isn't free again yet.
     Retired,
+}
+
+impl PageState {
+    fn is_free(self) -> bool
+        ensures { result ≡ is_free_state self }
+    {
+        matches!(self, PageState::Free)
+    }
 }
 
 /// What each page below a file's limit is.
@@ -68,7 +76,7 @@ impl PageStates {
         ensures same { self.new ≡ self.old }
     {
         while self.start < self.list.len() {
-            if matches!(self.list[self.start], PageState::Free) {
+            if self.list[self.start].is_free() {
                 return Some(self.start as u32);
             }
             self.start += 1;

@@ -1,6 +1,6 @@
 //! What a turn takes and retires, and what becomes of the pages that it retired.
 ghost use Rattle.std.specs.Prelude.{◌≡◌, ◌+◌, ◌≤◌, ◌++◌, ◌∷◌, [], length, vec_capacity, OnOk, OnErr};
-ghost use Rattle.freelist.specs.Book.{is_pinned, kept, freed, retired_in};
+ghost use Rattle.freelist.specs.Book.{is_pinned, kept, freed, retired_in, without};
 
 use crate::book::NoMemory;
 use crate::states::{PageState, PageStates};
@@ -24,6 +24,18 @@ pub(crate) fn is_pinned(pins: &[u64], version: u64) -> bool
     ensures { result ≡ is_pinned pins.now version }
 {
     pins.iter().any(|pin| *pin <= version)
+}
+
+/// Takes one pin of a version away, if there is one.
+pub(crate) fn remove_pin(pins: &mut Vec<u64>, version: u64)
+    ensures { pins.new.items ≡ without version pins.old.items }
+{
+    'pins: for at in 0..pins.len() {
+        if pins[at] == version {
+            let _pin = pins.remove(at);
+            return;
+        }
+    }
 }
 
 /// Notes a change of the running turn, and makes the room that its commit needs.
