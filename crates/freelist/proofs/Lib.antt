@@ -1,2 +1,4 @@
+mod LeastLaws
 mod Searching
+mod SoundBooks
 mod Undoing

@@ -1,6 +1,6 @@
 -- The search for the least free page, and for a pin.
-use Rattle.std.proofs.Common.{◌≡◌, ◌<◌, ◌≤◌, ◌+◌, ◌-◌, ℕ, zero, suc, Bool, true, false, List, [], ◌∷◌, length, take, drop, sym, ap, subst, ◌∙◌, arith, Some, None, refl}
-use Rattle.std.specs.Prelude.{◌≢◌, ◌==◌, get_or, Option}
+use Rattle.std.proofs.Common.{◌≡◌, ◌<◌, ◌≤◌, ◌+◌, ◌-◌, ℕ, zero, suc, true, false, List, [], ◌∷◌, length, drop, sym, ap, ◌∙◌, arith, Some, None, refl}
+use Rattle.std.specs.Prelude.{◌≢◌, ◌==◌, get_or}
 use Rattle.std.specs.List.{remove}
 use Rattle.std.proofs.lemmas.Bool.Decides.{nat_tests}
 use Rattle.std.proofs.lemmas.List.{drop-drop, get_or-drop, drop_more, drop_all, length-drop}

@@ -1,5 +1,5 @@
 -- The book of a file's pages: what each page is, and what each call makes of it.
-use Rattle.std.specs.Prelude.{◌≡◌, ℕ, zero, suc, ◌+◌, ◌-◌, ◌<◌, ◌≤◌, ◌^◌, Bool, true, false, not, ◌&&◌, ◌==◌, nat_lt, nat_le, min, if◌then◌else◌, List, [], ◌∷◌, ◌++◌, length, take, drop, get_or, slice_set, Option, Some, None}
+use Rattle.std.specs.Prelude.{◌≡◌, ℕ, ◌+◌, ◌-◌, ◌<◌, ◌≤◌, ◌^◌, Bool, true, false, ◌&&◌, ◌==◌, nat_lt, nat_le, min, if◌then◌else◌, List, [], ◌∷◌, ◌++◌, length, take, drop, get_or, slice_set, replicate, Option, Some, None}
 use Rattle.std.specs.List.{filter, list_any}
 use Rattle.freelist.specs.declared.states.PageState.{PageState}
 use Rattle.freelist.specs.declared.states.PageState.TheVariants as states
@@ -150,6 +150,17 @@ undone mark b = record b {
 abbrev pub with_used : List ℕ → List PageState → List PageState
 with_used [] pages = pages
 with_used (page ∷ rest) pages = with_used rest (slice_set pages page states.InUse)
+
+-- the book of a file with so many pages below its limit, of which these are in use
+abbrev pub opened : List ℕ → ℕ → ℕ → Book
+opened in_use count version = record {
+  states = with_used in_use (replicate count states.Free);
+  waiting = [];
+  turn = [];
+  pins = [];
+  version = version;
+  full_takes = 0;
+}
 
 -- ---- what serves the prover alone
 

@@ -1,6 +1,6 @@
 //! The book of a file's pages.
-ghost use Rattle.std.specs.Prelude.{◌≡◌, ◌-◌, IfOk, OnOk, OnErr, replicate, slice_set, max, [], length};
-ghost use Rattle.freelist.specs.Book.{Takes, retired, committed, pinned, unpinned, undone, with_used};
+ghost use Rattle.std.specs.Prelude.{◌≡◌, ◌-◌, IfOk, OnOk, OnErr, max, length};
+ghost use Rattle.freelist.specs.Book.{Takes, retired, committed, pinned, unpinned, undone, opened};
 
 use crate::states::{PageState, PageStates};
 use crate::turns::{Change, Retirement, note, release, remove_pin, settle};
@@ -51,8 +51,6 @@ impl Model for FreePages {
 }
 
 impl FreePages {
-    ghost use Rattle.freelist.specs.declared.states.PageState.TheVariants as states;
-
     /// The book of a file with these pages in use, that was committed at this version. Pages below the limit may be
     /// taken, which is the greater of the most pages that the file may have and those that it has.
     pub fn open(
@@ -61,14 +59,7 @@ impl FreePages {
         limit: u32,
         version: u64,
     ) -> Result<FreePages, NoMemory>
-        ensures { IfOk result (λ book. book ≡ record {
-          states = with_used in_use.now (replicate (max limit 1) states.Free);
-          waiting = [];
-          turn = [];
-          pins = [];
-          version = version;
-          full_takes = 0;
-        }) }
+        ensures { IfOk result (λ book. book ≡ opened in_use.now (max limit 1) version) }
     {
         let mut pages = PageStates::new(alloc, limit)?;
         'pages: for page in in_use {

@@ -2,6 +2,7 @@
 #![tactic(auto)]
 
 mod book;
+pub mod laws;
 mod states;
 mod turns;
 

@@ -1,4 +1,4 @@
-use Rattle.std.proofs.Common.{rules, ◌≡◌}
+use Rattle.std.proofs.Common.{rules}
 use Rattle.std.proofs.lemmas.Fn.{filter_same}
 use Rattle.freelist.specs.Book.{is_pinned}
 use Rattle.freelist.specs.declared.turns.Retirement.{Retirement}

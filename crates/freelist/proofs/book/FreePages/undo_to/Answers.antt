@@ -1,6 +1,6 @@
-use Rattle.std.proofs.Common.{rules, ◌≡◌, ◌≤◌, ◌-◌, ◌∙◌, ap, length, arith}
+use Rattle.std.proofs.Common.{◌≡◌, ◌-◌, ◌∙◌, ap, length, arith}
 use Rattle.freelist.specs.Book.{Book, undone}
-use Rattle.freelist.proofs.Undoing.{undone-undone, undone_none}
+use Rattle.freelist.proofs.Undoing.{undone-undone}
 use Rattle.freelist.proofs.book.FreePages.undo_to.Goals as goal
 
 pub loop-mark-preserved : goal.loop-mark-preserved

@@ -1,4 +1,4 @@
-use Rattle.std.proofs.Common.{rules, ◌≡◌, ◌≤◌, ◌∙◌, sym, ap, length, arith, Bool, true, List}
+use Rattle.std.proofs.Common.{rules, ◌≡◌, ◌∙◌, sym, ap, true}
 use Rattle.freelist.specs.Book.{is_free_state, least_free}
 use Rattle.freelist.proofs.Searching.{least_here, least_none}
 use Rattle.freelist.proofs.states.PageStates.least_free.Goals as goal
