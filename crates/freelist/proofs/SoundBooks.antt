@@ -1,13 +1,15 @@
 -- What each call keeps of a sound book.
 use Rattle.std.proofs.Common.{◌≡◌, ◌<◌, ◌≤◌, ◌+◌, ℕ, zero, suc, Bool, true, false, List, [], ◌∷◌, ◌++◌, length, sym, ap, ◌∙◌, arith, refl, inl, inr, set, replicate}
-use Rattle.std.specs.Prelude.{◌≢◌, ◌==◌, ◌&&◌, get_or, not, nat_lt}
+use Rattle.std.specs.Prelude.{◌&&◌, get_or, not, nat_lt}
 use Rattle.std.specs.List.{list_all}
 use Rattle.std.proofs.lemmas.Bool.Decides.{nat_tests}
 use Rattle.std.proofs.lemmas.Bool.{cases_eq, cases_Bool}
-use Rattle.std.proofs.lemmas.List.{get_or-set_other, get_or-set_same, get_or_default, get_or_past}
+use Rattle.std.proofs.lemmas.List.{get_or-set_other, get_or-set_same, get_or_default, get_or_past, append-nil, append_assoc, take-append-drop}
 use Rattle.std.proofs.lemmas.List.Folds.{list_any-append, list_all-append}
 use Rattle.freelist.proofs.LeastLaws.{least_is_free}
-use Rattle.freelist.specs.Book.{Book, with_used, opened, is_free, is_in_use, is_free_state, is_used_state, is_pinned, retired_in, kept, freed, taken, retired, committed, without}
+use Rattle.std.proofs.Common.{subst, take, drop}
+use Rattle.freelist.proofs.Rewinding.{free_is, used_is, below, one_same, one_other, put_back, CanRewind-push, CanRewind-pop, untouched}
+use Rattle.freelist.specs.Book.{undo, rewind, undone, CanRewind, Book, with_used, opened, is_free, is_in_use, is_free_state, is_used_state, is_pinned, retired_in, kept, freed, taken, retired, committed, without}
 use Rattle.freelist.specs.Sound.{one_of, times, is_free_by_definition, retired_count, IsSound, StaysSound}
 use Rattle.freelist.specs.declared.states.PageState.{PageState}
 use Rattle.freelist.specs.declared.states.PageState.TheVariants as states
@@ -16,16 +18,6 @@ use Rattle.freelist.specs.declared.turns.Change.{Change}
 use Rattle.freelist.specs.declared.turns.Change.TheVariants as changes
 
 -- ---- what a page is
-
-pub free_is : (s : PageState) → is_free_state s ≡ true → s ≡ states.Free
-free_is states.Free h = refl
-free_is states.InUse h = absurd cc
-free_is states.Retired h = absurd cc
-
-pub used_is : (s : PageState) → is_used_state s ≡ true → s ≡ states.InUse
-used_is states.Free h = absurd cc
-used_is states.InUse h = refl
-used_is states.Retired h = absurd cc
 
 one_at_most : (s : PageState) → retired_count s ≤ 1
 one_at_most states.Free = omega arith
@@ -37,24 +29,7 @@ by_state states.Free = refl
 by_state states.InUse = refl
 by_state states.Retired = refl
 
--- a page of this state, which isn't the one past the end, is below the limit
-below : (pages : List PageState) (p : ℕ) (s : PageState) → get_or pages p states.Retired ≡ s → s ≢ states.Retired → p < length pages
-below [] p s is other = absurd (other (sym is))
-below (x ∷ pages) zero s is other = omega arith
-below (x ∷ pages) (suc p) s is other =
-    let later : p < length pages = below pages p s is other in omega (arith, later)
-
 -- ---- how often a page is listed
-
-one_same : (page : ℕ) (r : Retirement) → page ≡ r.page → one_of page r ≡ 1
-one_same page r same =
-    let so : (r.page == page) ≡ true = grind (arith, nat_tests) in
-    rw so refl
-
-one_other : (page : ℕ) (r : Retirement) → page ≢ r.page → one_of page r ≡ 0
-one_other page r other =
-    let not_so : (r.page == page) ≡ false = grind (arith, nat_tests) in
-    rw not_so refl
 
 pub times-append : (page : ℕ) (xs ys : List Retirement) → times page (xs ++ ys) ≡ times page xs + times page ys
 times-append page [] ys = omega arith
@@ -77,6 +52,17 @@ freed_page [] p = refl
 freed_page (x ∷ pages) zero = refl
 freed_page (x ∷ pages) (suc p) = freed_page pages p
 
+-- a page that was listed is freed, and is listed no more
+freed_listed : (r : Retirement) (rs : List Retirement) (others : ℕ → ℕ) (pages : List PageState)
+    → ((page : ℕ) → others page + times page (r ∷ rs) ≡ retired_count (get_or pages page states.Free))
+    → (k : ℕ) → others k + times k rs ≡ retired_count (get_or (set pages r.page states.Free) k states.Free)
+freed_listed r rs others pages h k = elim (cases_eq k r.page) [
+  | inl same ↦
+      let none : retired_count (get_or (set pages r.page states.Free) k states.Free) ≡ 0 = ap (λ (j : ℕ). retired_count (get_or (set pages r.page states.Free) j states.Free)) same ∙ ap retired_count (freed_page pages r.page) in
+      omega (arith, h k, one_same k r same, one_at_most (get_or pages k states.Free), none)
+  | inr other ↦ omega (arith, h k, one_other k r other, ap retired_count (get_or-set_other pages r.page k states.Free states.Free other))
+]
+
 pub settled : (pins : List ℕ) (rs : List Retirement) (others : ℕ → ℕ) (pages : List PageState)
     → ((page : ℕ) → others page + times page rs ≡ retired_count (get_or pages page states.Free))
     → (page : ℕ) → others page + times page (kept pins rs) ≡ retired_count (get_or (freed pins rs pages) page states.Free)
@@ -90,12 +76,30 @@ settled pins (r ∷ rs) others pages h page = elim (cases_Bool (is_pinned pins r
 ]
   where
     without_it : (k : ℕ) → others k + times k rs ≡ retired_count (get_or (set pages r.page states.Free) k states.Free)
-    without_it k = elim (cases_eq k r.page) [
-      | inl same ↦
-          let none : retired_count (get_or (set pages r.page states.Free) k states.Free) ≡ 0 = ap (λ (j : ℕ). retired_count (get_or (set pages r.page states.Free) j states.Free)) same ∙ ap retired_count (freed_page pages r.page) in
-          omega (arith, h k, one_same k r same, one_at_most (get_or pages k states.Free), none)
-      | inr other ↦ omega (arith, h k, one_other k r other, ap retired_count (get_or-set_other pages r.page k states.Free states.Free other))
-    ]
+    without_it = freed_listed r rs others pages h
+
+used_page : (pages : List PageState) (p : ℕ) → retired_count (get_or (set pages p states.InUse) p states.Free) ≡ 0
+used_page [] p = refl
+used_page (x ∷ pages) zero = refl
+used_page (x ∷ pages) (suc p) = used_page pages p
+
+retired_is : (s : PageState) → 1 ≤ retired_count s → s ≡ states.Retired
+retired_is states.Free h = absurd (omega (arith, h))
+retired_is states.InUse h = absurd (omega (arith, h))
+retired_is states.Retired h = refl
+
+-- what is freed while a turn runs is none of the turn's pages
+freed_undoable : (pins : List ℕ) (rs : List Retirement) (others : ℕ → ℕ) (turn : List Change) (pages : List PageState)
+    → ((page : ℕ) → (others page + times page (retired_in turn)) + times page rs ≡ retired_count (get_or pages page states.Free))
+    → CanRewind turn pages → CanRewind turn (freed pins rs pages)
+freed_undoable pins [] others turn pages h can = can
+freed_undoable pins (r ∷ rs) others turn pages h can = elim (cases_Bool (is_pinned pins r.version)) [
+  | inl so ↦ rw so (freed_undoable pins rs (λ k. others k + one_of k r) turn pages (λ k. omega (arith, h k)) can)
+  | inr not_so ↦ rw not_so (freed_undoable pins rs others turn (set pages r.page states.Free)
+      (freed_listed r rs (λ k. others k + times k (retired_in turn)) pages h)
+      (untouched turn pages r.page (retired_is (get_or pages r.page states.Free) (omega (arith, h r.page, one_same r.page r refl)))
+      (omega (arith, h r.page, one_same r.page r refl, one_at_most (get_or pages r.page states.Free))) can).can)
+]
 
 abbrev are_pinned : List ℕ → List Retirement → Bool
 are_pinned pins rs = list_all (λ r. is_pinned pins r.version) rs
@@ -126,7 +130,12 @@ more_pinned pins pin (r ∷ rs) h = elim (cases_Bool (is_pinned pins r.version))
 -- ---- each call
 
 taken_sound : (b : Book) (p : ℕ) → is_free_state (get_or b.states p states.Retired) ≡ true → IsSound b → IsSound (taken p b)
-taken_sound b p free sound = record { listed = listed; needed = sound.needed }
+taken_sound b p free sound = record {
+  listed = listed;
+  needed = sound.needed;
+  undoable = CanRewind-push b.turn (changes.Taken p) (set b.states p states.InUse) (get_or-set_same b.states p states.InUse states.Retired within)
+      (subst (CanRewind b.turn) (sym (put_back b.states p states.Free states.InUse was)) sound.undoable);
+}
   where
     was : get_or b.states p states.Retired ≡ states.Free
     was = free_is (get_or b.states p states.Retired) free
@@ -152,7 +161,12 @@ retired_sound b p v sound = elim (cases_Bool (is_in_use b.states p)) [
 ]
   where
     used : is_in_use b.states p ≡ true → IsSound (record b { states = set b.states p states.Retired; turn = b.turn ++ changes.Retired p v ∷ [] })
-    used so = record { listed = listed; needed = sound.needed }
+    used so = record {
+      listed = listed;
+      needed = sound.needed;
+      undoable = CanRewind-push b.turn (changes.Retired p v) (set b.states p states.Retired) (get_or-set_same b.states p states.Retired states.Free within)
+          (subst (CanRewind b.turn) (sym (put_back b.states p states.InUse states.Retired was)) sound.undoable);
+    }
       where
         was : get_or b.states p states.Retired ≡ states.InUse
         was = used_is (get_or b.states p states.Retired) so
@@ -175,22 +189,64 @@ committed_sound : (b : Book) (version : ℕ) → IsSound b → IsSound (committe
 committed_sound b version sound = record {
   listed = λ page. omega (arith, settled b.pins (retired_in b.turn) (λ k. times k b.waiting) b.states sound.listed page, times-append page b.waiting (kept b.pins (retired_in b.turn)));
   needed = list_all-append _ b.waiting (kept b.pins (retired_in b.turn)) ∙ rw sound.needed (kept_pinned b.pins (retired_in b.turn));
+  undoable = tt;
 }
 
 unpinned_sound : (b : Book) (pins : List ℕ) → IsSound b → IsSound (record b { states = freed pins b.waiting b.states; waiting = kept pins b.waiting; pins = pins })
 unpinned_sound b pins sound = record {
   listed = λ page. omega (arith, settled pins b.waiting (λ k. times k (retired_in b.turn)) b.states (λ k. omega (arith, sound.listed k)) page);
   needed = kept_pinned pins b.waiting;
+  undoable = freed_undoable pins b.waiting (λ _. 0) b.turn b.states (λ k. omega (arith, sound.listed k)) sound.undoable;
 }
+
+-- a change is taken back
+popped_sound : (b : Book) (front : List Change) (x : Change) (pages : List PageState) → IsSound (record b { states = pages; turn = front ++ x ∷ [] }) → IsSound (record b { states = undo x pages; turn = front })
+popped_sound b front (changes.Taken p) pages sound = record { listed = listed; needed = sound.needed; undoable = (CanRewind-pop front (changes.Taken p) pages sound.undoable).1 }
+  where
+    listed : (page : ℕ) → times page b.waiting + times page (retired_in front) ≡ retired_count (get_or (set pages p states.Free) page states.Free)
+    listed page =
+        let turn : times page (retired_in (front ++ changes.Taken p ∷ [])) ≡ times page (retired_in front) = ap (times page) (retired_in_taken front p) in
+        let was : get_or pages p states.Retired ≡ states.InUse = (CanRewind-pop front (changes.Taken p) pages sound.undoable).0 in
+        elim (cases_eq page p) [
+          | inl same ↦
+              let within : p < length pages = below pages p states.InUse was (λ e. cc) in
+              let now : retired_count (get_or (set pages p states.Free) page states.Free) ≡ 0 = ap (λ (k : ℕ). retired_count (get_or (set pages p states.Free) k states.Free)) same ∙ ap retired_count (freed_page pages p) in
+              let before : retired_count (get_or pages page states.Free) ≡ 0 = ap (λ (k : ℕ). retired_count (get_or pages k states.Free)) same ∙ ap retired_count (get_or_default pages p states.Free states.Retired within ∙ was) in
+              omega (arith, sound.listed page, turn, now, before)
+          | inr other ↦ omega (arith, sound.listed page, turn, ap retired_count (get_or-set_other pages p page states.Free states.Free other))
+        ]
+popped_sound b front (changes.Retired p v) pages sound = record { listed = listed; needed = sound.needed; undoable = (CanRewind-pop front (changes.Retired p v) pages sound.undoable).1 }
+  where
+    listed : (page : ℕ) → times page b.waiting + times page (retired_in front) ≡ retired_count (get_or (set pages p states.InUse) page states.Free)
+    listed page =
+        let turn : times page (retired_in (front ++ changes.Retired p v ∷ [])) ≡ times page (retired_in front) + (one_of page (record { page = p; version = v }) + 0) = ap (times page) (retired_in_retired front p v) ∙ times-append page (retired_in front) (record { page = p; version = v } ∷ []) in
+        let was : get_or pages p states.Free ≡ states.Retired = (CanRewind-pop front (changes.Retired p v) pages sound.undoable).0 in
+        elim (cases_eq page p) [
+          | inl same ↦
+              let now : retired_count (get_or (set pages p states.InUse) page states.Free) ≡ 0 = ap (λ (k : ℕ). retired_count (get_or (set pages p states.InUse) k states.Free)) same ∙ used_page pages p in
+              let before : retired_count (get_or pages page states.Free) ≡ 1 = ap (λ (k : ℕ). retired_count (get_or pages k states.Free)) same ∙ ap retired_count was in
+              omega (arith, sound.listed page, turn, now, before, one_same page (record { page = p; version = v }) same)
+          | inr other ↦ omega (arith, sound.listed page, turn, one_other page (record { page = p; version = v }) other, ap retired_count (get_or-set_other pages p page states.InUse states.Free other))
+        ]
+
+rewound_sound : (b : Book) (front later : List Change) (pages : List PageState) → IsSound (record b { states = pages; turn = front ++ later }) → IsSound (record b { states = rewind later pages; turn = front })
+rewound_sound b front [] pages sound = subst (λ (turn : List Change). IsSound (record b { states = pages; turn = turn })) (append-nil front) sound
+rewound_sound b front (x ∷ later) pages sound =
+    popped_sound b front x (rewind later pages)
+    (rewound_sound b (front ++ x ∷ []) later pages (subst (λ (turn : List Change). IsSound (record b { states = pages; turn = turn })) (sym (append_assoc front (x ∷ []) later)) sound))
+
+undone_sound : (b : Book) (mark : ℕ) → IsSound b → IsSound (undone mark b)
+undone_sound b mark sound = rewound_sound b (take mark b.turn) (drop mark b.turn) b.states (subst (λ (turn : List Change). IsSound (record b { turn = turn })) (sym (take-append-drop mark b.turn)) sound)
 
 pub stays_sound : (b : Book) → IsSound b → StaysSound b
 stays_sound b sound = record {
   taken = λ p e. taken_sound b p (least_is_free b.states p e) sound;
-  refused = record { listed = sound.listed; needed = sound.needed };
+  refused = record { listed = sound.listed; needed = sound.needed; undoable = sound.undoable };
   retired = λ p v. retired_sound b p v sound;
   committed = λ v. committed_sound b v sound;
-  pinned = λ v. record { listed = sound.listed; needed = more_pinned b.pins v b.waiting sound.needed };
+  pinned = λ v. record { listed = sound.listed; needed = more_pinned b.pins v b.waiting sound.needed; undoable = sound.undoable };
   unpinned = λ v. unpinned_sound b (without v b.pins) sound;
+  undone = λ mark. undone_sound b mark sound;
 }
 
 -- ---- opening
@@ -215,6 +271,7 @@ pub opens_sound : (in_use : List ℕ) (count version : ℕ) → IsSound (opened 
 opens_sound in_use count version = record {
   listed = λ page. omega (arith, with_used_listed in_use (replicate count states.Free) page (none_retired count page));
   needed = refl;
+  undoable = tt;
 }
 
 -- ---- the definition

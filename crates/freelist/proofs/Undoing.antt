@@ -4,19 +4,15 @@ use Rattle.std.proofs.lemmas.List.{drop-append-le, take-append-drop, take-take, 
 use Rattle.std.specs.Prelude.{get_or, Option, Some, None}
 use Rattle.std.proofs.Common.{set, inl, inr}
 use Rattle.std.proofs.lemmas.Bool.{cases_Bool}
-use Rattle.std.proofs.lemmas.List.{set-set, set-get_or, append-nil, append_assoc}
+use Rattle.std.proofs.lemmas.List.{append-nil, append_assoc}
 use Rattle.freelist.specs.Book.{Book, undo, rewind, undone, least_free, retired, is_in_use}
 use Rattle.freelist.specs.Undone.{Call, take as asks, retire, given, after}
 use Rattle.freelist.proofs.LeastLaws.{least_is_free}
-use Rattle.freelist.proofs.SoundBooks.{free_is, used_is}
+use Rattle.freelist.proofs.Rewinding.{free_is, used_is, rewind-append, put_back}
 use Rattle.freelist.specs.declared.states.PageState.TheVariants as states
 use Rattle.freelist.specs.declared.turns.Change.TheVariants as changes
 use Rattle.freelist.specs.declared.states.PageState.{PageState}
 use Rattle.freelist.specs.declared.turns.Change.{Change}
-
-pub rewind-append : (xs ys : List Change) (pages : List PageState) → rewind (xs ++ ys) pages ≡ rewind xs (rewind ys pages)
-rewind-append [] ys pages = refl
-rewind-append (x ∷ xs) ys pages = ap (undo x) (rewind-append xs ys pages)
 
 pub undone-undone : (m n : ℕ) (b : Book) → m ≤ n → n ≤ length b.turn → undone m (undone n b) ≡ undone m b
 undone-undone m n b less within =
@@ -39,10 +35,6 @@ record Follows (old new : Book) : Type 0 where
   waiting : new.waiting ≡ old.waiting
   pins : new.pins ≡ old.pins
   version : new.version ≡ old.version
-
--- a page was of this state, became another, and is of this state again
-put_back : (pages : List PageState) (p : ℕ) (was now : PageState) → get_or pages p states.Retired ≡ was → set (set pages p now) p was ≡ pages
-put_back pages p was now is = set-set pages p now was ∙ ap (set pages p) (sym is) ∙ set-get_or pages p states.Retired
 
 module _ (b c : Book) (f : Follows b c) where
   -- one change more

@@ -137,6 +137,15 @@ abbrev pub rewind : List Change → List PageState → List PageState
 rewind [] pages = pages
 rewind (change ∷ later) pages = undo change (rewind later pages)
 
+-- what a change made of its page is still there
+abbrev pub CanUndo : Change → List PageState → Type 0
+CanUndo (changes.Taken page) pages = get_or pages page states.Retired ≡ states.InUse
+CanUndo (changes.Retired page version) pages = get_or pages page states.Free ≡ states.Retired
+
+abbrev pub CanRewind : List Change → List PageState → Type 0
+CanRewind [] pages = Unit {0}
+CanRewind (change ∷ later) pages = CanUndo change (rewind later pages) × CanRewind later pages
+
 -- the book without the turn's changes but the first so many
 abbrev pub undone : ℕ → Book → Book
 undone mark b = record b {

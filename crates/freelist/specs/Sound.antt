@@ -2,7 +2,7 @@
 -- exactly by the definition, which asks no list of states.
 use Rattle.std.specs.Prelude.{◌≡◌, ℕ, ◌+◌, ◌<◌, Bool, true, false, not, ◌&&◌, ◌==◌, nat_lt, if◌then◌else◌, List, [], ◌∷◌, length, get_or, Some, None}
 use Rattle.std.specs.List.{list_all}
-use Rattle.freelist.specs.Book.{Book, opened, is_free, is_in_use, is_pinned, least_free, retired_in, kept, taken, refused, retired, committed, pinned, unpinned}
+use Rattle.freelist.specs.Book.{Book, opened, is_free, is_in_use, is_pinned, least_free, retired_in, kept, taken, refused, retired, committed, pinned, unpinned, undone, CanRewind}
 use Rattle.freelist.specs.declared.states.PageState.{PageState}
 use Rattle.freelist.specs.declared.states.PageState.TheVariants as states
 use Rattle.freelist.specs.declared.turns.Retirement.{Retirement}
@@ -37,6 +37,8 @@ pub record IsSound (b : Book) : Type 0 where
       ≡ retired_count (get_or b.states page states.Free)
   -- what waits from earlier turns waits for a pin
   pub needed : list_all (λ r. is_pinned b.pins r.version) b.waiting ≡ true
+  -- each page of the running turn is what the turn made it
+  pub undoable : CanRewind b.turn b.states
 
 -- ---- laws
 
@@ -67,6 +69,7 @@ pub record StaysSound (b : Book) : Type 0 where
   pub committed : (version : ℕ) → IsSound (committed version b)
   pub pinned : (version : ℕ) → IsSound (pinned version b)
   pub unpinned : (version : ℕ) → IsSound (unpinned version b)
+  pub undone : (mark : ℕ) → IsSound (undone mark b)
 
 abbrev pub CallsStaySound : Type 0
 CallsStaySound = (b : Book) → IsSound b → StaysSound b
