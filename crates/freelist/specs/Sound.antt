@@ -1,5 +1,5 @@
--- What holds of every book: each page that was retired and isn't free is listed once, with the version that keeps it. So a page is free
--- exactly by the definition, which asks no list of states.
+-- The definition of a free page, and what holds of every book: each page that was retired and isn't free yet is listed once, with its
+-- version. So the pages that may be taken are those that the definition calls free.
 use Rattle.std.specs.Prelude.{◌≡◌, ℕ, ◌+◌, ◌<◌, Bool, true, false, not, ◌&&◌, ◌==◌, nat_lt, if◌then◌else◌, List, [], ◌∷◌, length, get_or, Some, None}
 use Rattle.std.specs.List.{list_all}
 use Rattle.freelist.specs.Book.{Book, opened, is_free, is_in_use, is_pinned, least_free, retired_in, kept, taken, refused, retired, committed, pinned, unpinned, undone, CanRewind}

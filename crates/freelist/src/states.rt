@@ -18,6 +18,7 @@ pub(crate) enum PageState {
 }
 
 impl PageState {
+    /// Whether the page may be taken.
     fn is_free(self) -> bool
         ensures { result ≡ is_free_state self }
     {
