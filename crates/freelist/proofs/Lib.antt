@@ -1,0 +1,5 @@
+mod LeastLaws
+mod Rewinding
+mod Searching
+mod SoundBooks
+mod Undoing

@@ -1,0 +1,4 @@
+pub mod Book
+pub mod Coding
+pub mod Sound
+pub mod Undone

@@ -1,0 +1,179 @@
+//! The book of a file's pages.
+ghost use Rattle.std.specs.Prelude.{◌≡◌, ◌-◌, IfOk, OnOk, OnErr, max, length};
+ghost use Rattle.freelist.specs.Book.{Takes, retired, committed, pinned, unpinned, undone, opened};
+
+use crate::states::{PageState, PageStates};
+use crate::turns::{Change, Retirement, note, release, remove_pin, settle};
+use std::alloc::{AllocError, Global};
+use std::marker::Model;
+
+/// A growth of memory was refused. What was asked for didn't happen.
+pub type NoMemory = AllocError;
+
+/// How far the running turn has come: `undo_to` leads back to here, until the turn ends.
+#[derive(Clone, Copy, Debug, PartialEq, Eq)]
+pub struct Mark {
+    changes: usize,
+}
+
+/// The book of a file's pages: those in use, those that wait until no pinned version reaches them, and those that are
+/// free. It knows no tree: whoever copies pages says what it retires, and at which version.
+#[derive(Drop)]
+pub struct FreePages {
+    pages: PageStates,
+    waiting: Vec<Retirement>,
+    turn: Vec<Change>,
+    pins: Vec<u64>,
+    version: u64,
+    full_takes: u64,
+}
+
+impl Model for FreePages {
+    ghost use Rattle.std.specs.Prelude.{◌+◌, ◌≤◌, length, vec_capacity};
+    ghost use Rattle.freelist.specs.Book.{Book};
+    ghost use Rattle.freelist.specs.Coding.{book_code};
+
+    ghost Value = { Book };
+
+    ghost coded = { book_code };
+
+    ghost view = { λ a. record {
+      states = a.pages;
+      waiting = a.waiting.items;
+      turn = a.turn.items;
+      pins = a.pins.items;
+      version = a.version;
+      full_takes = a.full_takes;
+    } };
+
+    ghost invariant = { λ a.
+        length a.waiting.items + length a.turn.items ≤ vec_capacity a.waiting };
+}
+
+impl FreePages {
+    /// The book of a file with these pages in use, that was committed at this version. Pages below the limit may be
+    /// taken, which is the greater of the most pages that the file may have and those that it has.
+    pub fn open(
+        alloc: Global,
+        in_use: &[u32],
+        limit: u32,
+        version: u64,
+    ) -> Result<FreePages, NoMemory>
+        ensures { IfOk result (λ book. book ≡ opened in_use.now (max limit 1) version) }
+    {
+        let mut pages = PageStates::new(alloc, limit)?;
+        'pages: for page in in_use {
+            pages.set(*page, PageState::InUse);
+        }
+        Ok(FreePages {
+            pages,
+            waiting: Vec::new(alloc),
+            turn: Vec::new(alloc),
+            pins: Vec::new(alloc),
+            version,
+            full_takes: 0,
+        })
+    }
+
+    /// Takes the least free page; `None` where no page is free, which is counted. An `Err` leaves all as it was.
+    pub fn take(&mut self) -> Result<Option<u32>, NoMemory>
+        ensures takes { IfOk result (λ found. Takes found self.old self.new) }
+        ensures err { OnErr result (self.new ≡ self.old) }
+    {
+        let Some(page) = self.pages.least_free() else {
+            self.full_takes = self.full_takes.saturating_add(1);
+            return Ok(None);
+        };
+        note(&mut self.turn, &mut self.waiting, Change::Taken { page })?;
+        self.pages.set(page, PageState::InUse);
+        Ok(Some(page))
+    }
+
+    /// Retires a page that is in use: versions up to this one reach it. A page that isn't in use stays what it is. An
+    /// `Err` leaves all as it was.
+    pub fn retire(&mut self, page: u32, version: u64) -> Result<(), NoMemory>
+        ensures retired { OnOk result (self.new ≡ retired page version self.old) }
+        ensures err { OnErr result (self.new ≡ self.old) }
+    {
+        if !self.pages.is_in_use(page) {
+            return Ok(());
+        }
+        note(
+            &mut self.turn,
+            &mut self.waiting,
+            Change::Retired { page, version },
+        )?;
+        self.pages.set(page, PageState::Retired);
+        Ok(())
+    }
+
+    /// Ends the turn. What it retired is free, but for pages that a pin keeps, which wait.
+    pub fn commit(&mut self, version: u64)
+        ensures { self.new ≡ committed version self.old }
+    {
+        settle(&self.turn, &self.pins, &mut self.pages, &mut self.waiting);
+        self.turn.clear();
+        self.version = version;
+    }
+
+    /// Pins a version: pages that were retired at it or later aren't free before it is unpinned. An `Err` leaves all
+    /// as it was.
+    pub fn pin(&mut self, version: u64) -> Result<(), NoMemory>
+        ensures pinned { OnOk result (self.new ≡ pinned version self.old) }
+        ensures err { OnErr result (self.new ≡ self.old) }
+    {
+        self.pins.push(version)?;
+        Ok(())
+    }
+
+    /// Takes one pin of a version away, and frees the pages that waited for it alone.
+    pub fn unpin(&mut self, version: u64)
+        ensures { self.new ≡ unpinned version self.old }
+    {
+        remove_pin(&mut self.pins, version);
+        release(&self.pins, &mut self.pages, &mut self.waiting);
+    }
+
+    /// How far the running turn has come.
+    pub fn mark(&self) -> Mark
+        ensures { result.changes ≡ length self.now.turn }
+    {
+        Mark {
+            changes: self.turn.len(),
+        }
+    }
+
+    /// Takes back what the turn took and retired since a mark of it. Pins stay.
+    pub fn undo_to(&mut self, mark: Mark)
+        ensures { self.new ≡ undone mark.changes self.old }
+    {
+        while mark.changes < self.turn.len() {
+            self.undo_last();
+        }
+    }
+
+    /// Takes back the last change.
+    fn undo_last(&mut self)
+        ensures { self.new ≡ undone (length self.old.turn - 1) self.old }
+    {
+        match self.turn.pop() {
+            Some(Change::Taken { page }) => self.pages.set(page, PageState::Free),
+            Some(Change::Retired { page, version: _ }) => self.pages.set(page, PageState::InUse),
+            None => {}
+        }
+    }
+
+    /// The version that was committed last.
+    pub fn version(&self) -> u64
+        ensures { result ≡ self.now.version }
+    {
+        self.version
+    }
+
+    /// How often a page was asked for and none was free. At its greatest value it stays.
+    pub fn full_takes(&self) -> u64
+        ensures { result ≡ self.now.full_takes }
+    {
+        self.full_takes
+    }
+}
