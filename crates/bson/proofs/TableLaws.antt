@@ -83,11 +83,11 @@ not_found table name (Err i) h found e = none_at (bytes_eq name) (lent table) (�
 pub others_start : (others names : List Name) → AreOthers 0 others names
 others_start others names earlier name later e lt = absurd (omega arith)
 
-cons_is : (x y : Name) (xs ys : List Name) → x ∷ xs ≡ y ∷ ys → x ≡ y
+pub cons_is : (x y : Name) (xs ys : List Name) → x ∷ xs ≡ y ∷ ys → x ≡ y
 cons_is x y xs ys e = cc
 
 -- the name at a place
-at_place : (names earlier later : List Name) (name : Name) (n : ℕ) → names ≡ earlier ++ name ∷ later → length earlier ≡ n → drop n names ≡ name ∷ later
+pub at_place : (names earlier later : List Name) (name : Name) (n : ℕ) → names ≡ earlier ++ name ∷ later → length earlier ≡ n → drop n names ≡ name ∷ later
 at_place names earlier later name n e at = ap (drop n) e ∙ ap (λ (m : ℕ). drop m (earlier ++ name ∷ later)) (sym at) ∙ drop-append_seam earlier (name ∷ later)
 
 pub others_more : (others names rest : List Name) (n : ℕ) (next : Name) → AreOthers n others names → drop n names ≡ next ∷ rest → stands_in others next ≡ false → AreOthers (n + 1) others names
@@ -164,7 +164,7 @@ equal_turned orders.Greater = refl
 drop_front : (xs ys : List Name) (n : ℕ) → length xs ≡ n → drop n (xs ++ ys) ≡ ys
 drop_front xs ys n e = ap (λ (m : ℕ). drop m (xs ++ ys)) (sym e) ∙ drop-append_seam xs ys
 
-take_front : (xs ys : List Name) (n : ℕ) → length xs ≡ n → take n (xs ++ ys) ≡ xs
+pub take_front : (xs ys : List Name) (n : ℕ) → length xs ≡ n → take n (xs ++ ys) ≡ xs
 take_front xs ys n e = ap (λ (m : ℕ). take m (xs ++ ys)) (sym e) ∙ take-append_seam xs ys
 
 -- a name that stands in the first of two lists
