@@ -34,6 +34,7 @@ pub use distinct::{NamedParts, count_distinct};
 pub use fault::{BsonFault, BuildFault, EncodeFault, NoMemory};
 pub use frames::read_name;
 pub use kind::Kind;
+pub use names::Names;
 pub use object_id::ObjectId;
 pub use raw::{RawDoc, RawValue};
 pub use reading::{decode, decode_inner};
