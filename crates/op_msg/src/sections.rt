@@ -106,7 +106,7 @@ pub(crate) fn read_section(bytes: &[u8]) -> Result<(Section<'_>, &[u8]), FrameFa
 }
 
 /// The names of sections of kind 1.
-struct SequenceNames;
+pub(crate) struct SequenceNames;
 
 impl NamedParts for SequenceNames {
     ghost use Rattle.op_msg.specs.Frame.{sections_in, names_of};
