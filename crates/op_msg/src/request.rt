@@ -117,8 +117,8 @@ fn add_section<'a>(
 ) -> Result<(), BsonFault>
     requires { HasName (section_of section) }
     ensures does { (ps : Pairs) → IsJoining ps names.old added.old.items
-        → Does BsonFault.Memory result (joined ps added.new.items)
-        (with_sequences (joined ps added.old.items) (sequences_of (section_of section.entry ∷ []))) }
+        → Does BsonFault.Memory result (joined ps added.new.items) (with_sequences
+        (joined ps added.old.items) (sequences_of (section_of section.entry ∷ []))) }
     ensures joining { OnOk result ((ps : Pairs) → IsJoining ps names.old added.old.items
         → IsJoining ps names.new added.new.items) }
 {
@@ -148,13 +148,11 @@ fn read_added(alloc: Global, fields: &[Pair], sections: &[u8]) -> Result<Vec<Pai
 }
 
 /// The document of these fields and of those behind them.
-fn join_fields(fields: Vec<Pair>, added: Vec<Pair>) -> Result<Document, BsonFault>
+fn join_fields(mut fields: Vec<Pair>, mut added: Vec<Pair>) -> Result<Document, BsonFault>
     requires { IsDocument (joined (pairs_of fields.items) added.items) }
     ensures joined { IfOk result (λ d. d ≡ joined (pairs_of fields.items) added.items) }
     ensures memory { OnErr result (result ≡ Err BsonFault.Memory) }
 {
-    let mut fields = fields;
-    let mut added = added;
     match fields.append(&mut added) {
         Ok(()) => Ok(Document::from_pairs(fields)),
         Err(_) => Err(BsonFault::Memory),

@@ -146,7 +146,8 @@ fn has_name(bytes: &[u8], most: usize, name: &[u8]) -> bool
 
 /// Whether a name is one of the first so many, which are looked at where it isn't known to be new.
 fn is_repeated(is_new: bool, bytes: &[u8], earlier: usize, name: &[u8]) -> bool
-    requires { is_new ≡ true → stands_in (take earlier (names_of (sections_in bytes.now).0)) name.now ≡ false }
+    requires { is_new ≡ true
+        → stands_in (take earlier (names_of (sections_in bytes.now).0)) name.now ≡ false }
     ensures { result ≡ stands_in (take earlier (names_of (sections_in bytes.now).0)) name.now }
 {
     if is_new {
