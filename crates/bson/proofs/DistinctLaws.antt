@@ -1,5 +1,5 @@
 -- Names as they stand in elements: one more, those of pairs that are spelled, and names that ascend.
-use Rattle.std.proofs.Common.{◌≡◌, ◌≢◌, ◌⊎◌, ℕ, zero, suc, ◌+◌, ◌^◌, ◌<◌, ◌≤◌, Bool, true, false, not, ◌||◌, Option, Some, None, List, [], ◌∷◌, ◌++◌, length, take, drop, Result, Ok, Err, refl, sym, ap, subst, ◌∙◌, append_assoc, arith, inl, inr}
+use Rattle.std.proofs.Common.{◌≡◌, ◌≢◌, ◌⊎◌, ℕ, zero, suc, ◌+◌, ◌^◌, ◌<◌, ◌≤◌, Bool, true, false, not, ◌||◌, Option, Some, None, List, [], ◌∷◌, ◌++◌, length, take, drop, Result, Ok, Err, refl, sym, ap, subst, ◌∙◌, append_assoc, Bor, option_map, MatchOption, arith, inl, inr}
 use Rattle.std.specs.Prelude.{IsTrue, nat_lt, nat_le, if◌then◌else◌}
 use Rattle.std.specs.Str.{bytes_eq, is_utf8}
 use Rattle.std.specs.Ordering.{nat_cmp, is_le, ordering_reverse}
@@ -102,17 +102,17 @@ above_all (n ∷ ns) last name h lt = rw (bytes_eq-ne name n differ, above_all n
     differ : name ≢ n
     differ e = let both : orders.Less ≡ orders.Equal = sym below ∙ ap (λ (m : List ℕ). before m name) (sym e) ∙ le_self name in absurd cc
 
--- the names of the elements up to the rest, in ascending order
-pub record Ascending (count : ℕ) (last rest elements : List ℕ) : Type 0 where
+-- the names up to the rest, in ascending order
+pub record Ascending (names : List ℕ → List (List ℕ)) (count : ℕ) (last rest elements : List ℕ) : Type 0 where
   pub front : List (List ℕ)
-  pub parts : names_in elements ≡ front ++ names_in rest
+  pub parts : names elements ≡ front ++ names rest
   pub counted : length front ≡ count
   pub below : AreUpTo front last
   pub new : (later : List (List ℕ)) → AreNew count (front ++ later)
   pub within : count + length rest ≤ length elements
 
-pub ascending_start : (elements : List ℕ) → Ascending 0 [] elements elements
-ascending_start elements = record { front = []; parts = refl; counted = refl; below = tt; new = λ later earlier name others e lt. absurd (omega arith); within = omega arith }
+pub ascending_start : (names : List ℕ → List (List ℕ)) (elements : List ℕ) → Ascending names 0 [] elements elements
+ascending_start names elements = record { front = []; parts = refl; counted = refl; below = tt; new = λ later earlier name others e lt. absurd (omega arith); within = omega arith }
 
 append_front : (xs ys zs ws : List (List ℕ)) → length xs ≡ length zs → xs ++ ys ≡ zs ++ ws → (xs ≡ zs) × (ys ≡ ws)
 append_front [] ys [] ws len e = (refl, e)
@@ -138,16 +138,15 @@ new_more count front name counted new fresh later earlier n others e lt = by (ca
         let one : n ≡ name = let f = parts.1 in cc in
         (λ i. stands_in (parts.0 i) (one i)) ∙ fresh
 
-pub ascending_more : (count : ℕ) (last rest elements name after : List ℕ) → Ascending count last rest elements → next_name rest ≡ Some (name, after) → (count ≡ 0) ⊎ (before last name ≡ orders.Less) → Ascending (count + 1) name after elements
-ascending_more count last rest elements name after a found above =
-    let lt = next_shorter rest (name, after) found in
+pub ascending_more : (names : List ℕ → List (List ℕ)) (count : ℕ) (last rest elements name after : List ℕ) → Ascending names count last rest elements → (names rest ≡ name ∷ names after) × (length after < length rest) → (count ≡ 0) ⊎ (before last name ≡ orders.Less) → Ascending names (count + 1) name after elements
+ascending_more names count last rest elements name after a found above =
     record {
       front = a.front ++ name ∷ [];
-      parts = a.parts ∙ ap (λ (ns : List (List ℕ)). a.front ++ ns) (names_more rest (name, after) found) ∙ sym (append_assoc a.front (name ∷ []) (names_in after));
+      parts = a.parts ∙ ap (λ (ns : List (List ℕ)). a.front ++ ns) found.0 ∙ sym (append_assoc a.front (name ∷ []) (names after));
       counted = length-append a.front (name ∷ []) ∙ omega (arith, a.counted);
       below = up above;
       new = new_more count a.front name a.counted a.new (fresh above);
-      within = omega (arith, a.within, lt);
+      within = omega (arith, a.within, found.1);
     }
   where
     none : count ≡ 0 → a.front ≡ []
@@ -161,12 +160,12 @@ ascending_more count last rest elements name after a found above =
     fresh (inl zero_count) = ap (λ (ns : List (List ℕ)). stands_in ns name) (none zero_count)
     fresh (inr lt) = above_all a.front last name a.below lt
 
-pub ascending_new : (count : ℕ) (last rest elements : List ℕ) → Ascending count last rest elements → AreNew count (names_in elements)
-ascending_new count last rest elements a = subst (AreNew count) (sym a.parts) (a.new (names_in rest))
+pub ascending_new : (names : List ℕ → List (List ℕ)) (count : ℕ) (last rest elements : List ℕ) → Ascending names count last rest elements → AreNew count (names elements)
+ascending_new names count last rest elements a = subst (AreNew count) (sym a.parts) (a.new (names rest))
 
-pub ascending_next : (count : ℕ) (last rest elements name after : List ℕ) (above first : Bool) → Ascending count last rest elements → Some (name, after) ≡ next_name rest → above ≡ true
-    → (above ≡ true → (first ≡ true) ⊎ (before last name ≡ orders.Less)) → (first ≡ true → count ≡ 0) → Ascending (count + 1) name after elements
-ascending_next count last rest elements name after above first a found is means none = ascending_more count last rest elements name after a (sym found) (by (means is))
+pub ascending_next : (names : List ℕ → List (List ℕ)) (count : ℕ) (last rest elements name after : List ℕ) (above first : Bool) → Ascending names count last rest elements → (names rest ≡ name ∷ names after) × (length after < length rest) → above ≡ true
+    → (above ≡ true → (first ≡ true) ⊎ (before last name ≡ orders.Less)) → (first ≡ true → count ≡ 0) → Ascending names (count + 1) name after elements
+ascending_next names count last rest elements name after above first a found is means none = ascending_more names count last rest elements name after a found (by (means is))
   where
     by : (first ≡ true) ⊎ (before last name ≡ orders.Less) → (count ≡ 0) ⊎ (before last name ≡ orders.Less)
     by (inl e) = inl (none e)
@@ -257,3 +256,15 @@ no_name (type ∷ bytes) name e = ap (λ (o : Option Named). stands_in (name_and
 
 pub after_shorter : (bytes other after : List ℕ) → Some (other, after) ≡ next_name bytes → length after < length bytes
 after_shorter bytes other after e = next_shorter bytes (other, after) (sym e)
+
+-- no names are left
+none_left : (bytes : List ℕ) → None ≡ next_name bytes → names_in bytes ≡ []
+unfolding names_by
+none_left [] e = refl
+none_left (type ∷ bytes) e = ap (name_and (names_by (length bytes))) (sym e)
+
+-- what splitting off a name gives, as the loops take it
+pub name_split : (found : Option (Bor (List ℕ) × Bor (List ℕ))) (bytes : List ℕ) → option_map (λ x. (x.0.now, x.1.now)) found ≡ next_name bytes
+    → MatchOption found (names_in bytes ≡ []) (λ x. (names_in bytes ≡ x.0.now ∷ names_in x.1.now) × (length x.1.now < length bytes))
+name_split None bytes e = none_left bytes e
+name_split (Some x) bytes e = (names_more bytes (x.0.now, x.1.now) (sym e), next_shorter bytes (x.0.now, x.1.now) (sym e))

@@ -57,3 +57,19 @@ names_insert few keys new k names other e same =
     list_any-append (bytes_eq other) few (texts new) ∙ ap (λ (ks : List (Bor (List ℕ))). stands_in few other || stands_in (texts ks) other) e
     ∙ ap (λ (b : Bool). stands_in few other || b) (set_insert keys k other) ∙ or_swap (stands_in few other) (bytes_eq other k.now) (stands_in (texts keys) other)
     ∙ ap (λ (b : Bool). bytes_eq other k.now || b) (sym (list_any-append (bytes_eq other) few (texts keys)) ∙ ap (λ (ns : List (List ℕ)). stands_in ns other) same)
+
+-- a name that stands among them already adds nothing
+stood : (names : List (List ℕ)) (name other : List ℕ) → stands_in names name ≡ true → stands_in names other ≡ (bytes_eq other name || stands_in names other)
+stood names name other e = by (bytes_eq other name) refl
+  where
+    by : (b : Bool) → bytes_eq other name ≡ b → stands_in names other ≡ (b || stands_in names other)
+    by true is = ap (stands_in names) ((bytes_eq-Decides other name).0 is) ∙ e
+    by false is = refl
+
+first_true : (a b : Bool) → a ≡ true → (a || b) ≡ true
+first_true true b e = refl
+first_true false b e = absurd cc
+
+pub names_stay : (few : List (List ℕ)) (keys : List (Bor (List ℕ))) (names : List (List ℕ)) (name other : List ℕ) → stands_in few name ≡ true → few ++ texts keys ≡ names → stands_in names other ≡ (bytes_eq other name || stands_in names other)
+names_stay few keys names name other e same =
+    stood names name other (ap (λ (ns : List (List ℕ)). stands_in ns name) (sym same) ∙ list_any-append (bytes_eq name) few (texts keys) ∙ first_true (stands_in few name) (stands_in (texts keys) name) e)

@@ -1,5 +1,5 @@
 -- Names that are compared by sorting some of them in a table.
-use Rattle.std.proofs.Common.{◌≡◌, ◌⊎◌, ℕ, suc, ◌+◌, ◌-◌, ◌<◌, ◌≤◌, Bool, false, not, ◌||◌, ◌==◌, Option, Some, None, List, [], ◌∷◌, ◌++◌, length, map, take, drop, get_or, set, IfSome, Result, Ok, Err, Bor, refl, sym, ap, subst, ◌∙◌, append_assoc, arith, inl, inr}
+use Rattle.std.proofs.Common.{◌≡◌, ◌⊎◌, ℕ, suc, ◌+◌, ◌-◌, ◌<◌, ◌≤◌, Bool, false, not, ◌||◌, ◌==◌, Option, Some, List, [], ◌∷◌, ◌++◌, length, map, take, drop, get_or, set, IfSome, Result, Ok, Err, Bor, refl, sym, ap, subst, ◌∙◌, append_assoc, arith, inl, inr}
 use Rattle.std.specs.Result.{is_ok}
 use Rattle.std.specs.Str.{bytes_eq}
 use Rattle.std.specs.List.{list_any, IsDistinct, AllByRecursion}
@@ -17,8 +17,7 @@ use Rattle.std.proofs.lemmas.List.Sorted.{searchable_from_sorted, list_any-IsPer
 use Rattle.std.proofs.lemmas.Map.Keys.{Less-from_sorted, sorted_from_all_adjacent, IsDistinct-from_sorted, IsDistinct-IsPermutation, IsDistinct-head, IsDistinct-tail}
 use Rattle.std.proofs.lemmas.Map.Text.{is_eq-slice_cmp}
 use Rattle.bson.specs.Reading.{stands_in}
-use Rattle.bson.specs.RawNames.{next_name, name_and, names_by, names_in, AreNew, AreOthers, AreApart}
-use Rattle.bson.proofs.DistinctLaws.{names_more}
+use Rattle.bson.specs.RawNames.{AreNew, AreOthers, AreApart}
 
 abbrev Name : Type 0
 Name = List ℕ
@@ -84,11 +83,11 @@ not_found table name (Err i) h found e = none_at (bytes_eq name) (lent table) (�
 pub others_start : (others names : List Name) → AreOthers 0 others names
 others_start others names earlier name later e lt = absurd (omega arith)
 
-cons_is : (x y : Name) (xs ys : List Name) → x ∷ xs ≡ y ∷ ys → x ≡ y
+pub cons_is : (x y : Name) (xs ys : List Name) → x ∷ xs ≡ y ∷ ys → x ≡ y
 cons_is x y xs ys e = cc
 
 -- the name at a place
-at_place : (names earlier later : List Name) (name : Name) (n : ℕ) → names ≡ earlier ++ name ∷ later → length earlier ≡ n → drop n names ≡ name ∷ later
+pub at_place : (names earlier later : List Name) (name : Name) (n : ℕ) → names ≡ earlier ++ name ∷ later → length earlier ≡ n → drop n names ≡ name ∷ later
 at_place names earlier later name n e at = ap (drop n) e ∙ ap (λ (m : ℕ). drop m (earlier ++ name ∷ later)) (sym at) ∙ drop-append_seam earlier (name ∷ later)
 
 pub others_more : (others names rest : List Name) (n : ℕ) (next : Name) → AreOthers n others names → drop n names ≡ next ∷ rest → stands_in others next ≡ false → AreOthers (n + 1) others names
@@ -99,12 +98,6 @@ others_more others names rest n next h found fresh earlier name later e lt = by 
     by (inr same) =
         let one = cons_is name next later rest (sym (at_place names earlier later name n e (omega arith)) ∙ found) in
         ap (stands_in others) one ∙ fresh
-
--- no names are left
-pub none_left : (bytes : List ℕ) → None ≡ next_name bytes → names_in bytes ≡ []
-unfolding names_by
-none_left [] e = refl
-none_left (type ∷ bytes) e = ap (name_and (names_by (length bytes))) (sym e)
 
 within_names : (names earlier later : List Name) (name : Name) (n : ℕ) → names ≡ earlier ++ name ∷ later → drop n names ≡ [] → length earlier < n
 within_names names earlier later name n e none = omega (arith, ap length e, length-append earlier (name ∷ later), ap length none, length-drop n names)
@@ -171,7 +164,7 @@ equal_turned orders.Greater = refl
 drop_front : (xs ys : List Name) (n : ℕ) → length xs ≡ n → drop n (xs ++ ys) ≡ ys
 drop_front xs ys n e = ap (λ (m : ℕ). drop m (xs ++ ys)) (sym e) ∙ drop-append_seam xs ys
 
-take_front : (xs ys : List Name) (n : ℕ) → length xs ≡ n → take n (xs ++ ys) ≡ xs
+pub take_front : (xs ys : List Name) (n : ℕ) → length xs ≡ n → take n (xs ++ ys) ≡ xs
 take_front xs ys n e = ap (λ (m : ℕ). take m (xs ++ ys)) (sym e) ∙ take-append_seam xs ys
 
 -- a name that stands in the first of two lists
@@ -209,10 +202,10 @@ table_apart count others names behind old sorted whole counted moved rising apar
 
 -- ---- filling a table
 
-pub filled_more : (table : List Lent) (slot : Lent) (n : ℕ) (elements rest after : List ℕ) → n < length table → names_in elements ≡ lent (take n table) ++ names_in rest → Some (slot.now, after) ≡ next_name rest → names_in elements ≡ lent (take (n + 1) (set table n slot)) ++ names_in after
-filled_more table slot n elements rest after lt whole found =
-    whole ∙ ap (λ (ns : List Name). lent (take n table) ++ ns) (names_more rest (slot.now, after) (sym found)) ∙ sym (append_assoc (lent (take n table)) (slot.now ∷ []) (names_in after))
-    ∙ ap (λ (ns : List Name). ns ++ names_in after) (sym (map-append (λ (b : Lent). b.now) (take n table) (slot ∷ [])) ∙ ap lent (sym (take_more_set table n slot lt)))
+pub filled_more : (table : List Lent) (slot : Lent) (n : ℕ) (all left later : List Name) → n < length table → all ≡ lent (take n table) ++ left → left ≡ slot.now ∷ later → all ≡ lent (take (n + 1) (set table n slot)) ++ later
+filled_more table slot n all left later lt whole found =
+    whole ∙ ap (λ (ns : List Name). lent (take n table) ++ ns) found ∙ sym (append_assoc (lent (take n table)) (slot.now ∷ []) later)
+    ∙ ap (λ (ns : List Name). ns ++ later) (sym (map-append (λ (b : Lent). b.now) (take n table) (slot ∷ [])) ∙ ap lent (sym (take_more_set table n slot lt)))
 
 pub rising_more : (table : List Lent) (n : ℕ) (d e : Lent) → 0 < n → n < length table → before (get_or table (n - 1) d).now (get_or table n e).now ≡ orders.Less
     → ((k : ℕ) → k + 1 < n → before (get_or (lent table) k []) (get_or (lent table) (k + 1) []) ≡ orders.Less) → (k : ℕ) → k + 1 < n + 1 → before (get_or (lent table) k []) (get_or (lent table) (k + 1) []) ≡ orders.Less
@@ -231,11 +224,10 @@ pub rising : (table : List Lent) → ((k : ℕ) → k + 1 < length table → bef
 rising table all = sorted_from_all_adjacent nat_list_cmp_total (lent table) [] (λ k lt. all k (omega (arith, lent_len table)))
 
 -- the names behind the next one
-pub behind_next : (elements rest : List ℕ) (name : Name) (after : List ℕ) (n : ℕ) → names_in rest ≡ drop n (names_in elements) → Some (name, after) ≡ next_name rest → (drop n (names_in elements) ≡ name ∷ names_in after) × (names_in after ≡ drop (n + 1) (names_in elements))
-behind_next elements rest name after n behind found =
-    let more = names_more rest (name, after) (sym found) in
-    let here = sym behind ∙ more in
-    (here, sym (ap (drop 1) here) ∙ drop-drop 1 n (names_in elements))
+pub behind_next : (all left later : List Name) (name : Name) (n : ℕ) → left ≡ drop n all → left ≡ name ∷ later → (drop n all ≡ name ∷ later) × (later ≡ drop (n + 1) all)
+behind_next all left later name n behind found =
+    let here = sym behind ∙ found in
+    (here, sym (ap (drop 1) here) ∙ drop-drop 1 n all)
 
 pub only_less : (o : Ordering) → not (ordering_index o == 0) ≡ false → o ≡ orders.Less
 only_less orders.Less e = refl
@@ -243,13 +235,13 @@ only_less orders.Equal e = absurd cc
 only_less orders.Greater e = absurd cc
 
 -- the names of one table more
-pub apart_next : (done limit count others most : ℕ) (elements rest : List ℕ) (after : Lent) (found : Option (ℕ × Lent)) → AreApart done limit (names_in elements) → names_in rest ≡ drop done (names_in elements) → found ≡ Some (others, after)
-    → IfSome found (λ (x : ℕ × Lent). (x.0 ≤ most) × AreApart count (count + x.0) (names_in rest)) → IfSome found (λ (x : ℕ × Lent). (count + length x.1.now ≤ length rest) × (names_in x.1.now ≡ drop count (names_in rest)))
-    → done + count + most ≤ limit → AreApart (done + count) (done + count + others) (names_in elements) × (names_in after.now ≡ drop (done + count) (names_in elements)) × (count + length after.now ≤ length rest)
-apart_next done limit count others most elements rest after found first behind is next later le =
-    let n = subst (λ (o : Option (ℕ × Lent)). IfSome o (λ (x : ℕ × Lent). (x.0 ≤ most) × AreApart count (count + x.0) (names_in rest))) is next in
-    let l = subst (λ (o : Option (ℕ × Lent)). IfSome o (λ (x : ℕ × Lent). (count + length x.1.now ≤ length rest) × (names_in x.1.now ≡ drop count (names_in rest)))) is later in (
-      apart_more done limit count others (names_in elements) first (subst (AreApart count (count + others)) behind n.1) (omega (arith, n.0, le)),
-      l.1 ∙ ap (drop count) behind ∙ drop-drop count done (names_in elements),
+pub apart_next : (names : List ℕ → List Name) (done limit count others most : ℕ) (elements rest : List ℕ) (after : Lent) (found : Option (ℕ × Lent)) → AreApart done limit (names elements) → names rest ≡ drop done (names elements) → found ≡ Some (others, after)
+    → IfSome found (λ (x : ℕ × Lent). (x.0 ≤ most) × AreApart count (count + x.0) (names rest)) → IfSome found (λ (x : ℕ × Lent). (count + length x.1.now ≤ length rest) × (names x.1.now ≡ drop count (names rest)))
+    → done + count + most ≤ limit → AreApart (done + count) (done + count + others) (names elements) × (names after.now ≡ drop (done + count) (names elements)) × (count + length after.now ≤ length rest)
+apart_next names done limit count others most elements rest after found first behind is next later le =
+    let n = subst (λ (o : Option (ℕ × Lent)). IfSome o (λ (x : ℕ × Lent). (x.0 ≤ most) × AreApart count (count + x.0) (names rest))) is next in
+    let l = subst (λ (o : Option (ℕ × Lent)). IfSome o (λ (x : ℕ × Lent). (count + length x.1.now ≤ length rest) × (names x.1.now ≡ drop count (names rest)))) is later in (
+      apart_more done limit count others (names elements) first (subst (AreApart count (count + others)) behind n.1) (omega (arith, n.0, le)),
+      l.1 ∙ ap (drop count) behind ∙ drop-drop count done (names elements),
       l.0,
     )

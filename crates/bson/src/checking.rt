@@ -10,7 +10,7 @@ ghost use Rattle.bson.specs.declared.fault.BsonFault.TheVariants as faults;
 
 use crate::MOST_LEVELS;
 use crate::distinct::count_distinct;
-use crate::elements::has_element;
+use crate::elements::{ElementNames, has_element};
 use crate::fault::BsonFault;
 use crate::frames::{read_content, read_ended, read_fixed, read_name, read_text};
 use crate::kind::Kind;
@@ -129,7 +129,7 @@ fn check_pairs(more: u32, content: &[u8]) -> Result<(), BsonFault>
     requires short { length content.now < 2 ^ 31 }
     ensures { GivesExactly (λ u. u) result (outcome_of (pairs_in (value_at more) content.now)) }
 {
-    let distinct = count_distinct(content);
+    let distinct = count_distinct::<ElementNames>(content);
     let mut count = 0usize;
     let mut rest = content;
     'pairs: while let Some((type_byte, after)) = rest.split_first() {

@@ -1,33 +1,48 @@
-//! How many of the first elements of a document surely have names that differ, found out without memory.
+//! How many of the first names in bytes surely differ, found out without memory.
 
 ghost use Rattle.std.specs.Prelude.{◌≡◌, ◌⊎◌, ◌+◌, ◌<◌, ◌≤◌, ◌++◌, [], ℕ, true, false, length, map, take, drop, IfSome};
 ghost use Rattle.std.specs.Ordering.{nat_cmp};
 ghost use Rattle.std.specs.Cmp.Lexicographic.{slice_cmp};
 ghost use Rattle.std.specs.List.Sorted.{IsStrictlySortedBy};
 ghost use Rattle.bson.specs.Reading.{stands_in};
-ghost use Rattle.bson.specs.RawNames.{names_in, AreNew, AreOthers, AreApart};
+ghost use Rattle.bson.specs.RawNames.{AreNew, AreOthers, AreApart};
 
-use crate::elements::next_name;
 use std::cmp::Ordering;
 
 /// How many names are compared one by one: more are sorted.
 const FEW: usize = 32;
 
-/// Elements of fewer bytes are taken for few.
+/// The names in fewer bytes are taken for few.
 const SHORT: usize = 256;
 
 /// How many names are sorted together.
 const TABLE: usize = 8_192;
 
-/// How many of the first elements have names none of which stood before. There may be more.
-pub(crate) fn count_distinct(elements: &[u8]) -> usize
-    ensures { AreNew result (names_in elements.now) }
+/// How names stand in bytes: in parts, one behind the other, each of which has a name or is passed over.
+pub trait NamedParts {
+    ghost use Rattle.std.specs.Prelude.{◌≡◌, ◌<◌, [], ◌∷◌, ℕ, List, length, MatchOption};
+
+    /// The names in bytes, from the first one on.
+    ghost names: { List ℕ → List (List ℕ) };
+
+    /// The first name and the bytes behind the part that has it, where there is one.
+    fn split_name(bytes: &[u8]) -> Option<(&[u8], &[u8])>
+        ensures { MatchOption result (names bytes.now ≡ [])
+            (λ x. (names bytes.now ≡ x.0.now ∷ names x.1.now)
+            × (length x.1.now < length bytes.now)) };
+}
+
+/// How many of the first names are such that none of them stood before. There may be more: of up to 32 names, those that
+/// ascend are counted; of more, all before the first one that stands twice. It takes about as many comparisons as their
+/// number times its logarithm, and reads the parts once for every 8,192 names.
+pub fn count_distinct<P: NamedParts>(bytes: &[u8]) -> usize
+    ensures { AreNew result (P.names bytes.now) }
 {
-    let (count, rest) = count_ascending(elements);
-    if rest.is_empty() || elements.len() < SHORT || !has_more_names(FEW, elements) {
+    let (count, rest) = count_ascending::<P>(bytes);
+    if rest.is_empty() || bytes.len() < SHORT || !has_more_names::<P>(FEW, bytes) {
         return count;
     }
-    count_by_tables(elements)
+    count_by_tables::<P>(bytes)
 }
 
 /// Whether a name is above the last one, or the first of all.
@@ -41,14 +56,14 @@ fn is_above(name: &[u8], last: &[u8], is_first: bool) -> bool
     last.cmp(&name) == Ordering::Less
 }
 
-/// How many of the first elements have names each of which is above the one before, and the elements behind them.
-fn count_ascending(elements: &[u8]) -> (usize, &[u8])
-    ensures { AreNew result.0 (names_in elements.now) }
+/// How many of the first names are above the one before each, and the bytes behind them.
+fn count_ascending<P: NamedParts>(bytes: &[u8]) -> (usize, &[u8])
+    ensures { AreNew result.0 (P.names bytes.now) }
 {
     let mut count = 0usize;
     let mut last: &[u8] = &[];
-    let mut rest = elements;
-    'elements: while let Some((name, after)) = next_name(rest) {
+    let mut rest = bytes;
+    'names: while let Some((name, after)) = P::split_name(rest) {
         if !is_above(name, last, count == 0) {
             return (count, rest);
         }
@@ -59,11 +74,11 @@ fn count_ascending(elements: &[u8]) -> (usize, &[u8])
     (count, rest)
 }
 
-/// Whether there are more elements than this.
-fn has_more_names(most: usize, elements: &[u8]) -> bool {
+/// Whether there are more names than this.
+fn has_more_names<P: NamedParts>(most: usize, bytes: &[u8]) -> bool {
     let mut count = 0usize;
-    let mut rest = elements;
-    'elements: while let Some((_, after)) = next_name(rest) {
+    let mut rest = bytes;
+    'names: while let Some((_, after)) = P::split_name(rest) {
         if count == most {
             return true;
         }
@@ -73,18 +88,17 @@ fn has_more_names(most: usize, elements: &[u8]) -> bool {
     false
 }
 
-/// Writes the names of the first elements into a table, as many as it holds. It gives their number and the
-/// elements behind them.
-fn fill_table<'a>(table: &mut [&'a [u8]], elements: &'a [u8]) -> (usize, &'a [u8])
+/// Writes the first names into a table, as many as it holds. It gives their number and the bytes behind them.
+fn fill_table<'a, P: NamedParts>(table: &mut [&'a [u8]], bytes: &'a [u8]) -> (usize, &'a [u8])
     ensures within { result.0 ≤ length table.new }
-    ensures names { names_in elements.now
-        ≡ map (λ n. n.now) (take result.0 table.new) ++ names_in result.1.now }
-    ensures shorter { result.0 + length result.1.now ≤ length elements.now }
-    ensures end { result.0 < length table.new → names_in result.1.now ≡ [] }
+    ensures names { P.names bytes.now
+        ≡ map (λ n. n.now) (take result.0 table.new) ++ P.names result.1.now }
+    ensures shorter { result.0 + length result.1.now ≤ length bytes.now }
+    ensures end { result.0 < length table.new → P.names result.1.now ≡ [] }
 {
-    let mut rest = elements;
+    let mut rest = bytes;
     for (count, slot) in table.iter_mut().enumerate() {
-        let Some((name, after)) = next_name(rest) else {
+        let Some((name, after)) = P::split_name(rest) else {
             return (count, rest);
         };
         *slot = name;
@@ -114,15 +128,15 @@ fn is_in_table(table: &[&[u8]], name: &[u8]) -> bool
     table.binary_search(&name).is_ok()
 }
 
-/// How many of the elements stand before one whose name is in the table, or `most`, if that is less.
-fn count_others(table: &[&[u8]], most: usize, elements: &[u8]) -> usize
+/// How many of the names stand before one that is in the table, or `most`, if that is less.
+fn count_others<P: NamedParts>(table: &[&[u8]], most: usize, bytes: &[u8]) -> usize
     requires { IsStrictlySortedBy (slice_cmp nat_cmp) (map (λ n. n.now) table.now) }
-    ensures others { AreOthers result (map (λ n. n.now) table.now) (names_in elements.now) }
+    ensures others { AreOthers result (map (λ n. n.now) table.now) (P.names bytes.now) }
     ensures within { result ≤ most }
 {
     let mut count = 0usize;
-    let mut rest = elements;
-    'elements: while let Some((name, after)) = next_name(rest) {
+    let mut rest = bytes;
+    'names: while let Some((name, after)) = P::split_name(rest) {
         if count == most || is_in_table(table, name) {
             return count;
         }
@@ -132,46 +146,46 @@ fn count_others(table: &[&[u8]], most: usize, elements: &[u8]) -> usize
     most
 }
 
-/// Compares the names of the first elements, as many as the table holds, with each other and with those behind them.
+/// Compares the first names, as many as the table holds, with each other and with those behind them.
 /// It gives how many they are and, where they differ, how many of those behind differ from all of them, `most` at the
-/// most, and the elements behind the first.
-fn compare_first<'a>(
+/// most, and the bytes behind the first.
+fn compare_first<'a, P: NamedParts>(
     table: &mut [&'a [u8]],
     most: usize,
-    elements: &'a [u8],
+    bytes: &'a [u8],
 ) -> (usize, Option<(usize, &'a [u8])>)
     ensures within { result.0 ≤ length table.new }
     ensures apart { IfSome result.1 (λ x. (x.0 ≤ most)
-        × AreApart result.0 (result.0 + x.0) (names_in elements.now)) }
-    ensures rest { IfSome result.1 (λ x. (result.0 + length x.1.now ≤ length elements.now)
-        × (names_in x.1.now ≡ drop result.0 (names_in elements.now))) }
-    ensures end { 0 < length table.new → result.0 ≡ 0 → names_in elements.now ≡ [] }
+        × AreApart result.0 (result.0 + x.0) (P.names bytes.now)) }
+    ensures rest { IfSome result.1 (λ x. (result.0 + length x.1.now ≤ length bytes.now)
+        × (P.names x.1.now ≡ drop result.0 (P.names bytes.now))) }
+    ensures end { 0 < length table.new → result.0 ≡ 0 → P.names bytes.now ≡ [] }
 {
-    let (count, rest) = fill_table(table, elements);
+    let (count, rest) = fill_table::<P>(table, bytes);
     let names = &mut table[..count];
     names.sort_unstable();
     if are_ascending(names) {
-        let others = count_others(names, most, rest);
+        let others = count_others::<P>(names, most, rest);
         return (count, Some((others, rest)));
     }
     (count, None)
 }
 
-/// How many of the first elements have names none of which stood before: exactly those before the first that did. It
+/// How many of the first names are such that none of them stood before: exactly those before the first that did. It
 /// sorts the names in tables, and looks for those behind a table in it. Where a name stands twice in a table, it goes
 /// on with half of it.
 #[inline(never)]
-fn count_by_tables(elements: &[u8]) -> usize
-    ensures { AreNew result (names_in elements.now) }
+fn count_by_tables<P: NamedParts>(bytes: &[u8]) -> usize
+    ensures { AreNew result (P.names bytes.now) }
 {
     let mut table: [&[u8]; TABLE] = [&[]; TABLE];
     let mut size = TABLE;
     let mut done = 0usize;
     let mut limit = usize::MAX;
-    let mut rest = elements;
+    let mut rest = bytes;
     'tables: while done < limit && 0 < size {
         let most = size.min(limit - done);
-        let (count, differ) = compare_first(&mut table[..most], limit - done - most, rest);
+        let (count, differ) = compare_first::<P>(&mut table[..most], limit - done - most, rest);
         if count == 0 {
             return limit;
         }

@@ -6,6 +6,7 @@ ghost use Rattle.bson.specs.Tree.{no_pairs};
 ghost use Rattle.bson.specs.Reading.{stands_in};
 ghost use Rattle.bson.specs.Raw.{tree_names, pairs_spelled, Elements, IsFirst, number_at, len_at};
 
+use crate::distinct::NamedParts;
 use crate::frames::{first_zero, read_name};
 use crate::kind::Kind;
 use crate::scalars::read_kind;
@@ -47,7 +48,7 @@ fn value_len(kind: Kind, bytes: &[u8]) -> usize
 
 /// The name of the first of some elements and the elements behind it, where one stands there. The name is not
 /// judged as text, and no value is looked into.
-pub(crate) fn next_name(elements: &[u8]) -> Option<(&[u8], &[u8])>
+fn next_name(elements: &[u8]) -> Option<(&[u8], &[u8])>
     ensures { option_map (λ x. (x.0.now, x.1.now)) result ≡ next_name elements.now }
 {
     let Some((type_byte, after)) = elements.split_first() else {
@@ -64,6 +65,19 @@ pub(crate) fn next_name(elements: &[u8]) -> Option<(&[u8], &[u8])>
     let len = value_len(kind, value).min(value.len());
     let (_, rest) = value.split_at(len);
     Some((name, rest))
+}
+
+/// The names of elements, as they stand.
+pub(crate) struct ElementNames;
+
+impl NamedParts for ElementNames {
+    ghost use Rattle.bson.specs.RawNames.{names_in};
+
+    ghost names = { names_in };
+
+    fn split_name(bytes: &[u8]) -> Option<(&[u8], &[u8])> {
+        next_name(bytes)
+    }
 }
 
 /// The first element, where there is one. It steps over the element's value without a look into it.

@@ -30,9 +30,11 @@ mod writing;
 
 pub use binary::{Binary, Bytes, Subtype};
 pub use composing::{begin_frame, end_frame, put_head, put_string, put_value};
+pub use distinct::{NamedParts, count_distinct};
 pub use fault::{BsonFault, BuildFault, EncodeFault, NoMemory};
 pub use frames::read_name;
 pub use kind::Kind;
+pub use names::Names;
 pub use object_id::ObjectId;
 pub use raw::{RawDoc, RawValue};
 pub use reading::{decode, decode_inner};

@@ -26,10 +26,10 @@ pub(crate) fn has_name(pairs: &[Pair], name: &str) -> bool
 /// How many names are compared one by one, before a set is made of those that follow.
 const FEW: usize = 24;
 
-/// The names of a document that is read. Looking for one takes as many comparisons as the logarithm of
-/// their number, past the first few.
+/// The names of a document that is read or grows. Looking for one takes as many comparisons as the logarithm of
+/// their number, past the first few, which take no memory.
 #[derive(Drop)]
-pub(crate) struct Names<'a> {
+pub struct Names<'a> {
     few: [&'a str; FEW],
     // how many of `few` are in use
     count: usize,
@@ -49,7 +49,7 @@ impl<'a> Model for Names<'a> {
 
 impl<'a> Names<'a> {
     /// No names.
-    pub(crate) fn new(alloc: Global) -> Names<'a>
+    pub fn new(alloc: Global) -> Names<'a>
         ensures { result ≡ [] }
     {
         Names {
@@ -66,11 +66,23 @@ impl<'a> Names<'a> {
         is_among(&self.few[..self.count], name) || self.later.contains(name)
     }
 
-    /// Takes a name in and gives whether it is new. It is looked for once.
-    pub(crate) fn insert(&mut self, name: &'a str) -> Result<bool, NoMemory>
+    /// The names of these pairs.
+    pub fn of_pairs(alloc: Global, pairs: &'a [Pair]) -> Result<Names<'a>, NoMemory>
+        ensures { IfOk result (λ names. (other : List ℕ)
+            → stands_in names other ≡ stands_in (names_of pairs.now) other) }
+    {
+        let mut names = Names::new(alloc);
+        'pairs: for pair in pairs {
+            let _is_new = names.insert(pair.name.as_str())?;
+        }
+        Ok(names)
+    }
+
+    /// Takes a name in and gives whether it is new. It is looked for once. An `Err` is for want of memory.
+    pub fn insert(&mut self, name: &'a str) -> Result<bool, NoMemory>
         ensures new { IfOk result (λ is_new. is_new ≡ not (stands_in self.old name.now)) }
         ensures absent { OnErr result (stands_in self.old name.now ≡ false) }
-        ensures names { IfOk result (λ is_new. is_new ≡ true → (other : List ℕ)
+        ensures names { IfOk result (λ is_new. (other : List ℕ)
             → stands_in self.new other ≡ (bytes_eq other name.now || stands_in self.old other)) }
     {
         if is_among(&self.few[..self.count], name) {

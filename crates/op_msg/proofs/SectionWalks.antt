@@ -1,7 +1,7 @@
 -- Reading one section or document after the other, as loops do.
 use Rattle.std.proofs.Common.{◌≡◌, ℕ, zero, suc, ◌≤◌, ◌<◌, ◌+◌, ◌==◌, ◌-◌, take, drop, List, [], ◌∷◌, length, refl, sym, ◌∙◌, ap, subst, arith, length-drop, length-take}
 use Rattle.std.specs.Prelude.{Bool, true, false, not, ◌||◌, nat_lt, nat_le, if◌then◌else◌, Result, Ok, Err, Some, None}
-use Rattle.std.specs.Str.{is_utf8, bytes_eq}
+use Rattle.std.specs.Str.{is_utf8}
 use Rattle.std.proofs.lemmas.List.Sums.{fails_before_first}
 use Rattle.bson.proofs.FrameLaws.{NoZero-take}
 use Rattle.bson.specs.Lawful.{NoZero}
@@ -10,7 +10,7 @@ use Rattle.bson.specs.Reading as names
 use Rattle.bson.specs.declared.fault.BsonFault.{BsonFault}
 use Rattle.outcome.specs.Outcome.{◌>>=◌, unless}
 use Rattle.op_msg.specs.Frame.{Part, Sequence, Section, body, sequence, number_at, part_at, or_section, name_at, each_from, each_by, each_in, is_more, sequence_in, body_at, sequence_at, section_at, sections_in, bodies_of, names_of, has_twice, only_of, body_of_all}
-use Rattle.op_msg.specs.View.{only_from, judged, HasName}
+use Rattle.op_msg.specs.View.{only_from, HasName}
 use Rattle.op_msg.specs.declared.fault.FrameFault.{FrameFault}
 use Rattle.op_msg.specs.declared.fault.FrameFault.TheVariants as faults
 
@@ -182,22 +182,35 @@ only_first [] = refl
 only_first (bytes ∷ []) = refl
 only_first (bytes ∷ other ∷ others) = several bytes others
 
--- one name more
-pub or_again : (a b c : Bool) → ((a || b) || c) ≡ (a || (b || c))
-or_again true b c = refl
-or_again false b c = refl
+-- one section more at the front
+pub names_here : (rest : List ℕ) (x : Section × List ℕ) → section_at rest ≡ Ok x → names_of (sections_in rest).0 ≡ names_of (x.0 ∷ (sections_in x.1).0)
+names_here rest x e = ap (λ (o : List Section × List ℕ). names_of o.0) (one_more section_at section_shrinks rest x e)
 
-pub one_name : (section : Section) (sections : List Section) (name : List ℕ) → (stands_in (names_of (section ∷ [])) name || stands_in (names_of sections) name) ≡ stands_in (names_of (section ∷ sections)) name
-one_name (body bytes) sections name = refl
-one_name (sequence found) sections name = or_again (bytes_eq name found.name) false (stands_in (names_of sections) name)
+pub names_counted : (section : Section) (sections : List Section) → length (names_of (section ∷ sections)) ≡ length (names_of (section ∷ [])) + length (names_of sections)
+names_counted (body bytes) sections = omega arith
+names_counted (sequence found) sections = omega arith
 
--- one section more at the front, for a name that is looked for
-pub named_here : (rest : List ℕ) (name : List ℕ) (x : Section × List ℕ) (found : Bool) → section_at rest ≡ Ok x → found ≡ stands_in (names_of (x.0 ∷ [])) name
-    → (found || stands_in (names_of (sections_in x.1).0) name) ≡ stands_in (names_of (sections_in rest).0) name
-named_here rest name x found e is =
-    ap (λ (b : Bool). b || stands_in (names_of (sections_in x.1).0) name) is ∙ one_name x.0 (sections_in x.1).0 name
-    ∙ sym (ap (λ (o : List Section × List ℕ). stands_in (names_of o.0) name) (one_more section_at section_shrinks rest x e))
+pub one_at_most : (section : Section) → length (names_of (section ∷ [])) ≤ 1
+one_at_most (body bytes) = omega arith
+one_at_most (sequence found) = omega arith
 
--- nothing was found yet
-pub judged_first : (x : List Section × List ℕ) → judged (record { body = None; has_more_bodies = false; has_name_twice = false }) x ≡ body_of_all x
-judged_first x = ap (λ (r : Result (List ℕ) FrameFault). unless (is_more x.1 || has_twice (names_of x.0)) faults.Section r) (only_first (bodies_of x.0))
+pub no_names : (rest : List ℕ) (fault : FrameFault) → section_at rest ≡ Err fault → names_of (sections_in rest).0 ≡ []
+no_names rest fault e = ap (λ (o : List Section × List ℕ). names_of o.0) (no_more section_at rest fault e)
+
+-- ---- the body of all sections
+
+-- bytes are left that are no section
+pub wrong_end : (all : List Section × List ℕ) (left : List ℕ) (empty : Bool) → all.1 ≡ left → empty ≡ (length left == 0) → empty ≡ false → body_of_all all ≡ Err faults.Section
+wrong_end all left empty is found wrong =
+    ap (λ (b : Bool). unless (not b || has_twice (names_of all.0)) faults.Section (only_of (bodies_of all.0))) (ap (λ (bytes : List ℕ). length bytes == 0) is ∙ sym found ∙ wrong)
+
+-- nothing is left, and no name stands twice
+pub right_sections : (all : List Section × List ℕ) (left : List ℕ) (empty twice : Bool) → all.1 ≡ left → empty ≡ (length left == 0) → empty ≡ true → twice ≡ has_twice (names_of all.0) → twice ≡ false → only_of (bodies_of all.0) ≡ body_of_all all
+right_sections all left empty twice is found right named differ =
+    sym (λ i. unless (not (end i) || none i) faults.Section (only_of (bodies_of all.0)))
+  where
+    end : (length all.1 == 0) ≡ true
+    end = ap (λ (bytes : List ℕ). length bytes == 0) is ∙ sym found ∙ right
+
+    none : has_twice (names_of all.0) ≡ false
+    none = sym named ∙ differ

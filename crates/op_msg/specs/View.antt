@@ -1,12 +1,15 @@
 -- What functions that read return, beside what the definitions give.
-use Rattle.std.specs.Prelude.{◌≡◌, ℕ, Bool, ◌||◌, List, [], ◌∷◌, Result, Ok, Err, Option, Some, None, option_map, is_some}
+use Rattle.std.specs.Prelude.{◌≡◌, ℕ, Bool, List, [], ◌∷◌, Result, Ok, Err, Option, Some, None, option_map, is_some}
 use Rattle.outcome.specs.Outcome.{◌>>=◌, unless}
-use Rattle.bson.specs.Lawful.{NoZero}
-use Rattle.bson.specs.Reading.{value_at}
-use Rattle.bson.specs.Tree.{Items, no_items, item, append_items}
+use Rattle.bson.specs.Lawful.{NoZero, IsDocument}
+use Rattle.bson.specs.Lookup.{lookup}
+use Rattle.bson.specs.Reading.{value_at, stands_in}
+use Rattle.bson.specs.Tree.{Items, no_items, item, append_items, Pairs, append}
+use Rattle.bson.specs.View.{pairs_of}
+use Rattle.bson.specs.declared.value.Pair.{Pair}
 use Rattle.bson.specs.declared.fault.BsonFault.{BsonFault}
 use Rattle.bson.specs.declared.kind.Kind.TheVariants as kinds
-use Rattle.op_msg.specs.Frame.{Frame, Sequence, Section, body, sequence, part_at, each_in, is_more, has_twice, names_of, bodies_of, sequences_of, sections_in}
+use Rattle.op_msg.specs.Frame.{Frame, Sequence, Section, body, sequence, part_at, each_in, bodies_of, sequences_of, sections_in}
 use Rattle.op_msg.specs.declared.fault.FrameFault.{FrameFault}
 use Rattle.op_msg.specs.declared.fault.FrameFault.TheVariants as faults
 use Rattle.op_msg.specs.declared.reading.Message.{Message}
@@ -51,11 +54,10 @@ only_from first several [] = only_found first several
 only_from first several (bytes ∷ others) =
     only_from (Some (first_or first bytes)) (is_some first) others
 
--- what is found with these sections, and with bytes behind them that are none
-abbrev pub judged : Found → List Section × List ℕ → Result (List ℕ) FrameFault
-judged found behind =
-    unless (is_more behind.1 || (found.has_name_twice || has_twice (names_of behind.0))) faults.Section
-    (only_from (option_map (λ b. b.now) found.body) found.has_more_bodies (bodies_of behind.0))
+-- the one body, of what was found and of these sections behind it
+abbrev pub body_with : Found → List Section → Result (List ℕ) FrameFault
+body_with found sections =
+    only_from (option_map (λ b. b.now) found.body) found.has_more_bodies (bodies_of sections)
 
 -- an array with one document more
 abbrev pub with_document : Items → List ℕ → Result Items BsonFault
@@ -66,3 +68,12 @@ with_document ts bytes =
 abbrev pub HasName : Section → Type 0
 HasName (body bytes) = Unit {0}
 HasName (sequence s) = NoZero s.name
+
+-- the fields of a body, and those that sections added behind them
+abbrev pub joined : Pairs → List Pair → Pairs
+joined ps added = append ps (pairs_of added)
+
+-- they make a document, whose names are these
+pub record IsJoining (ps : Pairs) (names : List (List ℕ)) (added : List Pair) : Type 0 where
+  pub lawful : IsDocument (joined ps added)
+  pub named : (name : List ℕ) → stands_in names name ≡ is_some (lookup (joined ps added) name)

@@ -1,15 +1,20 @@
 //! What a message is read as.
 
-ghost use Rattle.std.specs.Prelude.{[], ◌∷◌};
+ghost use Rattle.std.specs.Prelude.{◌≡◌, [], ◌∷◌, OnOk, OnErr, IfOk};
 ghost use Rattle.outcome.specs.Outcome.{Gives, Does};
-ghost use Rattle.bson.specs.Lawful.{NoZero};
-ghost use Rattle.op_msg.specs.Frame.{part_at, each_in, sequences_of};
+ghost use Rattle.bson.specs.Tree.{Pairs};
+ghost use Rattle.bson.specs.View.{pairs_of};
+ghost use Rattle.bson.specs.Lawful.{NoZero, IsDocument};
+ghost use Rattle.op_msg.specs.Frame.{part_at, each_in, sections_in, sequences_of};
 ghost use Rattle.op_msg.specs.Request.{IsRequest, document_in, body_of, array_of, with_sequence, with_sequences};
-ghost use Rattle.op_msg.specs.View.{frame_in, sequence_of, section_of, with_document, HasName};
+ghost use Rattle.op_msg.specs.View.{frame_in, sequence_of, section_of, with_document, HasName, joined, IsJoining};
 
 use crate::reading::Message;
-use crate::sections::{Section, Sequence, read_part, read_section};
-use bson::{Array, BsonFault, BuildFault, Document, Value, decode, decode_inner};
+use crate::sections::{Section, Sequence, SequenceNames, read_part, read_section};
+use bson::{
+    Array, BsonFault, BuildFault, Document, NamedParts, Names, Pair, Text, Value, decode,
+    decode_inner,
+};
 use std::alloc::Global;
 
 /// What a message says of itself before its body is read: its number, and whether it wants no reply.
@@ -67,43 +72,90 @@ fn read_array(alloc: Global, bytes: &[u8]) -> Result<Array, BsonFault>
     Ok(array)
 }
 
-/// Puts the array of a section of kind 1 behind the fields.
-fn add_sequence(
+/// Puts the array of a section of kind 1 behind the fields that sections added, where no field has its name.
+fn add_sequence<'a>(
     alloc: Global,
-    document: &mut Document,
-    sequence: Sequence<'_>,
+    names: &mut Names<'a>,
+    added: &mut Vec<Pair>,
+    sequence: Sequence<'a>,
 ) -> Result<(), BsonFault>
     requires { NoZero sequence.name.now }
-    ensures { Does BsonFault.Memory result document.new
-        (with_sequence document.old (sequence_of sequence.entry)) }
+    ensures does { (ps : Pairs) → IsJoining ps names.old added.old.items
+        → Does BsonFault.Memory result (joined ps added.new.items)
+        (with_sequence (joined ps added.old.items) (sequence_of sequence.entry)) }
+    ensures joining { OnOk result ((ps : Pairs) → IsJoining ps names.old added.old.items
+        → IsJoining ps names.new added.new.items) }
 {
-    if document.get(sequence.name).is_some() {
+    let Ok(is_new) = names.insert(sequence.name) else {
+        return Err(BsonFault::Memory);
+    };
+    if !is_new {
         return Err(BsonFault::Repeated);
     }
-    let array = read_array(alloc, sequence.documents)?;
+    let array = match read_array(alloc, sequence.documents) {
+        Ok(array) => array,
+        Err(fault) => return Err(fault),
+    };
     let _levels = array.levels();
-    match document.push(sequence.name, Value::Array(array)) {
-        Ok(()) => Ok(()),
-        Err(BuildFault::Memory) => Err(BsonFault::Memory),
-        Err(BuildFault::Name) => unreachable!(),
-        Err(BuildFault::Repeated) => unreachable!(),
-        Err(BuildFault::Deep) => unreachable!(),
-    }
+    let Ok(name) = Text::from_str(alloc, sequence.name) else {
+        return Err(BsonFault::Memory);
+    };
+    let _text = name.as_str();
+    added.push(Pair {
+        name,
+        value: Value::Array(array),
+    })?;
+    Ok(())
 }
 
-/// Puts what a section has behind the fields: nothing of a body.
-fn add_section(
+/// Puts what a section has behind the fields that sections added: nothing of a body.
+fn add_section<'a>(
     alloc: Global,
-    document: &mut Document,
-    section: Section<'_>,
+    names: &mut Names<'a>,
+    added: &mut Vec<Pair>,
+    section: Section<'a>,
 ) -> Result<(), BsonFault>
     requires { HasName (section_of section) }
-    ensures { Does BsonFault.Memory result document.new
-        (with_sequences document.old (sequences_of (section_of section.entry ∷ []))) }
+    ensures does { (ps : Pairs) → IsJoining ps names.old added.old.items
+        → Does BsonFault.Memory result (joined ps added.new.items) (with_sequences
+        (joined ps added.old.items) (sequences_of (section_of section.entry ∷ []))) }
+    ensures joining { OnOk result ((ps : Pairs) → IsJoining ps names.old added.old.items
+        → IsJoining ps names.new added.new.items) }
 {
     match section {
         Section::Body(_) => Ok(()),
-        Section::Sequence(sequence) => add_sequence(alloc, document, sequence),
+        Section::Sequence(sequence) => add_sequence(alloc, names, added, sequence),
+    }
+}
+
+/// The fields that sections add to those of a body: an array for each section of kind 1.
+fn read_added(alloc: Global, fields: &[Pair], sections: &[u8]) -> Result<Vec<Pair>, BsonFault>
+    requires { IsDocument (pairs_of fields.now) }
+    ensures gives { Gives BsonFault.Memory (λ v. joined (pairs_of fields.now) v.items) result
+        (with_sequences (pairs_of fields.now) (sequences_of (sections_in sections.now).0)) }
+    ensures lawful { IfOk result (λ v. IsDocument (joined (pairs_of fields.now) v.items)) }
+{
+    let Ok(mut names) = Names::of_pairs(alloc, fields) else {
+        return Err(BsonFault::Memory);
+    };
+    let mut added = Vec::new(alloc);
+    let mut rest = sections;
+    'sections: while let Ok((section, after)) = read_section(rest) {
+        add_section(alloc, &mut names, &mut added, section)?;
+        rest = after;
+    }
+    Ok(added)
+}
+
+/// The document of these fields and of those behind them.
+fn join_fields(mut fields: Vec<Pair>, mut added: Vec<Pair>) -> Result<Document, BsonFault>
+    requires { IsDocument (joined (pairs_of fields.items) added.items) }
+    ensures joined { IfOk result (λ d. d ≡ joined (pairs_of fields.items) added.items) }
+    ensures memory { OnErr result (result ≡ Err BsonFault.Memory) }
+{
+    match fields.append(&mut added) {
+        Ok(()) => Ok(Document::from_pairs(fields)),
+        Err(_) => Err(BsonFault::Memory),
     }
 }
 
@@ -111,13 +163,13 @@ fn add_section(
 fn read_joined(alloc: Global, message: &Message<'_>) -> Result<Document, BsonFault>
     ensures { Gives BsonFault.Memory (λ d. d) result (body_of (frame_in message.now)) }
 {
-    let mut document = read_document(alloc, message.body)?;
-    let mut rest = message.sections;
-    'sections: while let Ok((section, after)) = read_section(rest) {
-        add_section(alloc, &mut document, section)?;
-        rest = after;
+    let document = read_document(alloc, message.body)?;
+    if SequenceNames::split_name(message.sections).is_none() {
+        return Ok(document);
     }
-    Ok(document)
+    let fields = document.into_pairs();
+    let added = read_added(alloc, &fields, message.sections)?;
+    join_fields(fields, added)
 }
 
 /// The message, with its document read.

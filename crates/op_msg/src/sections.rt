@@ -1,11 +1,13 @@
 //! The sections of a message.
 
-ghost use Rattle.std.specs.Prelude.{◌≡◌, ◌≤◌, ◌+◌, ℕ, List, [], ◌∷◌, length};
-ghost use Rattle.op_msg.specs.Frame.{number_at, part_at, name_at, each_in, is_more, sequence_in, section_at, sections_in, names_of, body_of_all};
+ghost use Rattle.std.specs.Prelude.{◌≡◌, ◌<◌, ◌≤◌, ◌+◌, ◌^◌, ℕ, List, [], ◌∷◌, true, false, length, take};
+ghost use Rattle.op_msg.specs.Frame.{number_at, part_at, name_at, each_in, is_more, sequence_in, section_at, sections_in, names_of, has_twice, body_of_all};
+ghost use Rattle.op_msg.specs.Frame.{Section as Parts};
 ghost use Rattle.bson.specs.Reading.{stands_in};
-ghost use Rattle.op_msg.specs.View.{Finds, sequence_of, section_of, judged};
+ghost use Rattle.op_msg.specs.View.{Finds, sequence_of, section_of, body_with};
 
 use crate::fault::FrameFault;
+use bson::{NamedParts, count_distinct};
 
 /// A section of kind 1: the name of an array, and its documents, one behind the other.
 #[derive(Clone, Copy)]
@@ -103,25 +105,74 @@ pub(crate) fn read_section(bytes: &[u8]) -> Result<(Section<'_>, &[u8]), FrameFa
     Err(FrameFault::Section)
 }
 
-/// Whether it is a section of kind 1 with this name.
-fn is_named(section: Section<'_>, name: &str) -> bool
-    ensures { result ≡ stands_in (names_of (section_of section.entry ∷ [])) name.now }
-{
-    match section {
-        Section::Body(_) => false,
-        Section::Sequence(sequence) => name == sequence.name,
+/// The names of sections of kind 1.
+pub(crate) struct SequenceNames;
+
+impl NamedParts for SequenceNames {
+    ghost use Rattle.op_msg.specs.Frame.{sections_in, names_of};
+
+    ghost names = { λ bytes. names_of (sections_in bytes).0 };
+
+    fn split_name(bytes: &[u8]) -> Option<(&[u8], &[u8])> {
+        let mut rest = bytes;
+        'sections: while let Ok((section, after)) = read_section(rest) {
+            match section {
+                Section::Sequence(sequence) => return Some((sequence.name.as_bytes(), after)),
+                Section::Body(_) => rest = after,
+            }
+        }
+        None
     }
 }
 
-/// Whether one of the sections is of kind 1 and has this name.
-fn has_name(bytes: &[u8], name: &str) -> bool
-    ensures { result ≡ stands_in (names_of (sections_in bytes.now).0) name.now }
+/// Whether one of the first so many sections of kind 1 has this name.
+fn has_name(bytes: &[u8], most: usize, name: &[u8]) -> bool
+    ensures { result ≡ stands_in (take most (names_of (sections_in bytes.now).0)) name.now }
 {
+    let mut left = most;
     let mut rest = bytes;
-    'sections: while let Ok((section, after)) = read_section(rest) {
-        if is_named(section, name) {
+    'names: while let Some((other, after)) = SequenceNames::split_name(rest) {
+        if left == 0 {
+            return false;
+        }
+        if name == other {
             return true;
         }
+        left -= 1;
+        rest = after;
+    }
+    false
+}
+
+/// Whether a name is one of the first so many, which are looked at where it isn't known to be new.
+fn is_repeated(is_new: bool, bytes: &[u8], earlier: usize, name: &[u8]) -> bool
+    requires { is_new ≡ true
+        → stands_in (take earlier (names_of (sections_in bytes.now).0)) name.now ≡ false }
+    ensures { result ≡ stands_in (take earlier (names_of (sections_in bytes.now).0)) name.now }
+{
+    if is_new {
+        return false;
+    }
+    has_name(bytes, earlier, name)
+}
+
+/// Whether a name stands twice among those of sections of kind 1, where there are so many. One that isn't known to be new
+/// is looked for among the names before it: one of a few dozen, or the first that stands twice.
+fn has_name_twice(sequences: usize, bytes: &[u8]) -> bool
+    requires { sequences ≡ length (names_of (sections_in bytes.now).0) }
+    ensures { result ≡ has_twice (names_of (sections_in bytes.now).0) }
+{
+    if sequences < 2 {
+        return false;
+    }
+    let distinct = count_distinct::<SequenceNames>(bytes);
+    let mut count = 0usize;
+    let mut rest = bytes;
+    'names: while let Some((name, after)) = SequenceNames::split_name(rest) {
+        if is_repeated(count < distinct, bytes, count, name) {
+            return true;
+        }
+        count += 1;
         rest = after;
     }
     false
@@ -133,36 +184,37 @@ struct Found<'a> {
     /// The first body.
     body: Option<&'a [u8]>,
     has_more_bodies: bool,
-    has_name_twice: bool,
+    /// How many sections of kind 1 there are.
+    sequences: usize,
 }
 
 impl<'a> Found<'a> {
-    /// What is found with one section more, behind which these stand.
-    fn with_section(self, section: Section<'a>, after: &[u8]) -> Found<'a>
-        ensures { judged result (sections_in after.now)
-            ≡ judged self.entry (section_of section.entry ∷ (sections_in after.now).0, (sections_in after.now).1) }
+    /// What is found with one section more.
+    fn with_section(self, section: Section<'a>) -> Found<'a>
+        requires { self.sequences + 1 < 2 ^ 64 }
+        ensures body { (others : List Parts) → body_with result others
+            ≡ body_with self.entry (section_of section.entry ∷ others) }
+        ensures sequences { result.sequences
+            ≡ self.entry.sequences + length (names_of (section_of section.entry ∷ [])) }
     {
         match section {
             Section::Body(body) => Found {
                 body: Some(self.body.unwrap_or(body)),
                 has_more_bodies: self.body.is_some(),
-                has_name_twice: self.has_name_twice,
+                sequences: self.sequences,
             },
-            Section::Sequence(sequence) => Found {
+            Section::Sequence(_) => Found {
                 body: self.body,
                 has_more_bodies: self.has_more_bodies,
-                has_name_twice: self.has_name_twice || has_name(after, sequence.name),
+                sequences: self.sequences + 1,
             },
         }
     }
 
-    /// The one body, where behind the sections so much is left.
-    fn only_body(self, left: &[u8]) -> Result<&'a [u8], FrameFault>
-        ensures { Finds (λ b. b.now) result (judged self.entry ([], left.now)) }
+    /// The one body.
+    fn only_body(self) -> Result<&'a [u8], FrameFault>
+        ensures { Finds (λ b. b.now) result (body_with self.entry []) }
     {
-        if !left.is_empty() || self.has_name_twice {
-            return Err(FrameFault::Section);
-        }
         let Some(body) = self.body else {
             return Err(FrameFault::NoBody);
         };
@@ -180,12 +232,18 @@ pub(crate) fn read_body(bytes: &[u8]) -> Result<&[u8], FrameFault>
     let mut found = Found {
         body: None,
         has_more_bodies: false,
-        has_name_twice: false,
+        sequences: 0,
     };
     let mut rest = bytes;
     'sections: while let Ok((section, after)) = read_section(rest) {
-        found = found.with_section(section, after);
+        found = found.with_section(section);
         rest = after;
     }
-    found.only_body(rest)
+    if !rest.is_empty() {
+        return Err(FrameFault::Section);
+    }
+    if has_name_twice(found.sequences, bytes) {
+        return Err(FrameFault::Section);
+    }
+    found.only_body()
 }

@@ -2,8 +2,8 @@ use Rattle.std.proofs.Common.{length}
 use Rattle.bson.proofs.DistinctLaws.{Ascending}
 use Rattle.bson.proofs.distinct.count_ascending.Given as goal
 
-abbrev pub decreases-elements : goal.decreases-elements
-decreases-elements l = length l.rest
+abbrev pub decreases-names : goal.decreases-names
+decreases-names g l = length l.rest
 
-abbrev pub invariant-elements : goal.invariant-elements
-invariant-elements l = Ascending l.count l.last l.rest l.elements
+abbrev pub invariant-names : goal.invariant-names
+invariant-names g l = Ascending g.P.NamedParts.names l.count l.last l.rest l.bytes

@@ -1,8 +1,8 @@
 use Rattle.std.proofs.Common.{◌+◌, ◌≤◌, length}
 use Rattle.bson.proofs.distinct.has_more_names.Given as goal
 
-abbrev pub invariant-elements : goal.invariant-elements
-invariant-elements l = l.count + length l.rest ≤ length l.elements
+abbrev pub invariant-names : goal.invariant-names
+invariant-names g l = l.count + length l.rest ≤ length l.bytes
 
-abbrev pub decreases-elements : goal.decreases-elements
-decreases-elements l = length l.rest
+abbrev pub decreases-names : goal.decreases-names
+decreases-names g l = length l.rest

@@ -57,5 +57,5 @@ pairs-preserved c =
     let holds = HoldsDocument-push before c.pair-item.result c.pairs.levels c.max-levels.result c.pairs.invariant.0 (is_name c.pair-item.result.name c.as_bytes.result.now c.first_zero.result c.is_some.result c.as_str-name.ensures.utf8 (c.as_bytes.ensures.value ∙ c.as_str-name.ensures.value) c.first_zero.ensures c.is_some.ensures c.if-is_some.false) c.levels-value_levels.ensures.lawful
     (omega (arith, c.levels-value_levels.ensures.levels, c.if-value_levels-ge-MOST_LEVELS.false)) (sym (c.pairs.invariant.1 c.pair-item.result.name) ∙ ap (stands_in c.pairs.names) (sym c.as_str-name.ensures.value) ∙ turned _ _ (sym c.in_ok-insert.ensures.new ∙ c.if-not-branch.false)) (omega (arith, c.max-levels.ensures, c.levels-value_levels.ensures.levels)) in (
       subst (λ (ps : List Pair). HoldsDocument c.max-levels.result (pairs_of ps)) (sym more) holds,
-      λ other. names_pushed before c.pair-item.result c.insert.new.self c.pairs.names c.as_str-name.result.now (c.in_ok-insert.ensures.names c.if-not-branch.false) c.pairs.invariant.1 (sym c.as_str-name.ensures.value) other ∙ ap (λ (ps : List Pair). stands_in (names_of ps) other) (sym more),
+      λ other. names_pushed before c.pair-item.result c.insert.new.self c.pairs.names c.as_str-name.result.now c.in_ok-insert.ensures.names c.pairs.invariant.1 (sym c.as_str-name.ensures.value) other ∙ ap (λ (ps : List Pair). stands_in (names_of ps) other) (sym more),
     )
