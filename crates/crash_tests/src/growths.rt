@@ -113,6 +113,7 @@ fn insert_step(alloc: Global) -> Result<Step, AllocError> {
         message,
         outcomes: Vec::new(alloc),
         writes_back: false,
+        asks_cursor: false,
     };
     step.with(alloc, NOTHING, count_reply(alloc, 3), THREE)
 }
