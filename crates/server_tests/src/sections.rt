@@ -41,13 +41,6 @@ const WRONG: [(&str, &[u8]); 14] = [
     ),
 ];
 
-// Names in no order, more than are compared one by one.
-const NAMES: [&str; 40] = [
-    "z1", "b1", "y1", "d1", "x1", "f1", "w1", "h1", "v1", "j1", "u1", "l1", "t1", "n1", "s1", "p1",
-    "r1", "q1", "o1", "m1", "k1", "i1", "g1", "e1", "c1", "a1", "z2", "b2", "y2", "d2", "x2", "f2",
-    "w2", "h2", "v2", "j2", "u2", "l2", "t2", "n2",
-];
-
 /// `{insert: "c", $db: "t"}`
 fn insert_beside(alloc: Global) -> Bytes {
     Bytes::new(alloc).text("insert", "c").text("$db", "t")
@@ -159,27 +152,6 @@ fn sections_before_the_number_of_bodies(rt: HostRuntime) -> Result<(), Fail> {
         .sequence("a", b"")
         .sequence("a", b"");
     assert!(rt; closes(alloc, twice, FrameFault::Section));
-    Ok(())
-}
-
-/// An insert with a section of each of these names behind it.
-fn insert_with(alloc: Global, names: &[&str]) -> Message {
-    let mut message = Message::new(alloc, 8).body(&insert_beside(alloc));
-    for name in names {
-        message = message.sequence(name, b"");
-    }
-    message
-}
-
-#[test]
-fn many_names(rt: HostRuntime) -> Result<(), Fail> {
-    let alloc = rt.alloc();
-    // each is a field that the command doesn't know
-    assert!(rt; is_answered(alloc, insert_with(alloc, &NAMES), &refusal(alloc, 9)));
-    for name in ["z1", "m1", "n2"] {
-        let twice = insert_with(alloc, &NAMES).sequence(name, b"");
-        assert!(rt; closes(alloc, twice, FrameFault::Section), "{name}");
-    }
     Ok(())
 }
 
