@@ -1,5 +1,5 @@
 -- Laws of stages and of groups.
-use Rattle.std.proofs.Common.{◌≡◌, Some, ℕ, ◌+◌, Bool, true, false, List, [], ◌∷◌, ◌++◌, length, map, fold, Result, Ok, Err, refl, sym, ap, ◌∙◌, arith}
+use Rattle.std.proofs.Common.{◌≡◌, ℕ, ◌+◌, Bool, true, false, List, [], ◌∷◌, ◌++◌, length, map, fold, Result, Ok, Err, refl, sym, ap, ◌∙◌, arith}
 use Rattle.std.specs.Prelude.{◌&&◌, if◌then◌else◌}
 use Rattle.std.specs.List.{sum_by}
 use Rattle.std.proofs.lemmas.List.Sums.{sum_by-cons}
@@ -10,10 +10,7 @@ use Rattle.filter.specs.Condition.{Conditions, no_conditions, condition, append_
 use Rattle.filter.specs.Matches.{Subject, whole, holds, all_hold, matches}
 use Rattle.aggregate.specs.Group.{Identified, same, first_of_each, members}
 use Rattle.aggregate.specs.Laws.{MatchesBoth, GroupsAll, RunsOneAfterOther}
-use Rattle.aggregate.specs.Limits.{within_limits}
-use Rattle.aggregate.specs.Match.{matching}
 use Rattle.aggregate.specs.Pipeline.{after_stage, run}
-use Rattle.aggregate.specs.Stage.{Stage, match_stage, project_stage, unwind_stage, group_stage, sort_stage, skip_stage, limit_stage, count_stage}
 use Rattle.aggregate.specs.Table.{put}
 use Rattle.aggregate.proofs.GroupLemmas.{same_laws}
 use Rattle.aggregate.proofs.SplitLemmas.{filter-both, add_all, split}

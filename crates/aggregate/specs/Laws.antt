@@ -7,7 +7,6 @@ use Rattle.filter.specs.Condition.{Conditions, append_conditions}
 use Rattle.aggregate.specs.Accumulators.{accumulated}
 use Rattle.aggregate.specs.declared.accumulators.Accumulator.TheVariants as accumulators
 use Rattle.aggregate.specs.Group.{Grouping, Identified, groups, grouped}
-use Rattle.aggregate.specs.Match.{matching}
 use Rattle.aggregate.specs.Pipeline.{run}
 use Rattle.aggregate.specs.Stage.{Stage, match_stage, skip_stage, limit_stage}
 use Rattle.aggregate.specs.Stages.{apply_stage}

@@ -19,6 +19,7 @@ pub mod Limits
 pub mod Pipeline
 pub mod Taking
 pub mod TakingLaws
+pub mod EnoughLaws
 pub mod Found
 pub mod View
 pub mod GroupView

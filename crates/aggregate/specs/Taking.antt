@@ -1,7 +1,7 @@
 -- Which documents a pipeline takes at all: a `$match` in front tells, before anything is made of a document. And which of
 -- these are enough: where it keeps the first ones, of the documents as they come or in the order of a `$sort`.
-use Rattle.std.specs.Prelude.{◌≡◌, ◌≤◌, ℕ, Bool, true, None, List, [], ◌∷◌, length, take, Result, Ok}
-use Rattle.std.specs.List.{filter}
+use Rattle.std.specs.Prelude.{◌≡◌, ◌≤◌, ℕ, Bool, true, None, List, [], ◌∷◌, ◌++◌, length, take, Ok}
+use Rattle.std.specs.List.{filter, AllByRecursion}
 use Rattle.bson.specs.Tree.{Pairs}
 use Rattle.filter.specs.Matches.{matches}
 use Rattle.aggregate.specs.Stage.{Stage, match_stage}
@@ -30,20 +30,24 @@ abbrev pub behind_match : List Stage → List Stage
 behind_match [] = []
 behind_match (s ∷ stages) = behind_if_match s stages
 
--- Of documents within the limits, as many as there may be, the first ones up to this number are enough.
-abbrev pub Suffices : List Stage → ℕ → ℕ → Type 0
-Suffices stages count most = (limit : ℕ) (ds : List Pairs) → first_fault limit ds ≡ None
-    → length ds ≤ count → run stages limit (take most ds) ≡ run stages limit ds
+-- Of documents within the limits the first ones up to this number are enough.
+abbrev pub Suffices : List Stage → ℕ → Type 0
+Suffices stages most = (limit : ℕ) (ds : List Pairs) → first_fault limit ds ≡ None
+    → run stages limit (take most ds) ≡ run stages limit ds
 
 -- the same of those that the pipeline takes
-abbrev pub SufficesTaken : List Stage → ℕ → ℕ → Type 0
-SufficesTaken stages count most = (limit : ℕ) (ds : List Pairs) → first_fault limit ds ≡ None
-    → length ds ≤ count → run stages limit (take most (filter (takes stages) ds)) ≡ run stages limit ds
+abbrev pub SufficesTaken : List Stage → ℕ → Type 0
+SufficesTaken stages most = (limit : ℕ) (ds : List Pairs) → first_fault limit ds ≡ None
+    → run stages limit (take most (filter (takes stages) ds)) ≡ run stages limit ds
 
--- These documents are enough of those that the pipeline takes.
-abbrev pub IsEnough : List Stage → List Pairs → List Pairs → Type 0
-IsEnough stages few taken = (limit most : ℕ) (ds : List Pairs) → first_fault limit ds ≡ None
-    → taken ≡ take most (filter (takes stages) ds) → run stages limit few ≡ run stages limit taken
+-- These few documents are enough of those that the pipeline has taken so far: it takes them, they are no more, and
+-- whatever comes behind, it makes the same of them and that as of all.
+pub record IsEnough (stages : List Stage) (few taken : List Pairs) : Type 0 where
+  pub are_taken : AllByRecursion (λ d. takes stages d ≡ true) few
+  pub no_more : length few ≤ length taken
+  pub same : (limit : ℕ) (rest : List Pairs) → first_fault limit (taken ++ rest) ≡ None
+      → (first_fault limit (few ++ rest) ≡ None)
+      × (run stages limit (few ++ rest) ≡ run stages limit (taken ++ rest))
 
 -- what a pipeline makes of documents within the limits is within them
 abbrev pub StaysWithin : Type 0

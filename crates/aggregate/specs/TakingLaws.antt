@@ -1,18 +1,18 @@
 -- A pipeline makes the same of the documents that it takes as of all of them, and leaves them within the limits.
-use Rattle.std.specs.Prelude.{◌≡◌, ℕ, Bool, true, false, None, Some, Option, List, [], ◌∷◌, if◌then◌else◌, Result, Ok, Err}
+use Rattle.std.specs.Prelude.{◌≡◌, Bool, true, false, None, Some, Option, List, [], ◌∷◌, if◌then◌else◌, Result, Ok, Err}
 use Rattle.std.specs.List.{filter}
-use Rattle.std.proofs.Common.{refl, sym, ap, ◌∙◌, subst}
+use Rattle.std.proofs.Common.{refl, ap, subst}
 use Rattle.bson.specs.Tree.{Pairs}
 use Rattle.filter.specs.Matches.{matches}
 use Rattle.outcome.specs.Outcome.{◌>>=◌}
 use Rattle.path.specs.declared.refusal.Refusal.{Refusal}
-use Rattle.aggregate.specs.Stage.{Stage, match_stage, project_stage, unwind_stage, sort_stage, skip_stage, limit_stage, count_stage}
+use Rattle.aggregate.specs.Stage.{Stage, match_stage}
 use Rattle.aggregate.specs.Stages.{apply_stage}
 use Rattle.aggregate.specs.Limits.{first_fault, if_faultless, within_limits}
-use Rattle.aggregate.specs.Pipeline.{after_stage, run}
-use Rattle.aggregate.specs.Taking.{takes_by, takes, OnlyTaken, StaysWithin}
+use Rattle.aggregate.specs.Pipeline.{run}
+use Rattle.aggregate.specs.Taking.{takes_by, OnlyTaken, StaysWithin}
 
-twice : {X : Type 0} (p : X → Bool) (xs : List X) → filter p (filter p xs) ≡ filter p xs
+pub twice : {X : Type 0} (p : X → Bool) (xs : List X) → filter p (filter p xs) ≡ filter p xs
 twice p [] = refl
 twice {X} p (x ∷ xs) = at (p x) refl (twice p xs)
   where

@@ -1,6 +1,7 @@
 //! Which documents a pipeline needs.
 
-ghost use Rattle.std.specs.Prelude.{◌≡◌, IfOk, map, length};
+ghost use Rattle.std.specs.Prelude.{◌≡◌, IfOk, IfSome, List, map};
+ghost use Rattle.bson.specs.Tree.{Pairs};
 ghost use Rattle.aggregate.specs.Taking.{takes, behind_match, Suffices, SufficesTaken, IsEnough};
 ghost use Rattle.aggregate.specs.View.{stage_of, pipeline_of};
 
@@ -20,14 +21,14 @@ fn behind_match(stages: &[Stage]) -> &[Stage]
     }
 }
 
-/// How many of the first of so many documents are enough for the stages.
-fn enough(stages: &[Stage], count: usize) -> usize
-    ensures { Suffices (map stage_of stages.now) count result }
+/// How many of the first documents are enough for the stages, where a `$limit` says so.
+fn enough(stages: &[Stage]) -> Option<usize>
+    ensures { IfSome result (λ most. Suffices (map stage_of stages.now) most) }
 {
     match stages.split_first() {
-        Some((Stage::Limit(most), _)) => *most,
-        Some((Stage::Skip(skipped), behind)) => enough(behind, count).saturating_add(*skipped),
-        _ => count,
+        Some((Stage::Limit(most), _)) => Some(*most),
+        Some((Stage::Skip(skipped), behind)) => enough(behind)?.checked_add(*skipped),
+        _ => None,
     }
 }
 
@@ -43,30 +44,34 @@ impl Pipeline {
         }
     }
 
-    /// How many of the documents that it takes are enough, where there are so many documents, all within the limits: all,
-    /// or none past a `$limit`.
-    pub fn most(&self, count: usize) -> usize
-        ensures { SufficesTaken (pipeline_of self.now) count result }
+    /// How many of the first documents that it takes are enough, if all are within the limits: where there is a `$limit`
+    /// behind no stage but a `$match` and `$skip`s.
+    pub fn most(&self) -> Option<usize>
+        ensures { IfSome result (λ most. SufficesTaken (pipeline_of self.now) most) }
     {
-        enough(behind_match(&self.stages), count)
+        enough(behind_match(&self.stages))
     }
 
-    /// Those that are enough of the documents that it takes: where it sorts them and keeps the first ones, these alone.
-    pub fn first_sorted<'a, T: AsDocument>(&self, taken: Vec<&'a T>) -> Result<Vec<&'a T>, NoMemory>
-        ensures { IfOk result (λ v. IsEnough (pipeline_of self.now)
-            (map (λ d. T.document d.now) v.items)
-            (map (λ d. T.document d.now) taken.entry.items)) }
+    /// Those of documents that are still needed, where these are enough of all that it has taken so far: where it
+    /// sorts them and keeps the first ones, these alone.
+    pub fn still_needed<'a, T: AsDocument>(&self, these: Vec<&'a T>) -> Result<Vec<&'a T>, NoMemory>
+        ensures { (seen : List Pairs)
+            → IsEnough (pipeline_of self.now) (map (λ d. T.document d.now) these.entry.items) seen
+            → IfOk result (λ v. IsEnough (pipeline_of self.now)
+            (map (λ d. T.document d.now) v.items) seen) }
     {
         let Some((Stage::Sort(sort), behind)) = behind_match(&self.stages).split_first() else {
-            return Ok(taken);
+            return Ok(these);
         };
-        let most = enough(behind, taken.len());
-        if taken.len() <= most {
-            return Ok(taken);
+        let Some(most) = enough(behind) else {
+            return Ok(these);
+        };
+        if these.len() <= most {
+            return Ok(these);
         }
-        let mut ordered = sort.order_shared(taken)?;
+        let mut ordered = sort.order_shared(these)?;
         ordered.truncate(most);
-        laws::sorts_front_once();
+        laws::sorts_in_parts();
         Ok(ordered)
     }
 }

@@ -1,21 +1,48 @@
 //! The program `docpage`: a document database that answers frames of MongoDB-style commands.
 #![tactic(auto)]
 
-use server::program::run;
-use std::io::{BufWriter, ErrorKind};
+use server::program::run_at;
+use server::terminal::Terminal;
+use std::io::{BufWriter, ErrorKind, IsTerminal};
 use std::process::ExitCode;
-use std::{env, io};
+use std::{env, fs, io};
 
 /// The words that the program was started with.
 fn words(rt: &HostRuntime) -> io::Result<Vec<String>> {
     Ok(env::args(rt)?.collect(rt.alloc())?)
 }
 
+/// The bytes of the standard input, where it is a file.
+fn input_bytes(rt: &HostRuntime) -> Option<u64> {
+    let about = fs::metadata(rt, "/dev/stdin").ok()?;
+    if about.is_file() {
+        Some(about.len())
+    } else {
+        None
+    }
+}
+
+/// What somebody at the terminal sees of long work.
+fn terminal(rt: &HostRuntime) -> Terminal {
+    Terminal {
+        shows_progress: rt.stderr().is_terminal(),
+        input_bytes: input_bytes(rt),
+    }
+}
+
 /// Hands the words to the server's program, which answers on the standard streams, and gives its status.
 fn start(rt: &HostRuntime) -> io::Result<u8> {
     let words = words(rt)?;
     let mut output = BufWriter::new(rt.alloc(), rt.stdout())?;
-    Ok(run(rt, &words, &mut rt.stdin(), &mut output, &mut rt.stderr()))
+    let terminal = terminal(rt);
+    Ok(run_at(
+        rt,
+        &terminal,
+        &words,
+        &mut rt.stdin(),
+        &mut output,
+        &mut rt.stderr(),
+    ))
 }
 
 fn main(rt: HostRuntime) -> ExitCode {

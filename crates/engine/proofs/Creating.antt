@@ -1,5 +1,5 @@
 -- A collection that is made, and one that is dropped.
-use Rattle.std.proofs.Common.{◌≡◌, ℕ, zero, suc, ◌+◌, ◌<◌, ◌≤◌, Bool, true, false, List, [], ◌∷◌, length, get_or, remove, set, Option, Some, None, Result, Ok, Err, refl, sym, ap, subst, ◌∙◌, arith}
+use Rattle.std.proofs.Common.{◌≡◌, ℕ, zero, suc, ◌+◌, ◌≤◌, Bool, true, false, List, [], ◌∷◌, length, remove, set, Option, Some, None, Result, Ok, Err, refl, sym, ap, subst, ◌∙◌, arith}
 use Rattle.std.specs.Prelude.{◌==◌, ◌||◌, ◌&&◌, not, nat_le, if◌then◌else◌, is_some, All, codes}
 use Rattle.std.specs.List.{AllPairs}
 use Rattle.std.specs.Str.{bytes_eq}
@@ -12,8 +12,6 @@ use Rattle.bson.specs.Tree.{Pairs, pair, no_pairs}
 use Rattle.outcome.specs.Outcome.{◌>>=◌, unless}
 use Rattle.path.specs.declared.refusal.Refusal.{Refusal}
 use Rattle.path.specs.declared.refusal.Refusal.TheVariants as refusals
-use Rattle.commands.specs.Create.{Create}
-use Rattle.commands.specs.DropCollection.{DropCollection}
 use Rattle.commands.specs.OutcomeLaws.{passed}
 use Rattle.engine.specs.World.{World, Collection, find_collection, uses, documents_of, documents_or_none, with_documents, put_collection, without_collection}
 use Rattle.engine.specs.Lawful.{AreNamedApart, AreNumberedApart, IsKept, IsLawfulState}

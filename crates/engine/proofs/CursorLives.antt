@@ -1,9 +1,9 @@
 -- A cursor gives its documents batch after batch, whatever comes between.
-use Rattle.std.proofs.Common.{◌≡◌, ◌⊎◌, ⊎_elim, inl, inr, ℕ, zero, suc, ◌+◌, ◌<◌, ◌≤◌, Bool, true, false, List, [], ◌∷◌, ◌++◌, length, get_or, set, remove, take, drop, map, Option, Some, None, Result, Ok, Err, refl, sym, ap, subst, ◌∙◌, arith, append_assoc}
-use Rattle.std.specs.Prelude.{◌==◌, ◌&&◌, not, nat_le, if◌then◌else◌, codes, unwrap_or}
+use Rattle.std.proofs.Common.{◌≡◌, ⊎_elim, inl, inr, ℕ, zero, suc, ◌+◌, ◌<◌, Bool, true, false, List, [], ◌∷◌, ◌++◌, length, get_or, set, remove, take, drop, map, Option, Some, None, Result, Ok, Err, refl, sym, ap, ◌∙◌, arith, append_assoc}
+use Rattle.std.specs.Prelude.{◌==◌, not, nat_le, if◌then◌else◌, codes, unwrap_or}
 use Rattle.std.specs.List.{filter, position}
 use Rattle.std.proofs.lemmas.Bool.Decides.{nat_tests}
-use Rattle.std.proofs.lemmas.List.{append-nil, take_all, take-append-drop}
+use Rattle.std.proofs.lemmas.List.{take_all, take-append-drop}
 use Rattle.std.proofs.lemmas.List.Quantifiers.{position-Some}
 use Rattle.bson.specs.Tree.{Pairs, pair, no_pairs}
 use Rattle.bson.specs.declared.fault.BsonFault.{BsonFault}
@@ -27,7 +27,7 @@ use Rattle.engine.specs.World.{World, Collection, Cursor, documents_of, with_doc
 use Rattle.engine.specs.Documents.{insert_all}
 use Rattle.engine.specs.Refusals.{int, words}
 use Rattle.engine.specs.Progress.{is_full}
-use Rattle.engine.specs.Cursors.{batch_of, batch_reply, is_refused, new_cursor, open_cursor, open_on, first_batch, is_cursor, no_cursor, cursor_at, advanced, number_after}
+use Rattle.engine.specs.Cursors.{batch_of, batch_reply, is_refused, new_cursor, first_batch, is_cursor, no_cursor, cursor_at, advanced}
 use Rattle.engine.specs.GetMore.{batch_len_of, next_batch, run_get_more}
 use Rattle.engine.specs.KillCursors.{is_asked, run_kill_cursors}
 use Rattle.engine.specs.Insert.{run_insert}
@@ -40,7 +40,7 @@ use Rattle.engine.specs.Create.{created, run_create}
 use Rattle.engine.specs.DropCollection.{dropped, run_drop}
 use Rattle.engine.specs.ListCollections.{run_list_collections}
 use Rattle.engine.specs.Step.{run, answered, step}
-use Rattle.engine.specs.CursorLife.{Event, command, committed, undone, ended, after_event, after_events, batch_at, batch_in, batch_of_body, given_by, given, HasLeft, LivesOn, GivesItsList, LastBatchIsWhole}
+use Rattle.engine.specs.CursorLife.{Event, command, committed, undone, ended, after_event, batch_at, batch_in, batch_of_body, given_by, given, HasLeft, GivesItsList, LastBatchIsWhole}
 
 -- ---- filtered lists
 

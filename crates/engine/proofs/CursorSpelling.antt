@@ -1,7 +1,7 @@
 -- The reply with a batch, as its pieces are put one behind the other.
-use Rattle.std.proofs.Common.{◌≡◌, ◌≢◌, ℕ, zero, suc, max, ◌+◌, ◌-◌, ◌<◌, ◌≤◌, Bool, true, false, List, [], ◌∷◌, ◌++◌, length, take, drop, map, refl, sym, ap, subst, ◌∙◌, append_assoc, length-append, arith, lit≤, lit<}
+use Rattle.std.proofs.Common.{◌≡◌, ◌≢◌, ℕ, zero, suc, max, ◌+◌, ◌-◌, ◌<◌, ◌≤◌, Bool, true, false, List, [], ◌∷◌, ◌++◌, length, take, drop, map, refl, sym, ap, ◌∙◌, append_assoc, length-append, arith, lit≤, lit<}
 use Rattle.std.specs.Prelude.{◌&&◌, ◌^◌, nat_lt, nat_le, if◌then◌else◌, codes, slice_index, All, IsUtf8}
-use Rattle.std.proofs.lemmas.List.{append-nil, take_at, drop_at, take_all, length-map}
+use Rattle.std.proofs.lemmas.List.{append-nil, take_at, drop_at, length-map}
 use Rattle.std.proofs.lemmas.List.Elements.{All-head, All-tail}
 use Rattle.std.specs.List.{list_all}
 use Rattle.std.proofs.lemmas.Bool.Decides.{nat_tests}

@@ -26,6 +26,7 @@ pub mod Located
 pub mod Growing
 pub mod Deleting
 pub mod Finding
+pub mod NeededLemmas
 pub mod Applied
 pub mod UpdatingLoop
 pub mod LawfulUpdates

@@ -1,5 +1,5 @@
 -- What commands, and the ends of turns and connections, keep of an engine.
-use Rattle.std.proofs.Common.{◌≡◌, ◌⊎◌, inl, inr, ℕ, false, List, [], Result, Ok, Err, refl, ap, subst, sym, ◌∙◌, arith}
+use Rattle.std.proofs.Common.{◌≡◌, ◌⊎◌, inl, inr, ℕ, false, List, Result, Ok, Err, refl, ap, subst, sym, ◌∙◌}
 use Rattle.std.specs.Prelude.{◌==◌, not, All}
 use Rattle.std.proofs.lemmas.List.Elements.{All-filter}
 use Rattle.bson.specs.Tree.{Pairs}

@@ -1,10 +1,11 @@
 //! `aggregate`: what a pipeline makes of the documents of a collection.
 
-ghost use Rattle.std.specs.Prelude.{◌≡◌, ◌≤◌, ◌<◌, Some, All, IfOk, List, ◌∷◌, ◌++◌, length, drop};
+ghost use Rattle.std.specs.Prelude.{◌≡◌, ◌≤◌, ◌<◌, true, Some, All, IfOk, List, [], ◌∷◌, ◌++◌, length, drop};
 ghost use Rattle.bson.specs.Tree.{Pairs};
 ghost use Rattle.outcome.specs.Outcome.{Gives};
 ghost use Rattle.aggregate.specs.Pipeline.{run as after_pipeline};
 ghost use Rattle.commands.specs.View.{documents_at};
+ghost use Rattle.aggregate.specs.Taking.{takes, IsEnough};
 ghost use Rattle.aggregate.specs.View.{pipeline_of};
 ghost use Rattle.engine.specs.Lawful.{IsStored};
 ghost use Rattle.engine.specs.Aggregate.{run_aggregate, AreEnough};
@@ -15,7 +16,6 @@ use crate::STORED_LIMIT;
 use crate::batch_reply::{BatchKind, batch_reply};
 use crate::connection::ConnId;
 use crate::engine::Engine;
-use crate::picking::first_picked;
 use crate::shared_document::SharedDocument;
 use aggregate::Pipeline;
 use bson::{Document, NoMemory, SpelledDocument};
@@ -24,7 +24,32 @@ use page::Disk;
 use path::Refusal;
 use std::alloc::Global;
 
-/// The documents that a pipeline needs: of those that it takes no more than it keeps.
+/// So many documents are kept before those that aren't needed any more are let go.
+const ROOM: usize = 1024;
+
+/// These documents and one more. Where there are as many as there is room for, those that aren't needed any more are let
+/// go before, and there is room for twice those that are left.
+fn with_one_more<'a>(
+    pipeline: &Pipeline,
+    mut these: Vec<&'a SharedDocument>,
+    room: &mut usize,
+    document: &'a SharedDocument,
+) -> Result<Vec<&'a SharedDocument>, NoMemory>
+    ensures { (seen : List Pairs) → IsEnough (pipeline_of pipeline.now) (documents_at these.entry.items) seen
+        → takes (pipeline_of pipeline.now) document.now ≡ true
+        → IfOk result (λ v. IsEnough (pipeline_of pipeline.now) (documents_at v.items)
+        (seen ++ document.now ∷ [])) }
+{
+    if these.len() >= *room {
+        these = pipeline.still_needed(these)?;
+        *room = ROOM.max(these.len().saturating_mul(2));
+    }
+    these.push(document)?;
+    Ok(these)
+}
+
+/// The documents that a pipeline needs: of those that it takes no more than it keeps. Where it sorts them and keeps the first
+/// ones, it never holds many more than these.
 fn needed<'a>(
     alloc: Global,
     pipeline: &Pipeline,
@@ -33,9 +58,18 @@ fn needed<'a>(
     ensures { IfOk result
         (λ v. AreEnough (pipeline_of pipeline.now) (documents_at v.items) documents.now) }
 {
-    let most = pipeline.most(documents.len());
-    let taken = first_picked(alloc, documents, pipeline, most)?;
-    pipeline.first_sorted(taken)
+    let most = pipeline.most();
+    let mut needed = Vec::new(alloc);
+    let mut room = ROOM;
+    'documents: for document in documents {
+        if most == Some(needed.len()) {
+            return Ok(needed);
+        }
+        if pipeline.takes(document.document()) {
+            needed = with_one_more(pipeline, needed, &mut room, document)?;
+        }
+    }
+    pipeline.still_needed(needed)
 }
 
 /// Copies of documents.

@@ -13,7 +13,7 @@ ghost use Rattle.engine.specs.Durable.{has_changes};
 use crate::batch_reply::{BatchKind, batch_reply};
 use crate::connection::ConnId;
 use crate::engine::Engine;
-use crate::picking::first_picked;
+use crate::picking::first_matching;
 use crate::shared_document::SharedDocument;
 use bson::{Document, NoMemory, SpelledDocument};
 use commands::Query;
@@ -68,7 +68,7 @@ fn ordered<'a>(
     ensures { IfOk result (λ v. window query.now.skip query.now.limit (documents_at v.items)
         ≡ selection query.now documents.now) }
 {
-    let found = first_picked(
+    let found = first_matching(
         alloc,
         documents,
         &query.filter,

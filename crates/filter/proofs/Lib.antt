@@ -3,6 +3,7 @@ pub mod WalkLemmas
 pub mod ReadingLemmas
 pub mod ProjectionLemmas
 pub mod StableSortLemmas
+pub mod FrontLemmas
 pub mod SortLemmas
 pub mod TakenOutLemmas
 pub mod FirstKeyLemmas

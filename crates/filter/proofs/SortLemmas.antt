@@ -25,8 +25,9 @@ use Rattle.filter.specs.SortKeys.{field_of, earlier, first_of, document_keys, fi
 use Rattle.filter.specs.declared.sort.Field.{Field}
 use Rattle.filter.specs.declared.sorting.Ranked.{Ranked}
 use Rattle.filter.proofs.ReadingLemmas.{drop_step}
-use Rattle.filter.specs.SortLaws.{OrdersStably, SortsFrontOnce, sorted-permuted}
-use Rattle.filter.proofs.StableSortLemmas.{sorted_rising, sorted_stable, sorted-front, sorted-map}
+use Rattle.filter.specs.SortLaws.{OrdersStably, SortsInParts, sorted-permuted}
+use Rattle.filter.proofs.FrontLemmas.{sorted-front}
+use Rattle.filter.proofs.StableSortLemmas.{sorted_rising, sorted_stable, sorted-map}
 
 -- ---- reading
 
@@ -109,8 +110,8 @@ orders_stably fields = (
   },
 )
 
-pub sorts_front_once : SortsFrontOnce
-sorts_front_once fields n documents = sorted-front (compare_by fields) (fields_total fields) n documents
+pub sorts_in_parts : SortsInParts
+sorts_in_parts fields n some others = sorted-front (compare_by fields) (fields_total fields) n some others
 
 keys_on : (keys : List KeyPart) (i : ℕ) → drop 1 (map key_of (drop i keys)) ≡ map key_of (drop (suc i) keys)
 keys_on [] zero = refl

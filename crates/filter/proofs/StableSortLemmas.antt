@@ -1,5 +1,5 @@
 -- A list that is sorted and keeps the order of what ties is the one that inserting makes.
-use Rattle.std.proofs.Common.{◌≡◌, ℕ, zero, suc, ◌+◌, ◌<◌, ◌≤◌, Bool, true, false, List, [], ◌∷◌, length, get_or, map, take, refl, sym, ap, subst, ◌∙◌, arith}
+use Rattle.std.proofs.Common.{◌≡◌, ℕ, zero, suc, ◌+◌, ◌<◌, ◌≤◌, Bool, true, false, List, [], ◌∷◌, length, get_or, map, refl, sym, ap, subst, ◌∙◌, arith}
 use Rattle.std.specs.Prelude.{not, ◌&&◌, cond}
 use Rattle.std.specs.List.{filter, AllByRecursion}
 use Rattle.std.specs.List.Sorted.{IsSortedBy, IsSorted, ties, IsStable}
@@ -36,16 +36,6 @@ module _ {X : Type 0} (lt : X → X → Bool) where
   pub Rises-far : (xs : List X) → ((i j : ℕ) (d : X) → i ≤ j → j < length xs → lt (get_or xs j d) (get_or xs i d) ≡ false) → Rises xs
   Rises-far [] far = tt
   Rises-far (x ∷ xs) far = (none_below x xs (λ k within. far 0 (suc k) x (omega arith) (omega arith)), Rises-far xs (λ i j d le within. far (suc i) (suc j) d (omega arith) (omega arith)))
-
-  below-take : (x : X) (n : ℕ) (xs : List X) → AllByRecursion (λ y. lt y x ≡ false) xs → AllByRecursion (λ y. lt y x ≡ false) (take n xs)
-  below-take x zero xs h = tt
-  below-take x (suc n) [] h = tt
-  below-take x (suc n) (y ∷ ys) h = (h.0, below-take x n ys h.1)
-
-  pub Rises-take : (n : ℕ) (xs : List X) → Rises xs → Rises (take n xs)
-  Rises-take zero xs h = tt
-  Rises-take (suc n) [] h = tt
-  Rises-take (suc n) (x ∷ xs) h = (below-take x n xs h.0, Rises-take n xs h.1)
 
   next_above : (xs : List X) → Rises xs → (k : ℕ) (d : X) → suc k < length xs → lt (get_or xs (suc k) d) (get_or xs k d) ≡ false
   next_above [] h k d within = absurd (omega arith)
@@ -109,10 +99,10 @@ module _ {A : Type 0} (cmp : A → A → Ordering) where
     abbrev pub below : A → A → Bool
     below x y = is_lt (cmp x y)
 
-    weak : IsStrictWeakOrder below
+    pub weak : IsStrictWeakOrder below
     weak = ranks_by total (λ x. x)
 
-    not_above : (x y : A) (c : Ordering) → cmp x y ≡ c → below y x ≡ is_lt (ordering_reverse c)
+    pub not_above : (x y : A) (c : Ordering) → cmp x y ≡ c → below y x ≡ is_lt (ordering_reverse c)
     not_above x y c e = ap is_lt (total.antisymm y x ∙ ap ordering_reverse e)
 
     none_below_first : (x y : A) → below y x ≡ false → (ys : List A) → AllByRecursion (λ w. below w y ≡ false) ys → AllByRecursion (λ w. below w x ≡ false) ys
@@ -131,7 +121,7 @@ module _ {A : Type 0} (cmp : A → A → Ordering) where
         by Equal e later = first (not_above x y Equal e)
         by Greater e later = (All-insert cmp (λ w. below w y ≡ false) x ys (ap is_lt e) h.0, later)
 
-    Rises-sorted : (xs : List A) → Rises below (sorted cmp xs)
+    pub Rises-sorted : (xs : List A) → Rises below (sorted cmp xs)
     Rises-sorted [] = tt
     Rises-sorted (x ∷ xs) = Rises-insert x (sorted cmp xs) (Rises-sorted xs)
 
@@ -158,20 +148,13 @@ module _ {A : Type 0} (cmp : A → A → Ordering) where
         by Equal e later = refl
         by Greater e later = passed x y (filter (ties below w) (insert_in_order cmp x ys)) (filter (ties below w) ys) (ties below w x) (ties below w y) (apart w x y e) later
 
-    filter-sorted : (w : A) (xs : List A) → filter (ties below w) (sorted cmp xs) ≡ filter (ties below w) xs
+    pub filter-sorted : (w : A) (xs : List A) → filter (ties below w) (sorted cmp xs) ≡ filter (ties below w) xs
     filter-sorted w [] = refl
     filter-sorted w (x ∷ xs) = filter-insert w x (sorted cmp xs) ∙ ap (λ (ys : List A). cond (ties below w x) (x ∷ ys) ys) (filter-sorted w xs)
 
     pub sorted_once : (xs ys : List A) → IsSorted cmp ys → IsStable cmp xs ys → ys ≡ sorted cmp xs
     sorted_once xs ys up stable =
         one_rising below weak ys (sorted cmp xs) (Rises-far below ys (sorted_far below weak ys up)) (Rises-sorted xs) (λ w. stable w ∙ sym (filter-sorted w xs))
-
-    -- what rises is what inserting its elements makes
-    risen-sorted : (xs : List A) → Rises below xs → sorted cmp xs ≡ xs
-    risen-sorted xs h = one_rising below weak (sorted cmp xs) xs (Rises-sorted xs) h (λ w. filter-sorted w xs)
-
-    pub sorted-front : (n : ℕ) (xs : List A) → sorted cmp (take n (sorted cmp xs)) ≡ take n (sorted cmp xs)
-    sorted-front n xs = risen-sorted (take n (sorted cmp xs)) (Rises-take below n (sorted cmp xs) (Rises-sorted xs))
 
     pub sorted_rising : (xs : List A) → IsSorted cmp (sorted cmp xs)
     sorted_rising xs = Rises-sorted_by below (sorted cmp xs) (Rises-sorted xs)

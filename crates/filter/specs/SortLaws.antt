@@ -1,5 +1,5 @@
 -- A sort in its own words: the same documents, none below an earlier one, and those that tie in the order given.
-use Rattle.std.specs.Prelude.{◌≡◌, ℕ, Bool, false, List, [], ◌∷◌, take}
+use Rattle.std.specs.Prelude.{◌≡◌, ℕ, Bool, false, List, [], ◌∷◌, ◌++◌, take}
 use Rattle.std.specs.List.{AllByRecursion, Contains, flat_map}
 use Rattle.std.specs.List.Sorted.{IsPermutation, IsSorted, IsStable}
 use Rattle.std.specs.Cmp.{IsTotalOrder}
@@ -19,9 +19,11 @@ pub record IsOrdered (fields : List SortField) (documents : List Pairs) : Type 0
 abbrev pub OrdersStably : Type 0
 OrdersStably = (fields : List SortField) → IsTotalOrder (compare_by fields) × ((documents : List Pairs) → IsOrdered fields documents)
 
--- the front of documents in order is in order already
-abbrev pub SortsFrontOnce : Type 0
-SortsFrontOnce = (fields : List SortField) (n : ℕ) (documents : List Pairs) → order fields (take n (order fields documents)) ≡ take n (order fields documents)
+-- The first documents in order are told by the first ones of some documents, in order, and by all others.
+abbrev pub SortsInParts : Type 0
+SortsInParts = (fields : List SortField) (n : ℕ) (some others : List Pairs)
+    → take n (order fields (take n (order fields some) ++ others))
+    ≡ take n (order fields (some ++ others))
 
 -- a key that is one of these, and that none of these precedes
 pub record IsFirstKey (descending : Bool) (keys : List Key) (key : Key) : Type 0 where

@@ -1,7 +1,7 @@
 //! Laws of the definitions and rows worked by hand, as contracts.
 
 ghost use Rattle.filter.specs.ProjectionLaws.{NoLarger, IncludesNamedFields};
-ghost use Rattle.filter.specs.SortLaws.{OrdersStably, SortsFrontOnce, SortsByFirstKey};
+ghost use Rattle.filter.specs.SortLaws.{OrdersStably, SortsInParts, SortsByFirstKey};
 ghost use Rattle.filter.specs.Rows.{MatchRows, RefusalRows, SortRows, ProjectionRows};
 
 /// What filters hold of.
@@ -34,9 +34,10 @@ pub fn orders_stably()
     ensures { OrdersStably }
 {}
 
-/// The front of documents in order is in order already: the same sort leaves it as it is.
-pub fn sorts_front_once()
-    ensures { SortsFrontOnce }
+/// The first documents in order are told by the first ones of some of them, in order, and by all others: so a sort of
+/// which the first ones are wanted needs no others of what it has seen.
+pub fn sorts_in_parts()
+    ensures { SortsInParts }
 {}
 
 /// A document's key at a field is one of the keys that it has there, and none of them precedes it.

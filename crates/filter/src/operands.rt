@@ -3,7 +3,6 @@
 ghost use Rattle.std.specs.Prelude.{◌≡◌, IfOk};
 ghost use Rattle.bson.specs.View.{tree};
 ghost use Rattle.outcome.specs.Outcome.{Gives};
-ghost use Rattle.path.specs.Parts.{begins_with_dollar};
 ghost use Rattle.filter.specs.Condition.{equals, is, equal};
 ghost use Rattle.filter.specs.Reading.{path_in, just, has_operators, order_operand, array_in, every, exists, read_operation};
 ghost use Rattle.filter.specs.View.{condition_of};
@@ -11,7 +10,7 @@ ghost use Rattle.filter.specs.View.{condition_of};
 use crate::condition::{Comparison, Condition, Filter, Predicate};
 use crate::operator::{Operator, all_kinds, size_in};
 use bson::{Array, Document, NoMemory, Value};
-use path::{Path, Refusal};
+use path::{Path, Refusal, begins_with_dollar};
 use std::alloc::Global;
 
 /// The path that a name writes, or the refusal of its fault.
@@ -30,15 +29,6 @@ pub fn has_operators(document: &Document) -> bool
 {
     match document.pairs() {
         [first, ..] => begins_with_dollar(first.name.as_str()),
-        [] => false,
-    }
-}
-
-fn begins_with_dollar(name: &str) -> bool
-    ensures { result ≡ begins_with_dollar name.now }
-{
-    match name.as_bytes() {
-        [first, ..] => *first == b'$',
         [] => false,
     }
 }

@@ -5,14 +5,14 @@ ghost use Rattle.bson.specs.Kinds.{kind, kind_byte};
 ghost use Rattle.std.specs.List.{list_any};
 ghost use Rattle.bson.specs.View.{tree, items_of};
 ghost use Rattle.path.specs.Reach.{items_list};
-ghost use Rattle.value_order.specs.Order.{class, compare};
+ghost use Rattle.value_order.specs.Order.{compare};
 ghost use Rattle.filter.specs.Matches.{candidate_passes, reached_passes, passes, is_equal, is_null};
 ghost use Rattle.filter.specs.View.{predicate_of};
 
 use crate::condition::Predicate;
 use bson::{Kind, Value};
 use std::cmp::Ordering;
-use value_order::compare;
+use value_order::{class, compare};
 
 fn is_equal(value: &Value, other: &Value) -> bool
     ensures { result ≡ is_equal (compare (tree value.now) (tree other.now)) }
@@ -29,26 +29,6 @@ fn is_null(value: &Value) -> bool
     match value {
         Value::Null => true,
         _ => false,
-    }
-}
-
-/// The class of a value in the order of values: int32 and int64 are of one.
-fn class(value: &Value) -> u8
-    ensures { result ≡ class (tree value.now) }
-{
-    match value.kind() {
-        Kind::MinKey => 0x10,
-        Kind::Null => 0x20,
-        Kind::Int32 | Kind::Int64 => 0x30,
-        Kind::String => 0x40,
-        Kind::Document => 0x50,
-        Kind::Array => 0x60,
-        Kind::Binary => 0x70,
-        Kind::ObjectId => 0x80,
-        Kind::Bool => 0x90,
-        Kind::Date => 0xa0,
-        Kind::Timestamp => 0xb0,
-        Kind::MaxKey => 0xf0,
     }
 }
 

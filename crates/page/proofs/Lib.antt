@@ -1,6 +1,13 @@
+pub mod CacheLemmas
+pub mod CellLemmas
 pub mod ImageSteps
+pub mod KeptLemmas
+pub mod MakingLemmas
 pub mod Moments
 pub mod PageSteps
+pub mod PagesBack
+pub mod PlaceLemmas
+pub mod ReadLemmas
 pub mod ReadsBack
 pub mod ReplayLemmas
 pub mod Sectors

@@ -1,45 +1,43 @@
 -- A page that is written is read again.
-use Rattle.std.proofs.Common.{◌≡◌, inl, inr, ℕ, ◌-◌, ◌^◌, ◌<◌, ◌≤◌, Bool, true, false, zero, suc, List, ◌++◌, length, take, drop, replicate, refl, ◌∙◌, ap, arith}
+use Rattle.std.proofs.Common.{◌≡◌, inl, inr, ℕ, ◌-◌, ◌^◌, ◌<◌, ◌≤◌, Bool, true, false, suc, List, ◌++◌, length, take, drop, replicate, refl, ◌∙◌, ap, arith}
 use Rattle.std.specs.Prelude.{◌⊎◌, ◌==◌, not, ◌&&◌, ◌||◌, nat_lt, slice_index, Result, Ok}
 use Rattle.std.proofs.lemmas.Bool.Decides.{nat_tests}
 use Rattle.std.proofs.Math.Seq.{drop-append_seam, take-append_seam}
 use Rattle.byteorder.specs.Endian.{little_number}
 use Rattle.byteorder.specs.Numbers.{little_number-reads_back}
-use Rattle.page.specs.Format.{Content, chain, Sheet, page_bytes, are_zeros, sheet_in}
+use Rattle.page.specs.Content.{Content, chain}
+use Rattle.page.specs.Format.{Sheet, page_bytes, are_zeros, sheet_in}
+use Rattle.page.proofs.PlaceLemmas.{zeros_are}
 use Rattle.outcome.specs.Outcome.{◌>>=◌, unless}
-use Rattle.page.specs.declared.page_image.PageFault.{PageFault}
-use Rattle.page.specs.declared.page_image.PageFault.TheVariants as faults
-
-zeros_are : (n : ℕ) → are_zeros (replicate n 0) ≡ true
-zeros_are zero = refl
-zeros_are (suc n) = zeros_are n
+use Rattle.page.specs.declared.page_fault.PageFault.{PageFault}
+use Rattle.page.specs.declared.page_fault.PageFault.TheVariants as faults
 
 -- where no test fails, reading gives the content
-steps : Bool → Bool → Bool → ℕ → Content → ℕ → Result Sheet PageFault
-steps t1 t2 t3 born inside number = do
-  b ← unless t1 faults.Kind (unless t2 faults.Number (Ok born))
-  i ← unless t3 faults.Length (Ok inside)
+steps : Bool → Bool → ℕ → Content → ℕ → Result Sheet PageFault
+steps t1 t2 born inside number = do
+  b ← unless t1 faults.Number (Ok born)
+  i ← unless t2 faults.Length (Ok inside)
   Ok (record { page = number; generation = b; content = i })
 
-all_pass : (t1 t2 t3 : Bool) (born : ℕ) (inside : Content) (number : ℕ) → t1 ≡ false → t2 ≡ false → t3 ≡ false
-    → steps t1 t2 t3 born inside number ≡ Ok (record { page = number; generation = born; content = inside })
+all_pass : (t1 t2 : Bool) (born : ℕ) (inside : Content) (number : ℕ) → t1 ≡ false → t2 ≡ false
+    → steps t1 t2 born inside number ≡ Ok (record { page = number; generation = born; content = inside })
 unfolding steps
-all_pass t1 t2 t3 born inside number e1 e2 e3 = rw (e1, e2, e3) refl
+all_pass t1 t2 born inside number e1 e2 = rw (e1, e2) refl
 
 module _ (number generation : ℕ) (bs : List ℕ) (n next born : ℕ) (bytes : List ℕ)
     (kind : slice_index bs 0 ≡ 3) (gap : slice_index bs 1 ≡ 0) (own : little_number 4 (drop 4 bs) ≡ number) (is_born : little_number 8 (drop 8 bs) ≡ born)
     (some : 1 ≤ born) (until : born ≤ generation) (count : little_number 2 (drop 2 bs) ≡ n) (onward : little_number 4 (drop 16 bs) ≡ next)
-    (fits : n ≤ 4076) (full : (next ≡ 0) ⊎ (n ≡ 4076)) (tail : are_zeros (drop n (drop 20 bs)) ≡ true) (inside : take n (drop 20 bs) ≡ bytes) where
+    (fits : n ≤ 4076) (full : (next ≡ 0) ⊎ (n ≡ 4076)) (tail : are_zeros (drop n (drop 4 (drop 16 bs))) ≡ true) (inside : take n (drop 4 (drop 16 bs)) ≡ bytes) where
   full_test : (not (next == 0) && nat_lt n 4076) ≡ false
   full_test = elim full [ inl last ↦ grind (arith, nat_tests, last) | inr whole ↦ grind (arith, nat_tests, whole) ]
 
   pub sheet_by : sheet_in number generation bs ≡ Ok (record { page = number; generation = born; content = chain next bytes })
   unfolding steps
   sheet_by =
-      rw (count, onward, own, is_born, inside)
-      (all_pass (not (slice_index bs 0 == 3) || not (slice_index bs 1 == 0)) (not (number == number) || born == 0 || nat_lt generation born)
-      (nat_lt 4076 n || (not (next == 0) && nat_lt n 4076) || not (are_zeros (drop n (drop 20 bs)))) born (chain next bytes) number
-      (grind (arith, nat_tests, kind, gap)) (grind (arith, nat_tests, some, until)) (grind (arith, nat_tests, fits, full_test, tail)))
+      rw (kind, gap, count, onward, own, is_born, inside)
+      (all_pass (not (number == number) || born == 0 || nat_lt generation born)
+      (nat_lt 4076 n || (not (next == 0) && nat_lt n 4076) || not (are_zeros (drop n (drop 4 (drop 16 bs))))) born (chain next bytes) number
+      (grind (arith, nat_tests, some, until)) (grind (arith, nat_tests, fits, full_test, tail)))
 
 -- A chain's page is read as what it was written as, under any root from its own generation on.
 pub chain_read_back : (page born next generation : ℕ) (bytes : List ℕ) → page < 2 ^ 32 → next < 2 ^ 32 → born < 2 ^ 64 → 1 ≤ born → born ≤ generation

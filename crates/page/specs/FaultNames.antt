@@ -3,8 +3,8 @@ use Rattle.std.specs.Prelude.{ℕ, List, codes}
 use Rattle.page.specs.declared.disk.DeviceFault.{DeviceFault}
 use Rattle.page.specs.declared.file.FileFault.{FileFault}
 use Rattle.page.specs.declared.file.FileFault.TheVariants as files
-use Rattle.page.specs.declared.page_image.PageFault.{PageFault}
-use Rattle.page.specs.declared.page_image.PageFault.TheVariants as pages
+use Rattle.page.specs.declared.page_fault.PageFault.{PageFault}
+use Rattle.page.specs.declared.page_fault.PageFault.TheVariants as pages
 
 abbrev pub device_fault_name : DeviceFault → List ℕ
 device_fault_name fault = codes "Device"

@@ -1,10 +1,16 @@
+pub mod Cache
+pub mod CellView
+pub mod Content
 pub mod Crash
 pub mod FaultNames
 pub mod Faulty
 pub mod History
+pub mod ImageView
+pub mod Kept
 pub mod Latest
 pub mod Memory
 pub mod Page
+pub mod PageLaws
 pub mod Numbers
 pub mod Replay
 pub mod Format

@@ -2,8 +2,8 @@
 use Rattle.std.specs.Prelude.{ℕ}
 use Rattle.page.specs.declared.file.FileFault.{FileFault}
 use Rattle.page.specs.declared.file.FileFault.TheVariants as files
-use Rattle.page.specs.declared.page_image.PageFault.{PageFault}
-use Rattle.page.specs.declared.page_image.PageFault.TheVariants as pages
+use Rattle.page.specs.declared.page_fault.PageFault.{PageFault}
+use Rattle.page.specs.declared.page_fault.PageFault.TheVariants as pages
 
 abbrev pub page_fault_number : PageFault → ℕ
 page_fault_number pages.Kind = 1

@@ -1,15 +1,10 @@
--- What pages of the code stand for.
-use Rattle.page.specs.Format.{Content, chain, Sheet}
-use Rattle.page.specs.declared.page_image.PageContent.{PageContent}
-use Rattle.page.specs.declared.page_image.PageContent.TheVariants as contents
-use Rattle.page.specs.declared.page_image.PageImage.{PageImage}
+-- What contents of pages stand for.
+use Rattle.page.specs.Content.{Content, leaf, branch, chain, free_list}
+use Rattle.page.specs.declared.page_content.PageContent.{PageContent}
+use Rattle.page.specs.declared.page_content.PageContent.TheVariants as contents
 
 abbrev pub content_of : PageContent → Content
+content_of (contents.Leaf items) = leaf items
+content_of (contents.Branch arms) = branch arms
 content_of (contents.Chain next bytes) = chain next bytes.items
-
-abbrev pub sheet_of : PageImage → Sheet
-sheet_of image = record {
-  page = image.page;
-  generation = image.generation;
-  content = content_of image.content;
-}
+content_of (contents.FreeList next pages) = free_list next pages.items

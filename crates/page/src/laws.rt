@@ -1,6 +1,7 @@
 //! Laws of the definitions, and the numbers that this crate fixes.
 ghost use Rattle.std.specs.Prelude.{◌≡◌};
 ghost use Rattle.page.specs.Numbers.{file_fault_number, page_fault_number};
+ghost use Rattle.page.specs.PageLaws.{ReadsBack};
 
 use crate::{CHAIN_BYTES, FileFault, PAGE_BYTES, PageFault};
 
@@ -22,3 +23,8 @@ pub fn file_fault_number(fault: FileFault) -> u8
 {
     fault as u8
 }
+
+/// A page that is written is read back, under any root from its own generation on.
+pub fn reads_back()
+    ensures { ReadsBack }
+{}

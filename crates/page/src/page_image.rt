@@ -1,70 +1,24 @@
 //! Pages as 4,096 bytes.
 
-ghost use Rattle.std.specs.Prelude.{◌≡◌, ◌≢◌, ◌≤◌, ◌<◌, ◌++◌, length};
+ghost use Rattle.std.specs.Prelude.{◌≡◌, ◌≢◌, ◌≤◌, ◌<◌, ◌*◌, ◌^◌, ◌++◌, length, IfOk, vec_len};
 ghost use Rattle.byteorder.specs.Endian.{little_bytes};
-ghost use Rattle.page.specs.Format.{chain, header, IsFit, page_bytes, are_zeros, chain_in, generation_in, content_in, sheet_in};
-ghost use Rattle.page.specs.View.{content_of, sheet_of};
+ghost use Rattle.page.specs.Content.{chain, free_list};
+ghost use Rattle.page.specs.Format.{header, IsFit, page_bytes, chain_in, free_list_in, numbers_in, generation_in, content_in, sheet_in};
+ghost use Rattle.page.specs.View.{content_of};
 ghost use Rattle.outcome.specs.Outcome.{Gives};
 
+use crate::{Branch, Leaf, PageContent, PageFault, is_all_zero};
 use byteorder::{ByteOrder, LittleEndian};
 use std::alloc::{AllocError, Global};
 
 /// The bytes of a page.
 pub const PAGE_BYTES: usize = 4096;
+/// The bytes of a page behind its header.
+pub const BODY_BYTES: usize = 4080;
 /// The most bytes of a chain's page.
 pub const CHAIN_BYTES: usize = 4076;
-
-/// Why bytes are no page that may stand there: the first of these that applies.
-#[derive(Clone, Copy, Debug, PartialEq, Eq)]
-pub enum PageFault {
-    /// The kind byte is that of no page that may stand there, or the byte behind it isn't zero.
-    Kind = 1,
-    /// The page's own number is another, or its generation is 0 or above the root's.
-    Number,
-    /// Keys aren't ascending, or a page number is impossible.
-    Order,
-    /// A count or a length goes past the end, or the tail isn't zero.
-    Length,
-    /// The device failed.
-    Device,
-    /// Out of memory.
-    Memory,
-}
-
-impl From<AllocError> for PageFault {
-    ghost use Rattle.page.specs.declared.page_image.PageFault.TheVariants.{Memory};
-
-    ghost from_gives = { λ _ e. e ≡ Memory };
-
-    fn from(_error: AllocError) -> PageFault {
-        PageFault::Memory
-    }
-}
-
-impl PageFault {
-    ghost use Rattle.page.specs.FaultNames.{page_fault_name};
-
-    /// The fault's name, as it is printed.
-    pub fn name(self) -> &'static str
-        ensures { result.now ≡ page_fault_name self }
-    {
-        match self {
-            PageFault::Kind => "Kind",
-            PageFault::Number => "Number",
-            PageFault::Order => "Order",
-            PageFault::Length => "Length",
-            PageFault::Device => "Device",
-            PageFault::Memory => "Memory",
-        }
-    }
-}
-
-/// What a page holds.
-#[derive(Debug, Drop)]
-pub enum PageContent {
-    /// Bytes of a chain, and the page that goes on, or 0 at its end. All pages but the last hold 4,076 bytes.
-    Chain { next: u32, bytes: Vec<u8> },
-}
+/// The most numbers of a page of the free list.
+pub const FREE_NUMBERS: usize = 1019;
 
 /// A page: its own number, the generation of the commit that wrote it, and its content.
 #[derive(Debug, Drop)]
@@ -72,13 +26,7 @@ pub struct PageImage {
     pub page: u32,
     pub generation: u64,
     pub content: PageContent,
-}
-
-/// Whether all bytes are zero.
-pub fn is_all_zero(bytes: &[u8]) -> bool
-    ensures { result ≡ are_zeros bytes.now }
-{
-    bytes.iter().all(|b| *b == 0)
+    ghost fits: { IsFit (content_of content) },
 }
 
 /// A chain's page behind the header's first four bytes.
@@ -89,7 +37,8 @@ fn read_chain(
     bytes: &[u8],
 ) -> Result<PageContent, PageFault>
     requires { length bytes.now ≡ 4076 }
-    ensures { Gives PageFault.Memory content_of result (chain_in count next bytes.now) }
+    ensures gives { Gives PageFault.Memory content_of result (chain_in count next bytes.now) }
+    ensures fits { IfOk result (λ content. IsFit (content_of content)) }
 {
     if count > CHAIN_BYTES || (next != 0 && count < CHAIN_BYTES) {
         return Err(PageFault::Length);
@@ -102,12 +51,43 @@ fn read_chain(
     Ok(PageContent::Chain { next, bytes })
 }
 
+/// A page of the free list behind the number of the next one.
+fn read_free_list(
+    alloc: Global,
+    count: usize,
+    next: u32,
+    bytes: &[u8],
+) -> Result<PageContent, PageFault>
+    requires { length bytes.now ≡ 4076 }
+    ensures gives { Gives PageFault.Memory content_of result (free_list_in count next bytes.now) }
+    ensures fits { IfOk result (λ content. IsFit (content_of content)) }
+{
+    if count > FREE_NUMBERS || !is_all_zero(&bytes[4 * count..]) {
+        return Err(PageFault::Length);
+    }
+    let pages = numbers_of(alloc, count, bytes)?;
+    Ok(PageContent::FreeList { next, pages })
+}
+
+/// So many numbers, from the front.
+fn numbers_of(alloc: Global, count: usize, bytes: &[u8]) -> Result<Vec<u32>, AllocError>
+    requires { 4 * count ≤ length bytes.now }
+    ensures numbers { IfOk result (λ v. v.items ≡ numbers_in count bytes.now) }
+    ensures len { IfOk result (λ v. vec_len v ≡ count) }
+{
+    let mut numbers = Vec::with_capacity(alloc, count)?;
+    for i in 0..count {
+        numbers.push(LittleEndian::read_u32(&bytes[4 * i..]))?;
+    }
+    Ok(numbers)
+}
+
 /// The generation of the page of this number, in a file whose root has this generation.
 fn read_generation(bytes: &[u8], page: u32, generation: u64) -> Result<u64, PageFault>
     requires { length bytes.now ≡ 4096 }
     ensures { Gives PageFault.Memory (λ n. n) result (generation_in page generation bytes.now) }
 {
-    if bytes[0] != 3 || bytes[1] != 0 {
+    if bytes[0] == 0 || bytes[0] > 4 || bytes[1] != 0 {
         return Err(PageFault::Kind);
     }
     let own = LittleEndian::read_u32(&bytes[4..]);
@@ -118,21 +98,43 @@ fn read_generation(bytes: &[u8], page: u32, generation: u64) -> Result<u64, Page
     Ok(born)
 }
 
-fn read_content(alloc: Global, bytes: &[u8]) -> Result<PageContent, PageFault>
-    requires { length bytes.now ≡ 4096 }
-    ensures { Gives PageFault.Memory content_of result (content_in bytes.now) }
+/// The content of a page of this kind and count, by what stands behind its header.
+fn read_content(
+    alloc: Global,
+    kind: u8,
+    count: usize,
+    body: &[u8],
+) -> Result<PageContent, PageFault>
+    requires { length body.now ≡ 4080 }
+    ensures gives { Gives PageFault.Memory content_of result (content_in kind count body.now) }
+    ensures fits { IfOk result (λ content. IsFit (content_of content)) }
 {
-    let count = LittleEndian::read_u16(&bytes[2..]);
-    let next = LittleEndian::read_u32(&bytes[16..]);
-    read_chain(alloc, count as usize, next, &bytes[20..])
+    match kind {
+        1 => Ok(PageContent::Leaf(Leaf::read(alloc, count, body)?)),
+        2 => Ok(PageContent::Branch(Branch::read(alloc, count, body)?)),
+        3 => read_chain(alloc, count, LittleEndian::read_u32(body), &body[4..]),
+        _ => read_free_list(alloc, count, LittleEndian::read_u32(body), &body[4..]),
+    }
 }
 
-/// The header of a chain's page, and the page that goes on.
-fn chain_head(generation: u64, page: u32, next: u32, count: u16) -> [u8; 20]
-    ensures { result ≡ header 3 count page generation ++ little_bytes 4 next }
+/// The header of a page.
+fn page_head(kind: u8, count: u16, page: u32, generation: u64) -> [u8; 16]
+    ensures { result ≡ header kind count page generation }
+{
+    let mut head = [0; 16];
+    head[0] = kind;
+    LittleEndian::write_u16(&mut head[2..4], count);
+    LittleEndian::write_u32(&mut head[4..8], page);
+    LittleEndian::write_u64(&mut head[8..16], generation);
+    head
+}
+
+/// The header of a page that names the next one of its chain or list, and that page.
+fn linked_head(kind: u8, count: u16, page: u32, generation: u64, next: u32) -> [u8; 20]
+    ensures { result ≡ header kind count page generation ++ little_bytes 4 next }
 {
     let mut head = [0; 20];
-    head[0] = 3;
+    head[0] = kind;
     LittleEndian::write_u16(&mut head[2..4], count);
     LittleEndian::write_u32(&mut head[4..8], page);
     LittleEndian::write_u64(&mut head[8..16], generation);
@@ -151,25 +153,60 @@ pub fn chain_page(generation: u64, page: u32, next: u32, content: &[u8]) -> [u8;
 {
     let count = content.len();
     let mut bytes = [0; 4096];
-    bytes[..20].copy_from_slice(&chain_head(generation, page, next, count as u16));
+    bytes[..20].copy_from_slice(&linked_head(3, count as u16, page, generation, next));
     bytes[20..20 + count].copy_from_slice(content);
     bytes
 }
 
+/// A page of the tree: its header, and the 4,080 bytes behind it.
+fn tree_page(kind: u8, count: usize, page: u32, generation: u64, body: &[u8]) -> [u8; 4096]
+    requires count { count < 2 ^ 16 }
+    requires body { length body.now ≡ 4080 }
+    ensures { result ≡ header kind count page generation ++ body.now }
+{
+    let mut bytes = [0; 4096];
+    bytes[..16].copy_from_slice(&page_head(kind, count as u16, page, generation));
+    bytes[16..].copy_from_slice(body);
+    bytes
+}
+
+/// A page of the free list that holds these numbers, and names the list's next page.
+pub fn free_list_page(generation: u64, page: u32, next: u32, numbers: &[u32]) -> [u8; 4096]
+    requires { length numbers.now ≤ 1019 }
+    ensures { result ≡ page_bytes (record {
+      page = page;
+      generation = generation;
+      content = free_list next numbers.now;
+    }) }
+{
+    let count = numbers.len();
+    let mut bytes = [0; 4096];
+    bytes[..20].copy_from_slice(&linked_head(4, count as u16, page, generation, next));
+    LittleEndian::write_u32_into(numbers, &mut bytes[20..20 + 4 * count]);
+    bytes
+}
+
 impl PageImage {
+    ghost use Rattle.page.specs.ImageView.{sheet_of};
+
     /// Writes the page's bytes. It takes no memory.
     pub fn write(&self, bytes: &mut [u8; 4096])
-        requires { IsFit (sheet_of self.now) }
         ensures { bytes.new ≡ page_bytes (sheet_of self.now) }
     {
-        match &self.content {
-            PageContent::Chain {
-                next,
-                bytes: content,
-            } => {
-                *bytes = chain_page(self.generation, self.page, *next, content);
+        *bytes = match &self.content {
+            PageContent::Leaf(leaf) => {
+                tree_page(1, leaf.len(), self.page, self.generation, leaf.bytes())
             }
-        }
+            PageContent::Branch(branch) => {
+                tree_page(2, branch.len(), self.page, self.generation, branch.bytes())
+            }
+            PageContent::Chain { next, bytes } => {
+                chain_page(self.generation, self.page, *next, bytes)
+            }
+            PageContent::FreeList { next, pages } => {
+                free_list_page(self.generation, self.page, *next, pages)
+            }
+        };
     }
 
     /// The page of this number that these bytes are, in a file whose root has this generation.
@@ -182,7 +219,8 @@ impl PageImage {
         ensures { Gives PageFault.Memory sheet_of result (sheet_in page generation bytes.now) }
     {
         let generation = read_generation(bytes, page, generation)?;
-        let content = read_content(alloc, bytes)?;
+        let count = LittleEndian::read_u16(&bytes[2..]) as usize;
+        let content = read_content(alloc, bytes[0], count, &bytes[16..])?;
         Ok(PageImage {
             page,
             generation,

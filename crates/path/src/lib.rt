@@ -17,7 +17,7 @@ mod removing;
 mod setting;
 
 pub use fault::PathFault;
-pub use parsing::Path;
+pub use parsing::{Path, begins_with_dollar};
 pub use part::Part;
 pub use place::{passes_array, value_at};
 pub use reaching::{Reached, item_of_part, reach};

@@ -84,10 +84,11 @@ fn is_empty(part: &str) -> bool
     }
 }
 
-fn begins_with_dollar(part: &str) -> bool
-    ensures { result ≡ begins_with_dollar part.now }
+/// Whether a name begins with `$`, as the names of operators do and no part of a path does.
+pub fn begins_with_dollar(name: &str) -> bool
+    ensures { result ≡ begins_with_dollar name.now }
 {
-    match part.as_bytes() {
+    match name.as_bytes() {
         [first, ..] => *first == b'$',
         [] => false,
     }

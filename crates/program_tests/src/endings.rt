@@ -1,43 +1,12 @@
 //! How the program ends.
 
 use crate::devices::Broken;
+use crate::runs::{Ending, ended, words};
 use by_hand::*;
 use server::program::run;
 use std::alloc::{AllocError, Global};
 use std::fs;
 use std::test::*;
-
-/// How the program ended, and what it wrote.
-#[derive(Drop)]
-struct Ending {
-    status: u8,
-    output: Vec<u8>,
-    errors: Vec<u8>,
-}
-
-/// The words that the program is started with.
-fn words(alloc: Global, all: &[&str]) -> Result<Vec<String>, AllocError> {
-    let mut out = Vec::new(alloc);
-    for word in all {
-        out.push(String::from_str(alloc, word)?)?;
-    }
-    Ok(out)
-}
-
-/// The program with these words over this input.
-fn ended(rt: &HostRuntime, all: &[&str], input: &[u8]) -> Result<Ending, AllocError> {
-    let alloc = rt.alloc();
-    let words = words(alloc, all)?;
-    let mut rest = input;
-    let mut output = Vec::new(alloc);
-    let mut errors = Vec::new(alloc);
-    let status = run(rt, &words, &mut rest, &mut output, &mut errors);
-    Ok(Ending {
-        status,
-        output,
-        errors,
-    })
-}
 
 /// `docpage exec FILE` over this input, where there is no such file yet. It takes the file away again.
 fn new_file(rt: &HostRuntime, file: &str, input: &[u8]) -> Result<Ending, AllocError> {
@@ -152,10 +121,10 @@ const WORDS_OF_NO_PROGRAM_CASES: [&[&str]; 7] = [
     &["docpage"],
     &["docpage", "dump"],
     &["docpage", "exec"],
+    &["docpage", "ask"],
     &["docpage", "exec", "a.docpage", "more"],
     &["docpage", "exec", "--more"],
     &["docpage", "exec", "no_such_folder/file.docpage", "more"],
-    &["docpage", "--help"],
 ];
 
 #[test]

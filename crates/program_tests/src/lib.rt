@@ -5,3 +5,7 @@
 mod devices;
 #[cfg(test)]
 mod endings;
+#[cfg(test)]
+mod people;
+#[cfg(test)]
+mod runs;

@@ -8,14 +8,15 @@ use Rattle.std.specs.List.{AllByRecursion}
 use Rattle.page.specs.History.{History, Sector, KeepsWord, now, MayHold}
 use Rattle.page.specs.Crash.{GoesOn, LeavesOnly, IsImageOutside}
 use Rattle.page.specs.Page.{page_at, IsSectorOf}
-use Rattle.page.specs.Format.{chain, page_bytes, sheet_in}
+use Rattle.page.specs.Content.{chain}
+use Rattle.page.specs.Format.{page_bytes, sheet_in}
 use Rattle.page.proofs.Moments.{leaves_further}
 use Rattle.page.proofs.PageSteps.{bytes_from_same}
 use Rattle.page.proofs.ReadsBack.{chain_read_back}
-use Rattle.roots.specs.Chain.{IsPath, IsSectorIn, AreApart, AreOfCommit, sheet_at, next_of, piece_in, generation_of, path_bytes, first_of}
+use Rattle.roots.specs.Chain.{IsPath, IsSectorIn, AreApart, AreOfCommit, only_chain, sheet_at, next_of, piece_in, generation_of, path_bytes, first_of}
 
 sheet_same : (a b : ℕ → List ℕ) (generation page : ℕ) → ((k : ℕ) → IsSectorOf page k → b k ≡ a k) → sheet_at b generation page ≡ sheet_at a generation page
-sheet_same a b generation page same = ap (sheet_in page generation) (bytes_from_same a b (8 * page) 8 (λ k le lt. same k (le, lt)))
+sheet_same a b generation page same = ap (λ (bytes : List ℕ). only_chain (sheet_in page generation bytes)) (bytes_from_same a b (8 * page) 8 (λ k le lt. same k (le, lt)))
 
 -- A chain lies in its pages alone,
 pub path_same : (a b : ℕ → List ℕ) (generation first : ℕ) (pages : List ℕ) (end : ℕ) → ((k : ℕ) → IsSectorIn pages k → b k ≡ a k) → IsPath a generation first pages end → IsPath b generation first pages end
@@ -104,7 +105,7 @@ module _ (old new : ℕ → List ℕ) (generation next : ℕ) (pages bytes piece
   ]
 
   sheet_is : sheet_at new generation (get_or pages i 0) ≡ Ok (record { page = get_or pages i 0; generation = generation; content = chain next piece })
-  sheet_is = ap (sheet_in (get_or pages i 0) generation) holds ∙ chain_read_back (get_or pages i 0) generation next generation piece small near short some (omega arith) fits full
+  sheet_is = ap (λ (l : List ℕ). only_chain (sheet_in (get_or pages i 0) generation l)) holds ∙ ap only_chain (chain_read_back (get_or pages i 0) generation next generation piece small near short some (omega arith) fits full)
 
   rest_same : (k : ℕ) → IsSectorIn (drop left pages) k → new k ≡ old k
   rest_same k inside = others k (λ here. below_apart (get_or pages i 0) (drop left pages) ascends.1 k inside here)
@@ -124,3 +125,10 @@ module _ (old new : ℕ → List ℕ) (generation next : ℕ) (pages bytes piece
 
 pub named_step : (pages : List ℕ) (i : ℕ) → i < length pages → get_or pages i 0 ≡ first_of (drop i pages)
 named_step pages i within = sym (ap first_of (drop-cons pages i 0 within))
+
+-- a chain of which nothing is left to write
+pub path_all : (image : ℕ → List ℕ) (generation next : ℕ) (pages : List ℕ) (left : ℕ) → left ≡ 0 → next ≡ first_of (drop left pages)
+    → IsPath image generation next (drop left pages) 0 → IsPath image generation (first_of pages) pages 0
+path_all image generation next pages left none named path =
+    let here : next ≡ first_of pages = named ∙ ap (λ (n : ℕ). first_of (drop n pages)) none in
+    subst (λ (n : ℕ). IsPath image generation n pages 0) here (subst (λ (n : ℕ). IsPath image generation next (drop n pages) 0) none path)

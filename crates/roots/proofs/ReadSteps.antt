@@ -4,7 +4,7 @@ use Rattle.std.specs.Prelude.{Result, Ok}
 use Rattle.std.specs.List.{AllByRecursion}
 use Rattle.std.proofs.lemmas.List.{length-append, append-nil, append_assoc}
 use Rattle.page.specs.Format.{Sheet}
-use Rattle.page.specs.declared.page_image.PageFault.{PageFault}
+use Rattle.page.specs.declared.page_fault.PageFault.{PageFault}
 use Rattle.roots.specs.Chain.{IsPath, sheet_at, next_of, piece_in, path_bytes}
 use Rattle.roots.specs.Image.{HasChain}
 use Rattle.roots.specs.Reading.{IsLink}

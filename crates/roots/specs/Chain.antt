@@ -3,18 +3,31 @@
 use Rattle.std.specs.Prelude.{◌≡◌, ◌⊎◌, ℕ, ◌<◌, List, [], ◌∷◌, ◌++◌, Result, Ok, Err}
 use Rattle.std.specs.List.{AllByRecursion}
 use Rattle.page.specs.Page.{page_at, IsSectorOf}
-use Rattle.page.specs.Format.{Content, chain, Sheet, sheet_in}
-use Rattle.page.specs.declared.page_image.PageFault.{PageFault}
+use Rattle.page.specs.Content.{Content, chain}
+use Rattle.page.specs.Format.{Sheet, sheet_in}
+use Rattle.page.specs.declared.page_fault.PageFault.{PageFault}
+use Rattle.page.specs.declared.page_fault.PageFault.TheVariants as faults
 
--- what a page of the image holds, in a file whose root has this generation
+-- no page but one of a chain
+abbrev pub with_chain : Sheet → Content → Result Sheet PageFault
+with_chain sheet (chain next bytes) = Ok sheet
+with_chain sheet _ = Err faults.Kind
+
+abbrev pub only_chain : Result Sheet PageFault → Result Sheet PageFault
+only_chain (Ok sheet) = with_chain sheet sheet.content
+only_chain (Err fault) = Err fault
+
+-- what a page of a chain holds, in a file whose root has this generation
 abbrev pub sheet_at : (ℕ → List ℕ) → ℕ → ℕ → Result Sheet PageFault
-sheet_at image generation page = sheet_in page generation (page_at image page)
+sheet_at image generation page = only_chain (sheet_in page generation (page_at image page))
 
 abbrev pub next_of : Content → ℕ
 next_of (chain next bytes) = next
+next_of _ = 0
 
 abbrev pub bytes_of : Content → List ℕ
 bytes_of (chain next bytes) = bytes
+bytes_of _ = []
 
 -- the pages lead from the first one to the one that the last of them names
 abbrev pub IsPath : (ℕ → List ℕ) → ℕ → ℕ → List ℕ → ℕ → Type 0

@@ -1,7 +1,7 @@
 -- What reading one page of a chain gives.
 use Rattle.std.specs.Prelude.{◌≡◌, ℕ, List, Result, Ok}
 use Rattle.page.specs.Format.{Sheet}
-use Rattle.page.specs.declared.page_image.PageFault.{PageFault}
+use Rattle.page.specs.declared.page_fault.PageFault.{PageFault}
 use Rattle.roots.specs.Chain.{next_of, bytes_of}
 
 -- a page was read that has these bytes and names this one

@@ -61,7 +61,10 @@ fn read_link<D: Disk>(
     read_page(disk, page, &mut bytes)?;
     match PageImage::read(alloc, &bytes, page, generation) {
         Ok(image) => {
-            let PageContent::Chain { next, bytes } = image.content;
+            let content = image.content;
+            let PageContent::Chain { next, bytes } = content else {
+                return Err(OpenFault::Damaged);
+            };
             Ok(Link { next, bytes })
         }
         Err(PageFault::Memory) => Err(OpenFault::Memory),

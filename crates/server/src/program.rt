@@ -4,7 +4,10 @@ ghost use Rattle.std.specs.Prelude.{◌≤◌, length, IfOk};
 ghost use Rattle.page.specs.Unknown.{unknown_history};
 ghost use Rattle.server.specs.Durable.{IsSound};
 
+use crate::help::help_for;
+use crate::people::{ask_all, export_all, import_all};
 use crate::service::serve_on;
+use crate::terminal::Terminal;
 use crate::turn::{Core, TurnFault, TurnOut};
 use crate::words::{Listened, Served, Task, Words, parse};
 use clap::error::ErrorKind;
@@ -12,6 +15,7 @@ use engine::ConnId;
 use op_msg::FrameFault;
 use page::{Disk, FileDisk, FileFault};
 use roots::{Config, OpenFault};
+use shell::ShellFault;
 use sockets::ServeFault;
 use std::alloc::Global;
 use std::fs::File;
@@ -55,6 +59,9 @@ pub enum ProgramFault {
     /// The input has a fault of a frame.
     #[error("{}", .0.name())]
     Frame(FrameFault),
+    /// A command was refused, or a line is no document.
+    #[error("{}", .0)]
+    Shell(ShellFault),
 }
 
 impl ProgramFault {
@@ -68,7 +75,8 @@ impl ProgramFault {
             | ProgramFault::Device
             | ProgramFault::Stopped
             | ProgramFault::Accept
-            | ProgramFault::Frame(_) => 1,
+            | ProgramFault::Frame(_)
+            | ProgramFault::Shell(_) => 1,
         }
     }
 }
@@ -82,6 +90,30 @@ impl From<ServeFault> for ProgramFault {
     }
 }
 
+impl From<ShellFault> for ProgramFault {
+    fn from(fault: ShellFault) -> ProgramFault {
+        match fault {
+            ShellFault::Memory => ProgramFault::Memory,
+            ShellFault::Device => ProgramFault::Device,
+            ShellFault::Stopped => ProgramFault::Stopped,
+            other => ProgramFault::Shell(other),
+        }
+    }
+}
+
+/// `run_at`, where nobody watches.
+pub fn run<
+    R: AllocGlobal + Clock + Files<File = File> + Net<Listener = TcpListener, Stream = TcpStream>,
+>(
+    rt: &R,
+    words: &[String],
+    input: &mut impl Read,
+    output: &mut impl Write,
+    errors: &mut impl Write,
+) -> u8 {
+    run_at(rt, &Terminal::none(), words, input, output, errors)
+}
+
 /// Runs the program that the words ask for (the first word is the name under which it was started), and returns the
 /// status with which it ends: 0, 1 for a fault, or 2 for `Usage`. A fault is printed on `errors` as `docpage: ` and its
 /// name. Faults are looked for in the words, then in the file, then in the rest.
@@ -92,16 +124,21 @@ impl From<ServeFault> for ProgramFault {
 /// `serve FILE --port P --connections N --turns T` is `serve_on` over a port of 127.0.0.1. `listen FILE --port P
 /// [--idle-seconds S]` answers every connection of the port that comes, 64 at a time, and ends where the server has stopped.
 /// Both print `listening on 127.0.0.1:P` once the port can be connected to; port 0 is any that is free.
-pub fn run<
+///
+/// `ask FILE [COMMAND]..` asks commands in Extended JSON, `import FILE NAMESPACE` brings documents in and `export FILE NAMESPACE`
+/// writes them out, one a line; on a terminal they say on `errors` how far they are. Words that ask for help get it on `output`,
+/// and are no program.
+pub fn run_at<
     R: AllocGlobal + Clock + Files<File = File> + Net<Listener = TcpListener, Stream = TcpStream>,
 >(
     rt: &R,
+    terminal: &Terminal,
     words: &[String],
     input: &mut impl Read,
     output: &mut impl Write,
     errors: &mut impl Write,
 ) -> u8 {
-    let Err(fault) = run_words(rt, words, input, output) else {
+    let Err(fault) = run_words(rt, terminal, words, input, output, errors) else {
         return 0;
     };
     // Where this fails too, the status alone tells of the fault.
@@ -114,16 +151,42 @@ fn run_words<
     R: AllocGlobal + Clock + Files<File = File> + Net<Listener = TcpListener, Stream = TcpStream>,
 >(
     rt: &R,
+    terminal: &Terminal,
     words: &[String],
     input: &mut impl Read,
     output: &mut impl Write,
+    errors: &mut impl Write,
 ) -> Result<(), ProgramFault> {
+    if let Some(help) = help_for(words) {
+        // Where this fails, the fault below is told all the same.
+        let _ = output.write_all(help.as_bytes()).and(output.flush());
+    }
     let words = read_words(rt.alloc(), words)?;
-    let mut core = open(rt, &words.file)?;
+    let mut core = open(rt, &words)?;
     match &words.task {
         Task::Exec => exec(rt.alloc(), &mut core, input, output),
         Task::Serve(served) => serve(rt, &mut core, served, output),
         Task::Listen(listened) => listen(rt, &mut core, listened, output),
+        Task::Ask(asked) => ask_all(rt.alloc(), &mut core, asked, input, output),
+        Task::Import(imported) => import_all(
+            rt,
+            rt.alloc(),
+            &mut core,
+            imported,
+            terminal,
+            input,
+            output,
+            errors,
+        ),
+        Task::Export(exported) => export_all(
+            rt,
+            rt.alloc(),
+            &mut core,
+            exported,
+            terminal,
+            output,
+            errors,
+        ),
     }
 }
 
@@ -139,14 +202,18 @@ fn read_words(alloc: Global, words: &[String]) -> Result<Words, ProgramFault> {
     }
 }
 
-/// Opens the file as a database, and makes it where it is missing.
+/// Opens the file as a database. It is made where it is missing, but for a program that only reads.
 fn open<R: AllocGlobal + Files<File = File>>(
     rt: &R,
-    file: &str,
+    words: &Words,
 ) -> Result<Core<FileDisk>, ProgramFault>
     ensures { IfOk result (IsSound (λ _. unknown_history)) }
 {
-    let disk = match FileDisk::open(rt, file, true) {
+    let opened = match &words.task {
+        Task::Export(_) => FileDisk::open_to_read(rt, &words.file),
+        _ => FileDisk::open(rt, &words.file, true),
+    };
+    let disk = match opened {
         Ok(disk) => disk,
         Err(FileFault::Locked) => return Err(ProgramFault::Locked),
         Err(FileFault::Device) => return Err(ProgramFault::Open(OpenFault::Device)),

@@ -109,6 +109,11 @@ impl<D: Disk> Core<D> {
         self.engine.into_disk()
     }
 
+    /// Where its memory comes from.
+    pub(crate) fn allocator(&self) -> Global {
+        *self.connections.allocator()
+    }
+
     /// Takes bytes that came on a connection. The first ones open it. A connection that a fault of a frame closed answers
     /// `Closed` until `gone`, and the bytes are passed over.
     pub fn feed(&mut self, id: ConnId, bytes: &[u8]) -> Result<(), FeedFault>

@@ -25,6 +25,34 @@ pub(crate) enum Task {
     Serve(Served),
     /// To answer all connections that come.
     Listen(Listened),
+    /// To ask commands in Extended JSON.
+    Ask(AskWords),
+    /// To bring documents in.
+    Import(ImportWords),
+    /// To write documents out.
+    Export(ExportWords),
+}
+
+/// The commands that are asked; none stands for the lines of the input.
+#[derive(Drop)]
+pub(crate) struct AskWords {
+    pub database: String,
+    pub all: bool,
+    pub pretty: bool,
+    pub commands: Vec<String>,
+}
+
+/// Into which collection documents go.
+#[derive(Drop)]
+pub(crate) struct ImportWords {
+    pub namespace: String,
+}
+
+/// Of which collection documents are written, and whether in canonical form.
+#[derive(Drop)]
+pub(crate) struct ExportWords {
+    pub namespace: String,
+    pub canonical: bool,
 }
 
 /// A port, and which connections are served on it for how long.
@@ -55,6 +83,15 @@ pub(crate) fn parse(alloc: Global, words: &[String]) -> Result<Option<Words>, cl
     if let Some(listen) = matches.subcommand_matches("listen") {
         return Ok(words_of(alloc, listen, listened_of(listen))?);
     }
+    if let Some(ask) = matches.subcommand_matches("ask") {
+        return Ok(words_of(alloc, ask, Some(Task::Ask(ask_of(alloc, ask)?)))?);
+    }
+    if let Some(import) = matches.subcommand_matches("import") {
+        return Ok(words_of(alloc, import, import_of(alloc, import)?)?);
+    }
+    if let Some(export) = matches.subcommand_matches("export") {
+        return Ok(words_of(alloc, export, export_of(alloc, export)?)?);
+    }
     Ok(None)
 }
 
@@ -75,6 +112,29 @@ fn command<'a>(alloc: Global) -> Result<Command<'a>, AllocError> {
                 .arg(file(alloc))?
                 .arg(option(alloc, "port").required(true))?
                 .arg(option(alloc, "idle-seconds"))?,
+        )?
+        .subcommand(
+            Command::new(alloc, "ask")
+                .arg(file(alloc))?
+                .arg(option(alloc, "db"))?
+                .arg(flag(alloc, "all"))?
+                .arg(flag(alloc, "pretty"))?
+                .arg(
+                    Arg::new(alloc, "COMMAND")
+                        .action(ArgAction::Append)
+                        .num_args(0..),
+                )?,
+        )?
+        .subcommand(
+            Command::new(alloc, "import")
+                .arg(file(alloc))?
+                .arg(namespace(alloc))?,
+        )?
+        .subcommand(
+            Command::new(alloc, "export")
+                .arg(file(alloc))?
+                .arg(namespace(alloc))?
+                .arg(flag(alloc, "canonical"))?,
         )
 }
 
@@ -83,6 +143,18 @@ fn file<'a>(alloc: Global) -> Arg<'a> {
     Arg::new(alloc, "FILE")
         .required(true)
         .action(ArgAction::Set)
+}
+
+/// The collection of a program.
+fn namespace<'a>(alloc: Global) -> Arg<'a> {
+    Arg::new(alloc, "NAMESPACE")
+        .required(true)
+        .action(ArgAction::Set)
+}
+
+/// An option without a value.
+fn flag<'a>(alloc: Global, name: &'a str) -> Arg<'a> {
+    Arg::new(alloc, name).long(name).action(ArgAction::SetTrue)
 }
 
 /// An option with a value.
@@ -128,6 +200,40 @@ fn listened_of(matches: &ArgMatches<'_>) -> Option<Task> {
         None => None,
     };
     Some(Task::Listen(Listened { port, idle }))
+}
+
+/// What `ask` is to do. A command that names no database is asked in `test`.
+fn ask_of(alloc: Global, matches: &ArgMatches<'_>) -> Result<AskWords, AllocError> {
+    let mut commands = Vec::new(alloc);
+    for command in matches.get_strs("COMMAND").unwrap_or(&[]) {
+        commands.push(String::from_str(alloc, command)?)?;
+    }
+    Ok(AskWords {
+        database: String::from_str(alloc, matches.get_str("db").unwrap_or("test"))?,
+        all: matches.get_flag("all"),
+        pretty: matches.get_flag("pretty"),
+        commands,
+    })
+}
+
+/// What `import` is to do.
+fn import_of(alloc: Global, matches: &ArgMatches<'_>) -> Result<Option<Task>, AllocError> {
+    let Some(namespace) = matches.get_str("NAMESPACE") else {
+        return Ok(None);
+    };
+    let namespace = String::from_str(alloc, namespace)?;
+    Ok(Some(Task::Import(ImportWords { namespace })))
+}
+
+/// What `export` is to do.
+fn export_of(alloc: Global, matches: &ArgMatches<'_>) -> Result<Option<Task>, AllocError> {
+    let Some(namespace) = matches.get_str("NAMESPACE") else {
+        return Ok(None);
+    };
+    Ok(Some(Task::Export(ExportWords {
+        namespace: String::from_str(alloc, namespace)?,
+        canonical: matches.get_flag("canonical"),
+    })))
 }
 
 /// The port that the words name.

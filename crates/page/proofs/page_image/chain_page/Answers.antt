@@ -14,5 +14,5 @@ pub returns : goal.returns
 unfolding page_bytes
 returns c =
     let b = c.args.content.now in
-    rw (c.copy_from_slice.ensures.after, c.chain_head.ensures, c.copy_from_slice-2.ensures.after)
+    rw (c.copy_from_slice.ensures.after, c.linked_head.ensures, c.copy_from_slice-2.ensures.after)
     (ap (λ (r : List ℕ). (header 3 (length b) c.args.page c.args.generation ++ little_bytes 4 c.args.next) ++ (b ++ r)) (tail_zeros (length b) c.requires))

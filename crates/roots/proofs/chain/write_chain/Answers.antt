@@ -1,7 +1,7 @@
-use Rattle.std.proofs.Common.{◌-◌, refl, ◌∙◌, ap, arith}
+use Rattle.std.proofs.Common.{◌≡◌, ◌-◌, refl, ◌∙◌, ap, arith}
 use Rattle.page.specs.History.{Sector, now, reads}
 use Rattle.page.proofs.Moments.{goes_further}
-use Rattle.roots.proofs.Links.{others_so_far, moments_so_far, sector_in, chain_step, own_step, bytes_step, named_step}
+use Rattle.roots.proofs.Links.{others_so_far, moments_so_far, sector_in, chain_step, own_step, bytes_step, named_step, path_all}
 use Rattle.roots.proofs.chain.write_chain.Goals as goal
 
 pub returns-in_err-write_page-clause-any_moment : goal.returns-in_err-write_page-clause-any_moment
@@ -49,3 +49,9 @@ loop-left-preserved g c =
           (omega arith) (omega arith) c.requires.apart c.requires.some (omega arith) (omega arith) inv.near inv.named c.requires.needed (omega arith) c.piece_end-to.ensures refl
           (λ k outside. ap (λ (x : Sector). x.read) (e.others keeps k outside)) (c.in_ok-write_page.ensures.written keeps ∙ c.chain_page.ensures) (inv.written (e.on.kept keeps));
     }
+
+pub returns-clause-chain : goal.returns-clause-chain
+returns-clause-chain g c keeps =
+    let inv = c.loop-left.invariant in
+    let none : c.loop-left.left ≡ 0 = omega arith in
+    path_all (reads (now (g.D.Disk.history c.loop-left.disk))) c.args.generation c.loop-left.next c.args.pages.now c.loop-left.left none inv.named (inv.chain keeps)

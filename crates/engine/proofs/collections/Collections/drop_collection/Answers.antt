@@ -1,4 +1,4 @@
-use Rattle.std.proofs.Common.{rules, ◌≡◌, ◌<◌, ◌≤◌, Ok, ℕ, List, ◌∷◌, [], ◌++◌, length, sym, ap, subst, ◌∙◌, remove, arith}
+use Rattle.std.proofs.Common.{rules, ◌≡◌, ◌≤◌, Ok, ℕ, List, ◌∷◌, [], ◌++◌, length, sym, ap, subst, ◌∙◌, remove, arith}
 use Rattle.std.specs.Prelude.{vec_capacity}
 use Rattle.std.proofs.lemmas.List.Edits.{length-remove}
 use Rattle.engine.specs.World.{Collection}
@@ -7,7 +7,7 @@ use Rattle.engine.specs.Progress.{Progress, IsProgress, Extends, turn_start_of}
 use Rattle.engine.specs.DropCollection.{dropped}
 use Rattle.engine.specs.declared.collections.UndoEntry.{UndoEntry}
 use Rattle.engine.specs.declared.collections.UndoEntry.TheVariants as entries
-use Rattle.engine.proofs.Creating.{dropped-done, dropped-missing}
+use Rattle.engine.proofs.Creating.{dropped-done}
 use Rattle.engine.proofs.Rewinding.{at_place, undo-dropped, CanUndo-dropped, apart-dropped, IsProgress-push, Extends-push, turn_start-extends}
 use Rattle.engine.proofs.collections.Collections.drop_collection.Goals as goal
 use Rattle.engine.proofs.collections.Collections.drop_collection.Goals.{After-unwrap}

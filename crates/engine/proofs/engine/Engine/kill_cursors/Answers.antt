@@ -1,9 +1,9 @@
-use Rattle.std.proofs.Common.{◌≡◌, ◌≤◌, length, Ok, refl, sym, ap, subst, ◌∙◌, arith}
+use Rattle.std.proofs.Common.{◌≤◌, length, Ok, refl, sym, ap, subst, ◌∙◌, arith}
 use Rattle.std.specs.Prelude.{not}
 use Rattle.std.specs.List.{filter}
 use Rattle.commands.specs.KillCursors.{KillCursors}
 use Rattle.engine.specs.World.{Cursor}
-use Rattle.engine.specs.KillCursors.{ToldApart, no_ids, told_apart, has_cursor, is_asked}
+use Rattle.engine.specs.KillCursors.{ToldApart, no_ids, has_cursor, is_asked}
 use Rattle.engine.specs.View.{world_of, world, with_ok, IsSendable}
 use Rattle.engine.proofs.Running.{run_kill_cursors-is}
 use Rattle.engine.proofs.SpelledSizes.{kill-sendable, told_few}

@@ -1,12 +1,11 @@
-use Rattle.std.proofs.Common.{◌≡◌, ◌++◌, ℕ, List, length, map, sym, ap, subst, ◌∙◌}
-use Rattle.std.specs.Prelude.{All, codes}
+use Rattle.std.proofs.Common.{◌≡◌, ℕ, List, length, map, sym, ap, subst, ◌∙◌}
+use Rattle.std.specs.Prelude.{All}
 use Rattle.std.proofs.lemmas.List.{map-id}
 use Rattle.bson.specs.Tree.{Pairs}
-use Rattle.engine.specs.World.{World, Collection}
-use Rattle.engine.specs.Cursors.{batch_of, batch_reply}
-use Rattle.engine.specs.Lawful.{IsWithin, IsLawfulState}
+use Rattle.engine.specs.World.{Collection}
+use Rattle.engine.specs.Cursors.{batch_of}
+use Rattle.engine.specs.Lawful.{IsWithin}
 use Rattle.engine.specs.ListCollections.{names_in, listed}
-use Rattle.engine.specs.Refusals.{ok_reply}
 use Rattle.engine.specs.View.{world, projected}
 use Rattle.engine.proofs.Listing.{go_into_one, run_list-is}
 use Rattle.engine.proofs.Piping.{all_stay}

@@ -1,0 +1,10 @@
+pub mod ChainLemmas
+pub mod ChangeLemmas
+pub mod EditLemmas
+pub mod FanLemmas
+pub mod GetLemmas
+pub mod KeyLemmas
+pub mod ListLemmas
+pub mod ScanLemmas
+pub mod SearchLemmas
+pub mod StoreLemmas

@@ -1,0 +1,23 @@
+use Rattle.std.proofs.Common.{◌∷◌, [], ap, sym, subst, map}
+use Rattle.std.specs.Option.{option_map}
+use Rattle.btree.specs.EditView.{edit_in}
+use Rattle.btree.specs.Calls.{IsEdited}
+use Rattle.btree.specs.View.{item_in}
+use Rattle.btree.proofs.StoreLemmas.{grows_trans}
+use Rattle.btree.proofs.EditLemmas.{edits_done, removed_key}
+use Rattle.btree.proofs.editing.edit_cell.Goals as goal
+
+pub returns-in-None-clause-edits : goal.returns-in-None-clause-edits
+returns-in-None-clause-edits g c =
+    λ pairs e rise shown.
+    subst (λ (v : _). IsEdited (g.P.Pages.store c.args.pages.now) (g.P.Pages.store c.take_out.new.pages) (record { key = c.args.edit.key.now; value = v } ∷ []) pairs (map item_in c.take_out.new.cells.items)) (ap (option_map (λ b. b.now)) (sym c.in-None.is))
+    (removed_key (g.P.Pages.store c.args.pages.now) (g.P.Pages.store c.take_out.new.pages) c.args.edit.key.now pairs _ _ c.in_ok-at.ensures.grows (c.in_ok-at.ensures.takes pairs e rise shown) rise shown)
+
+pub returns-in-Some-clause-grows : goal.returns-in-Some-clause-grows
+returns-in-Some-clause-grows g c = grows_trans _ _ _ c.in_ok-at.ensures.grows c.put_in.ensures.grows
+
+pub returns-in-Some-clause-edits : goal.returns-in-Some-clause-edits
+returns-in-Some-clause-edits g c =
+    λ pairs e rise shown.
+    edits_done (g.P.Pages.store c.args.pages.now) (g.P.Pages.store c.take_out.new.pages) (g.P.Pages.store c.put_in.new.pages) (edit_in c.args.edit) c.in-Some.value.now pairs _ _ _ c.put_in.result (ap (option_map (λ b. b.now)) c.in-Some.is)
+    c.in_ok-at.ensures.grows c.put_in.ensures.grows (c.in_ok-at.ensures.takes pairs e rise shown) c.put_in.ensures.puts rise shown

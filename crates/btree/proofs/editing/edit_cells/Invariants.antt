@@ -1,0 +1,15 @@
+use Rattle.std.proofs.Common.{◌≡◌, zero, List, map, take}
+use Rattle.btree.specs.Keys.{Pair, Rises}
+use Rattle.btree.specs.Store.{Grows}
+use Rattle.btree.specs.Tree.{Shows, item_of, pair_keys}
+use Rattle.btree.specs.View.{item_in}
+use Rattle.btree.specs.EditView.{edit_in}
+use Rattle.btree.specs.Calls.{IsEdited}
+use Rattle.btree.proofs.editing.edit_cells.Given as goal
+
+abbrev pub invariant-loop-edit : goal.invariant-loop-edit
+invariant-loop-edit g l = record {
+  grows : Grows (g.P.Pages.store l.initial.pages) (g.P.Pages.store l.pages);
+  edited : (pairs : List Pair) → map item_in l.initial.cells.items ≡ map item_of pairs → Rises (pair_keys pairs) → Shows (g.P.Pages.store l.initial.pages) zero pairs
+      → IsEdited (g.P.Pages.store l.initial.pages) (g.P.Pages.store l.pages) (take l.edit-index (map edit_in l.edits)) pairs (map item_in l.cells.items);
+}

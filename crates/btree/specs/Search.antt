@@ -1,0 +1,35 @@
+-- Places of keys among those of a page.
+use Rattle.std.specs.Prelude.{◌≡◌, ℕ, ◌+◌, ◌<◌, ◌≤◌, ⊤, List, [], ◌∷◌, length, Option, Some, slice_index_or}
+use Rattle.btree.specs.Keys.{Each, IsUnder, IsNotUnder, IsBetween}
+use Rattle.page.specs.Content.{Item, Arm, Content, leaf, branch, chain, free_list, item_keys, arm_keys}
+
+-- what stands before this place is below the key, and what stands at it isn't
+pub record IsPlace (items : List Item) (key : List ℕ) (at : ℕ) : Type 0 where
+  pub within : at ≤ length items
+  pub below : (k : ℕ) (d : Item) → k + 1 ≡ at → IsUnder (slice_index_or items k d).key key
+  pub above : (d : Item) → at < length items → IsNotUnder (slice_index_or items at d).key key
+
+-- what stands at this place isn't above the key, unless it is the first, and what stands behind it is
+pub record IsChildPlace (arms : List Arm) (key : List ℕ) (at : ℕ) : Type 0 where
+  pub within : at < length arms
+  pub below : (d : Arm) → 0 < at → IsNotUnder key (slice_index_or arms at d).key
+  pub above : (d : Arm) → at + 1 < length arms → IsUnder key (slice_index_or arms (at + 1) d).key
+
+-- the bounds of the child at this place
+pub record AreBounds (low : List ℕ) (high : Option (List ℕ)) (arms : List Arm) (at : ℕ) (from : List ℕ) (to : Option (List ℕ)) : Type 0 where
+  pub first : at ≡ 0 → from ≡ low
+  pub later : (d : Arm) → 0 < at → from ≡ (slice_index_or arms at d).key
+  pub last : length arms ≤ at + 1 → to ≡ high
+  pub inner : (d : Arm) → at + 1 < length arms → to ≡ Some (slice_index_or arms (at + 1) d).key
+
+-- the keys of the children behind the first
+abbrev pub later_keys : List Arm → List (List ℕ)
+later_keys [] = []
+later_keys (arm ∷ arms) = arm_keys arms
+
+-- the keys of a page lie between the bounds
+abbrev pub LieBetween : List ℕ → Option (List ℕ) → Content → Type 0
+LieBetween low high (leaf items) = Each (IsBetween low high) (item_keys items)
+LieBetween low high (branch arms) = Each (IsBetween low high) (later_keys arms)
+LieBetween low high (chain next bytes) = ⊤
+LieBetween low high (free_list next pages) = ⊤

@@ -1,0 +1,167 @@
+// Edits of the cells of a leaf.
+ghost use Rattle.std.specs.Prelude.{◌≡◌, ◌∷◌, [], ◌≤◌, ◌<◌, ◌^◌, List, length, map, IfOk, zero};
+ghost use Rattle.btree.specs.Keys.{Each, Pair, Rises};
+ghost use Rattle.btree.specs.Store.{Store, Grows};
+ghost use Rattle.btree.specs.Tree.{HasChain, Shows, item_of, pair_keys, place_of};
+ghost use Rattle.btree.specs.View.{item_in, place_in};
+ghost use Rattle.btree.specs.Search.{IsPlace};
+ghost use Rattle.btree.specs.EditView.{HasRoom, edit_in};
+ghost use Rattle.btree.specs.Calls.{Edits, PutsIn, Retires, StoresValue, TakesOut};
+
+use crate::chain::{retire_chain, write_chain};
+use crate::{Pages, TreeFault};
+use page::{Cell, Stored};
+use std::alloc::Global;
+use std::cmp::Ordering;
+
+// The first cell whose key isn't below this one.
+fn place_among(cells: &[Cell<'_>], key: &[u8]) -> usize
+    ensures { IsPlace (map item_in cells.now) key.now result }
+{
+    let mut low = 0;
+    let mut high = cells.len();
+    while low < high {
+        let middle = low + (high - low) / 2;
+        match cells[middle].key.cmp(key) {
+            Ordering::Less => low = middle + 1,
+            _ => high = middle,
+        }
+    }
+    low
+}
+
+// Retires the pages of a value.
+fn retire_value<P: Pages>(pages: &mut P, stored: Stored<'_>) -> Result<(), TreeFault>
+    ensures grows { Grows (P.store pages.old) (P.store pages.new) }
+    ensures retires { (x : Pair) → place_in stored.entry ≡ place_of x.links x.value
+        → HasChain (P.store pages.old) x
+        → Retires (P.store pages.old) (P.store pages.new) x.links result }
+{
+    match stored {
+        Stored::Inline(_) => Ok(()),
+        Stored::Chained { len, first } => retire_chain(pages, first, len),
+    }
+}
+
+// Takes the cell of a key out, if there is one, and retires its value. Gives the place where the key
+// belongs.
+fn take_out<P: Pages>(
+    pages: &mut P,
+    cells: &mut Vec<Cell<'_>>,
+    key: &[u8],
+) -> Result<usize, TreeFault>
+    ensures grows { Grows (P.store pages.old) (P.store pages.new) }
+    ensures within { IfOk result (λ at. at ≤ length cells.new.items) }
+    ensures takes { (pairs : List Pair) → map item_in cells.old.items ≡ map item_of pairs
+        → Rises (pair_keys pairs)
+        → Shows (P.store pages.old) zero pairs
+        → TakesOut (P.store pages.old) (P.store pages.new) key.now pairs
+        (map item_in cells.new.items) result }
+{
+    let at = place_among(cells, key);
+    if at >= cells.len() {
+        return Ok(at);
+    }
+    let cell = cells[at];
+    if !cell.key.cmp(key).is_eq() {
+        return Ok(at);
+    }
+    retire_value(pages, cell.stored)?;
+    cells.remove(at);
+    Ok(at)
+}
+
+/// A change at a key: a value that is put there, or none, where the key is removed.
+#[derive(Clone, Copy)]
+pub struct Edit<'a> {
+    pub key: &'a [u8],
+    pub value: Option<&'a [u8]>,
+}
+
+/// The longest value that lies in its cell, in bytes.
+const INLINE: usize = 330;
+
+// Where a value lies in a new cell: in it, or in a chain that is written.
+fn stored_value<'a, P: Pages>(
+    alloc: Global,
+    pages: &mut P,
+    value: &'a [u8],
+) -> Result<Stored<'a>, TreeFault>
+    requires { length value.now < 2 ^ 32 }
+    ensures grows { Grows (P.store pages.old) (P.store pages.new) }
+    ensures stores { StoresValue (P.store pages.old) (P.store pages.new) value.now result }
+{
+    if value.len() <= INLINE {
+        return Ok(Stored::Inline(value));
+    }
+    let first = write_chain(alloc, pages, value)?;
+    Ok(Stored::Chained {
+        len: value.len() as u32,
+        first,
+    })
+}
+
+// Puts a cell with this key and value at a place.
+fn put_in<'a, P: Pages>(
+    alloc: Global,
+    pages: &mut P,
+    cells: &mut Vec<Cell<'a>>,
+    at: usize,
+    key: &'a [u8],
+    value: &'a [u8],
+) -> Result<(), TreeFault>
+    requires place { at ≤ length cells.old.items }
+    requires value { length value.now < 2 ^ 32 }
+    ensures grows { Grows (P.store pages.old) (P.store pages.new) }
+    ensures puts { PutsIn (P.store pages.old) (P.store pages.new) key.now value.now at
+        (map item_in cells.old.items) (map item_in cells.new.items) result }
+{
+    let stored = stored_value(alloc, pages, value)?;
+    match cells.insert(at, Cell { key, stored }) {
+        Ok(()) => Ok(()),
+        Err(_) => Err(TreeFault::Memory),
+    }
+}
+
+// Makes an edit of the cells of a leaf.
+fn edit_cell<'a, P: Pages>(
+    alloc: Global,
+    pages: &mut P,
+    cells: &mut Vec<Cell<'a>>,
+    edit: Edit<'a>,
+) -> Result<(), TreeFault>
+    requires { HasRoom edit }
+    ensures grows { Grows (P.store pages.old) (P.store pages.new) }
+    ensures edits { (pairs : List Pair) → map item_in cells.old.items ≡ map item_of pairs
+        → Rises (pair_keys pairs)
+        → Shows (P.store pages.old) zero pairs
+        → Edits (P.store pages.old) (P.store pages.new) (edit_in edit.entry ∷ []) pairs
+        (map item_in cells.new.items) result }
+{
+    let at = take_out(pages, cells, edit.key)?;
+    match edit.value {
+        None => Ok(()),
+        Some(value) => put_in(alloc, pages, cells, at, edit.key, value),
+    }
+}
+
+// Makes edits of the cells of a leaf, one after the other.
+fn edit_cells<'a, P: Pages>(
+    alloc: Global,
+    pages: &mut P,
+    cells: &mut Vec<Cell<'a>>,
+    edits: &[Edit<'a>],
+) -> Result<(), TreeFault>
+    requires { Each HasRoom edits.now }
+    ensures grows { Grows (P.store pages.old) (P.store pages.new) }
+    ensures edits { (pairs : List Pair) → map item_in cells.old.items ≡ map item_of pairs
+        → Rises (pair_keys pairs)
+        → Shows (P.store pages.old) zero pairs
+        → Edits (P.store pages.old) (P.store pages.new) (map edit_in edits.now) pairs
+        (map item_in cells.new.items) result }
+{
+    for edit in edits {
+        edit_cell(alloc, pages, cells, *edit)?;
+    }
+    Ok(())
+}

@@ -1,0 +1,13 @@
+//! A sorted map in pages. A change writes fresh pages, and the tree before it stays readable.
+#![tactic(auto)]
+
+mod chain;
+mod editing;
+mod lookup;
+mod pages;
+mod scanning;
+mod search;
+
+pub use lookup::get;
+pub use pages::{Pages, TreeFault};
+pub use scanning::{Batch, Entry, Range, scan};

@@ -1,0 +1,7 @@
+pub mod CalendarLemmas
+pub mod WritingLemmas
+pub mod NumberLemmas
+pub mod ReadingLemmas
+pub mod MomentLemmas
+pub mod ScalarsBack
+pub mod TreesBack

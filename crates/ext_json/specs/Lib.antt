@@ -1,0 +1,12 @@
+pub mod Faults
+pub mod Calendar
+pub mod Written
+pub mod Wrappers
+pub mod Numbers
+pub mod Tokens
+pub mod Encoded
+pub mod Moments
+pub mod Wrapped
+pub mod Reading
+pub mod Lines
+pub mod RoundTrip

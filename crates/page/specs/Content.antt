@@ -1,0 +1,115 @@
+-- What a page holds.
+use Rattle.std.specs.Prelude.{◌≡◌, ◌⊎◌, ℕ, ◌+◌, ◌^◌, ◌<◌, ◌≤◌, Bool, true, ◌&&◌, List, [], ◌∷◌, length, map}
+use Rattle.std.specs.List.{AllByRecursion}
+use Rattle.std.specs.Ordering.{nat_cmp, is_lt}
+use Rattle.std.specs.Cmp.Lexicographic.{slice_cmp}
+
+-- Where a value lies: in its cell, or so many bytes in a chain from a page on.
+pub data Place : Type 0 where
+  inline : List ℕ → Place
+  spilled : ℕ → ℕ → Place
+
+-- a cell of a leaf
+pub record Item : Type 0 where
+  pub key : List ℕ
+  pub place : Place
+
+-- a child of a branch: its keys are not below this one, which is empty at the first child
+pub record Arm : Type 0 where
+  pub key : List ℕ
+  pub child : ℕ
+
+-- A page of a chain or of the free list names the next one, or 0 at the end.
+pub data Content : Type 0 where
+  leaf : List Item → Content
+  branch : List Arm → Content
+  chain : ℕ → List ℕ → Content
+  free_list : ℕ → List ℕ → Content
+
+-- ---- sizes in bytes
+
+abbrev pub place_size : Place → ℕ
+place_size (inline value) = length value
+place_size (spilled len page) = 4
+
+abbrev pub item_size : Item → ℕ
+item_size item = 6 + length item.key + place_size item.place
+
+abbrev pub arm_size : Arm → ℕ
+arm_size arm = 6 + length arm.key
+
+abbrev pub total : {X : Type 0} → (X → ℕ) → List X → ℕ
+total size [] = 0
+total size (x ∷ xs) = size x + total size xs
+
+-- The first child of a branch has no key.
+abbrev pub arms_size : List Arm → ℕ
+arms_size [] = 0
+arms_size (first ∷ arms) = 4 + total arm_size arms
+
+-- ---- order
+
+-- the bytes of the one key come before those of the other
+abbrev pub is_below : List ℕ → List ℕ → Bool
+is_below key other = is_lt (slice_cmp nat_cmp key other)
+
+-- each key is below the next one, and the first is above this one
+abbrev pub rise_above : List ℕ → List (List ℕ) → Bool
+rise_above last [] = true
+rise_above last (key ∷ keys) = is_below last key && rise_above key keys
+
+abbrev pub rise : List (List ℕ) → Bool
+rise [] = true
+rise (key ∷ keys) = rise_above key keys
+
+-- ---- what a page of the tree may hold
+
+-- A value of more than 330 bytes lies in a chain, and no other.
+abbrev pub IsPlace : Place → Type 0
+IsPlace (inline value) = length value ≤ 330
+IsPlace (spilled len page) = (330 < len) × (len < 2 ^ 32) × (page < 2 ^ 32)
+
+pub record IsItem (item : Item) : Type 0 where
+  pub size : item_size item ≤ 1360
+  pub place : IsPlace item.place
+
+pub record IsArm (arm : Arm) : Type 0 where
+  pub size : arm_size arm ≤ 1360
+  pub child : arm.child < 2 ^ 32
+
+abbrev pub item_keys : List Item → List (List ℕ)
+item_keys items = map (λ item. item.key) items
+
+abbrev pub arm_keys : List Arm → List (List ℕ)
+arm_keys arms = map (λ arm. arm.key) arms
+
+abbrev pub arm_pages : List Arm → List ℕ
+arm_pages arms = map (λ arm. arm.child) arms
+
+-- One cell or more, in ascending order of their keys, that find room.
+pub record IsLeaf (items : List Item) : Type 0 where
+  pub some : 0 < length items
+  pub each : AllByRecursion IsItem items
+  pub ascending : rise (item_keys items) ≡ true
+  pub room : total item_size items ≤ 4080
+
+abbrev pub first_key : List Arm → List ℕ
+first_key [] = []
+first_key (first ∷ arms) = first.key
+
+-- Two children or more, in ascending order of their keys, of which the first is empty, that find room.
+pub record IsBranch (arms : List Arm) : Type 0 where
+  pub some : 2 ≤ length arms
+  pub bare : first_key arms ≡ []
+  pub each : AllByRecursion IsArm arms
+  pub ascending : rise (arm_keys arms) ≡ true
+  pub room : arms_size arms ≤ 4080
+
+-- A page of a chain holds 4,076 bytes, the last one at most as many, and one of the free list at most 1,019 numbers.
+abbrev pub IsContent : Content → Type 0
+IsContent (leaf items) = IsLeaf items
+IsContent (branch arms) = IsBranch arms
+IsContent (chain next bytes) =
+    (next < 2 ^ 32) × (length bytes ≤ 4076) × ((next ≡ 0) ⊎ (length bytes ≡ 4076))
+IsContent (free_list next pages) =
+    (next < 2 ^ 32) × (length pages ≤ 1019) × AllByRecursion (λ page. page < 2 ^ 32) pages

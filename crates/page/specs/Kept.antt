@@ -1,0 +1,21 @@
+-- What is true of the bytes and places that a page of the tree keeps.
+use Rattle.std.specs.Prelude.{◌≡◌, ℕ, ◌+◌, ◌≤◌, List, length, drop}
+use Rattle.std.specs.List.{AllByRecursion, flat_map}
+use Rattle.page.specs.Content.{IsLeaf, IsBranch}
+use Rattle.page.specs.Format.{item_bytes, arms_bytes, body_and_zeros, leaf_cell_size, branch_cell_size, items_at, arms_at}
+
+-- a cell of this size begins at the place, and ends in the bytes
+abbrev pub IsWhole : (List ℕ → ℕ) → List ℕ → ℕ → Type 0
+IsWhole size bytes at = at + size (drop at bytes) ≤ 4080
+
+pub record KeepsLeaf (bytes places : List ℕ) : Type 0 where
+  pub len : length bytes ≡ 4080
+  pub whole : AllByRecursion (IsWhole leaf_cell_size bytes) places
+  pub sound : IsLeaf (items_at bytes places)
+  pub spelled : bytes ≡ body_and_zeros (flat_map item_bytes (items_at bytes places))
+
+pub record KeepsBranch (bytes places : List ℕ) : Type 0 where
+  pub len : length bytes ≡ 4080
+  pub whole : AllByRecursion (IsWhole branch_cell_size bytes) places
+  pub sound : IsBranch (arms_at bytes places)
+  pub spelled : bytes ≡ body_and_zeros (arms_bytes (arms_at bytes places))

@@ -1,0 +1,113 @@
+//! Branches: the children of a page of the tree.
+
+ghost use Rattle.std.specs.Prelude.{◌≡◌, ◌<◌, ℕ, length, map, slice_get, Some, IfOk};
+ghost use Rattle.outcome.specs.Outcome.{Gives};
+ghost use Rattle.page.specs.Content.{Content, branch, IsBranch, Arm, arm_keys, arm_pages};
+ghost use Rattle.page.specs.Format.{branch_in, arms_bytes, body_and_zeros};
+ghost use Rattle.page.specs.CellView.{arm_of};
+
+use crate::cells::{CellForm, append_number, branch_child, keys_rise, note_place, places_of};
+use crate::{BODY_BYTES, Child, PageFault};
+use byteorder::{ByteOrder, LittleEndian};
+use std::alloc::{AllocError, Global};
+use std::marker::Model;
+
+/// The children of a branch, in ascending order of their keys: the 4,080 bytes behind a page's header, and where in them
+/// each child behind the first begins. So looking at a child copies nothing.
+#[derive(Debug, Drop)]
+pub struct Branch {
+    bytes: Vec<u8>,
+    places: Vec<u16>,
+}
+
+impl Model for Branch {
+    ghost use Rattle.std.specs.Prelude.{List};
+    ghost use Rattle.page.specs.Content.{Arm};
+    ghost use Rattle.page.specs.Format.{arms_at};
+    ghost use Rattle.page.specs.Kept.{KeepsBranch};
+
+    ghost Value = { List Arm };
+
+    ghost view = { λ a. arms_at a.bytes.items a.places.items };
+
+    ghost invariant = { λ a. KeepsBranch a.bytes.items a.places.items };
+}
+
+impl Branch {
+    /// A branch with these children: at least two, in ascending order of their keys, of which the first is empty, that
+    /// find room in 4,080 bytes.
+    pub fn of(alloc: Global, children: &[Child<'_>]) -> Result<Branch, AllocError>
+        requires { IsBranch (map arm_of children.now) }
+        ensures { IfOk result (λ made. made ≡ map arm_of children.now) }
+    {
+        let mut bytes = Vec::with_capacity(alloc, BODY_BYTES)?;
+        let mut places = Vec::with_capacity(alloc, children.len() - 1)?;
+        append_number(&mut bytes, children[0].page)?;
+        for child in &children[1..] {
+            note_place(&mut places, bytes.len())?;
+            child.append_to(&mut bytes)?;
+        }
+        bytes.resize(BODY_BYTES, 0)?;
+        Ok(Branch { bytes, places })
+    }
+
+    /// The branch whose page has this count and these bytes behind its header.
+    pub(crate) fn read(alloc: Global, count: usize, bytes: &[u8]) -> Result<Branch, PageFault>
+        requires { length bytes.now ≡ 4080 }
+        ensures { Gives PageFault.Memory (λ found. branch found) result
+            (branch_in count bytes.now) }
+    {
+        if count < 2 {
+            return Err(PageFault::Length);
+        }
+        let places = places_of(alloc, CellForm::Branch, count - 1, 4, bytes)?;
+        if !keys_rise(CellForm::Branch, bytes, &[], &places) {
+            return Err(PageFault::Order);
+        }
+        let bytes = Vec::from_slice(alloc, bytes)?;
+        Ok(Branch { bytes, places })
+    }
+
+    /// How many children there are: at least two.
+    pub fn len(&self) -> usize
+        ensures count { result ≡ length self.now }
+        ensures sound { IsBranch self.now }
+    {
+        self.places.len() + 1
+    }
+
+    /// A child, by its place among the children.
+    pub fn child(&self, i: usize) -> Child<'_>
+        requires { i < length self.now }
+        ensures { slice_get self.now i ≡ Some (arm_of result) }
+    {
+        if i == 0 {
+            let page = LittleEndian::read_u32(&self.bytes);
+            return Child { key: &[], page };
+        }
+        branch_child(&self.bytes[self.places[i - 1] as usize..])
+    }
+
+    /// The page of a child, by its place among the children.
+    pub fn page(&self, i: usize) -> u32
+        requires { i < length self.now }
+        ensures { slice_get (arm_pages self.now) i ≡ Some result }
+    {
+        self.child(i).page
+    }
+
+    /// The key of a child, by its place among the children; that of the first is empty.
+    pub fn key(&self, i: usize) -> &[u8]
+        requires { i < length self.now }
+        ensures { slice_get (arm_keys self.now) i ≡ Some result.now }
+    {
+        self.child(i).key
+    }
+
+    /// What stands behind the page's header.
+    pub(crate) fn bytes(&self) -> &[u8]
+        ensures { result.now ≡ body_and_zeros (arms_bytes self.now) }
+    {
+        &self.bytes
+    }
+}

@@ -1,0 +1,67 @@
+//! A server that answers in its own process.
+
+ghost use Rattle.std.specs.Prelude.{◌≡◌};
+
+use crate::turn::{Core, TurnFault, TurnOut};
+use bson::{Document, decode};
+use engine::ConnId;
+use op_msg::{FRAME_BYTES, reply};
+use page::Disk;
+use shell::{Database, DatabaseFault};
+use std::alloc::Global;
+
+/// The most bytes of a message's document.
+const MOST_BYTES: usize = bson::MESSAGE_LIMIT - FRAME_BYTES as usize;
+
+impl<D: Disk> Database for Core<D> {
+    ghost use Rattle.server.specs.Durable.{IsSound};
+
+    ghost is_sound = { λ core. IsSound D.history core };
+
+    fn reply(&mut self, command: &Document) -> Result<Document, DatabaseFault> {
+        if command.encoded_len() > MOST_BYTES {
+            return Err(DatabaseFault::TooLarge);
+        }
+        let alloc = self.allocator();
+        let Ok(frame) = reply(alloc, 1, 0, command) else {
+            return Err(DatabaseFault::Memory);
+        };
+        let id = only_connection();
+        if self.feed(id, &frame).is_err() {
+            return Err(DatabaseFault::Memory);
+        }
+        match self.turn() {
+            Ok(turn) => document_of(alloc, &turn),
+            Err(TurnFault::Stopped) => Err(DatabaseFault::Stopped),
+            // The message still waits, so it is forgotten.
+            Err(TurnFault::Memory) => {
+                self.gone(id);
+                Err(DatabaseFault::Memory)
+            }
+        }
+    }
+}
+
+/// The connection of what answers in its own process.
+fn only_connection() -> ConnId
+    ensures { result ≡ 0 }
+{
+    match ConnId::new(0) {
+        Some(id) => id,
+        None => unreachable!(),
+    }
+}
+
+/// The document of the first reply of a turn.
+fn document_of(alloc: Global, turn: &TurnOut) -> Result<Document, DatabaseFault> {
+    let Some((_, frame)) = turn.replies.first() else {
+        return Err(DatabaseFault::Memory);
+    };
+    let Some(body) = frame.get(FRAME_BYTES as usize..) else {
+        return Err(DatabaseFault::Memory);
+    };
+    match decode(alloc, body) {
+        Ok((document, _)) => Ok(document),
+        Err(_) => Err(DatabaseFault::Memory),
+    }
+}

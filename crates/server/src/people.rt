@@ -1,0 +1,92 @@
+//! The programs for people: documents and commands as Extended JSON.
+
+ghost use Rattle.server.specs.Durable.{IsSound};
+
+use crate::program::ProgramFault;
+use crate::terminal::{Progress, Terminal};
+use crate::turn::Core;
+use crate::words::{AskWords, ExportWords, ImportWords};
+use page::Disk;
+use shell::{Asked, ask, export, import};
+use std::alloc::Global;
+use std::io::{BufReader, BufWriter, Read, Write};
+use std::rt::Clock;
+
+/// Asks the commands that the words have, or those in the lines of the input.
+pub(crate) fn ask_all<D: Disk>(
+    alloc: Global,
+    core: &mut Core<D>,
+    words: &AskWords,
+    input: &mut impl Read,
+    output: &mut impl Write,
+) -> Result<(), ProgramFault>
+    requires sound { IsSound D.history core.old }
+    ensures sound { IsSound D.history core.new }
+{
+    let asked = Asked {
+        database: &words.database,
+        all: words.all,
+        pretty: words.pretty,
+    };
+    let Ok(mut lines) = BufReader::new(alloc, input) else {
+        return Err(ProgramFault::Memory);
+    };
+    Ok(ask(alloc, core, &asked, &words.commands, &mut lines, output)?)
+}
+
+/// Brings the documents of the input's lines in.
+pub(crate) fn import_all<R: Clock, D: Disk>(
+    rt: &R,
+    alloc: Global,
+    core: &mut Core<D>,
+    words: &ImportWords,
+    terminal: &Terminal,
+    input: &mut impl Read,
+    output: &mut impl Write,
+    errors: &mut impl Write,
+) -> Result<(), ProgramFault>
+    requires sound { IsSound D.history core.old }
+    ensures sound { IsSound D.history core.new }
+{
+    let Ok(mut lines) = BufReader::new(alloc, input) else {
+        return Err(ProgramFault::Memory);
+    };
+    let mut progress = Progress::new(rt, terminal, errors);
+    let imported = import(alloc, core, &words.namespace, &mut lines, &mut progress);
+    progress.end();
+    let count = imported?;
+    match writeln!(output, "{count} documents").and(output.flush()) {
+        Ok(()) => Ok(()),
+        Err(_) => Err(ProgramFault::Device),
+    }
+}
+
+/// Writes the documents of a collection as lines.
+pub(crate) fn export_all<R: Clock, D: Disk>(
+    rt: &R,
+    alloc: Global,
+    core: &mut Core<D>,
+    words: &ExportWords,
+    terminal: &Terminal,
+    output: &mut impl Write,
+    errors: &mut impl Write,
+) -> Result<(), ProgramFault>
+    requires sound { IsSound D.history core.old }
+    ensures sound { IsSound D.history core.new }
+{
+    let mut progress = Progress::new(rt, terminal, errors);
+    let exported = export(
+        alloc,
+        core,
+        &words.namespace,
+        words.canonical,
+        output,
+        &mut progress,
+    );
+    progress.end();
+    exported?;
+    match output.flush() {
+        Ok(()) => Ok(()),
+        Err(_) => Err(ProgramFault::Device),
+    }
+}

@@ -1,0 +1,4 @@
+use Rattle.shell.proofs.asking.Session.ask_lines.Given as goal
+
+abbrev pub invariant-lines : goal.invariant-lines
+invariant-lines g l = g.D.Database.is_sound l.database
