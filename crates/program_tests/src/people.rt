@@ -236,7 +236,15 @@ fn many_documents(rt: HostRuntime) -> Result<(), Fail> {
         assert_eq!(rt; exported.output.as_slice(), lines.as_bytes());
         let asked = ended(
             &rt,
-            &["docpage", "ask", file, "--db", "t", "--all", "{\"find\": \"c\", \"batchSize\": 39}"],
+            &[
+                "docpage",
+                "ask",
+                file,
+                "--db",
+                "t",
+                "--all",
+                "{\"find\": \"c\", \"batchSize\": 39}",
+            ],
             &[],
         )?;
         assert_eq!(rt; asked.status, 0);
@@ -255,7 +263,12 @@ fn help_is_printed(rt: HostRuntime) -> Result<(), Fail> {
     ] {
         let ending = ended(&rt, &words, &[])?;
         assert_eq!(rt; ending.status, 2);
-        assert!(rt; ending.output.as_slice().starts_with(b"docpage import FILE NAMESPACE\n"));
+        assert!(rt;
+            ending
+                .output
+                .as_slice()
+                .starts_with(b"docpage import FILE NAMESPACE\n")
+        );
         assert_eq!(rt; ending.errors.as_slice(), b"docpage: Usage\n".as_slice());
     }
     Ok(())

@@ -81,7 +81,11 @@ impl<'a, R: Clock, W: Write> Watch for Progress<'a, R, W> {
         let Ok(past) = began.elapsed(self.clock) else {
             return;
         };
-        if past >= self.said.saturating_add(Duration::from_millis(PAUSE_MILLIS)) {
+        if past
+            >= self
+                .said
+                .saturating_add(Duration::from_millis(PAUSE_MILLIS))
+        {
             self.said = past;
             self.say(documents, bytes, past);
         }
