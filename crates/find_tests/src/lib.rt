@@ -6,6 +6,8 @@ mod aggregating;
 #[cfg(test)]
 mod collections;
 #[cfg(test)]
+mod conversation;
+#[cfg(test)]
 mod cursors;
 #[cfg(test)]
 mod deleting;
