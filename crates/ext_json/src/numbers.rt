@@ -8,7 +8,7 @@ ghost use Rattle.bson.specs.Lawful.{levels};
 ghost use Rattle.outcome.specs.Outcome.{GivesExactly};
 ghost use Rattle.ext_json.specs.Numbers as spec;
 ghost use Rattle.ext_json.specs.Numbers.{int32_in, int64_in, half_in, number_tree};
-ghost use Rattle.ext_json.specs.Written.{is_int32};
+ghost use Rattle.ext_json.specs.Written as written;
 
 use crate::fault::ExtJsonFault;
 use bson::Value;
@@ -86,7 +86,7 @@ pub(crate) fn read_number(text: &str) -> Result<Value, ExtJsonFault>
     ensures flat { IfOk result (λ v. levels (tree v) ≡ 0) }
 {
     let number = read_int64(text, ExtJsonFault::Fraction)?;
-    if is_small(number) {
+    if is_int32(number) {
         Ok(Value::Int32(number as i32))
     } else {
         Ok(Value::Int64(number))
@@ -94,8 +94,8 @@ pub(crate) fn read_number(text: &str) -> Result<Value, ExtJsonFault>
 }
 
 /// Whether the number fits an int32.
-pub(crate) fn is_small(number: i64) -> bool
-    ensures { result ≡ is_int32 number }
+pub(crate) fn is_int32(number: i64) -> bool
+    ensures { result ≡ written.is_int32 number }
 {
     -2_147_483_648 <= number && number <= 2_147_483_647
 }

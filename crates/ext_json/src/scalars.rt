@@ -11,6 +11,7 @@ ghost use Rattle.hex.specs.Hex.{encode_lower};
 
 use crate::calendar::{moment_of, text_of_milli, text_of_second};
 use crate::form::Form;
+use crate::numbers::is_int32;
 use base64::engine::general_purpose::STANDARD;
 use bson::{Binary, ObjectId};
 use itoa::Buffer;
@@ -80,13 +81,6 @@ pub(crate) fn put_int32(out: &mut Writer, form: Form, number: i32) -> Result<(),
         Form::Canonical => put_text(out, "$numberInt", text),
         Form::Relaxed => put_all(out, &[Token::Number(text)]),
     }
-}
-
-/// Whether the number would be read back as an int32.
-fn is_int32(number: i64) -> bool
-    ensures { result ≡ spec.is_int32 number }
-{
-    -2_147_483_648 <= number && number <= 2_147_483_647
 }
 
 pub(crate) fn put_int64(out: &mut Writer, form: Form, number: i64) -> Result<(), AllocError>

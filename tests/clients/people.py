@@ -1,0 +1,109 @@
+"""Runs `docpage import`, `export` and `ask` as a person does: at a terminal (a pseudo-terminal), in pipes, and with a reader that goes away.
+Usage: people.py PROGRAM. Every wait has an end, and so has the whole."""
+import json, os, pty, re, select, signal, subprocess, sys, tempfile, time
+
+PROGRAM = os.path.abspath(sys.argv[1])
+FOLDER = tempfile.mkdtemp(prefix="people.")
+PATIENCE = 60
+COUNT = 30_000
+signal.alarm(300)
+
+
+def path(name):
+    return os.path.join(FOLDER, name)
+
+
+def lines_file():
+    name = path("documents.jsonl")
+    with open(name, "w") as out:
+        for number in range(COUNT):
+            out.write('{"_id": %d, "name": "customer %d", "note": "%s"}\n' % (number, number, "n" * 60))
+    return name
+
+
+def at_terminal(words, stdin):
+    """What a program wrote on standard output and on the terminal that is its standard error, and its status."""
+    terminal, errors = pty.openpty()
+    ran = subprocess.Popen([PROGRAM, *words], stdin=stdin, stdout=subprocess.PIPE, stderr=errors)
+    os.close(errors)
+    shown, end = b"", time.monotonic() + PATIENCE
+    while time.monotonic() < end:
+        if not select.select([terminal], [], [], 1)[0]:
+            continue
+        try:
+            part = os.read(terminal, 65_536)
+        except OSError:  # the program has closed its end
+            break
+        if not part:
+            break
+        shown += part
+    os.close(terminal)
+    return ran.stdout.read().decode(), shown.decode(), ran.wait(PATIENCE)
+
+
+def piped(words, **given):
+    ran = subprocess.run([PROGRAM, *words], capture_output=True, timeout=PATIENCE, **given)
+    return ran.stdout.decode(), ran.stderr.decode(), ran.returncode
+
+
+def progress_of_a_file(documents):
+    with open(documents) as stdin:
+        output, shown, status = at_terminal(["import", path("a"), "t.c"], stdin)
+    assert (output, status) == (f"{COUNT} documents\n", 0), (output, status)
+    said = re.findall(r"\r(\d+) documents, (\d+) a second, (\d+) % done", shown)
+    assert said, f"no progress on the terminal: {shown!r}"
+    counts, percents = [int(it[0]) for it in said], [int(it[2]) for it in said]
+    assert counts == sorted(counts) and counts[-1] <= COUNT, counts
+    assert percents == sorted(percents) and percents[-1] <= 100, percents
+    assert all(abs(count / COUNT - part / 100) < 0.05 for count, part in zip(counts, percents)), said
+    assert shown.endswith("\n"), "the line of progress isn't ended"
+
+
+def progress_of_a_pipe(documents):
+    with open(documents, "rb") as file:
+        cat = subprocess.Popen(["cat"], stdin=file, stdout=subprocess.PIPE)
+    output, shown, status = at_terminal(["import", path("b"), "t.c"], cat.stdout)
+    cat.wait(PATIENCE)
+    assert (output, status) == (f"{COUNT} documents\n", 0), (output, status)
+    assert re.search(r"\r\d+ documents, \d+ a second", shown) and "%" not in shown, shown
+
+
+def nothing_in_a_pipe(documents):
+    with open(documents) as stdin:
+        output, errors, status = piped(["import", path("c"), "t.c"], stdin=stdin)
+    assert (output, errors, status) == (f"{COUNT} documents\n", "", 0), (output, errors, status)
+    output, errors, status = piped(["export", path("c"), "t.c"])
+    assert (errors, status) == ("", 0), (errors, status)
+    given = [json.loads(line) for line in output.splitlines()]
+    with open(documents) as file:
+        assert given == [json.loads(line) for line in file], "an export isn't what was imported"
+
+
+def a_reader_that_goes_away(_documents):
+    for words in (["export", path("c"), "t.c"], ["ask", path("c"), "--db", "t", "--all", '{"find": "c"}']):
+        ran = subprocess.Popen([PROGRAM, *words], stdout=subprocess.PIPE, stderr=subprocess.PIPE)
+        ran.stdout.readline()
+        ran.stdout.close()
+        errors = ran.stderr.read().decode()
+        assert (errors, ran.wait(PATIENCE)) == ("docpage: Device\n", 1), (errors, ran.returncode)
+    assert piped(["ask", path("c"), "--db", "t", '{"count": "c"}'])[0] == '{"n":%d,"ok":1}\n' % COUNT
+
+
+def an_import_that_is_killed(documents):
+    with open(documents) as stdin:
+        ran = subprocess.Popen([PROGRAM, "import", path("d"), "t.c"], stdin=stdin, stdout=subprocess.DEVNULL)
+        time.sleep(0.15)
+        ran.kill()
+        ran.wait(PATIENCE)
+    output, errors, status = piped(["ask", path("d"), "--db", "t", '{"count": "c"}'])
+    count = json.loads(output)["n"]
+    assert (errors, status) == ("", 0) and count % 1_000 == 0 and count <= COUNT, (output, errors, status)
+
+
+documents = lines_file()
+for case in (progress_of_a_file, progress_of_a_pipe, nothing_in_a_pipe, a_reader_that_goes_away, an_import_that_is_killed):
+    case(documents)
+    print(f"{case.__name__}: ok", flush=True)
+for name in os.listdir(FOLDER):
+    os.unlink(path(name))
+os.rmdir(FOLDER)
