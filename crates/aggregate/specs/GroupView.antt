@@ -7,6 +7,7 @@ use Rattle.aggregate.specs.Expression.{Expression, constant, source}
 use Rattle.aggregate.specs.Group.{IdField, GroupId, one_value, id_document, GroupField, Grouping, Parts}
 use Rattle.aggregate.specs.declared.accumulators.State.{State as Has}
 use Rattle.aggregate.specs.declared.accumulators.State.TheVariants as states
+use Rattle.aggregate.specs.declared.accumulators.Total.{Total}
 use Rattle.aggregate.specs.declared.expression.Expression.{Expression as Made}
 use Rattle.aggregate.specs.declared.expression.Expression.TheVariants as expressions
 use Rattle.aggregate.specs.declared.grouping.GroupField.{GroupField as MadeField}
@@ -22,8 +23,11 @@ abbrev pub expression_of : Made → Expression
 expression_of (expressions.Constant v) = constant (tree v)
 expression_of (expressions.Source path) = source path
 
+abbrev pub total_of : Total → State
+total_of t = total t.narrow t.sum
+
 abbrev pub state_of : Has → State
-state_of (states.Total narrow z) = total narrow z
+state_of (states.Total t) = total_of t
 state_of (states.Least o) = least (option_map tree o)
 state_of (states.Greatest o) = greatest (option_map tree o)
 state_of (states.First o) = first (option_map tree o)

@@ -3,7 +3,7 @@
 //! One more accumulator is one more entry here (its name, where it starts, what one value more makes of it, what it gives in
 //! the end) and a `State`.
 
-ghost use Rattle.std.specs.Prelude.{◌≡◌, ◌+ℤ◌, IfOk, Ok, option_map};
+ghost use Rattle.std.specs.Prelude.{◌≡◌, ◌+ℤ◌, IfOk, OnOk, Ok, option_map};
 ghost use Rattle.bson.specs.Tree.{array};
 ghost use Rattle.bson.specs.View.{tree, items_of};
 ghost use Rattle.path.specs.Edits.{within};
@@ -14,7 +14,7 @@ ghost use Rattle.aggregate.specs.Accumulators.{accumulator_named, start, sum_wit
 ghost use Rattle.aggregate.specs.Accumulators.{pushed_with, take, outcome};
 ghost use Rattle.aggregate.specs.Expression.{or_null};
 ghost use Rattle.aggregate.specs.Found.{found_of};
-ghost use Rattle.aggregate.specs.GroupView.{state_of};
+ghost use Rattle.aggregate.specs.GroupView.{state_of, total_of};
 
 use crate::numbers::total_value;
 use crate::path_value::Found;
@@ -50,11 +50,17 @@ pub(crate) fn accumulator_named(name: &str) -> Option<Accumulator>
     }
 }
 
+/// The sum of the numbers so far, and whether all were int32.
+#[derive(Debug, Drop)]
+pub(crate) struct Total {
+    pub narrow: bool,
+    pub sum: i128,
+}
+
 /// What an accumulator has of the values so far.
 #[derive(Debug, Drop)]
 pub(crate) enum State {
-    /// The sum of the numbers, and whether all were int32.
-    Total { narrow: bool, total: i128 },
+    Total(Total),
     Least(Option<Value>),
     Greatest(Option<Value>),
     First(Option<Value>),
@@ -82,20 +88,21 @@ fn plus(total: i128, number: i64) -> Result<i128, NoMemory>
     }
 }
 
-/// A sum and one value more; what isn't a number is passed over.
-fn sum_with(narrow: bool, total: i128, value: &Value) -> Result<State, NoMemory>
-    ensures { IfOk result (λ s. state_of s ≡ sum_with narrow total (tree value.now)) }
-{
-    match value {
-        Value::Int32(number) => Ok(State::Total {
-            narrow,
-            total: plus(total, i64::from(*number))?,
-        }),
-        Value::Int64(number) => Ok(State::Total {
-            narrow: false,
-            total: plus(total, *number)?,
-        }),
-        _ => Ok(State::Total { narrow, total }),
+impl Total {
+    /// Adds a value; what isn't a number is passed over.
+    fn add(&mut self, value: &Value) -> Result<(), NoMemory>
+        ensures { OnOk result (total_of self.new
+            ≡ sum_with self.old.narrow self.old.sum (tree value.now)) }
+    {
+        match value {
+            Value::Int32(number) => self.sum = plus(self.sum, i64::from(*number))?,
+            Value::Int64(number) => {
+                self.sum = plus(self.sum, *number)?;
+                self.narrow = false;
+            }
+            _ => {}
+        }
+        Ok(())
     }
 }
 
@@ -117,63 +124,69 @@ fn is_null(value: &Value) -> bool
     }
 }
 
-/// The least of the values so far and one more; null and what is missing are passed over.
-fn lesser(best: Option<Value>, found: Found<'_>) -> Result<Option<Value>, NoMemory>
-    ensures { IfOk result (λ o. option_map tree o
-        ≡ best_with lesser (option_map tree best) (found_of found.entry)) }
+/// Takes a value that is less than the least so far; null and what is missing are passed over.
+fn take_lesser(best: &mut Option<Value>, found: Found<'_>) -> Result<(), NoMemory>
+    ensures { OnOk result (option_map tree best.new
+        ≡ best_with lesser (option_map tree best.old) (found_of found.entry)) }
 {
     let Some(value) = found.get() else {
-        return Ok(best);
+        return Ok(());
     };
     if is_null(value) {
-        return Ok(best);
+        return Ok(());
     }
-    match &best {
-        None => found.into_value(),
-        Some(first) if is_below(value, first) => found.into_value(),
-        Some(_) => Ok(best),
+    let gives_way = match best {
+        None => true,
+        Some(first) => is_below(value, first),
+    };
+    if gives_way {
+        *best = found.into_value()?;
     }
+    Ok(())
 }
 
-/// The greatest of the values so far and one more; null and what is missing are passed over.
-fn greater(best: Option<Value>, found: Found<'_>) -> Result<Option<Value>, NoMemory>
-    ensures { IfOk result (λ o. option_map tree o
-        ≡ best_with greater (option_map tree best) (found_of found.entry)) }
+/// Takes a value that is greater than the greatest so far; null and what is missing are passed over.
+fn take_greater(best: &mut Option<Value>, found: Found<'_>) -> Result<(), NoMemory>
+    ensures { OnOk result (option_map tree best.new
+        ≡ best_with greater (option_map tree best.old) (found_of found.entry)) }
 {
     let Some(value) = found.get() else {
-        return Ok(best);
+        return Ok(());
     };
     if is_null(value) {
-        return Ok(best);
+        return Ok(());
     }
-    match &best {
-        None => found.into_value(),
-        Some(first) if is_below(first, value) => found.into_value(),
-        Some(_) => Ok(best),
+    let gives_way = match best {
+        None => true,
+        Some(first) => is_below(first, value),
+    };
+    if gives_way {
+        *best = found.into_value()?;
     }
+    Ok(())
 }
 
-fn first_with(first: Option<Value>, found: Found<'_>) -> Result<Option<Value>, NoMemory>
-    ensures { IfOk result (λ o. option_map tree o
-        ≡ first_with (option_map tree first) (found_of found.entry)) }
+fn take_first(first: &mut Option<Value>, found: Found<'_>) -> Result<(), NoMemory>
+    ensures { OnOk result (option_map tree first.new
+        ≡ first_with (option_map tree first.old) (found_of found.entry)) }
 {
-    match first {
-        Some(value) => Ok(Some(value)),
-        None => Ok(Some(or_null(found)?)),
+    if first.is_none() {
+        *first = Some(or_null(found)?);
     }
+    Ok(())
 }
 
-fn pushed_with(values: Vec<Value>, found: Found<'_>) -> Result<Vec<Value>, NoMemory>
-    ensures { IfOk result (λ v. items_of v.items
-        ≡ pushed_with (items_of values.items) (found_of found.entry)) }
+/// Takes a value behind the others, if there is one.
+fn push_value(values: &mut Vec<Value>, found: Found<'_>) -> Result<(), NoMemory>
+    ensures { OnOk result (items_of values.new.items
+        ≡ pushed_with (items_of values.old.items) (found_of found.entry)) }
 {
-    let mut values = values;
     match found.into_value()? {
         Some(value) => {
             values.push(value)?;
-            Ok(values)
+            Ok(())
         }
-        None => Ok(values),
+        None => Ok(()),
     }
 }
 
@@ -211,10 +224,10 @@ impl State {
         ensures { state_of result ≡ start accumulator }
     {
         match accumulator {
-            Accumulator::Sum => State::Total {
+            Accumulator::Sum => State::Total(Total {
                 narrow: true,
-                total: 0,
-            },
+                sum: 0,
+            }),
             Accumulator::Least => State::Least(None),
             Accumulator::Greatest => State::Greatest(None),
             Accumulator::First => State::First(None),
@@ -223,20 +236,24 @@ impl State {
         }
     }
 
-    /// What it has with one value more.
-    pub(crate) fn take(self, found: Found<'_>) -> Result<State, NoMemory>
-        ensures { IfOk result (λ s. state_of s ≡ take (state_of self) (found_of found.entry)) }
+    /// Takes one value more.
+    pub(crate) fn take(&mut self, found: Found<'_>) -> Result<(), NoMemory>
+        ensures { OnOk result (state_of self.new
+            ≡ take (state_of self.old) (found_of found.entry)) }
     {
         match self {
-            State::Total { narrow, total } => match found.get() {
-                Some(value) => sum_with(narrow, total, value),
-                None => Ok(State::Total { narrow, total }),
+            State::Total(total) => match found.get() {
+                Some(value) => total.add(value),
+                None => Ok(()),
             },
-            State::Least(best) => Ok(State::Least(lesser(best, found)?)),
-            State::Greatest(best) => Ok(State::Greatest(greater(best, found)?)),
-            State::First(first) => Ok(State::First(first_with(first, found)?)),
-            State::Last(_) => Ok(State::Last(Some(or_null(found)?))),
-            State::Push(values) => Ok(State::Push(pushed_with(values, found)?)),
+            State::Least(best) => take_lesser(best, found),
+            State::Greatest(best) => take_greater(best, found),
+            State::First(first) => take_first(first, found),
+            State::Last(last) => {
+                *last = Some(or_null(found)?);
+                Ok(())
+            }
+            State::Push(values) => push_value(values, found),
         }
     }
 
@@ -245,7 +262,7 @@ impl State {
         ensures { Gives Refusal.OutOfMemory tree result (outcome (state_of self)) }
     {
         match self {
-            State::Total { narrow, total } => total_value(narrow, total),
+            State::Total(total) => total_value(total.narrow, total.sum),
             State::Least(value) => Ok(value_or_null(value)),
             State::Greatest(value) => Ok(value_or_null(value)),
             State::First(value) => Ok(value_or_null(value)),

@@ -84,8 +84,7 @@ fn take_all(
             return Ok(());
         }
         let found = field.expression.value(alloc, document)?;
-        let state = mem::replace(&mut states[at], State::Last(None));
-        states[at] = state.take(found)?;
+        states[at].take(found)?;
     }
     Ok(())
 }

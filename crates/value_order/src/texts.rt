@@ -220,11 +220,14 @@ fn invert(text: &mut [u8])
     }
 }
 
+/// Room for the text of a number, a date or a short string.
+const SHORT_TEXT: usize = 24;
+
 /// The ascending text of a value, however long it is: equal for values that the order calls equal.
 pub fn group_text(alloc: Global, value: &Value) -> Result<Vec<u8>, NoMemory>
     ensures { IfOk result (λ v. v.items ≡ tree_text (tree value.now)) }
 {
-    let mut text = Vec::new(alloc);
+    let mut text = Vec::with_capacity(alloc, SHORT_TEXT)?;
     match put_value(&mut text, NO_LIMIT, value) {
         Ok(()) => Ok(text),
         Err(KeyFault::Memory) => Err(AllocError),
