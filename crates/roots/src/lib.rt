@@ -10,9 +10,11 @@ mod reading;
 mod replace;
 mod root;
 mod store;
+mod tree_store;
 
 pub use entries::{EntryList, SplitEntry, split_entry};
 pub use free::ChainPages;
 pub use opening::OpenFault;
 pub use root::{MAX_PAGES, Root};
 pub use store::{CommitFault, Config, LEAST_LIMIT, Store};
+pub use tree_store::TreeStore;

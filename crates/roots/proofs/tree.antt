@@ -1,0 +1,5 @@
+pub mod ImageLemmas
+pub mod MadeLemmas
+pub mod MovesLemmas
+pub mod RootLemmas
+pub mod TurnLemmas

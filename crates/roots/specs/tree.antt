@@ -1,0 +1,5 @@
+pub mod Commit
+pub mod Image
+pub mod Opening
+pub mod Store
+pub mod Turn
