@@ -97,6 +97,26 @@ pub struct TreeStore<D> {
 }
 
 impl<D: Disk> TreeStore<D> {
+    /// Opens a disk that a crash may have left. It reads the two roots, writes nothing, and syncs before it answers. An `Err`
+    /// hands the disk back.
+    pub fn open(mut disk: D) -> Result<TreeStore<D>, (D, OpenFault)>
+        ensures opened { IfOk result (IsOpened D.history disk) }
+        ensures refused { IfErr result (λ e. IsRefused D.history disk e.0 e.1) }
+    {
+        let root = match read_root(&mut disk) {
+            Ok(root) => root,
+            Err(fault) => return Err((disk, fault)),
+        };
+        match disk.sync() {
+            Ok(()) => Ok(TreeStore {
+                disk,
+                root,
+                stopped: false,
+            }),
+            Err(DeviceFault) => Err((disk, OpenFault::Device)),
+        }
+    }
+
     /// Hands the disk back as it is.
     pub fn into_disk(self) -> D
         ensures { D.history result ≡ disk_history D.history self }
