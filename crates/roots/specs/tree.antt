@@ -3,3 +3,4 @@ pub mod Image
 pub mod Opening
 pub mod Store
 pub mod Turn
+pub mod Walk

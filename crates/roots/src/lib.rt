@@ -11,6 +11,7 @@ mod replace;
 mod root;
 mod store;
 mod tree_store;
+mod tree_walk;
 
 pub use entries::{EntryList, SplitEntry, split_entry};
 pub use free::ChainPages;

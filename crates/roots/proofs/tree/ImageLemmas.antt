@@ -1,10 +1,11 @@
 -- What a root's tree reaches decides what an image stands for.
-use Rattle.std.proofs.Common.{◌≡◌, ℕ, zero, suc, ◌+◌, ◌*◌, ◌≤◌, ◌<◌, inl, inr, List, [], ◌∷◌, refl, sym, ◌∙◌, ap, subst, arith}
+use Rattle.std.proofs.Common.{◌≡◌, ℕ, zero, suc, ◌+◌, ◌*◌, ◌≤◌, ◌<◌, inl, inr, Bool, true, false, List, [], ◌∷◌, refl, sym, ◌∙◌, ap, subst, arith}
 use Rattle.std.specs.Prelude.{◌&&◌, nat_lt, if◌then◌else◌, is_ok, Result, Ok, Err}
 use Rattle.page.specs.History.{Sector, reads}
 use Rattle.page.specs.Crash.{IsDurable, Secures}
 use Rattle.page.specs.Format.{Sheet, sheet_in}
-use Rattle.page.specs.Page.{IsSectorOf}
+use Rattle.page.specs.Page.{IsSectorOf, page_at}
+use Rattle.std.proofs.lemmas.Bool.Decides.{nat_tests}
 use Rattle.page.specs.declared.page_fault.PageFault.TheVariants as faults
 use Rattle.page.proofs.PageSteps.{bytes_from_same}
 use Rattle.btree.specs.Keys.{Each, Entry}
@@ -53,3 +54,12 @@ secures sectors root pages entries opens holds durable = record {
   durable = durable;
   decides = λ image same. stands_by_kept (reads sectors) image root pages entries opens holds same;
 }
+
+-- a page that is there lies in the file
+pub live_below : (image : ℕ → List ℕ) (root : Root) (n : ℕ) → is_ok (sheet_at image root n) ≡ true → n < root.pages
+live_below image root n is = by_tests (nat_lt 0 n) (nat_lt n root.pages) refl is
+  where
+    by_tests : (some inside : Bool) → nat_lt n root.pages ≡ inside → is_ok (if some && inside then sheet_in n root.generation (page_at image n) else Err faults.Number) ≡ true → n < root.pages
+    by_tests true true test is = grind (arith, nat_tests, test)
+    by_tests true false test is = absurd cc
+    by_tests false inside test is = absurd cc

@@ -20,7 +20,7 @@ use Rattle.roots.specs.tree.Image.{sheet_at, HoldsMap, OpensAs, StandsFor, IsOnP
 use Rattle.roots.specs.tree.Store.{Keeps}
 use Rattle.roots.specs.tree.Turn.{IsTurn, AreWritten, end_behind, made_or, next_root, numbers_of}
 use Rattle.roots.proofs.OpeningRules.{known}
-use Rattle.roots.proofs.tree.ImageLemmas.{opens_same, holds_same, secures}
+use Rattle.roots.proofs.tree.ImageLemmas.{opens_same, holds_same, live_below, secures}
 use Rattle.roots.proofs.tree.MadeLemmas.{apart, end_grows, end_most, inside_end, sheets_after}
 use Rattle.roots.proofs.tree.RootLemmas.{put_opens, put_holds, stands_during}
 
@@ -28,15 +28,6 @@ use Rattle.roots.proofs.tree.RootLemmas.{put_opens, put_holds, stands_during}
 pub stands_now : (h : History) (root : Root) (live : List ℕ) (entries : List Entry) → Keeps h root live entries → LeavesNow h (λ image. StandsFor image entries)
 stands_now h root live entries keeps k image is =
     secured (now h) (IsKept live) (λ image. StandsFor image entries) (secures (now h) root live entries (keeps.opens k) (keeps.holds k) (keeps.durable k)) image is
-
--- a page that is there lies in the file
-live_below : (image : ℕ → List ℕ) (root : Root) (n : ℕ) → is_ok (sheet_at image root n) ≡ true → n < root.pages
-live_below image root n is = by_tests (nat_lt 0 n) (nat_lt n root.pages) refl is
-  where
-    by_tests : (some inside : Bool) → nat_lt n root.pages ≡ inside → is_ok (if some && inside then sheet_in n root.generation (page_at image n) else Err faults.Number) ≡ true → n < root.pages
-    by_tests true true test is = grind (arith, nat_tests, test)
-    by_tests true false test is = absurd cc
-    by_tests false inside test is = absurd cc
 
 pub tree_below : (image : ℕ → List ℕ) (root : Root) (pages : List ℕ) (entries : List Entry) → 0 < root.pages → HoldsMap (sheet_at image root) root pages entries → root.tree < root.pages
 tree_below image root pages entries some holds = elim holds.map [
