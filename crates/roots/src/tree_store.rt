@@ -10,13 +10,17 @@ ghost use Rattle.roots.specs.tree.Commit.{CommitsRoot, MovesDisk, MovesMaps};
 ghost use Rattle.roots.specs.tree.Image.{IsOnPages};
 ghost use Rattle.roots.specs.tree.Opening.{IsOpened, IsRefused};
 ghost use Rattle.roots.specs.tree.Store.{disk_history, durable_root, is_stopped};
+ghost use Rattle.roots.specs.tree.Walk.{FindsFree, Looks};
 ghost use Rattle.roots.specs.tree.Turn.{AreWritten, LieBehind, end_behind, numbers_of};
 
 use crate::CommitFault;
 use crate::opening::{OpenFault, read_root};
 use crate::replace::replace;
 use crate::root::Root;
+use crate::tree_walk::reached_pages;
+use freelist::FreePages;
 use page::{DeviceFault, Disk, SharedPage, write_page};
+use std::alloc::Global;
 
 fn greater(one: u32, other: u32) -> u32
     ensures { result ≡ max one other }
@@ -136,6 +140,18 @@ impl<D: Disk> TreeStore<D> {
         ensures { result ≡ is_stopped self.now }
     {
         self.stopped
+    }
+
+    /// The book of the file's pages, in which those that the committed tree reaches are in use. The others below the limit, or
+    /// below the number of pages that the file has, are free. It reads each page of the tree once.
+    pub fn free_pages(&mut self, alloc: Global, limit: u32) -> Result<FreePages, OpenFault>
+        ensures looks { Looks result (disk_history D.history self.old)
+            (disk_history D.history self.new) }
+        ensures finds { FindsFree D.history limit result self.old self.new }
+    {
+        let in_use = reached_pages(alloc, &mut self.disk, self.root)?;
+        let limit = greater(limit, self.root.pages);
+        Ok(FreePages::open(alloc, &in_use, limit, self.root.generation)?)
     }
 
     /// Makes the tree below this page the committed one. The pages that the turn made ascend; they are written, then the next

@@ -3,11 +3,11 @@ ghost use Rattle.std.specs.Prelude.{◌≡◌, ◌≢◌, ◌<◌, ◌+◌, ◌+
 ghost use Rattle.page.specs.History.{KeepsWord, now, reads};
 ghost use Rattle.page.specs.Content.{Arm, Item};
 ghost use Rattle.page.specs.Format.{Sheet};
-ghost use Rattle.page.specs.CellView.{item_of as cell_item};
+ghost use Rattle.page.specs.CellView.{place_of as place_in};
 ghost use Rattle.page.specs.ImageView.{sheet_of};
 ghost use Rattle.btree.specs.Keys.{Entry, Pair, times};
 ghost use Rattle.btree.specs.Store.{IsAt};
-ghost use Rattle.btree.specs.Tree.{Body, HasLinks, Shows, content_of, item_of, next_of};
+ghost use Rattle.btree.specs.Tree.{Body, HasChain, HasLinks, Shows, content_of, item_of, next_of, place_of};
 ghost use Rattle.btree.specs.Reach.{AreOnce, pages_of};
 ghost use Rattle.roots.specs.tree.Image.{HoldsMap, sheet_at};
 ghost use Rattle.roots.specs.tree.Walk.{CanReach, KeepsMarks, Looks, Reaches, pages_in, pages_so_far};
@@ -111,6 +111,28 @@ fn walk_chain<D: Disk>(
     }
 }
 
+/// Reaches the pages of a value.
+fn walk_value<D: Disk>(
+    alloc: Global,
+    disk: &mut D,
+    root: Root,
+    stored: Stored<'_>,
+    reached: &mut Reached,
+) -> Result<(), OpenFault>
+    ensures looks { Looks result (D.history disk.old) (D.history disk.new) }
+    ensures reaches { KeepsWord (D.history disk.new) → (x : Pair)
+        → place_of x.links x.value ≡ place_in stored.entry
+        → HasChain (pages_in (D.history disk.old) root) x
+        → CanReach root.pages reached.old x.links
+        → Reaches x.links reached.old reached.new result }
+    ensures marks { KeepsMarks reached.old reached.new result }
+{
+    match stored {
+        Stored::Inline(_) => Ok(()),
+        Stored::Chained { len, first } => walk_chain(alloc, disk, root, first, len, reached),
+    }
+}
+
 /// Reaches the pages of a leaf's values.
 fn walk_leaf<D: Disk>(
     alloc: Global,
@@ -127,9 +149,63 @@ fn walk_leaf<D: Disk>(
     ensures marks { KeepsMarks reached.old reached.new result }
 {
     for i in 0..leaf.len() {
-        if let Stored::Chained { len, first } = leaf.cell(i).stored {
-            walk_chain(alloc, disk, root, first, len, reached)?;
-        }
+        walk_value(alloc, disk, root, leaf.cell(i).stored, reached)?;
     }
     Ok(())
+}
+
+/// Reaches a page of the tree and all below it.
+fn walk_below<D: Disk>(
+    alloc: Global,
+    disk: &mut D,
+    root: Root,
+    page: u32,
+    level: u32,
+    reached: &mut Reached,
+) -> Result<(), OpenFault>
+    ensures looks { Looks result (D.history disk.old) (D.history disk.new) }
+    ensures reaches { KeepsWord (D.history disk.new) → (d : ℕ) (body : Body d)
+        → IsAt (pages_in (D.history disk.old) root) page (content_of d body)
+        → Shows (pages_in (D.history disk.old) root) d body → d + level < 32
+        → CanReach root.pages reached.old (page ∷ pages_of d body)
+        → Reaches (page ∷ pages_of d body) reached.old reached.new result }
+    ensures marks { KeepsMarks reached.old reached.new result }
+{
+    reached.note(page)?;
+    let image = read_sheet(alloc, disk, root, page)?;
+    let branch = match &image.content {
+        PageContent::Leaf(leaf) => return walk_leaf(alloc, disk, root, leaf, reached),
+        PageContent::Branch(branch) => branch,
+        _ => return Err(OpenFault::Damaged),
+    };
+    if level >= 31 {
+        return Err(OpenFault::Damaged);
+    }
+    for i in 0..branch.len() {
+        walk_below(alloc, disk, root, branch.child(i).page, level + 1, reached)?;
+    }
+    Ok(())
+}
+
+/// The pages that the tree of this root reaches, each once, in the order of its keys.
+pub(crate) fn reached_pages<D: Disk>(
+    alloc: Global,
+    disk: &mut D,
+    root: Root,
+) -> Result<Vec<u32>, OpenFault>
+    ensures looks { Looks result (D.history disk.old) (D.history disk.new) }
+    ensures pages { let sheets = sheet_at (reads (now (D.history disk.old))) root in
+        KeepsWord (D.history disk.new) → (pages : List ℕ) (entries : List Entry)
+        → HoldsMap sheets root pages entries
+        → MatchResult result (λ v. v.items ≡ pages) (λ fault. fault ≢ OpenFault.Damaged) }
+    ensures once { IfOk result (λ v. AreOnce v.items) }
+{
+    let mut reached = Reached {
+        pages: Vec::new(alloc),
+        seen: vec![in alloc; false; root.pages as usize]?,
+    };
+    if root.tree != 0 {
+        walk_below(alloc, disk, root, root.tree, 0, &mut reached)?;
+    }
+    Ok(reached.pages)
 }

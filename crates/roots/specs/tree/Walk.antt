@@ -1,13 +1,16 @@
 -- What a walk over a tree's pages gives: those that it reaches, each once, in the order of its keys.
-use Rattle.std.specs.Prelude.{◌≡◌, ◌≢◌, ℕ, ◌+◌, ◌<◌, ◌≤◌, Bool, false, if◌then◌else◌, List, ◌++◌, length, get_or, Result, Ok, Err, IfErr, OnOk}
+use Rattle.std.specs.Prelude.{◌≡◌, ◌≢◌, ℕ, ◌+◌, ◌<◌, ◌≤◌, Bool, false, if◌then◌else◌, List, ◌++◌, length, get_or, max, Result, Ok, Err, IfErr, OnOk, MatchResult}
 use Rattle.page.specs.History.{History, KeepsWord, now, reads}
 use Rattle.page.specs.Crash.{ReadsOnly}
-use Rattle.btree.specs.Keys.{times}
+use Rattle.btree.specs.Keys.{Entry, times}
 use Rattle.btree.specs.Store.{Store}
+use Rattle.freelist.specs.Book.{Book, opened}
 use Rattle.roots.specs.tree.Image.{sheet_at, store_of}
+use Rattle.roots.specs.tree.Store.{IsCommitted, disk_history, durable_root, is_stopped}
 use Rattle.roots.specs.declared.opening.OpenFault.{OpenFault}
 use Rattle.roots.specs.declared.opening.OpenFault.TheVariants as faults
 use Rattle.roots.specs.declared.root.Root.{Root}
+use Rattle.roots.specs.declared.tree_store.TreeStore.{TreeStore}
 use Rattle.roots.specs.declared.tree_walk.Reached.{Reached}
 
 -- a failed read is counted; the other faults are that memory ran out, and that the pages are no tree
@@ -47,3 +50,18 @@ Reaches pages old new (Err fault) = fault ≢ faults.Damaged
 
 abbrev pub KeepsMarks : {X : Type 0} → Reached → Reached → Result X OpenFault → Type 0
 KeepsMarks old new result = OnOk result ((limit : ℕ) → IsMarked limit old → IsMarked limit new)
+
+-- ---- the book of a file's pages
+
+-- Nothing of the store has changed; where a tree is committed, the pages that it reaches are in use, and the fault isn't one
+-- of the pages.
+pub record FindsFree {D : Type 0} (history : D → History) (limit : ℕ)
+    (result : Result Book OpenFault) (old new : TreeStore D) : Type 0 where
+  pub root : durable_root new ≡ durable_root old
+  pub stopped : is_stopped new ≡ is_stopped old
+  pub committed : (live : List ℕ) (entries : List Entry) → IsCommitted history old live entries
+      → IsCommitted history new live entries
+  pub book : KeepsWord (disk_history history new) → (live : List ℕ) (entries : List Entry)
+      → IsCommitted history old live entries → let root = durable_root old in
+      MatchResult result (λ book. book ≡ opened live (max limit root.pages) root.generation)
+      (λ fault. fault ≢ faults.Damaged)
