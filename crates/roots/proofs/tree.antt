@@ -1,3 +1,4 @@
+pub mod FreeLemmas
 pub mod ImageLemmas
 pub mod MadeLemmas
 pub mod MarkLemmas

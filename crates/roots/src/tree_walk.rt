@@ -200,12 +200,13 @@ pub(crate) fn reached_pages<D: Disk>(
         → MatchResult result (λ v. v.items ≡ pages) (λ fault. fault ≢ OpenFault.Damaged) }
     ensures once { IfOk result (λ v. AreOnce v.items) }
 {
+    if root.tree == 0 {
+        return Ok(Vec::new(alloc));
+    }
     let mut reached = Reached {
         pages: Vec::new(alloc),
         seen: vec![in alloc; false; root.pages as usize]?,
     };
-    if root.tree != 0 {
-        walk_below(alloc, disk, root, root.tree, 0, &mut reached)?;
-    }
+    walk_below(alloc, disk, root, root.tree, 0, &mut reached)?;
     Ok(reached.pages)
 }

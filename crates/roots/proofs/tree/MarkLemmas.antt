@@ -4,7 +4,12 @@ use Rattle.std.specs.Prelude.{◌==◌, if◌then◌else◌, slice_set, Ok, Err,
 use Rattle.std.proofs.lemmas.Bool.{cases_eq}
 use Rattle.std.proofs.lemmas.Bool.Decides.{nat_tests}
 use Rattle.std.proofs.lemmas.List.{get_or-set_same, get_or-set_other, length-set}
+use Rattle.std.proofs.Common.{replicate}
+use Rattle.std.proofs.lemmas.List.{length-replicate}
 use Rattle.btree.specs.Keys.{times}
+use Rattle.btree.specs.Reach.{AreOnce}
+use Rattle.roots.specs.declared.tree_walk.Reached.{Reached}
+use Rattle.roots.specs.tree.Walk.{IsMarked, pages_so_far}
 
 pub times_append : (n : ℕ) (xs ys : List ℕ) → times n (xs ++ ys) ≡ times n xs + times n ys
 times_append n [] ys = omega arith
@@ -32,3 +37,23 @@ marks_more pages pages' seen page is within fresh marks n =
           let now : get_or (slice_set seen page true) n false ≡ get_or seen n false = get_or-set_other seen page n true false ne in
           omega (arith, counts, times_other n page ne, marks n, ap one_if now)
     ]
+
+never : (k n : ℕ) → get_or (replicate k false) n false ≡ false
+never zero n = refl
+never (suc k) zero = refl
+never (suc k) (suc n) = never k n
+
+-- at first no page is marked
+pub none_marked : (limit : ℕ) (reached : Reached) → reached.pages.items ≡ [] → reached.seen.items ≡ replicate limit false → IsMarked limit reached
+none_marked limit reached none blank = record {
+  count = ap length blank ∙ length-replicate limit false;
+  marks = λ n. ap (times n) none ∙ sym (ap (λ (l : List Bool). one_if (get_or l n false)) blank ∙ ap one_if (never limit n));
+}
+
+at_most : (b : Bool) (n : ℕ) → n ≡ one_if b → n ≤ 1
+at_most true n is = omega (arith, is)
+at_most false n is = omega (arith, is)
+
+-- and whatever is marked was reached once
+pub marked_once : (limit : ℕ) (reached : Reached) → IsMarked limit reached → AreOnce (pages_so_far reached)
+marked_once limit reached marked n = at_most (get_or reached.seen.items n false) (times n (pages_so_far reached)) (marked.marks n)
