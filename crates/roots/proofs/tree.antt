@@ -3,6 +3,7 @@ pub mod ImageLemmas
 pub mod MadeLemmas
 pub mod MarkLemmas
 pub mod MovesLemmas
+pub mod OneMap
 pub mod OpenLemmas
 pub mod RootLemmas
 pub mod TurnLemmas

@@ -10,6 +10,7 @@ mod reading;
 mod replace;
 mod root;
 mod store;
+pub mod tree_laws;
 mod tree_store;
 mod tree_walk;
 
