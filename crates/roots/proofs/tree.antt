@@ -1,5 +1,6 @@
 pub mod FreeLemmas
 pub mod ImageLemmas
+pub mod KeptPages
 pub mod MadeLemmas
 pub mod MarkLemmas
 pub mod MovesLemmas
