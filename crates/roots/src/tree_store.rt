@@ -1,11 +1,10 @@
 //! A store of a tree: its disk, and the root that it committed last.
-ghost use Rattle.std.specs.Prelude.{◌≡◌, ◌<◌, ◌≤◌, IfOk, IfErr, OnOk, OnErr, ℕ, List, max};
+ghost use Rattle.std.specs.Prelude.{◌≡◌, ◌<◌, IfOk, IfErr, OnOk, OnErr, ℕ, max};
 ghost use Rattle.std.specs.List.{AllByRecursion};
 ghost use Rattle.page.specs.History.{KeepsWord, now, reads};
 ghost use Rattle.page.specs.Crash.{GoesOn, LeavesOnly, IsImageOutside};
 ghost use Rattle.page.specs.Format.{Sheet, page_bytes};
 ghost use Rattle.page.specs.Page.{IsSectorOf, page_at};
-ghost use Rattle.btree.specs.Keys.{Entry};
 ghost use Rattle.roots.specs.tree.Commit.{CommitsRoot, MovesDisk, MovesMaps};
 ghost use Rattle.roots.specs.tree.Image.{IsOnPages};
 ghost use Rattle.roots.specs.tree.Opening.{IsOpened, IsRefused};

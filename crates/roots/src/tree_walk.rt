@@ -1,11 +1,10 @@
 //! The pages that a root's tree reaches, found by one walk.
-ghost use Rattle.std.specs.Prelude.{◌≡◌, ◌≢◌, ◌<◌, ◌+◌, ◌++◌, ◌∷◌, [], ℕ, zero, List, Ok, length, map, slice_index_or, IfOk, IfErr, OnOk, MatchResult};
+ghost use Rattle.std.specs.Prelude.{◌≡◌, ◌≢◌, ◌<◌, ◌+◌, ◌++◌, ◌∷◌, [], ℕ, zero, List, Ok, length, map, IfOk, IfErr, OnOk, MatchResult};
 ghost use Rattle.page.specs.History.{KeepsWord, now, reads};
-ghost use Rattle.page.specs.Content.{Arm, Item};
 ghost use Rattle.page.specs.Format.{Sheet};
 ghost use Rattle.page.specs.CellView.{place_of as place_in};
 ghost use Rattle.page.specs.ImageView.{sheet_of};
-ghost use Rattle.btree.specs.Keys.{Entry, Pair, times};
+ghost use Rattle.btree.specs.Keys.{Entry, Pair};
 ghost use Rattle.btree.specs.Store.{IsAt};
 ghost use Rattle.btree.specs.Tree.{Body, HasChain, HasLinks, Shows, content_of, item_of, next_of, place_of};
 ghost use Rattle.btree.specs.Reach.{AreOnce, pages_of};

@@ -1,6 +1,6 @@
 -- What a walk from the root finds, and the book that is opened with it.
-use Rattle.std.proofs.Common.{◌≡◌, ◌≢◌, ℕ, zero, suc, ◌+◌, ◌<◌, ◌≤◌, max, inl, inr, List, [], ◌∷◌, ◌++◌, refl, sym, ◌∙◌, ap, subst, arith}
-use Rattle.std.specs.Prelude.{Result, Ok, Err, MatchResult}
+use Rattle.std.proofs.Common.{◌≡◌, ◌≢◌, ℕ, ◌+◌, ◌<◌, ◌≤◌, max, inl, inr, List, [], ◌∷◌, ◌++◌, refl, sym, ◌∙◌, ap, subst, arith}
+use Rattle.std.specs.Prelude.{Result, Err, MatchResult}
 use Rattle.page.specs.History.{History, Sector, KeepsWord, now, reads}
 use Rattle.page.specs.Crash.{ReadsOnly, IsDurable}
 use Rattle.btree.specs.Keys.{Entry, times}
@@ -14,7 +14,7 @@ use Rattle.roots.specs.declared.root.Root.{Root}
 use Rattle.roots.specs.declared.tree_store.TreeStore.{TreeStore}
 use Rattle.roots.specs.declared.tree_walk.Reached.{Reached}
 use Rattle.roots.specs.tree.Image.{HoldsMap, OpensAs, sheet_at}
-use Rattle.roots.specs.tree.Store.{IsCommitted, Keeps}
+use Rattle.roots.specs.tree.Store.{Keeps}
 use Rattle.roots.specs.tree.Walk.{CanReach, FindsFree, IsMarked, Reaches, pages_in, pages_so_far}
 use Rattle.roots.proofs.OpeningRules.{known}
 

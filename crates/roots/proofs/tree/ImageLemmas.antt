@@ -1,9 +1,9 @@
 -- What a root's tree reaches decides what an image stands for.
-use Rattle.std.proofs.Common.{◌≡◌, ℕ, zero, suc, ◌+◌, ◌*◌, ◌≤◌, ◌<◌, inl, inr, Bool, true, false, List, [], ◌∷◌, refl, sym, ◌∙◌, ap, subst, arith}
-use Rattle.std.specs.Prelude.{◌&&◌, nat_lt, if◌then◌else◌, is_ok, Result, Ok, Err}
+use Rattle.std.proofs.Common.{◌≡◌, ℕ, ◌*◌, ◌<◌, inl, inr, Bool, true, false, List, [], ◌∷◌, refl, ◌∙◌, ap, arith}
+use Rattle.std.specs.Prelude.{◌&&◌, nat_lt, if◌then◌else◌, is_ok, Err}
 use Rattle.page.specs.History.{Sector, reads}
 use Rattle.page.specs.Crash.{IsDurable, Secures}
-use Rattle.page.specs.Format.{Sheet, sheet_in}
+use Rattle.page.specs.Format.{sheet_in}
 use Rattle.page.specs.Page.{IsSectorOf, page_at}
 use Rattle.std.proofs.lemmas.Bool.Decides.{nat_tests}
 use Rattle.page.specs.declared.page_fault.PageFault.TheVariants as faults

@@ -1,5 +1,5 @@
 -- Where a caller has the premises of a commit from: pages that stay are read under the next root as before, and pages that were made are there.
-use Rattle.std.proofs.Common.{◌≡◌, ◌≢◌, ℕ, ◌+◌, ◌<◌, ◌≤◌, max, Bool, true, false, List, [], ◌∷◌, drop, refl, sym, ◌∙◌, ap, subst, arith}
+use Rattle.std.proofs.Common.{◌≡◌, ◌≢◌, ℕ, ◌<◌, ◌≤◌, Bool, true, false, List, [], ◌∷◌, drop, refl, ◌∙◌, ap, arith}
 use Rattle.std.specs.Prelude.{◌&&◌, ◌||◌, ◌==◌, not, nat_lt, if◌then◌else◌, slice_index, is_ok, Result, Ok, Err}
 use Rattle.std.specs.List.{AllByRecursion}
 use Rattle.std.proofs.lemmas.Bool.Decides.{nat_tests}
@@ -10,10 +10,14 @@ use Rattle.page.specs.Format.{Sheet, content_in, generation_in, sheet_in}
 use Rattle.page.specs.Page.{page_at}
 use Rattle.page.specs.declared.page_fault.PageFault.{PageFault}
 use Rattle.page.specs.declared.page_fault.PageFault.TheVariants as faults
+use Rattle.page.specs.History.{History, now, reads}
+use Rattle.btree.specs.Keys.{Each, Entry}
 use Rattle.btree.specs.Store.{IsAt}
+use Rattle.btree.proofs.ReachLemmas.{Moves, map_moved}
 use Rattle.roots.specs.declared.root.Root.{Root}
 use Rattle.roots.specs.tree.Image.{sheet_at, store_of, content_in as content_of}
-use Rattle.roots.specs.tree.Turn.{LieBehind, made_or, next_root}
+use Rattle.roots.specs.tree.Store.{Keeps}
+use Rattle.roots.specs.tree.Turn.{IsTurn, LieBehind, made_or, next_root}
 use Rattle.roots.proofs.tree.WalkLemmas.{IsFound, found_at}
 
 -- ---- a page under a later root
@@ -95,3 +99,22 @@ made_there others last [] lie = tt
 made_there others last (m ∷ ms) lie =
     let test : (m.page == m.page) ≡ true = grind (arith, nat_tests) in
     (ap (λ (b : Bool). if b then Ok m else made_or ms m.page (others m.page)) test, behind_another others m ms ms (made_there others m.page ms lie.1) (all_behind m.page ms lie.1))
+
+-- ---- the premises can be met: what is committed may be committed again
+
+all_kept : (image : ℕ → List ℕ) (root : Root) (pages : List ℕ) → Each (Moves (store_of (sheet_at image root)) (store_of (λ k. made_or [] k (sheet_at image (next_root root [] root.tree) k)))) pages
+all_kept image root [] = tt
+all_kept image root (page ∷ pages) = ((λ content at. kept_there image root [] root.tree page content tt at), all_kept image root pages)
+
+pub same_turn : (h : History) (root : Root) (live : List ℕ) (entries : List Entry) → Keeps h root live entries → IsTurn h root live [] root.tree live entries
+same_turn h root live entries keeps = record {
+  ascending = tt;
+  inside = tt;
+  sheets = tt;
+  free = tt;
+  holds = λ k. record {
+    map = map_moved (store_of (sheet_at (reads (now h)) root)) (store_of (λ n. made_or [] n (sheet_at (reads (now h)) (next_root root [] root.tree) n))) root.tree live entries
+        (all_kept (reads (now h)) root live) (keeps.holds k).map;
+    once = (keeps.holds k).once;
+  };
+}

@@ -1,13 +1,10 @@
 -- What opening leaves: a disk that was read and synced.
 use Rattle.std.proofs.Common.{◌≡◌, ℕ, List, Bool, false, refl, sym, ◌∙◌, ap, subst}
-use Rattle.std.specs.Prelude.{Result, Ok}
-use Rattle.page.specs.History.{History, Sector, KeepsWord, now, reads, IsImage, Syncs, Ticks}
-use Rattle.page.specs.Crash.{AreDurable, GoesOn, LeavesNow, ReadsOnly}
+use Rattle.page.specs.History.{History, KeepsWord, now, reads, IsImage, Syncs, Ticks}
+use Rattle.page.specs.Crash.{AreDurable, LeavesNow, ReadsOnly}
 use Rattle.page.proofs.Moments.{goes_further, goes_one, leaves_call, reads_moments, then_syncs}
 use Rattle.page.proofs.TwoFacts.{all_durable, reads_synced}
-use Rattle.btree.specs.Keys.{Entry}
 use Rattle.roots.specs.declared.root.Root.{Root}
-use Rattle.roots.specs.declared.tree_store.TreeStore.{TreeStore}
 use Rattle.roots.specs.tree.Image.{HoldsMap, OpensAs, StandsFor, sheet_at}
 use Rattle.roots.specs.tree.Opening.{IsOpened}
 

@@ -1,12 +1,12 @@
 -- The next root, written to its sector, counts.
-use Rattle.std.proofs.Common.{◌≡◌, ◌≢◌, inl, inr, ℕ, zero, suc, ◌+◌, ◌*◌, ◌%◌, ◌≤◌, ◌<◌, ◌-◌, true, false, List, refl, sym, ◌∙◌, ap, subst, arith}
+use Rattle.std.proofs.Common.{◌≡◌, ◌≢◌, inl, inr, ℕ, zero, suc, ◌+◌, ◌%◌, ◌<◌, ◌-◌, true, false, List, refl, sym, ◌∙◌, ap, subst, arith}
 use Rattle.std.specs.Prelude.{◌⊎◌, ◌==◌, Ok}
 use Rattle.std.proofs.lemmas.Bool.Decides.{nat_tests}
-use Rattle.page.specs.History.{Sector, IsImage, reads}
+use Rattle.page.specs.History.{Sector, reads}
 use Rattle.page.specs.Crash.{IsDurable, put}
 use Rattle.page.proofs.TwoFacts.{secured, put_same, put_other}
 use Rattle.btree.specs.Keys.{Entry}
-use Rattle.roots.specs.Root.{root_in, root_of, both, newer_root, root_bytes, IsPossible}
+use Rattle.roots.specs.Root.{root_in, both, newer_root, root_bytes, IsPossible}
 use Rattle.roots.specs.Replace.{IsOldOrPut}
 use Rattle.roots.specs.tree.Image.{sheet_at, HoldsMap, OpensAs, StandsFor, IsKept}
 use Rattle.roots.specs.declared.root.Root.{Root}

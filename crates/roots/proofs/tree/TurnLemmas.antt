@@ -1,15 +1,10 @@
 -- A turn's pages are written, and then its root.
-use Rattle.std.proofs.Common.{◌≡◌, ℕ, zero, suc, ◌+◌, ◌-◌, ◌%◌, ◌^◌, ◌≤◌, ◌<◌, max, inl, inr, Bool, true, false, List, [], ◌∷◌, refl, sym, ◌∙◌, ap, subst, arith}
-use Rattle.std.specs.Prelude.{◌⊎◌, ◌&&◌, nat_lt, if◌then◌else◌, is_ok, Result, Ok, Err, OnOk}
+use Rattle.std.proofs.Common.{◌≡◌, ℕ, ◌-◌, ◌%◌, ◌^◌, ◌≤◌, ◌<◌, inl, inr, List, [], ◌∷◌, refl, sym, ◌∙◌, ap, subst, arith}
+use Rattle.std.specs.Prelude.{◌⊎◌}
 use Rattle.std.specs.List.{AllByRecursion}
-use Rattle.std.proofs.lemmas.Bool.Decides.{nat_tests}
 use Rattle.page.specs.History.{History, Sector, KeepsWord, now, reads}
 use Rattle.page.specs.Crash.{GoesOn, LeavesOnly, LeavesNow, IsImageOutside, IsDurable, AreDurable, put}
-use Rattle.page.specs.Format.{Sheet, sheet_in}
-use Rattle.page.specs.Page.{page_at}
-use Rattle.page.specs.PageLaws.{IsSheet}
-use Rattle.page.specs.declared.page_fault.PageFault.{PageFault}
-use Rattle.page.specs.declared.page_fault.PageFault.TheVariants as faults
+use Rattle.page.specs.Format.{Sheet}
 use Rattle.page.proofs.Moments.{leaves_further, leaves_weaker}
 use Rattle.page.proofs.TwoFacts.{secured, secured_outside}
 use Rattle.btree.specs.Keys.{Entry}
@@ -18,7 +13,7 @@ use Rattle.roots.specs.Root.{IsPossible, root_bytes}
 use Rattle.roots.specs.declared.root.Root.{Root}
 use Rattle.roots.specs.tree.Image.{sheet_at, HoldsMap, OpensAs, StandsFor, IsOnPages, IsKept}
 use Rattle.roots.specs.tree.Store.{Keeps}
-use Rattle.roots.specs.tree.Turn.{IsTurn, AreWritten, end_behind, made_or, next_root, numbers_of}
+use Rattle.roots.specs.tree.Turn.{IsTurn, AreWritten, end_behind, next_root, numbers_of}
 use Rattle.roots.proofs.OpeningRules.{known}
 use Rattle.roots.proofs.tree.ImageLemmas.{opens_same, holds_same, live_below, secures}
 use Rattle.roots.proofs.tree.MadeLemmas.{apart, end_grows, end_most, inside_end, sheets_after}

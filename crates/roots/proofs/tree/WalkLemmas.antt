@@ -1,12 +1,12 @@
 -- A walk over pages, one page after the other.
-use Rattle.std.proofs.Common.{◌≡◌, ◌≢◌, ℕ, zero, suc, ◌+◌, ◌-◌, ◌<◌, ◌≤◌, inl, inr, Bool, true, false, List, [], ◌∷◌, ◌++◌, length, take, drop, min, refl, sym, ◌∙◌, ap, subst, arith, append_assoc, append-nil, length-append, length-take, length-drop, map}
-use Rattle.std.specs.Prelude.{◌&&◌, nat_lt, if◌then◌else◌, is_ok, Some, slice_get, Result, Ok, Err, IfErr, OnOk}
+use Rattle.std.proofs.Common.{◌≡◌, ◌≢◌, ℕ, zero, suc, ◌+◌, ◌-◌, ◌<◌, ◌≤◌, true, List, [], ◌∷◌, ◌++◌, length, take, drop, min, refl, sym, ◌∙◌, ap, subst, arith, append_assoc, append-nil, length-append, length-take, length-drop, map}
+use Rattle.std.specs.Prelude.{is_ok, Some, slice_get, Result, Ok, Err, IfErr}
 use Rattle.std.specs.List.{flat_map}
 use Rattle.std.proofs.lemmas.List.{take_all}
 use Rattle.page.specs.Content.{Arm, Content, Item, branch, chain, inline, leaf, spilled}
 use Rattle.btree.proofs.ListLemmas.{At, each_back, flat_append}
 use Rattle.page.specs.Format.{Sheet}
-use Rattle.page.specs.History.{History, KeepsWord, Sector, now, reads}
+use Rattle.page.specs.History.{History, Sector, now, reads}
 use Rattle.page.specs.Crash.{ReadsOnly}
 use Rattle.page.specs.declared.page_fault.PageFault.{PageFault}
 use Rattle.page.proofs.Moments.{reads_further}

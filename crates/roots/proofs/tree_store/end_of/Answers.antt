@@ -1,4 +1,4 @@
-use Rattle.std.proofs.Common.{rules, ap, sym, ◌∙◌, ◌+◌, ◌^◌, ◌-◌}
+use Rattle.std.proofs.Common.{ap, ◌∙◌, ◌+◌, ◌^◌, ◌-◌}
 use Rattle.std.specs.Prelude.{min}
 use Rattle.roots.proofs.tree.MadeLemmas.{end_saturated}
 use Rattle.roots.proofs.tree_store.end_of.Goals as goal

@@ -1,7 +1,6 @@
-use Rattle.std.proofs.Common.{rules, arith, ℕ, List, take, length, ap, subst, sym, ◌∙◌}
+use Rattle.std.proofs.Common.{arith, ap}
 use Rattle.page.specs.History.{Sector, now, reads}
 use Rattle.page.proofs.Moments.{goes_further}
-use Rattle.roots.specs.tree.Turn.{AreWritten, numbers_of}
 use Rattle.roots.proofs.tree.MadeLemmas.{on_pages_at, written_step, others_more, moments_more}
 use Rattle.roots.proofs.tree_store.write_made.Goals as goal
 

@@ -1,4 +1,4 @@
-use Rattle.std.proofs.Common.{rules, ℕ, ap, subst, sym}
+use Rattle.std.proofs.Common.{ℕ, ap, subst}
 use Rattle.page.specs.History.{now}
 use Rattle.page.specs.Crash.{LeavesOnly, IsImageOutside}
 use Rattle.page.specs.Page.{IsSectorOf}

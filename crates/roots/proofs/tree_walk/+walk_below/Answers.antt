@@ -1,19 +1,18 @@
-use Rattle.std.proofs.Common.{rules, arith, ◌≡◌, ◌<◌, ◌+◌, ℕ, zero, suc, List, [], ◌∷◌, ◌++◌, Result, map, length, take, ap, sym, ◌∙◌, subst, refl}
+use Rattle.std.proofs.Common.{rules, arith, ◌≡◌, ◌<◌, ◌+◌, ℕ, zero, suc, List, ◌∷◌, ◌++◌, map, length, take, ap, sym, ◌∙◌, subst, refl}
 use Rattle.page.specs.CellView.{arm_of as child_arm}
-use Rattle.page.specs.Content.{Arm, Content}
-use Rattle.page.specs.History.{KeepsWord, Sector, now, reads}
+use Rattle.page.specs.Content.{Arm}
+use Rattle.page.specs.History.{now, reads}
 use Rattle.page.specs.ImageView.{sheet_of}
 use Rattle.page.specs.View.{content_of as content_in}
 use Rattle.page.proofs.Moments.{reads_further}
-use Rattle.btree.specs.Keys.{Each}
-use Rattle.btree.specs.Store.{Store, IsAt}
+use Rattle.btree.specs.Store.{Store}
 use Rattle.btree.specs.Reach.{pages_of}
 use Rattle.btree.specs.Tree.{Body, Shows, Twig, arm_of, content_of}
-use Rattle.btree.proofs.ListLemmas.{At, at_place, long_map}
+use Rattle.btree.proofs.ListLemmas.{at_place, long_map}
 use Rattle.roots.specs.tree.Image.{sheet_at}
 use Rattle.roots.specs.tree.Walk.{CanReach, Reaches, pages_in, pages_so_far}
 use Rattle.roots.proofs.tree.ImageLemmas.{live_below}
-use Rattle.roots.proofs.tree.WalkLemmas.{all_taken, at_branch, at_leaf, behind_first, child_reached, child_there, can_first, can_reach_there, can_rest, each_there, got_there, looks_failed, marks_behind, not_damaged, reached_there, reaches_behind, reaches_failed, read_content, same_pages}
+use Rattle.roots.proofs.tree.WalkLemmas.{all_taken, at_branch, at_leaf, behind_first, child_reached, child_there, can_first, can_rest, looks_failed, marks_behind, not_damaged, reaches_behind, reaches_failed, read_content, same_pages}
 use Rattle.roots.proofs.tree_walk.+walk_below.Goals as goal
 
 pub returns-in_err-note-clause-reaches : goal.returns-in_err-note-clause-reaches

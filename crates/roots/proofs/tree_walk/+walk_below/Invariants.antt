@@ -1,4 +1,4 @@
-use Rattle.std.proofs.Common.{◌≡◌, ◌-◌, ◌+◌, ◌<◌, ◌++◌, ℕ, suc, List, map, take}
+use Rattle.std.proofs.Common.{◌≡◌, ◌-◌, ◌+◌, ◌<◌, ◌++◌, ℕ, suc, map, take}
 use Rattle.page.specs.History.{KeepsWord}
 use Rattle.page.specs.Crash.{ReadsOnly}
 use Rattle.btree.specs.Reach.{pages_of}

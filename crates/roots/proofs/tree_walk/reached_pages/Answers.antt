@@ -1,4 +1,4 @@
-use Rattle.std.proofs.Common.{rules, arith, ◌≡◌, List, [], false, replicate, refl, Ok, Err}
+use Rattle.std.proofs.Common.{rules, Ok, Err}
 use Rattle.roots.specs.declared.tree_walk.Reached.{Reached}
 use Rattle.page.specs.History.{now, reads}
 use Rattle.roots.specs.tree.Walk.{IsMarked}

@@ -1,12 +1,11 @@
-use Rattle.std.proofs.Common.{rules, arith, ◌≡◌, ◌≢◌, ◌<◌, ℕ, List, [], ◌∷◌, ◌++◌, ◌-◌, Ok, Err, length, take, ap, sym, ◌∙◌, subst, refl}
-use Rattle.page.specs.Content.{Content, chain}
-use Rattle.page.specs.History.{Sector, KeepsWord, now, reads}
+use Rattle.std.proofs.Common.{rules, arith, ◌≡◌, ◌<◌, ℕ, [], ◌∷◌, ◌++◌, ◌-◌, length, take, ap, sym, ◌∙◌}
+use Rattle.page.specs.Content.{chain}
+use Rattle.page.specs.History.{Sector, now, reads}
 use Rattle.page.specs.View.{content_of}
 use Rattle.page.specs.ImageView.{sheet_of}
 use Rattle.std.specs.Prelude.{min}
 use Rattle.page.proofs.Moments.{reads_further}
-use Rattle.btree.specs.Store.{IsAt}
-use Rattle.btree.specs.Tree.{HasLinks, next_of}
+use Rattle.btree.specs.Tree.{next_of}
 use Rattle.roots.specs.tree.Image.{sheet_at}
 use Rattle.roots.specs.tree.Walk.{CanReach, pages_in, pages_so_far}
 use Rattle.roots.proofs.tree.ImageLemmas.{live_below}

@@ -1,4 +1,4 @@
-use Rattle.std.proofs.Common.{rules, arith, ◌≡◌, ◌<◌, ℕ, zero, List, map, length, take, ap, sym, ◌∙◌, subst}
+use Rattle.std.proofs.Common.{rules, arith, ◌≡◌, ◌<◌, ℕ, List, map, length, ap, sym, subst}
 use Rattle.page.specs.Content.{Item}
 use Rattle.page.specs.CellView.{item_of as cell_item}
 use Rattle.page.proofs.Moments.{reads_further}
@@ -7,7 +7,7 @@ use Rattle.btree.specs.Store.{Store}
 use Rattle.btree.specs.Tree.{HasChain, item_of}
 use Rattle.btree.proofs.ListLemmas.{At, at_place, long_map}
 use Rattle.roots.specs.tree.Walk.{CanReach, pages_in, pages_so_far}
-use Rattle.roots.proofs.tree.WalkLemmas.{all_taken, can_reach_there, each_there, got_there, reached_there, reaches_failed, same_pages}
+use Rattle.roots.proofs.tree.WalkLemmas.{can_reach_there, each_there, got_there, reached_there, reaches_failed, same_pages}
 use Rattle.roots.proofs.tree_walk.walk_leaf.Goals as goal
 
 within : (items : List Item) (pairs : List Pair) (i : ℕ) → items ≡ map item_of pairs → i < length items → i < length pairs

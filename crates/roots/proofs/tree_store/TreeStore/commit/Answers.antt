@@ -1,4 +1,4 @@
-use Rattle.std.proofs.Common.{rules, arith, ℕ, ◌+◌, true, refl, ◌≡◌}
+use Rattle.std.proofs.Common.{arith, ◌+◌, true, ◌≡◌}
 use Rattle.roots.specs.declared.root.Root.{Root}
 use Rattle.roots.specs.tree.Turn.{next_root}
 use Rattle.roots.proofs.tree.MovesLemmas.{is_last, failed, done, root_is}

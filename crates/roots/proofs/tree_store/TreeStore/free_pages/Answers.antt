@@ -1,4 +1,4 @@
-use Rattle.std.proofs.Common.{rules, arith, ◌≡◌, ◌≢◌, ℕ, List, max}
+use Rattle.std.proofs.Common.{rules}
 use Rattle.roots.specs.declared.opening.OpenFault.TheVariants as faults
 use Rattle.roots.proofs.tree.FreeLemmas.{book_is, finds, match_failed}
 use Rattle.roots.proofs.tree_store.TreeStore.free_pages.Goals as goal
