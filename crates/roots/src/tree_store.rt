@@ -9,16 +9,16 @@ ghost use Rattle.roots.specs.tree.Commit.{CommitsRoot, MovesDisk, MovesMaps};
 ghost use Rattle.roots.specs.tree.Image.{IsOnPages};
 ghost use Rattle.roots.specs.tree.Opening.{IsOpened, IsRefused};
 ghost use Rattle.roots.specs.tree.Store.{disk_history, durable_root, is_stopped};
-ghost use Rattle.roots.specs.tree.Walk.{FindsFree, Looks};
+ghost use Rattle.roots.specs.tree.Walk.{FindsFree, Looks, ReadsSheet};
 ghost use Rattle.roots.specs.tree.Turn.{AreWritten, LieBehind, end_behind, numbers_of};
 
 use crate::CommitFault;
 use crate::opening::{OpenFault, read_root};
 use crate::replace::replace;
 use crate::root::Root;
-use crate::tree_walk::reached_pages;
+use crate::tree_walk::{reached_pages, read_sheet};
 use freelist::FreePages;
-use page::{DeviceFault, Disk, SharedPage, write_page};
+use page::{DeviceFault, Disk, PageImage, SharedPage, write_page};
 use std::alloc::Global;
 
 fn greater(one: u32, other: u32) -> u32
@@ -139,6 +139,16 @@ impl<D: Disk> TreeStore<D> {
         ensures { result ≡ is_stopped self.now }
     {
         self.stopped
+    }
+
+    /// The page of this number, as the disk holds it under the root that was committed last. Damaged where it is no page of
+    /// that file.
+    pub fn read(&mut self, alloc: Global, page: u32) -> Result<PageImage, OpenFault>
+        ensures looks { Looks result (disk_history D.history self.old)
+            (disk_history D.history self.new) }
+        ensures reads { ReadsSheet D.history page result self.old self.new }
+    {
+        read_sheet(alloc, &mut self.disk, self.root, page)
     }
 
     /// The book of the file's pages, in which those that the committed tree reaches are in use. The others below the limit, or

@@ -49,7 +49,7 @@ impl Reached {
 }
 
 /// The page of this number in a file with this root.
-fn read_sheet<D: Disk>(
+pub(crate) fn read_sheet<D: Disk>(
     alloc: Global,
     disk: &mut D,
     root: Root,

@@ -70,6 +70,20 @@ fn four_trees(rt: HostRuntime) -> Result<(), Fail> {
     Ok(())
 }
 
+/// The page that was committed is read, and neither page 0 nor one behind the end.
+#[test]
+fn pages_are_read(rt: HostRuntime) -> Result<(), Fail> {
+    let mut store = new_store(&rt);
+    commit(&rt, &mut store, 1);
+    assert!(rt; store.read(rt.alloc(), 1).is_ok());
+    assert!(rt; store.read(rt.alloc(), 0).is_err() && store.read(rt.alloc(), 2).is_err());
+    let mut disk = store.into_disk();
+    // one page was read
+    assert_eq!(rt; disk.calls(), 3 + 9 + 2 + 8);
+    assert!(rt; sector(&rt, &mut disk, 16) == [0; 512]);
+    Ok(())
+}
+
 #[test]
 fn the_greatest_generation_is_full(rt: HostRuntime) -> Result<(), Fail> {
     let mut disk = MemDisk::new(rt.alloc());

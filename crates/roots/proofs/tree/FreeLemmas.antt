@@ -1,8 +1,11 @@
 -- What a walk from the root finds, and the book that is opened with it.
 use Rattle.std.proofs.Common.{◌≡◌, ◌≢◌, ℕ, ◌+◌, ◌<◌, ◌≤◌, max, inl, inr, List, [], ◌∷◌, ◌++◌, refl, sym, ◌∙◌, ap, subst, arith}
-use Rattle.std.specs.Prelude.{Result, Err, MatchResult}
+use Rattle.std.specs.Prelude.{Result, Ok, Err, MatchResult}
 use Rattle.page.specs.History.{History, Sector, KeepsWord, now, reads}
 use Rattle.page.specs.Crash.{ReadsOnly, IsDurable}
+use Rattle.page.specs.Format.{Sheet}
+use Rattle.page.specs.ImageView.{sheet_of}
+use Rattle.page.specs.declared.page_image.PageImage.{PageImage}
 use Rattle.btree.specs.Keys.{Entry, times}
 use Rattle.btree.specs.Store.{IsAt}
 use Rattle.btree.specs.Tree.{Body, Shows, content_of}
@@ -15,7 +18,7 @@ use Rattle.roots.specs.declared.tree_store.TreeStore.{TreeStore}
 use Rattle.roots.specs.declared.tree_walk.Reached.{Reached}
 use Rattle.roots.specs.tree.Image.{HoldsMap, OpensAs, sheet_at}
 use Rattle.roots.specs.tree.Store.{Keeps}
-use Rattle.roots.specs.tree.Walk.{CanReach, FindsFree, IsMarked, Reaches, pages_in, pages_so_far}
+use Rattle.roots.specs.tree.Walk.{CanReach, FindsFree, IsMarked, Reaches, ReadsSheet, pages_in, pages_so_far}
 use Rattle.roots.proofs.OpeningRules.{known}
 
 -- from the root on
@@ -73,3 +76,15 @@ pub book_is : (book : Book) (limit found pages generation : ℕ) (given in_use l
 book_is book limit found pages generation given in_use live is most some same named =
     let count : max found 1 ≡ max limit pages = omega (arith, most, some) in
     is ∙ (λ i. opened ((same ∙ named) i) (count i) generation)
+
+-- a page was read
+pub page_read : {D : Type 0} (history : D → History) (page : ℕ) (result : Result PageImage OpenFault) (old : TreeStore D) (disk : D) → ReadsOnly (history old.disk) (history disk)
+    → (KeepsWord (history disk) → MatchResult result (λ image. sheet_at (reads (now (history old.disk))) old.root page ≡ Ok (sheet_of image))
+    (λ fault. fault ≡ faults.Damaged → (found : Sheet) → sheet_at (reads (now (history old.disk))) old.root page ≡ Ok found → ⊥))
+    → ReadsSheet history page result old (record old { disk = disk })
+page_read history page result old disk only sheet = record {
+  root = refl;
+  stopped = refl;
+  committed = λ live entries committed. record { running = committed.running; keeps = still_kept (history old.disk) (history disk) old.root live entries only committed.keeps };
+  sheet = sheet;
+}

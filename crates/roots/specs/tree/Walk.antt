@@ -2,6 +2,9 @@
 use Rattle.std.specs.Prelude.{◌≡◌, ◌≢◌, ℕ, ◌+◌, ◌<◌, ◌≤◌, false, if◌then◌else◌, List, ◌++◌, length, get_or, max, Result, Ok, Err, IfErr, OnOk, MatchResult}
 use Rattle.page.specs.History.{History, KeepsWord, now, reads}
 use Rattle.page.specs.Crash.{ReadsOnly}
+use Rattle.page.specs.Format.{Sheet}
+use Rattle.page.specs.ImageView.{sheet_of}
+use Rattle.page.specs.declared.page_image.PageImage.{PageImage}
 use Rattle.btree.specs.Keys.{Entry, times}
 use Rattle.btree.specs.Store.{Store}
 use Rattle.freelist.specs.Book.{Book, opened}
@@ -50,6 +53,20 @@ Reaches pages old new (Err fault) = fault ≢ faults.Damaged
 
 abbrev pub KeepsMarks : {X : Type 0} → Reached → Reached → Result X OpenFault → Type 0
 KeepsMarks old new result = OnOk result ((limit : ℕ) → IsMarked limit old → IsMarked limit new)
+
+-- ---- a page
+
+-- Nothing of the store has changed, and this is the page that its disk holds, or it holds none.
+pub record ReadsSheet {D : Type 0} (history : D → History) (page : ℕ)
+    (result : Result PageImage OpenFault) (old new : TreeStore D) : Type 0 where
+  pub root : durable_root new ≡ durable_root old
+  pub stopped : is_stopped new ≡ is_stopped old
+  pub committed : (live : List ℕ) (entries : List Entry) → IsCommitted history old live entries
+      → IsCommitted history new live entries
+  pub sheet : let sheet = sheet_at (reads (now (disk_history history old))) (durable_root old) page in
+      KeepsWord (disk_history history new) → MatchResult result
+      (λ image. sheet ≡ Ok (sheet_of image))
+      (λ fault. fault ≡ faults.Damaged → (found : Sheet) → sheet ≡ Ok found → ⊥)
 
 -- ---- the book of a file's pages
 
