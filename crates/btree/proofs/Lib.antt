@@ -5,6 +5,7 @@ pub mod FanLemmas
 pub mod GetLemmas
 pub mod KeyLemmas
 pub mod ListLemmas
+pub mod ReachLemmas
 pub mod ScanLemmas
 pub mod SearchLemmas
 pub mod StoreLemmas

@@ -1,6 +1,7 @@
 pub mod Calls
 pub mod EditView
 pub mod Keys
+pub mod Reach
 pub mod Scan
 pub mod Search
 pub mod Store
