@@ -1,0 +1,5 @@
+pub mod TextLemmas
+pub mod LengthLemmas
+pub mod CombinationLemmas
+pub mod SetLemmas
+pub mod RefusalLemmas

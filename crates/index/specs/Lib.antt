@@ -1,0 +1,6 @@
+pub mod Definition
+pub mod DefinitionCode
+pub mod Naming
+pub mod IndexKeys
+pub mod KeyTexts
+pub mod Steps
