@@ -3,3 +3,7 @@ pub mod LengthLemmas
 pub mod CombinationLemmas
 pub mod SetLemmas
 pub mod RefusalLemmas
+pub mod SearchLemmas
+pub mod OrderLaws
+pub mod SetLaws
+pub mod OneKeyLaws

@@ -16,11 +16,8 @@ use Rattle.std.specs.Cmp.Lexicographic.{nat_list_cmp_total, on_texts, pointwise,
 use Rattle.std.proofs.lemmas.Cmp.{tied_itself}
 use Rattle.std.proofs.lemmas.Map.Lookups.{exact_bytes}
 use Rattle.value_order.specs.Order.{bytes_cmp}
+use Rattle.index.specs.Changes.{IsAscending, is_among}
 use Rattle.index.specs.KeyTexts.{put_at, put_key, ascending_set}
-
--- whether a key is one of these
-abbrev pub is_among : List (List ℕ) → List ℕ → Bool
-is_among ks q = list_any (λ k. is_eq (bytes_cmp q k)) ks
 
 abbrev Below : List ℕ → List (List ℕ) → Type 0
 Below k ls = AllByRecursion (λ l. bytes_cmp k l ≡ Less) ls
@@ -41,7 +38,7 @@ sorted (k ∷ ks) h = (h.0, sorted ks h.1)
 
 -- ---- tests
 
-same_itself : (k : List ℕ) → is_eq (bytes_cmp k k) ≡ true
+pub same_itself : (k : List ℕ) → is_eq (bytes_cmp k k) ≡ true
 same_itself k = ap is_eq (tied_itself nat_list_cmp_total k)
 
 over_below : (k l : List ℕ) → bytes_cmp k l ≡ Less → bytes_cmp l k ≡ Greater
@@ -172,7 +169,7 @@ module _ {X : Type 0} (p : X → Bool) (same : X → X → Bool) (alike : (x y :
   any_dedup [] = refl
   any_dedup (x ∷ xs) = any_from x xs
 
-abbrev order_of : Vec ℕ → Vec ℕ → Ordering
+abbrev pub order_of : Vec ℕ → Vec ℕ → Ordering
 order_of v w = bytes_cmp v.items w.items
 
 below_texts : (v : Vec ℕ) (ws : List (Vec ℕ)) → AllByRecursion (λ w. order_of v w ≡ Less) ws → Below v.items (texts_of ws)
@@ -183,7 +180,7 @@ texts_rise : (vs : List (Vec ℕ)) → IsStrictlySortedBy order_of vs → Rises 
 texts_rise [] h = tt
 texts_rise (v ∷ vs) h = (below_texts v vs (sorted_head order_of v vs h), texts_rise vs (sorted_tail order_of v vs h))
 
-among_texts : (vs : List (Vec ℕ)) (q : List ℕ) → is_among (texts_of vs) q ≡ list_any (λ v. is_eq (bytes_cmp q v.items)) vs
+pub among_texts : (vs : List (Vec ℕ)) (q : List ℕ) → is_among (texts_of vs) q ≡ list_any (λ v. is_eq (bytes_cmp q v.items)) vs
 among_texts [] q = refl
 among_texts (v ∷ vs) q = ap (λ (b : Bool). is_eq (bytes_cmp q v.items) || b) (among_texts vs q)
 
@@ -198,3 +195,12 @@ sorted_set olds moved permuted in_order =
     one_rising (texts_of (dedup E moved)) (ascending_set (texts_of olds)) (texts_rise (dedup E moved) strictly) (set_rises (texts_of olds)) (λ q.
     among_texts (dedup E moved) q ∙ any_dedup (λ v. is_eq (bytes_cmp q v.items)) E (same_bytes q) moved
     ∙ sym (list_any-IsPermutation (λ v. is_eq (bytes_cmp q v.items)) olds moved permuted) ∙ sym (among_texts olds q) ∙ sym (set_among (texts_of olds) q))
+
+vectors_below : (v : Vec ℕ) (ws : List (Vec ℕ)) → Below v.items (texts_of ws) → AllByRecursion (λ w. order_of v w ≡ Less) ws
+vectors_below v [] h = tt
+vectors_below v (w ∷ ws) h = (h.0, vectors_below v ws h.1)
+
+pub vectors_sorted : (vs : List (Vec ℕ)) → IsAscending (texts_of vs) → IsStrictlySortedBy order_of vs
+unfolding IsStrictlySortedBy
+vectors_sorted [] h = tt
+vectors_sorted (v ∷ vs) h = (vectors_below v vs h.0, vectors_sorted vs h.1)

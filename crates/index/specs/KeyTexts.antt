@@ -5,9 +5,9 @@ use Rattle.std.specs.List.{list_any}
 use Rattle.std.specs.declared.cmp.Ordering.{Ordering}
 use Rattle.std.specs.declared.cmp.Ordering.TheVariants.{Less, Equal, Greater}
 use Rattle.outcome.specs.Outcome.{unless}
-use Rattle.bson.specs.Tree.{Tree, Pairs}
+use Rattle.bson.specs.Tree.{Pairs}
 use Rattle.value_order.specs.Order.{Key, bytes_cmp}
-use Rattle.value_order.specs.KeyText.{tree_text, directed_text}
+use Rattle.value_order.specs.KeyText.{directed_text}
 use Rattle.path.specs.declared.refusal.Refusal.{Refusal}
 use Rattle.path.specs.declared.refusal.Refusal.TheVariants as refusals
 use Rattle.index.specs.Definition.{Field, Definition}
@@ -56,7 +56,8 @@ keys_in_all ds ps =
     (unless (list_any (λ d. has_parallel_arrays d.fields ps) ds) refusals.CannotIndexParallelArrays
     (Ok (map (λ d. encoded_keys d.fields ps) ds)))
 
--- The key of an entry in the tree: the numbers of the collection and of the index, the encoded key, and the `_id`. Its value is empty.
-abbrev pub entry_key : ℕ → ℕ → List ℕ → Tree → List ℕ
+-- The key of an entry in the tree: the numbers of the collection and of the index, the encoded key, and the text of the `_id`. Its value is
+-- empty.
+abbrev pub entry_key : ℕ → ℕ → List ℕ → List ℕ → List ℕ
 entry_key collection index key id =
-    to_be_bytes w32 collection ++ (to_be_bytes w32 index ++ (key ++ tree_text id))
+    to_be_bytes w32 collection ++ (to_be_bytes w32 index ++ (key ++ id))

@@ -3,4 +3,6 @@ pub mod DefinitionCode
 pub mod Naming
 pub mod IndexKeys
 pub mod KeyTexts
+pub mod Changes
 pub mod Steps
+pub mod Laws

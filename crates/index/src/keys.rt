@@ -1,7 +1,8 @@
 //! The encoded keys of a document.
 
-ghost use Rattle.std.specs.Prelude.{◌≡◌, ◌++◌, [], ◌∷◌, IfOk, OnOk, map, Ok, option_map};
+ghost use Rattle.std.specs.Prelude.{◌≡◌, ◌++◌, [], ◌∷◌, All, IfOk, IfSome, OnOk, map, option_map};
 ghost use Rattle.outcome.specs.Outcome.{Gives};
+ghost use Rattle.index.specs.Changes.{IsAscending};
 ghost use Rattle.index.specs.KeyTexts.{ascending_set, keys_in, keys_in_all};
 ghost use Rattle.index.specs.Steps.{texts_of, extended, combined, keys_unless_parallel};
 
@@ -58,7 +59,8 @@ fn combined(alloc: Global, all: Vec<Vec<Vec<u8>>>) -> Result<Vec<Vec<u8>>, NoMem
 
 /// The set of these keys, ascending.
 fn ascending(keys: Vec<Vec<u8>>) -> Vec<Vec<u8>>
-    ensures { texts_of result.items ≡ ascending_set (texts_of keys.items) }
+    ensures set { texts_of result.items ≡ ascending_set (texts_of keys.items) }
+    ensures ascending { IsAscending (texts_of result.items) }
 {
     let mut keys = keys;
     keys.sort_unstable();
@@ -73,8 +75,9 @@ impl IndexSpec {
         alloc: Global,
         source: &Document,
     ) -> Result<Option<Vec<Vec<u8>>>, Refusal>
-        ensures { Gives Refusal.OutOfMemory (option_map (λ v. texts_of v.items)) result
+        ensures gives { Gives Refusal.OutOfMemory (option_map (λ v. texts_of v.items)) result
             (keys_unless_parallel self.now.fields source.now) }
+        ensures ascending { IfOk result (λ found. IfSome found (λ v. IsAscending (texts_of v.items))) }
     {
         let texts = texts_within(alloc, self.fields(), source)?;
         if self.has_parallel_arrays(source) {
@@ -86,8 +89,9 @@ impl IndexSpec {
     /// The encoded keys of a document in the index, ascending and each once. It is refused with `KeyTooLong` where one
     /// of them has more than 500 bytes, else with `CannotIndexParallelArrays` where arrays stand on two of the paths.
     pub fn keys(&self, alloc: Global, source: &Document) -> Result<Vec<Vec<u8>>, Refusal>
-        ensures { Gives Refusal.OutOfMemory (λ v. texts_of v.items) result
+        ensures gives { Gives Refusal.OutOfMemory (λ v. texts_of v.items) result
             (keys_in self.now.fields source.now) }
+        ensures ascending { IfOk result (λ v. IsAscending (texts_of v.items)) }
     {
         match self.keys_unless_parallel(alloc, source)? {
             Some(keys) => Ok(keys),
@@ -103,8 +107,9 @@ pub fn keys_in_all(
     indexes: &[IndexSpec],
     source: &Document,
 ) -> Result<Vec<Vec<Vec<u8>>>, Refusal>
-    ensures { Gives Refusal.OutOfMemory (λ v. map (λ keys. texts_of keys.items) v.items) result
-        (keys_in_all indexes.now source.now) }
+    ensures gives { Gives Refusal.OutOfMemory (λ v. map (λ keys. texts_of keys.items) v.items)
+        result (keys_in_all indexes.now source.now) }
+    ensures ascending { IfOk result (λ v. All (λ keys. IsAscending (texts_of keys.items)) v.items) }
 {
     let mut all = Vec::with_capacity(alloc, indexes.len())?;
     let mut is_parallel = false;

@@ -5,10 +5,13 @@
 #![tactic(auto)]
 
 mod arrays;
+mod changes;
 mod definition;
 mod keys;
+pub mod laws;
 mod texts;
 
+pub use changes::{KeyChanges, entry_key};
 pub use definition::{IndexField, IndexSpec};
 pub use keys::keys_in_all;
 
