@@ -7,3 +7,4 @@ pub mod SearchLemmas
 pub mod OrderLaws
 pub mod SetLaws
 pub mod OneKeyLaws
+pub mod CatalogueLemmas

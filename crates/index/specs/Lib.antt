@@ -6,3 +6,4 @@ pub mod KeyTexts
 pub mod Changes
 pub mod Steps
 pub mod Laws
+pub mod Catalogue

@@ -9,6 +9,10 @@ use Rattle.index.specs.Definition.{Field, Definition}
 abbrev pub field_named : List ℕ → Direction → Result Field PathFault
 field_named text way = path_of text >>= λ _. Ok (record { path = text; direction = way })
 
+abbrev pub definition_of : ℕ → List ℕ → List Field → Bool → Bool → Definition
+definition_of n text fs unique multi =
+    record { number = n; name = text; fields = fs; is_unique = unique; is_multi = multi }
+
+-- no document was stored yet
 abbrev pub new_definition : ℕ → List ℕ → List Field → Bool → Definition
-new_definition n text fs unique =
-    record { number = n; name = text; fields = fs; is_unique = unique; is_multi = false }
+new_definition n text fs unique = definition_of n text fs unique false

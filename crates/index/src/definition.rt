@@ -128,7 +128,7 @@ impl Model for IndexSpec {
 }
 
 impl IndexSpec {
-    ghost use Rattle.index.specs.Naming.{new_definition};
+    ghost use Rattle.index.specs.Naming.{definition_of, new_definition};
 
     /// The index of this number, name and fields, before any document with an array on one of its paths was stored.
     pub fn new(number: u32, name: Text, fields: Vec<IndexField>, is_unique: bool) -> IndexSpec
@@ -141,6 +141,26 @@ impl IndexSpec {
             fields,
             is_unique,
             is_multi: false,
+        }
+    }
+
+    /// The definition of these parts.
+    pub(crate) fn of_parts(
+        number: u32,
+        name: Text,
+        fields: Vec<IndexField>,
+        is_unique: bool,
+        is_multi: bool,
+    ) -> IndexSpec
+        requires { IsDefinition (definition_of number name fields.items is_unique is_multi) }
+        ensures { result ≡ definition_of number name fields.items is_unique is_multi }
+    {
+        IndexSpec {
+            number,
+            name,
+            fields,
+            is_unique,
+            is_multi,
         }
     }
 

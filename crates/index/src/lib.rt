@@ -5,6 +5,7 @@
 #![tactic(auto)]
 
 mod arrays;
+mod catalogue;
 mod changes;
 mod definition;
 mod keys;
