@@ -1,22 +1,22 @@
 -- Definitions as documents.
-use Rattle.std.proofs.Common.{◌≡◌, ℕ, zero, suc, ◌+◌, ◌<◌, ◌≤◌, Bool, true, false, ◌||◌, nat_lt, List, [], ◌∷◌, ◌++◌, length, drop, get_or, Option, Some, None, Result, Ok, Err, refl, sym, ap, subst, ◌∙◌, arith, append_assoc}
-use Rattle.std.specs.Prelude.{◌≢◌, ℤ, pos, negsuc, ◌==◌, if◌then◌else◌, IsUtf8}
-use Rattle.std.specs.List.{list_any, AllByRecursion}
+use Rattle.std.proofs.Common.{◌≡◌, ℕ, zero, suc, ◌+◌, ◌<◌, ◌≤◌, Bool, true, false, ◌||◌, nat_lt, List, [], ◌∷◌, ◌++◌, length, drop, get_or, Option, Some, None, Result, Ok, Err, refl, sym, ap, subst, ◌∙◌, arith}
+use Rattle.std.specs.Prelude.{◌≢◌, pos, negsuc, if◌then◌else◌}
+use Rattle.std.specs.List.{AllByRecursion}
 use Rattle.std.specs.Option.{option_and_then, option_map}
 use Rattle.std.specs.Str.{bytes_eq}
 use Rattle.std.proofs.lemmas.Bool.Decides.{nat_tests}
-use Rattle.bson.specs.Tree.{Scalar, text, binary, object_id, boolean, date, null, int32, timestamp, int64, min_key, max_key, Tree, scalar, document, array, Pairs, no_pairs, pair, append}
+use Rattle.bson.specs.Tree.{text, boolean, int32, Tree, scalar, document, Pairs, no_pairs, pair, append}
 use Rattle.bson.specs.Lawful.{pairs_levels, Lacks, IsPairs, IsDocument, IsTree}
 use Rattle.bson.specs.Lookup.{lookup}
 use Rattle.bson.specs.EditsLaws.{append-one, pairs_of-push}
 use Rattle.bson.specs.View.{tree, pairs_of}
 use Rattle.bson.specs.declared.value.Pair.{Pair}
 use Rattle.std.proofs.lemmas.Slice.Eq.{bytes_eq-Decides}
-use Rattle.path.specs.Parts.{parts_of, path_of, path_fault}
+use Rattle.path.specs.Parts.{parts_of, path_fault}
 use Rattle.path.specs.declared.fault.PathFault.{PathFault}
 use Rattle.value_order.specs.declared.texts.Direction.{Direction}
 use Rattle.value_order.specs.declared.texts.Direction.TheVariants as directions
-use Rattle.index.specs.Definition.{Field, Definition, direction_value, key_document, IsPath, AreFields, IsDefinition}
+use Rattle.index.specs.Definition.{Field, direction_value, key_document, IsPath, AreFields, IsDefinition}
 use Rattle.outcome.specs.Outcome.{fault_or, ◌>>=◌}
 use Rattle.index.specs.Naming.{field_named, definition_of}
 use Rattle.index.specs.Catalogue.{index_number, number_in, name_in, truth_in, direction_in, if_named, field_in, fields_in, counted, key_in, definition_in}

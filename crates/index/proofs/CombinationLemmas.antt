@@ -5,7 +5,6 @@ use Rattle.std.proofs.lemmas.List.{map-append}
 use Rattle.bson.specs.Tree.{Pairs}
 use Rattle.value_order.specs.Order.{Key}
 use Rattle.value_order.specs.KeyText.{directed_text}
-use Rattle.value_order.specs.declared.texts.Direction.{Direction}
 use Rattle.index.specs.Definition.{Field}
 use Rattle.index.specs.IndexKeys.{field_keys, index_keys}
 use Rattle.index.specs.KeyTexts.{key_bytes}

@@ -8,3 +8,4 @@ pub mod OrderLaws
 pub mod SetLaws
 pub mod OneKeyLaws
 pub mod CatalogueLemmas
+pub mod CatalogueLaws

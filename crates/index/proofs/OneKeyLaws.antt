@@ -1,13 +1,12 @@
 -- A document without an array on the paths of an index has one key in it.
-use Rattle.std.proofs.Common.{◌≡◌, ℕ, suc, ◌+◌, Bool, true, false, ◌||◌, List, [], ◌∷◌, ◌++◌, length, map, Option, Some, None, refl, sym, ap, subst, ◌∙◌, arith, append-nil}
+use Rattle.std.proofs.Common.{◌≡◌, ℕ, suc, Bool, true, false, ◌||◌, List, [], ◌∷◌, length, map, Option, Some, None, refl, ap, ◌∙◌, append-nil}
 use Rattle.std.specs.List.{flat_map}
-use Rattle.bson.specs.Tree.{Tree, scalar, document, array, Pairs}
+use Rattle.bson.specs.Tree.{Tree, scalar, document, array}
 use Rattle.bson.specs.Lookup.{lookup}
 use Rattle.value_order.specs.Order.{Key}
 use Rattle.path.specs.Parts.{parts_of}
 use Rattle.path.specs.Place.{some_passes}
 use Rattle.path.specs.Reach.{Reached, reach, onwards}
-use Rattle.index.specs.Definition.{Field}
 use Rattle.index.specs.IndexKeys.{keys_of, or_missing, field_keys, index_keys, meets_array, is_multikey}
 use Rattle.index.specs.Laws.{OneKey}
 

@@ -1,22 +1,21 @@
 -- The order of encoded keys and of entries.
 use Rattle.std.proofs.Common.{◌≡◌, ℕ, List, [], ◌∷◌, ◌++◌, refl, sym, ap, ◌∙◌, append-nil}
-use Rattle.std.specs.Prelude.{◌↔◌}
 use Rattle.std.specs.Int.{w32, to_be_bytes}
 use Rattle.std.specs.declared.cmp.Ordering.{Ordering}
 use Rattle.std.specs.declared.cmp.Ordering.TheVariants.{Less, Equal, Greater}
 use Rattle.std.specs.Ordering.{ordering_then, nat_cmp}
-use Rattle.std.specs.Cmp.Lexicographic.{slice_cmp, nat_list_cmp_total}
+use Rattle.std.specs.Cmp.Lexicographic.{nat_list_cmp_total}
 use Rattle.std.proofs.lemmas.Cmp.{nat_cmp_total, tied_itself}
 use Rattle.std.proofs.lemmas.Map.Lookups.{exact_bytes, exact_unsigned}
 use Rattle.value_order.specs.Laws.{IsKey}
-use Rattle.value_order.specs.Order.{Key, value, bytes_cmp, compare}
+use Rattle.value_order.specs.Order.{Key, value, bytes_cmp}
 use Rattle.value_order.specs.KeyText.{tree_text, directed_text, directed_cmp}
 use Rattle.value_order.specs.SortingLaws.{SortsAs, SortsAs-none, SortsAs-cell, SortsAs-is, SortsAs-append, order_of}
 use Rattle.value_order.specs.declared.texts.Direction.{Direction}
 use Rattle.value_order.specs.declared.texts.Direction.TheVariants as directions
 use Rattle.value_order.proofs.KeyLaws.{texts_order, none_begins}
 use Rattle.index.specs.Definition.{Field}
-use Rattle.index.specs.KeyTexts.{key_bytes, entry_key}
+use Rattle.index.specs.KeyTexts.{key_bytes}
 use Rattle.index.specs.Laws.{IsIndexKey, index_key_cmp, EntriesOrder, KeysAgree}
 
 -- lists neither of which begins the other order in the same way whatever follows them

@@ -1,5 +1,5 @@
 -- What a test let pass, and what it refused.
-use Rattle.std.proofs.Common.{◌≡◌, Bool, true, false, Result, Ok, Err, refl, List, [], ◌∷◌, ap, ◌∙◌, sym}
+use Rattle.std.proofs.Common.{◌≡◌, Bool, true, false, Result, Ok, Err, refl}
 use Rattle.outcome.specs.Outcome.{unless}
 
 pub passed : {X E : Type 0} (b : Bool) (r : E) (x t : X) → unless b r (Ok x) ≡ Ok t → (b ≡ false) × (x ≡ t)

@@ -1,7 +1,6 @@
 -- The laws of sets of keys, and of what changes.
-use Rattle.std.proofs.Common.{◌≡◌, ℕ, suc, ◌+◌, Bool, true, false, not, ◌||◌, ◌&&◌, List, [], ◌∷◌, ◌++◌, length, map, Option, Some, None, refl, sym, ap, ◌∙◌, arith, length-append}
+use Rattle.std.proofs.Common.{◌≡◌, ℕ, Bool, true, false, not, ◌||◌, ◌&&◌, List, [], ◌∷◌, ◌++◌, refl, sym, ap, ◌∙◌}
 use Rattle.std.specs.Prelude.{cond}
-use Rattle.std.specs.List.{filter, flat_map, list_any}
 use Rattle.std.specs.Ordering.{eq_by_cmp, is_eq}
 use Rattle.std.specs.declared.cmp.Ordering.{Ordering}
 use Rattle.std.specs.declared.cmp.Ordering.TheVariants.{Less, Equal, Greater}
@@ -9,7 +8,7 @@ use Rattle.std.proofs.lemmas.List.Folds.{list_any-append}
 use Rattle.std.proofs.lemmas.Map.Lookups.{exact_bytes}
 use Rattle.value_order.specs.Order.{bytes_cmp}
 use Rattle.index.specs.KeyTexts.{ascending_set}
-use Rattle.index.specs.Changes.{IsAscending, is_among, without}
+use Rattle.index.specs.Changes.{is_among, without}
 use Rattle.index.specs.Laws.{SetAscends, ChangesLead}
 use Rattle.index.proofs.SetLemmas.{one_list, set_sorted, set_among, same_itself}
 

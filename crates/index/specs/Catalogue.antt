@@ -1,8 +1,8 @@
 -- A definition as the catalogue keeps it: a document of its number, its name, its key, and whether it is unique and multikey.
-use Rattle.std.specs.Prelude.{ℕ, ℤ, pos, negsuc, zero, suc, nat_lt, ◌||◌, ◌&&◌, Bool, true, false, Option, Some, None, List, [], ◌∷◌, length, codes, if◌then◌else◌, Ok, Err, Result}
+use Rattle.std.specs.Prelude.{ℕ, pos, negsuc, zero, suc, nat_lt, ◌||◌, ◌&&◌, Bool, Option, Some, None, List, [], ◌∷◌, length, codes, if◌then◌else◌, Ok, Err, Result}
 use Rattle.std.specs.Option.{option_and_then, option_map}
 use Rattle.std.specs.Str.{bytes_eq}
-use Rattle.bson.specs.Tree.{Tree, scalar, int32, text, boolean, document, array, Pairs, no_pairs, pair}
+use Rattle.bson.specs.Tree.{Tree, scalar, int32, text, boolean, document, Pairs, no_pairs, pair}
 use Rattle.value_order.specs.declared.texts.Direction.{Direction}
 use Rattle.value_order.specs.declared.texts.Direction.TheVariants as directions
 use Rattle.path.specs.declared.fault.PathFault.{PathFault}

@@ -1,15 +1,17 @@
 -- What holds of the keys of an index and of its entries.
-use Rattle.std.specs.Prelude.{◌≡◌, ◌↔◌, ℕ, false, List, [], ◌∷◌, ◌++◌, length, map}
+use Rattle.std.specs.Prelude.{◌≡◌, ◌↔◌, ℕ, false, Some, List, [], ◌∷◌, ◌++◌, length}
 use Rattle.std.specs.declared.cmp.Ordering.{Ordering}
 use Rattle.std.specs.declared.cmp.Ordering.TheVariants.{Equal}
 use Rattle.std.specs.Ordering.{ordering_then}
 use Rattle.bson.specs.Tree.{Tree, Pairs}
+use Rattle.bson.specs.Lawful.{IsPairs}
 use Rattle.value_order.specs.Laws.{IsKey}
 use Rattle.value_order.specs.Order.{Key, value, bytes_cmp, compare}
 use Rattle.value_order.specs.KeyText.{tree_text, directed_cmp}
-use Rattle.index.specs.Definition.{Field}
+use Rattle.index.specs.Definition.{Field, Definition, IsDefinition}
+use Rattle.index.specs.Catalogue.{spelled, definition_in}
 use Rattle.index.specs.IndexKeys.{index_keys, is_multikey}
-use Rattle.index.specs.KeyTexts.{key_bytes, ascending_set, encoded_keys, entry_key}
+use Rattle.index.specs.KeyTexts.{key_bytes, ascending_set, entry_key}
 use Rattle.index.specs.Changes.{IsAscending, is_among, without}
 
 -- The set of some lists of bytes ascends and has these members, and it is the one list that does.
@@ -60,3 +62,13 @@ ChangesLead =
 -- A document without an array on the paths has one key.
 abbrev pub OneKey : Type 0
 OneKey = (fs : List Field) (ps : Pairs) → is_multikey fs ps ≡ false → length (index_keys fs ps) ≡ 1
+
+-- ---- the catalogue
+
+-- What a definition is spelled as is read back.
+abbrev pub ReadsBack : Type 0
+ReadsBack = (d : Definition) → IsDefinition d → definition_in (spelled d) ≡ Some d
+
+-- What is read is spelled so, and may be a definition.
+abbrev pub OnlySpelled : Type 0
+OnlySpelled = (ps : Pairs) (d : Definition) → IsPairs ps → definition_in ps ≡ Some d → (ps ≡ spelled d) × IsDefinition d

@@ -1,5 +1,5 @@
 -- What the code has on its way to the keys of a document; these words serve its proof alone.
-use Rattle.std.specs.Prelude.{ℕ, ◌-◌, max, nat_lt, Bool, ◌||◌, List, [], ◌∷◌, ◌++◌, length, map, Option, Some, None, Result, Ok, Err, if◌then◌else◌}
+use Rattle.std.specs.Prelude.{ℕ, ◌-◌, max, nat_lt, Bool, ◌||◌, List, [], ◌∷◌, ◌++◌, length, map, Option, Some, None, Result, Ok, if◌then◌else◌}
 use Rattle.std.specs.Global.{Vec}
 use Rattle.std.specs.List.{flat_map, list_any}
 use Rattle.outcome.specs.Outcome.{unless, ◌>>=◌}

@@ -1,7 +1,7 @@
 //! Laws of the definitions and rows worked by hand, as contracts; the limit as a number.
 
 ghost use Rattle.std.specs.Prelude.{◌≡◌};
-ghost use Rattle.index.specs.Laws.{SetAscends, EntriesOrder, KeysAgree, ChangesLead, OneKey};
+ghost use Rattle.index.specs.Laws.{SetAscends, EntriesOrder, KeysAgree, ChangesLead, OneKey, ReadsBack, OnlySpelled};
 
 use crate::KEY_LIMIT;
 
@@ -33,4 +33,14 @@ pub fn changes_lead()
 /// A document without an array on the paths of an index has one key in it.
 pub fn one_key()
     ensures { OneKey }
+{}
+
+/// What a definition is spelled as is read back.
+pub fn reads_back()
+    ensures { ReadsBack }
+{}
+
+/// What is read as a definition is spelled so, and may be one.
+pub fn only_spelled()
+    ensures { OnlySpelled }
 {}

@@ -1,4 +1,4 @@
-use Rattle.std.proofs.Common.{◌≡◌, ℕ, List, [], ◌∷◌, map, ap, sym, ◌∙◌}
+use Rattle.std.proofs.Common.{ℕ, List, [], ◌∷◌, map, ap, sym, ◌∙◌}
 use Rattle.index.specs.Steps.{texts_of, extended, combined}
 use Rattle.index.proofs.CombinationLemmas.{popped, extended-nothing}
 use Rattle.index.proofs.keys.combined.Goals as goal

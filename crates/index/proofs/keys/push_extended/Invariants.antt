@@ -1,4 +1,4 @@
-use Rattle.std.proofs.Common.{◌≡◌, drop, take, ◌++◌, [], ◌∷◌}
+use Rattle.std.proofs.Common.{◌≡◌, drop, ◌++◌, [], ◌∷◌}
 use Rattle.index.specs.Steps.{texts_of, extended}
 use Rattle.index.proofs.keys.push_extended.Given as goal
 

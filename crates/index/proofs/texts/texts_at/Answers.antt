@@ -1,4 +1,4 @@
-use Rattle.std.proofs.Common.{ap, sym, ◌∙◌, ◌≡◌, List, [], length, map}
+use Rattle.std.proofs.Common.{ap, sym, ◌∙◌, List, [], length, map}
 use Rattle.std.specs.List.{flat_map}
 use Rattle.std.specs.Prelude.{ℕ, ◌==◌}
 use Rattle.bson.specs.Tree.{document}

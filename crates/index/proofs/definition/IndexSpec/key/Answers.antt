@@ -1,7 +1,7 @@
-use Rattle.std.proofs.Common.{subst, sym, ap, ◌∙◌, List}
+use Rattle.std.proofs.Common.{subst, sym, ap, ◌∙◌}
 use Rattle.bson.specs.Tree.{Pairs}
 use Rattle.bson.specs.Lawful.{IsDocument}
-use Rattle.index.specs.Definition.{Field, key_document}
+use Rattle.index.specs.Definition.{key_document}
 use Rattle.index.proofs.CatalogueLemmas.{key_is_document}
 use Rattle.index.proofs.definition.IndexSpec.key.Goals as goal
 

@@ -1,9 +1,8 @@
-use Rattle.std.proofs.Common.{◌≡◌, ℕ, Bool, true, false, List, [], ◌∷◌, map, Option, Some, None, Result, Ok, Err, ap, sym, ◌∙◌}
+use Rattle.std.proofs.Common.{◌≡◌, ℕ, List, [], ◌∷◌, map, Some, None, Ok, ap, sym, ◌∙◌}
 use Rattle.std.specs.Prelude.{option_map, if◌then◌else◌}
 use Rattle.outcome.specs.Outcome.{unless}
 use Rattle.path.specs.declared.refusal.Refusal.TheVariants as refusals
 use Rattle.index.specs.Definition.{Field}
-use Rattle.index.specs.IndexKeys.{has_parallel_arrays}
 use Rattle.index.specs.KeyTexts.{is_too_long, ascending_set, encoded_keys}
 use Rattle.index.specs.Steps.{texts_of, combined, texts_within}
 use Rattle.index.proofs.TextLemmas.{refused}

@@ -1,7 +1,5 @@
-use Rattle.std.proofs.Common.{◌≡◌, List, [], ◌∷◌, subst, sym, ap, ◌∙◌, arith}
-use Rattle.bson.specs.Tree.{Pairs}
+use Rattle.std.proofs.Common.{subst, sym, ap, ◌∙◌, arith}
 use Rattle.bson.specs.Lawful.{IsPairs}
-use Rattle.bson.specs.View.{pairs_of}
 use Rattle.index.specs.Catalogue.{definition_in}
 use Rattle.index.proofs.CatalogueLemmas.{five_pairs, other_length, trees}
 use Rattle.index.proofs.definition.IndexSpec.read.Goals as goal
