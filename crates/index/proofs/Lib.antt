@@ -9,3 +9,4 @@ pub mod SetLaws
 pub mod OneKeyLaws
 pub mod CatalogueLemmas
 pub mod CatalogueLaws
+pub mod SpellableLaws

@@ -1,9 +1,10 @@
 -- What holds of the keys of an index and of its entries.
 use Rattle.std.specs.Prelude.{◌≡◌, ◌↔◌, ℕ, false, Some, List, [], ◌∷◌, ◌++◌, length}
+use Rattle.std.specs.List.{AllByRecursion}
 use Rattle.std.specs.declared.cmp.Ordering.{Ordering}
 use Rattle.std.specs.declared.cmp.Ordering.TheVariants.{Equal}
 use Rattle.std.specs.Ordering.{ordering_then}
-use Rattle.bson.specs.Tree.{Tree, Pairs}
+use Rattle.bson.specs.Tree.{Tree, Pairs, document}
 use Rattle.bson.specs.Lawful.{IsPairs}
 use Rattle.value_order.specs.Laws.{IsKey}
 use Rattle.value_order.specs.Order.{Key, value, bytes_cmp, compare}
@@ -72,3 +73,7 @@ ReadsBack = (d : Definition) → IsDefinition d → definition_in (spelled d) �
 -- What is read is spelled so, and may be a definition.
 abbrev pub OnlySpelled : Type 0
 OnlySpelled = (ps : Pairs) (d : Definition) → IsPairs ps → definition_in ps ≡ Some d → (ps ≡ spelled d) × IsDefinition d
+
+-- The keys of a document that BSON can spell in a message have values that it can spell.
+abbrev pub KeysSpellable : Type 0
+KeysSpellable = (fs : List Field) (ps : Pairs) → IsKey (value (document ps)) → AllByRecursion (IsIndexKey fs) (index_keys fs ps)

@@ -1,7 +1,7 @@
 //! Laws of the definitions and rows worked by hand, as contracts; the limit as a number.
 
 ghost use Rattle.std.specs.Prelude.{◌≡◌};
-ghost use Rattle.index.specs.Laws.{SetAscends, EntriesOrder, KeysAgree, ChangesLead, OneKey, ReadsBack, OnlySpelled};
+ghost use Rattle.index.specs.Laws.{SetAscends, EntriesOrder, KeysAgree, ChangesLead, OneKey, KeysSpellable, ReadsBack, OnlySpelled};
 
 use crate::KEY_LIMIT;
 
@@ -33,6 +33,11 @@ pub fn changes_lead()
 /// A document without an array on the paths of an index has one key in it.
 pub fn one_key()
     ensures { OneKey }
+{}
+
+/// The keys of a document that BSON can spell have values that it can spell, as the laws of their order ask.
+pub fn keys_spellable()
+    ensures { KeysSpellable }
 {}
 
 /// What a definition is spelled as is read back.

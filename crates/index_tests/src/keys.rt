@@ -162,13 +162,18 @@ fn listed(alloc: Global, keys: &[&[u8]]) -> Result<String, Fail> {
 
 /// What an index on these paths loses and gains, where the second document replaces the first.
 fn changes(alloc: Global, key: &str, old: &str, new: &str) -> Result<(String, String), Fail> {
-    let old = keys_of(alloc, key, old)?;
-    let new = keys_of(alloc, key, new)?;
-    let changes = KeyChanges::between(alloc, &old, &new)?;
-    Ok((
-        listed(alloc, &changes.removed)?,
-        listed(alloc, &changes.added)?,
-    ))
+    match index_on(alloc, key)? {
+        Some(index) => {
+            let old = index.keys(alloc, &document(alloc, old)?)?;
+            let new = index.keys(alloc, &document(alloc, new)?)?;
+            let changes = KeyChanges::between(alloc, &old, &new)?;
+            Ok((
+                listed(alloc, &changes.removed)?,
+                listed(alloc, &changes.added)?,
+            ))
+        }
+        None => Ok((String::new(alloc), String::new(alloc))),
+    }
 }
 
 /// The paths, the old document, the new one, what is removed and what is added.
@@ -216,13 +221,19 @@ fn replaced(rt: HostRuntime) -> Result<(), Fail> {
     Ok(())
 }
 
+/// The entry of a document's one key, in collection 2 and index 1, with `_id` 7.
+fn entry(alloc: Global, key: &str, source: &str) -> Result<String, Fail> {
+    let keys = keys_of(alloc, key, source)?;
+    let id = group_text(alloc, &Value::Int32(7))?;
+    match keys.first() {
+        Some(key) => Ok(hex::encode(alloc, &entry_key(alloc, 2, 1, key, &id)?)?),
+        None => Ok(String::new(alloc)),
+    }
+}
+
 #[test]
 fn entries(rt: HostRuntime) -> Result<(), Fail> {
-    let alloc = rt.alloc();
-    let keys = keys_of(alloc, "{a: 1}", "{_id: 7, a: 5}")?;
-    let id = group_text(alloc, &Value::Int32(7))?;
-    let entry = entry_key(alloc, 2, 1, &keys[0], &id)?;
-    let found = hex::encode(alloc, &entry)?;
+    let found = entry(rt.alloc(), "{a: 1}", "{_id: 7, a: 5}")?;
     assert_eq!(rt;
         found.as_str(),
         "0000000200000001308000000000000005308000000000000007"
