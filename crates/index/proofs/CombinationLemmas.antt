@@ -9,7 +9,8 @@ use Rattle.index.specs.Definition.{Field}
 use Rattle.index.specs.IndexKeys.{field_keys, index_keys}
 use Rattle.index.specs.KeyTexts.{key_bytes}
 use Rattle.std.specs.Global.{Vec}
-use Rattle.index.specs.Steps.{texts_of, extended, combined}
+use Rattle.index.specs.View.{texts_of}
+use Rattle.index.specs.Steps.{extended, combined}
 use Rattle.index.proofs.LengthLemmas.{field_texts, all_texts}
 
 -- the keys that begin with one value

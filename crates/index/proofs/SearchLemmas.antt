@@ -14,7 +14,7 @@ use Rattle.std.proofs.lemmas.List.Sorted.{searchable_from_sorted}
 use Rattle.std.proofs.lemmas.Map.Keys.{Less-from_sorted}
 use Rattle.value_order.specs.Order.{bytes_cmp}
 use Rattle.index.specs.Changes.{IsAscending, is_among}
-use Rattle.index.specs.Steps.{texts_of}
+use Rattle.index.specs.View.{texts_of}
 use Rattle.index.proofs.SetLemmas.{order_of, among_texts, vectors_sorted}
 
 flipped : (k l : List ℕ) (o : Ordering) → bytes_cmp k l ≡ o → bytes_cmp l k ≡ ordering_reverse o

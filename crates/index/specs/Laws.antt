@@ -52,6 +52,10 @@ KeysAgree =
     → ((key_bytes fs ks ≡ key_bytes fs ls) ↔ (index_key_cmp fs ks ls ≡ Equal))
     × (key_bytes fs ks ++ x ≡ key_bytes fs ls ++ y → key_bytes fs ks ≡ key_bytes fs ls)
 
+-- The keys of a document that BSON can spell in a message have values that it can spell.
+abbrev pub KeysSpellable : Type 0
+KeysSpellable = (fs : List Field) (ps : Pairs) → IsKey (value (document ps)) → AllByRecursion (IsIndexKey fs) (index_keys fs ps)
+
 -- ---- changes
 
 -- Without the keys that are removed, and with those that are added, the old keys are the new ones; where they are the same nothing is.
@@ -73,7 +77,3 @@ ReadsBack = (d : Definition) → IsDefinition d → definition_in (spelled d) �
 -- What is read is spelled so, and may be a definition.
 abbrev pub OnlySpelled : Type 0
 OnlySpelled = (ps : Pairs) (d : Definition) → IsPairs ps → definition_in ps ≡ Some d → (ps ≡ spelled d) × IsDefinition d
-
--- The keys of a document that BSON can spell in a message have values that it can spell.
-abbrev pub KeysSpellable : Type 0
-KeysSpellable = (fs : List Field) (ps : Pairs) → IsKey (value (document ps)) → AllByRecursion (IsIndexKey fs) (index_keys fs ps)

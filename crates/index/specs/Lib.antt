@@ -4,6 +4,7 @@ pub mod Naming
 pub mod IndexKeys
 pub mod KeyTexts
 pub mod Changes
+pub mod View
 pub mod Steps
 pub mod Laws
 pub mod Catalogue

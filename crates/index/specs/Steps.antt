@@ -1,6 +1,5 @@
 -- What the code has on its way to the keys of a document; these words serve its proof alone.
 use Rattle.std.specs.Prelude.{ℕ, ◌-◌, max, nat_lt, Bool, ◌||◌, List, [], ◌∷◌, ◌++◌, length, map, Option, Some, None, Result, Ok, if◌then◌else◌}
-use Rattle.std.specs.Global.{Vec}
 use Rattle.std.specs.List.{flat_map, list_any}
 use Rattle.outcome.specs.Outcome.{unless, ◌>>=◌}
 use Rattle.bson.specs.Tree.{Pairs}
@@ -12,10 +11,6 @@ use Rattle.path.specs.declared.refusal.Refusal.TheVariants as refusals
 use Rattle.index.specs.Definition.{Field, Definition}
 use Rattle.index.specs.IndexKeys.{field_keys, has_parallel_arrays}
 use Rattle.index.specs.KeyTexts.{encoded_keys, is_too_long}
-
--- the bytes that vectors hold
-abbrev pub texts_of : List (Vec ℕ) → List (List ℕ)
-texts_of vs = map (λ v. v.items) vs
 
 -- the texts of keys behind others, where none is too long by itself
 abbrev pub with_texts : Direction → List (List ℕ) → List Key → Result (List (List ℕ)) Refusal

@@ -3,7 +3,7 @@
 ghost use Rattle.std.specs.Prelude.{◌≡◌, ◌++◌, IfOk, map};
 ghost use Rattle.index.specs.Changes.{IsAscending, is_among, without};
 ghost use Rattle.index.specs.KeyTexts.{entry_key};
-ghost use Rattle.index.specs.Steps.{texts_of};
+ghost use Rattle.index.specs.View.{texts_of};
 
 use bson::NoMemory;
 use std::alloc::Global;

@@ -4,7 +4,8 @@ ghost use Rattle.std.specs.Prelude.{◌≡◌, ◌++◌, [], ◌∷◌, All, IfO
 ghost use Rattle.outcome.specs.Outcome.{Gives};
 ghost use Rattle.index.specs.Changes.{IsAscending};
 ghost use Rattle.index.specs.KeyTexts.{ascending_set, keys_in, keys_in_all};
-ghost use Rattle.index.specs.Steps.{texts_of, extended, combined, keys_unless_parallel};
+ghost use Rattle.index.specs.View.{texts_of};
+ghost use Rattle.index.specs.Steps.{extended, combined, keys_unless_parallel};
 
 use crate::definition::IndexSpec;
 use crate::texts::texts_within;

@@ -5,7 +5,8 @@ ghost use Rattle.outcome.specs.Outcome.{Does, Gives};
 ghost use Rattle.path.specs.View.{reached};
 ghost use Rattle.value_order.specs.View.{key_of};
 ghost use Rattle.index.specs.IndexKeys.{array_keys, keys_of};
-ghost use Rattle.index.specs.Steps.{texts_of, with_texts, longest, texts_at, texts_within};
+ghost use Rattle.index.specs.View.{texts_of};
+ghost use Rattle.index.specs.Steps.{with_texts, longest, texts_at, texts_within};
 
 use crate::KEY_LIMIT;
 use crate::definition::IndexField;

@@ -17,12 +17,11 @@ fn entries(alloc: Global, index: &IndexSpec, source: &str) -> Result<usize, Faul
         Err(Refusal::OutOfMemory) => return Err(Fault::Memory),
         Err(_) => return Ok(0),
     };
-    let mut count = 0;
+    let mut entries = Vec::new(alloc);
     for key in &keys {
-        let entry = entry_key(alloc, 1, index.number(), key, &[0x20])?;
-        count += entry.len().min(1);
+        entries.push(entry_key(alloc, 1, index.number(), key, &[0x20])?)?;
     }
-    Ok(count)
+    Ok(entries.len())
 }
 
 fn read_again(alloc: Global) -> Result<Option<IndexSpec>, Fault> {

@@ -1,6 +1,6 @@
 use Rattle.std.proofs.Common.{◌≡◌, drop, map, ◌++◌}
 use Rattle.index.specs.Changes.{without}
-use Rattle.index.specs.Steps.{texts_of}
+use Rattle.index.specs.View.{texts_of}
 use Rattle.index.proofs.changes.without.Given as goal
 
 abbrev pub invariant-keys : goal.invariant-keys

@@ -1,7 +1,7 @@
 use Rattle.std.proofs.Common.{ap, subst, sym, ◌∙◌, ℕ, List}
 use Rattle.std.proofs.lemmas.List.Filters.{dedup_is}
 use Rattle.index.specs.Changes.{IsAscending}
-use Rattle.index.specs.Steps.{texts_of}
+use Rattle.index.specs.View.{texts_of}
 use Rattle.index.proofs.SetLemmas.{sorted_set, set_sorted}
 use Rattle.index.proofs.keys.ascending.Goals as goal
 

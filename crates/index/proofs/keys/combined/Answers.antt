@@ -1,5 +1,6 @@
 use Rattle.std.proofs.Common.{ℕ, List, [], ◌∷◌, map, ap, sym, ◌∙◌}
-use Rattle.index.specs.Steps.{texts_of, extended, combined}
+use Rattle.index.specs.View.{texts_of}
+use Rattle.index.specs.Steps.{extended, combined}
 use Rattle.index.proofs.CombinationLemmas.{popped, extended-nothing}
 use Rattle.index.proofs.keys.combined.Goals as goal
 

@@ -1,5 +1,6 @@
 use Rattle.std.proofs.Common.{◌≡◌, map, [], ◌∷◌, vec_len}
-use Rattle.index.specs.Steps.{texts_of, combined}
+use Rattle.index.specs.View.{texts_of}
+use Rattle.index.specs.Steps.{combined}
 use Rattle.index.proofs.keys.combined.Given as goal
 
 abbrev pub decreases-all : goal.decreases-all

@@ -1,5 +1,6 @@
 use Rattle.std.proofs.Common.{◌≡◌, drop, ◌++◌}
-use Rattle.index.specs.Steps.{texts_of, extended}
+use Rattle.index.specs.View.{texts_of}
+use Rattle.index.specs.Steps.{extended}
 use Rattle.index.proofs.keys.extended.Given as goal
 
 abbrev pub invariant-fronts : goal.invariant-fronts

@@ -2,7 +2,8 @@ use Rattle.std.proofs.Common.{◌≡◌, drop, map}
 use Rattle.std.specs.Prelude.{All}
 use Rattle.index.specs.Changes.{IsAscending}
 use Rattle.index.specs.KeyTexts.{keys_in_all}
-use Rattle.index.specs.Steps.{texts_of, keys_behind}
+use Rattle.index.specs.View.{texts_of}
+use Rattle.index.specs.Steps.{keys_behind}
 use Rattle.index.proofs.keys.keys_in_all.Given as goal
 
 abbrev pub invariant-indexes : goal.invariant-indexes

@@ -1,5 +1,6 @@
 use Rattle.std.proofs.Common.{◌≡◌, drop, max}
-use Rattle.index.specs.Steps.{texts_of, longest}
+use Rattle.index.specs.View.{texts_of}
+use Rattle.index.specs.Steps.{longest}
 use Rattle.index.proofs.texts.longest.Given as goal
 
 abbrev pub invariant-texts : goal.invariant-texts

@@ -2,7 +2,8 @@ use Rattle.std.proofs.Common.{◌≡◌, drop, map}
 use Rattle.bson.specs.View.{items_of}
 use Rattle.path.specs.Reach.{items_list}
 use Rattle.value_order.specs.Order.{value}
-use Rattle.index.specs.Steps.{texts_of, with_texts}
+use Rattle.index.specs.View.{texts_of}
+use Rattle.index.specs.Steps.{with_texts}
 use Rattle.index.proofs.texts.push_array.Given as goal
 
 abbrev pub invariant-items : goal.invariant-items

@@ -7,7 +7,8 @@ use Rattle.path.specs.Reach.{Reached, reach}
 use Rattle.path.specs.View.{reached}
 use Rattle.value_order.specs.declared.texts.Direction.{Direction}
 use Rattle.index.specs.IndexKeys.{keys_of, or_missing}
-use Rattle.index.specs.Steps.{texts_of, with_texts}
+use Rattle.index.specs.View.{texts_of}
+use Rattle.index.specs.Steps.{with_texts}
 use Rattle.index.proofs.TextLemmas.{refused, reached_refused, reached_more, something}
 use Rattle.index.proofs.texts.texts_at.Goals as goal
 

@@ -2,7 +2,8 @@ use Rattle.std.proofs.Common.{◌≡◌, drop, map, []}
 use Rattle.std.specs.List.{flat_map}
 use Rattle.path.specs.View.{reached}
 use Rattle.index.specs.IndexKeys.{keys_of}
-use Rattle.index.specs.Steps.{texts_of, with_texts}
+use Rattle.index.specs.View.{texts_of}
+use Rattle.index.specs.Steps.{with_texts}
 use Rattle.index.proofs.texts.texts_at.Given as goal
 
 abbrev pub invariant-all : goal.invariant-all

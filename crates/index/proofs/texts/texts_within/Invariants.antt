@@ -1,5 +1,6 @@
 use Rattle.std.proofs.Common.{◌≡◌, drop, map, []}
-use Rattle.index.specs.Steps.{texts_of, texts_within}
+use Rattle.index.specs.View.{texts_of}
+use Rattle.index.specs.Steps.{texts_within}
 use Rattle.index.proofs.texts.texts_within.Given as goal
 
 abbrev pub invariant-fields : goal.invariant-fields

@@ -4,7 +4,8 @@ use Rattle.outcome.specs.Outcome.{unless}
 use Rattle.path.specs.declared.refusal.Refusal.TheVariants as refusals
 use Rattle.index.specs.Definition.{Field}
 use Rattle.index.specs.KeyTexts.{is_too_long, ascending_set, encoded_keys}
-use Rattle.index.specs.Steps.{texts_of, combined, texts_within}
+use Rattle.index.specs.View.{texts_of}
+use Rattle.index.specs.Steps.{combined, texts_within}
 use Rattle.index.proofs.TextLemmas.{refused}
 use Rattle.index.proofs.LengthLemmas.{texts_found, all_texts}
 use Rattle.index.proofs.CombinationLemmas.{combined_is}
