@@ -1,5 +1,5 @@
 -- What a path reaches in a document that BSON can spell can be spelled in no more bytes.
-use Rattle.std.proofs.Common.{◌≡◌, ℕ, zero, suc, ◌+◌, ◌≤◌, Bool, true, false, List, [], ◌∷◌, ◌++◌, length, map, Option, Some, None, refl, sym, ap, ◌∙◌, arith, length-append}
+use Rattle.std.proofs.Common.{ℕ, zero, suc, ◌+◌, ◌≤◌, Bool, true, false, List, [], ◌∷◌, ◌++◌, length, map, Option, Some, None, arith, length-append}
 use Rattle.std.specs.Prelude.{if◌then◌else◌}
 use Rattle.std.specs.List.{AllByRecursion, flat_map}
 use Rattle.std.specs.Option.{option_and_then}
@@ -12,7 +12,7 @@ use Rattle.bson.specs.Lawful.{IsTree, IsPairs, IsItems}
 use Rattle.bson.specs.SizingLaws.{pairs_size-pair}
 use Rattle.bson.specs.Spelling.{tree_bytes, pairs_bytes, items_bytes}
 use Rattle.value_order.specs.Laws.{IsKey}
-use Rattle.value_order.specs.Order.{Key, empty_array, value}
+use Rattle.value_order.specs.Order.{Key, value}
 use Rattle.path.specs.Parts.{parts_of, is_digits, index_of}
 use Rattle.path.specs.Reach.{Reached, reach, onwards, in_elements, in_place, items_list}
 use Rattle.index.specs.Definition.{Field}
