@@ -1,5 +1,6 @@
 pub mod ChainLemmas
 pub mod ChangeLemmas
+pub mod CuttingLemmas
 pub mod EditLemmas
 pub mod FanLemmas
 pub mod GetLemmas

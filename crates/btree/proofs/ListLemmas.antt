@@ -1,5 +1,5 @@
 -- Lists: what holds of each element, what stands at a place, how often a number stands.
-use Rattle.std.proofs.Common.{◌≡◌, ℕ, zero, suc, ◌+◌, ◌<◌, ◌≤◌, List, [], ◌∷◌, ◌++◌, length, map, get_or, refl, sym, ap, ◌∙◌, arith, append_assoc}
+use Rattle.std.proofs.Common.{◌≡◌, ℕ, zero, suc, ◌+◌, ◌<◌, ◌≤◌, List, [], ◌∷◌, ◌++◌, length, map, take, get_or, refl, sym, ap, ◌∙◌, arith, append_assoc}
 use Rattle.std.specs.List.{flat_map}
 use Rattle.btree.specs.Keys.{Each, times, Rises, IsUnder}
 
@@ -114,3 +114,16 @@ rises_across (x ∷ xs) ys h = (each_back _ xs ys h.0, rises_across xs ys h.1)
 pub rises_append : (xs ys : List (List ℕ)) → Rises xs → Rises ys → Each (λ x. Each (IsUnder x) ys) xs → Rises (xs ++ ys)
 rises_append [] ys h g k = g
 rises_append (x ∷ xs) ys h g k = (each_append _ xs ys h.0 k.0, rises_append xs ys h.1 g k.1)
+
+-- what was mapped so far, with the next one
+take_next_map : {X Y : Type 0} (f : X → Y) (xs : List X) (i : ℕ) (d : X) → i < length xs → take (suc i) (map f xs) ≡ take i (map f xs) ++ f (get_or xs i d) ∷ []
+take_next_map f [] i d lt = absurd (omega arith)
+take_next_map f (x ∷ xs) zero d lt = refl
+take_next_map f (x ∷ xs) (suc i) d lt = ap (λ zs. f x ∷ zs) (take_next_map f xs i d (omega arith))
+
+pub take_more_map : {X Y : Type 0} (f : X → Y) (xs : List X) (i : ℕ) (d : X) → i < length xs → take (i + 1) (map f xs) ≡ take i (map f xs) ++ f (get_or xs i d) ∷ []
+take_more_map f xs i d lt = let n : i + 1 ≡ suc i = omega arith in ap (λ k. take k (map f xs)) n ∙ take_next_map f xs i d lt
+
+pub map_map : {X Y Z : Type 0} (f : X → Y) (g : Y → Z) (xs : List X) → map g (map f xs) ≡ map (λ x. g (f x)) xs
+map_map f g [] = refl
+map_map f g (x ∷ xs) = ap (λ zs. g (f x) ∷ zs) (map_map f g xs)

@@ -2,7 +2,9 @@
 #![tactic(auto)]
 
 mod chain;
+mod cutting;
 mod editing;
+mod loose;
 mod lookup;
 mod pages;
 mod scanning;

@@ -1,0 +1,44 @@
+-- What a change gives at each step: cells or children that were taken out of pages, for a part of the tree.
+use Rattle.std.specs.Prelude.{◌≡◌, ℕ, zero, suc, ◌+◌, ◌<◌, ◌≤◌, ⊤, ◌⊎◌, Bool, false, List, [], ◌∷◌, length, map, Option, Some, None, Result, Ok, Err}
+use Rattle.btree.specs.declared.loose.Loose.{Loose}
+use Rattle.btree.specs.declared.pages.TreeFault.{TreeFault}
+use Rattle.btree.specs.Calls.{HasCause}
+use Rattle.btree.specs.Keys.{Each, Entry, times}
+use Rattle.btree.specs.Loose.{IsSpread, IsStub, Stub, stubs_of}
+use Rattle.btree.specs.LooseView.{stub_in}
+use Rattle.btree.specs.Store.{Store}
+use Rattle.btree.specs.Tree.{Body, Shows, entries_of, pages_of}
+
+-- cells or children, and how high above all pages they stand
+pub record Sheaf : Type 0 where
+  pub rank : ℕ
+  pub stubs : List Stub
+
+abbrev pub sheaf_in : Loose → Sheaf
+sheaf_in loose = record { rank = loose.rank; stubs = map stub_in loose.units.items }
+
+-- They stand for these entries, between the bounds, and reach these pages. What is at the leaves has the rank `base`.
+pub record IsHeld (s : Store) (base : ℕ) (low : List ℕ) (high : Option (List ℕ)) (entries : List Entry) (pages : List ℕ) (sheaf : Sheaf) : Type 0 where
+  pub d : ℕ
+  pub body : Body d
+  pub rank_is : 0 < length sheaf.stubs → sheaf.rank ≡ base + d
+  pub stubs_are : sheaf.stubs ≡ stubs_of d body
+  pub small : Each IsStub sheaf.stubs
+  pub spread : IsSpread d low high body
+  pub shown : Shows s d body
+  pub entries_are : entries_of d body ≡ entries
+  pub pages_are : (n : ℕ) → times n (pages_of d body) ≡ times n pages
+
+-- The pages reached now are those reached before, less those retired, with those made.
+abbrev pub AreTurned : Store → Store → List ℕ → List ℕ → Type 0
+AreTurned old new before after =
+    (n : ℕ) → times n after + times n new.retired + times n old.made ≡ times n before + times n old.retired + times n new.made
+
+pub record IsTurned (old new : Store) (base : ℕ) (low : List ℕ) (high : Option (List ℕ)) (entries : List Entry) (before : List ℕ) (sheaf : Sheaf) : Type 0 where
+  pub after : List ℕ
+  pub held : IsHeld new base low high entries after sheaf
+  pub turned : AreTurned old new before after
+
+abbrev pub Turns : Store → Store → ℕ → List ℕ → Option (List ℕ) → List Entry → List ℕ → Result Loose TreeFault → Type 0
+Turns old new base low high entries before (Ok loose) = IsTurned old new base low high entries before (sheaf_in loose)
+Turns old new base low high entries before (Err e) = HasCause old new e
