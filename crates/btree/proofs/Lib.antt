@@ -6,6 +6,8 @@ pub mod FanLemmas
 pub mod GetLemmas
 pub mod KeyLemmas
 pub mod ListLemmas
+pub mod LooseLemmas
+pub mod PartLemmas
 pub mod ScanLemmas
 pub mod SearchLemmas
 pub mod StoreLemmas

@@ -2,7 +2,7 @@
 use Rattle.std.specs.Prelude.{◌≡◌, ℕ, zero, suc, ◌+◌, ◌^◌, ◌<◌, ◌≤◌, ◌⊎◌, ⊤, Bool, false, List, [], ◌∷◌, map, take, length, Option, Some, None}
 use Rattle.page.specs.Content.{Place, inline, spilled, Item, Arm, IsPlace, place_size}
 use Rattle.btree.specs.Keys.{Pair, Each, IsUnder, Rises, IsBetween}
-use Rattle.btree.specs.Tree.{Twig, Body, IsFan, IsWhole, IsSound, arm_of, item_of, pair_keys, twig_keys}
+use Rattle.btree.specs.Tree.{with_low, Twig, Body, IsFan, IsWhole, IsSound, arm_of, item_of, pair_keys, twig_keys}
 
 -- what stands beside a key: a value's place, or a page
 pub data Load : Type 0 where
@@ -12,6 +12,10 @@ pub data Load : Type 0 where
 pub record Stub : Type 0 where
   pub key : List ℕ
   pub load : Load
+
+abbrev pub IsChild : Load → Type 0
+IsChild (value place) = ⊥
+IsChild (child page) = ⊤
 
 abbrev pub item_stub : Item → Stub
 item_stub item = record { key = item.key; load = value item.place }
@@ -77,3 +81,23 @@ IsSpread (suc d) low high twigs =
 pub record IsPart (fills : Bool) (stubs : List Stub) (at : ℕ) : Type 0 where
   pub room : stubs_size (take at stubs) ≤ 4080
   pub many : fills ≡ false → 2 ≤ length stubs → (2 ≤ at) × ((at ≡ length stubs) ⊎ (at + 2 ≤ length stubs))
+
+-- the first key, or a bound where there is none
+abbrev pub first_or : Option (List ℕ) → List Stub → Option (List ℕ)
+first_or high [] = high
+first_or high (s ∷ ss) = Some s.key
+
+-- enough for a page at this height: a leaf has a cell, and a branch two children
+abbrev pub IsEnough : ℕ → List Stub → Type 0
+IsEnough zero stubs = 0 < length stubs
+IsEnough (suc d) stubs = 2 ≤ length stubs
+
+-- the first child of a branch has no key
+abbrev pub bare_arms : List Arm → List Arm
+bare_arms [] = []
+bare_arms (arm ∷ arms) = record { key = []; child = arm.child } ∷ arms
+
+-- a body as its page has it
+abbrev pub bare : (d : ℕ) → Body d → Body d
+bare zero pairs = pairs
+bare (suc d) twigs = with_low [] twigs

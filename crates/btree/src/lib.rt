@@ -7,6 +7,7 @@ mod editing;
 mod loose;
 mod lookup;
 mod pages;
+mod parts;
 mod scanning;
 mod search;
 

@@ -1,7 +1,7 @@
 // Cells and children that were taken out of their pages.
-ghost use Rattle.std.specs.Prelude.{◌≡◌, ◌∷◌, [], ℕ, List, map, IfOk};
+ghost use Rattle.std.specs.Prelude.{◌≡◌, ◌∷◌, [], ℕ, true, List, map, IfOk};
 ghost use Rattle.page.specs.Content.{Arm};
-ghost use Rattle.btree.specs.Loose.{item_stub, arm_stub};
+ghost use Rattle.btree.specs.Loose.{IsChild, arm_stub, child, item_stub};
 ghost use Rattle.btree.specs.LooseView.{stub_in};
 ghost use Rattle.btree.specs.View.{item_in, arm_in};
 
@@ -24,6 +24,16 @@ pub(crate) enum Hold {
 pub(crate) struct Unit {
     pub key: Vec<u8>,
     pub hold: Hold,
+}
+
+impl Unit {
+    /// Whether it is a child of a branch.
+    pub(crate) fn is_child(&self) -> bool
+        ensures yes { (page : ℕ) → (stub_in self.now).load ≡ child page → result ≡ true }
+        ensures no { result ≡ true → IsChild (stub_in self.now).load }
+    {
+        matches!(self.hold, Hold::Page(_))
+    }
 }
 
 // A cell out of its page.
