@@ -8,6 +8,7 @@ pub mod KeyLemmas
 pub mod ListLemmas
 pub mod LooseLemmas
 pub mod PartLemmas
+pub mod RaiseLemmas
 pub mod ScanLemmas
 pub mod SearchLemmas
 pub mod StoreLemmas

@@ -1,13 +1,14 @@
 -- What a change gives at each step: cells or children that were taken out of pages, for a part of the tree.
-use Rattle.std.specs.Prelude.{◌≡◌, ℕ, zero, suc, ◌+◌, ◌<◌, ◌≤◌, ⊤, ◌⊎◌, Bool, false, List, [], ◌∷◌, length, map, Option, Some, None, Result, Ok, Err}
+use Rattle.std.specs.Prelude.{◌≡◌, ℕ, zero, suc, ◌+◌, ◌^◌, ◌<◌, ◌≤◌, ⊤, ◌⊎◌, Bool, false, List, [], ◌∷◌, length, map, Option, Some, None, Result, Ok, Err}
 use Rattle.btree.specs.declared.loose.Loose.{Loose}
+use Rattle.btree.specs.declared.loose.Unit.{Unit}
 use Rattle.btree.specs.declared.pages.TreeFault.{TreeFault}
 use Rattle.btree.specs.Calls.{HasCause}
 use Rattle.btree.specs.Keys.{Each, Entry, times}
-use Rattle.btree.specs.Loose.{IsSpread, IsStub, Stub, stubs_of}
+use Rattle.btree.specs.Loose.{IsSpread, IsStub, Stub, bare, child, first_or, stubs_of}
 use Rattle.btree.specs.LooseView.{stub_in}
-use Rattle.btree.specs.Store.{Store}
-use Rattle.btree.specs.Tree.{Body, Shows, entries_of, pages_of}
+use Rattle.btree.specs.Store.{Store, IsAt}
+use Rattle.btree.specs.Tree.{Body, Shows, content_of, entries_of, pages_of}
 
 -- cells or children, and how high above all pages they stand
 pub record Sheaf : Type 0 where
@@ -42,3 +43,41 @@ pub record IsTurned (old new : Store) (base : ℕ) (low : List ℕ) (high : Opti
 abbrev pub Turns : Store → Store → ℕ → List ℕ → Option (List ℕ) → List Entry → List ℕ → Result Loose TreeFault → Type 0
 Turns old new base low high entries before (Ok loose) = IsTurned old new base low high entries before (sheaf_in loose)
 Turns old new base low high entries before (Err e) = HasCause old new e
+
+-- a part was written to a page, and this stands for it above
+pub record IsWritten (old new : Store) (d : ℕ) (body : Body d) (stub : Stub) : Type 0 where
+  pub page : ℕ
+  pub number : 0 < page
+  pub range : page < 2 ^ 32
+  pub at : IsAt new page (content_of d (bare d body))
+  pub made : new.made ≡ page ∷ old.made
+  pub retired : new.retired ≡ old.retired
+  pub load : stub.load ≡ child page
+  pub key : first_or None (stubs_of d body) ≡ Some stub.key
+
+abbrev pub WritesPart : Store → Store → (d : ℕ) → Body d → Result Unit TreeFault → Type 0
+WritesPart old new d body (Ok unit) = IsWritten old new d body (stub_in unit)
+WritesPart old new d body (Err e) = HasCause old new e
+
+-- A body was cut and written: it stands one level up.
+pub record AreWritten (old new : Store) (d : ℕ) (low : List ℕ) (high : Option (List ℕ)) (body : Body d) (above : List Stub) : Type 0 where
+  pub twigs : Body (suc d)
+  pub above_are : above ≡ stubs_of (suc d) twigs
+  pub small : Each IsStub above
+  pub spread : IsSpread (suc d) low high twigs
+  pub shown : Shows new (suc d) twigs
+  pub entries : entries_of (suc d) twigs ≡ entries_of d body
+  pub pages : (n : ℕ) → times n (pages_of (suc d) twigs) + times n old.made ≡ times n (pages_of d body) + times n new.made
+  pub retired : new.retired ≡ old.retired
+
+abbrev pub WritesParts : {V : Type 0} → (V → List Stub) → Store → Store → (d : ℕ) → List ℕ → Option (List ℕ) → Body d → Result V TreeFault → Type 0
+WritesParts stubs old new d low high body (Ok units) = AreWritten old new d low high body (stubs units)
+WritesParts stubs old new d low high body (Err e) = HasCause old new e
+
+-- leaves alone are filled
+abbrev pub MayFill : ℕ → Bool → Type 0
+MayFill d fills = (d ≡ 0) ⊎ (fills ≡ false)
+
+-- Enough for a page: a cell of a leaf, or two children.
+abbrev pub IsReady : ℕ → Sheaf → Type 0
+IsReady base sheaf = (0 < length sheaf.stubs) × ((sheaf.rank ≡ base) ⊎ (2 ≤ length sheaf.stubs))

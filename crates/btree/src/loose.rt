@@ -1,10 +1,12 @@
 // Cells and children that were taken out of their pages.
-ghost use Rattle.std.specs.Prelude.{◌≡◌, ◌∷◌, [], ℕ, true, List, map, IfOk};
+ghost use Rattle.std.specs.Prelude.{◌≡◌, ◌∷◌, [], ℕ, true, List, length, map, ◌++◌, ◌+◌, IfErr, IfOk, OnOk};
 ghost use Rattle.page.specs.Content.{Arm};
 ghost use Rattle.btree.specs.Loose.{IsChild, arm_stub, child, item_stub};
 ghost use Rattle.btree.specs.LooseView.{stub_in};
+ghost use Rattle.btree.specs.declared.pages.TreeFault.TheVariants.{Memory};
 ghost use Rattle.btree.specs.View.{item_in, arm_in};
 
+use crate::TreeFault;
 use page::{Cell, Child, Stored};
 use std::alloc::{AllocError, Global};
 
@@ -33,6 +35,19 @@ impl Unit {
         ensures no { result ≡ true → IsChild (stub_in self.now).load }
     {
         matches!(self.hold, Hold::Page(_))
+    }
+}
+
+/// Puts a cell or child behind others.
+pub(crate) fn push_unit(units: &mut Vec<Unit>, unit: Unit) -> Result<(), TreeFault>
+    ensures ok { OnOk result
+        (map stub_in units.new.items ≡ map stub_in units.old.items ++ stub_in unit ∷ []) }
+    ensures long { OnOk result (length units.new.items ≡ length units.old.items + 1) }
+    ensures err { IfErr result (λ e. e ≡ Memory) }
+{
+    match units.push(unit) {
+        Ok(()) => Ok(()),
+        Err(_) => Err(TreeFault::Memory),
     }
 }
 

@@ -1,16 +1,19 @@
 // Writing cells and children into pages.
-ghost use Rattle.std.specs.Prelude.{◌≡◌, ◌<◌, ◌≤◌, ◌∷◌, [], ℕ, None, List, length, map, IfErr, IfOk, MatchResult, OnOk, ◌++◌};
+ghost use Rattle.std.specs.Prelude.{◌≡◌, ◌<◌, ◌≤◌, ◌∷◌, [], ◌^◌, ℕ, None, Option, List, length, map, IfErr, IfOk, MatchResult, OnOk, ◌++◌};
 ghost use Rattle.page.specs.Content.{Arm, Item, branch as branch_content, leaf as leaf_content};
 ghost use Rattle.page.specs.Format.{IsFit};
-ghost use Rattle.btree.specs.Loose.{GoBehind, IsEnough, arm_stub, bare, bare_arms, item_stub, stubs_of};
-ghost use Rattle.btree.specs.Tree.{Body, content_of};
+ghost use Rattle.btree.specs.Loose.{GoBehind, IsEnough, IsSpread, IsStub, arm_stub, bare, bare_arms, item_stub, stubs_of};
+ghost use Rattle.btree.specs.Store.{Store, Grows};
+ghost use Rattle.btree.specs.Tree.{Body, Shows, content_of};
+ghost use Rattle.btree.specs.Turn.{MayFill, WritesPart, WritesParts};
+ghost use Rattle.btree.specs.Keys.{Each};
 ghost use Rattle.btree.specs.LooseView.{stub_in};
 ghost use Rattle.btree.specs.View.{arm_in, content_in, item_in};
 ghost use Rattle.btree.specs.declared.pages.TreeFault.TheVariants.{Memory};
 
-use crate::TreeFault;
-use crate::cutting::go_into_page;
-use crate::loose::{Hold, Unit};
+use crate::cutting::{go_into_page, part_len};
+use crate::loose::{Hold, Unit, push_unit};
+use crate::{Pages, TreeFault};
 use page::{Branch, Cell, Child, Leaf, PageContent, Stored};
 use std::alloc::{AllocError, Global};
 
@@ -174,4 +177,58 @@ fn page_of(alloc: Global, units: &[Unit]) -> Result<PageContent, TreeFault>
         return Err(TreeFault::Length);
     }
     branch_of(alloc, units)
+}
+
+fn child_unit(key: Vec<u8>, page: u32) -> Unit
+    ensures stub { stub_in result ≡ arm_stub (record { key = key.items; child = page }) }
+    ensures range { page < 2 ^ 32 }
+{
+    Unit {
+        key,
+        hold: Hold::Page(page),
+    }
+}
+
+// Writes cells or children to a page, and gives what stands for it above.
+fn write_part<P: Pages>(alloc: Global, pages: &mut P, units: &[Unit]) -> Result<Unit, TreeFault>
+    ensures grows { Grows (P.store pages.old) (P.store pages.new) }
+    ensures writes { (d : ℕ) (body : Body d) → map stub_in units.now ≡ stubs_of d body
+        → IsEnough d (map stub_in units.now) → GoBehind None 0 (map stub_in units.now)
+        → WritesPart (P.store pages.old) (P.store pages.new) d body result }
+{
+    let Some(first) = units.first() else {
+        return Err(TreeFault::Length);
+    };
+    let content = page_of(alloc, units)?;
+    let key = Vec::from_slice(alloc, &first.key)?;
+    let page = pages.fresh(content)?;
+    Ok(child_unit(key, page))
+}
+
+/// Cuts cells or children into parts, writes each to a page, and gives what stands for them above.
+pub(crate) fn write_parts<P: Pages>(
+    alloc: Global,
+    pages: &mut P,
+    units: &[Unit],
+    fills: bool,
+) -> Result<Vec<Unit>, TreeFault>
+    ensures grows { Grows (P.store pages.old) (P.store pages.new) }
+    ensures some { 0 < length units.now → IfOk result (λ above. 0 < length above.items) }
+    ensures writes { (d : ℕ) (low : List ℕ) (high : Option (List ℕ)) (body : Body d)
+        → map stub_in units.now ≡ stubs_of d body → IsEnough d (map stub_in units.now)
+        → MayFill d fills → Each IsStub (map stub_in units.now) → IsSpread d low high body
+        → Shows (P.store pages.old) d body
+        → WritesParts (λ v. map stub_in v.items) (P.store pages.old) (P.store pages.new) d low
+        high body result }
+{
+    let mut above = Vec::new(alloc);
+    let mut rest = units;
+    while !rest.is_empty() {
+        let at = part_len(rest, fills);
+        let (part, behind) = rest.split_at(at);
+        let unit = write_part(alloc, pages, part)?;
+        push_unit(&mut above, unit)?;
+        rest = behind;
+    }
+    Ok(above)
 }
