@@ -2,8 +2,10 @@ pub mod ChainLemmas
 pub mod ChangeLemmas
 pub mod CuttingLemmas
 pub mod EditLemmas
+pub mod EndLemmas
 pub mod FanLemmas
 pub mod GetLemmas
+pub mod HeldLemmas
 pub mod KeyLemmas
 pub mod ListLemmas
 pub mod LooseLemmas
@@ -12,3 +14,4 @@ pub mod RaiseLemmas
 pub mod ScanLemmas
 pub mod SearchLemmas
 pub mod StoreLemmas
+pub mod WideLemmas

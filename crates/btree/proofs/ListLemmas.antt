@@ -127,3 +127,16 @@ take_more_map f xs i d lt = let n : i + 1 ≡ suc i = omega arith in ap (λ k. t
 pub map_map : {X Y Z : Type 0} (f : X → Y) (g : Y → Z) (xs : List X) → map g (map f xs) ≡ map (λ x. g (f x)) xs
 map_map f g [] = refl
 map_map f g (x ∷ xs) = ap (λ zs. g (f x) ∷ zs) (map_map f g xs)
+
+take_next_of : {X : Type 0} (xs : List X) (i : ℕ) (d : X) → i < length xs → take (suc i) xs ≡ take i xs ++ get_or xs i d ∷ []
+take_next_of [] i d lt = absurd (omega arith)
+take_next_of (x ∷ xs) zero d lt = refl
+take_next_of (x ∷ xs) (suc i) d lt = ap (λ zs. x ∷ zs) (take_next_of xs i d (omega arith))
+
+pub take_more : {X : Type 0} (xs : List X) (i : ℕ) (d : X) → i < length xs → take (i + 1) xs ≡ take i xs ++ get_or xs i d ∷ []
+take_more xs i d lt = let n : i + 1 ≡ suc i = omega arith in ap (λ k. take k xs) n ∙ take_next_of xs i d lt
+
+pub get_mapped : {X Y : Type 0} (f : X → Y) (xs : List X) (i : ℕ) (d : Y) (d' : X) → i < length xs → get_or (map f xs) i d ≡ f (get_or xs i d')
+get_mapped f [] i d d' lt = absurd (omega arith)
+get_mapped f (x ∷ xs) zero d d' lt = refl
+get_mapped f (x ∷ xs) (suc i) d d' lt = get_mapped f xs i d d' (omega arith)

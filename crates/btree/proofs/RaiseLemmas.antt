@@ -37,7 +37,7 @@ spread_rises : (d : ℕ) (low : List ℕ) (high : Option (List ℕ)) (body : Bod
 spread_rises zero low high body h = subst Rises (sym (map_map pair_stub (λ s. s.key) body)) h.0
 spread_rises (suc d) low high body h = subst Rises (sym (map_map twig_stub (λ s. s.key) body)) h.1
 
-spread_first : (d : ℕ) (low : List ℕ) (high : Option (List ℕ)) (body : Body d) (s : Stub) (ss : List Stub) → stubs_of d body ≡ s ∷ ss → IsSpread d low high body → IsBetween low high s.key
+pub spread_first : (d : ℕ) (low : List ℕ) (high : Option (List ℕ)) (body : Body d) (s : Stub) (ss : List Stub) → stubs_of d body ≡ s ∷ ss → IsSpread d low high body → IsBetween low high s.key
 spread_first zero low high [] s ss e h = cc
 spread_first zero low high (x ∷ xs) s ss e h = let same : x.key ≡ s.key = cc in subst (IsBetween low high) same h.1.0
 spread_first (suc d) low high [] s ss e h = cc
@@ -68,7 +68,7 @@ pub record IsHead (ss : List Stub) : Type 0 where
   pub rest : List Stub
   pub is : ss ≡ s ∷ rest
 
-head_of : (ss : List Stub) → 0 < length ss → IsHead ss
+pub head_of : (ss : List Stub) → 0 < length ss → IsHead ss
 head_of [] lt = absurd (omega arith)
 head_of (s ∷ ss) lt = record { s = s; rest = ss; is = refl }
 
@@ -172,13 +172,13 @@ partly_none s d low high body stubs e enough small spread shown =
       enough = inr enough;
     }
 
-no_entries : (d : ℕ) (body : Body d) → length (stubs_of d body) ≡ 0 → (entries_of d body ≡ []) × ((n : ℕ) → times n (pages_of d body) ≡ 0)
+pub no_entries : (d : ℕ) (body : Body d) → length (stubs_of d body) ≡ 0 → (entries_of d body ≡ []) × ((n : ℕ) → times n (pages_of d body) ≡ 0)
 no_entries zero [] e = (refl, λ n. refl)
 no_entries zero (x ∷ xs) e = absurd (omega arith)
 no_entries (suc d) [] e = (refl, λ n. refl)
 no_entries (suc d) (w ∷ ws) e = absurd (omega arith)
 
-no_first : (high : Option (List ℕ)) (ss : List Stub) → length ss ≡ 0 → first_or high ss ≡ high
+pub no_first : (high : Option (List ℕ)) (ss : List Stub) → length ss ≡ 0 → first_or high ss ≡ high
 no_first high [] e = refl
 no_first high (s ∷ ss) e = absurd (omega arith)
 

@@ -101,3 +101,13 @@ bare_arms (arm ∷ arms) = record { key = []; child = arm.child } ∷ arms
 abbrev pub bare : (d : ℕ) → Body d → Body d
 bare zero pairs = pairs
 bare (suc d) twigs = with_low [] twigs
+
+-- a branch's children, the first under a key
+abbrev pub under_key : List ℕ → List Arm → List Arm
+under_key key [] = []
+under_key key (arm ∷ arms) = record { key = key; child = arm.child } ∷ arms
+
+-- a sound body, its first child under the low bound
+abbrev pub lowered : (d : ℕ) → List ℕ → Body d → Body d
+lowered zero low body = body
+lowered (suc d) low body = with_low low body

@@ -1,10 +1,10 @@
 -- What a change gives at each step: cells or children that were taken out of pages, for a part of the tree.
-use Rattle.std.specs.Prelude.{◌≡◌, ℕ, zero, suc, ◌+◌, ◌^◌, ◌<◌, ◌≤◌, ⊤, ◌⊎◌, Bool, false, List, [], ◌∷◌, length, map, Option, Some, None, Result, Ok, Err}
+use Rattle.std.specs.Prelude.{◌≡◌, ℕ, zero, suc, ◌+◌, ◌^◌, ◌<◌, ◌≤◌, ⊤, ◌⊎◌, Bool, false, List, [], ◌∷◌, ◌++◌, length, map, Option, Some, None, Result, Ok, Err}
 use Rattle.btree.specs.declared.loose.Loose.{Loose}
 use Rattle.btree.specs.declared.loose.Unit.{Unit}
 use Rattle.btree.specs.declared.pages.TreeFault.{TreeFault}
 use Rattle.btree.specs.Calls.{HasCause}
-use Rattle.btree.specs.Keys.{Each, Entry, times}
+use Rattle.btree.specs.Keys.{Each, Entry, IsBetween, IsNotUnder, times}
 use Rattle.btree.specs.Loose.{IsSpread, IsStub, Stub, bare, child, first_or, stubs_of}
 use Rattle.btree.specs.LooseView.{stub_in}
 use Rattle.btree.specs.Store.{Store, IsAt}
@@ -44,6 +44,11 @@ abbrev pub Turns : Store → Store → ℕ → List ℕ → Option (List ℕ) �
 Turns old new base low high entries before (Ok loose) = IsTurned old new base low high entries before (sheaf_in loose)
 Turns old new base low high entries before (Err e) = HasCause old new e
 
+-- a bound that no other is above
+abbrev pub IsUpTo : List ℕ → Option (List ℕ) → Type 0
+IsUpTo mid None = ⊤
+IsUpTo mid (Some high) = IsNotUnder high mid
+
 -- a part was written to a page, and this stands for it above
 pub record IsWritten (old new : Store) (d : ℕ) (body : Body d) (stub : Stub) : Type 0 where
   pub page : ℕ
@@ -81,3 +86,38 @@ MayFill d fills = (d ≡ 0) ⊎ (fills ≡ false)
 -- Enough for a page: a cell of a leaf, or two children.
 abbrev pub IsReady : ℕ → Sheaf → Type 0
 IsReady base sheaf = (0 < length sheaf.stubs) × ((sheaf.rank ≡ base) ⊎ (2 ≤ length sheaf.stubs))
+
+-- A part of a tree came apart in two.
+pub record AreParted (old new : Store) (base : ℕ) (low : List ℕ) (high : Option (List ℕ)) (entries : List Entry) (before : List ℕ) (front back : Sheaf) : Type 0 where
+  pub mid : List ℕ
+  pub front_entries : List Entry
+  pub back_entries : List Entry
+  pub front_pages : List ℕ
+  pub back_pages : List ℕ
+  pub entries_are : front_entries ++ back_entries ≡ entries
+  pub front_held : IsHeld new base low (Some mid) front_entries front_pages front
+  pub back_held : IsHeld new base mid high back_entries back_pages back
+  pub turned : AreTurned old new before (front_pages ++ back_pages)
+  pub over : IsNotUnder mid low
+  pub within : IsUpTo mid high
+
+-- The last child, or the first one, was taken off and read.
+abbrev pub PartsLast : Store → Store → ℕ → List ℕ → Option (List ℕ) → List Entry → List ℕ → Result (Loose × Loose) TreeFault → Type 0
+PartsLast old new base low high entries before (Ok parts) =
+    AreParted old new base low high entries before (sheaf_in parts.0) (sheaf_in parts.1) × IsReady base (sheaf_in parts.1)
+PartsLast old new base low high entries before (Err e) = HasCause old new e
+
+abbrev pub PartsFirst : Store → Store → ℕ → List ℕ → Option (List ℕ) → List Entry → List ℕ → Result (Loose × Loose) TreeFault → Type 0
+PartsFirst old new base low high entries before (Ok parts) =
+    AreParted old new base low high entries before (sheaf_in parts.0) (sheaf_in parts.1) × IsReady base (sheaf_in parts.0)
+PartsFirst old new base low high entries before (Err e) = HasCause old new e
+
+-- a page was taken apart
+abbrev pub Opens : Store → Store → ℕ → List ℕ → Option (List ℕ) → List Entry → List ℕ → Result Loose TreeFault → Type 0
+Opens old new base low high entries before (Ok loose) = IsTurned old new base low high entries before (sheaf_in loose) × IsReady base (sheaf_in loose)
+Opens old new base low high entries before (Err e) = HasCause old new e
+
+-- What stands at one height is no shorter than what is joined with it.
+pub record IsJoined (left right both : Sheaf) : Type 0 where
+  pub left_higher : right.rank ≤ left.rank → 0 < length left.stubs → (both.rank ≡ left.rank) × (length left.stubs ≤ length both.stubs)
+  pub right_higher : left.rank ≤ right.rank → 0 < length right.stubs → (both.rank ≡ right.rank) × (length right.stubs ≤ length both.stubs)

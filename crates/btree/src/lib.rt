@@ -4,8 +4,9 @@
 mod chain;
 mod cutting;
 mod editing;
-mod loose;
 mod lookup;
+mod loose;
+mod opening;
 mod pages;
 mod parts;
 mod scanning;

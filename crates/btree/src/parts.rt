@@ -55,7 +55,7 @@ fn child_of(unit: &Unit) -> Result<Child<'_>, TreeFault>
     }
 }
 
-fn push_cell<'a>(cells: &mut Vec<Cell<'a>>, cell: Cell<'a>) -> Result<(), TreeFault>
+pub(crate) fn push_cell<'a>(cells: &mut Vec<Cell<'a>>, cell: Cell<'a>) -> Result<(), TreeFault>
     ensures ok { OnOk result
         (map item_in cells.new.items ≡ map item_in cells.old.items ++ item_in cell.entry ∷ []) }
     ensures err { IfErr result (λ e. e ≡ Memory) }
