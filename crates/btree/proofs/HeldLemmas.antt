@@ -11,7 +11,7 @@ use Rattle.btree.specs.Keys.{Pair, Entry, Each, IsBetween, IsNotUnder, IsUnder, 
 use Rattle.btree.specs.Loose.{IsEnough, IsSpread, IsStub, Stub, arm_stub, child, first_or, item_stub, lowered, pair_stub, twig_stub, stubs_of, under_key}
 use Rattle.btree.specs.Store.{Store, Grows}
 use Rattle.btree.specs.Tree.{Body, Twig, IsSound, IsWhole, Shows, arm_of, content_of, entries_of, item_of, pages_of, with_low}
-use Rattle.btree.specs.Turn.{AreParted, AreTurned, AreWritten, IsHeld, IsReady, IsTurned, IsUpTo, MayFill, Sheaf, Turns, sheaf_in}
+use Rattle.btree.specs.Turn.{AreParted, AreTurned, AreWritten, IsHeld, IsReady, IsTurned, IsUpTo, MayFill, Sheaf, Turns, both_of, sheaf_in}
 use Rattle.btree.proofs.KeyLemmas.{up_to_then_under, under_then_up_to}
 use Rattle.btree.proofs.ListLemmas.{each_append, get_mapped, long_map, map_map, times_append}
 use Rattle.btree.proofs.LooseLemmas.{entries_joined, joined, pages_joined, shows_joined, spread_glue, stubs_joined}
@@ -45,9 +45,6 @@ held_later old new base low high entries pages sheaf grows h =
     }
 
 -- ---- two beside each other
-
-abbrev both_of : Sheaf → Sheaf → Sheaf
-both_of a b = record { rank = a.rank; stubs = a.stubs ++ b.stubs }
 
 high_first : (high : Option (List ℕ)) (mid : List ℕ) (ss : List Stub) → 0 < length ss → ((s : Stub) (rest : List Stub) → ss ≡ s ∷ rest → IsNotUnder s.key mid) → (k : List ℕ) → IsUnder k mid → IsWithin (first_or high ss) k
 high_first high mid [] some over k u = absurd (omega arith)
@@ -238,3 +235,39 @@ pub taken : (d : ℕ) (low : List ℕ) (body : Body d) {V : Type 0} (stubs : V �
     → MatchResult r (λ v. stubs v ≡ stubs_of d (lowered d low body)) (λ e. e ≡ Memory)
 taken d low body stubs (Ok v) want ok err e = ok ∙ e
 taken d low body stubs (Err f) want ok err e = err
+
+pub held_low : (s : Store) (base : ℕ) (low low' : List ℕ) (high : Option (List ℕ)) (entries : List Entry) (pages : List ℕ) (sheaf : Sheaf) → IsNotUnder low low' → IsHeld s base low high entries pages sheaf
+    → IsHeld s base low' high entries pages sheaf
+held_low s base low low' high entries pages sheaf over h =
+    record {
+      d = h.d;
+      body = h.body;
+      rank_is = h.rank_is;
+      stubs_are = h.stubs_are;
+      small = h.small;
+      spread = spread_low h.d low low' high over h.body h.spread;
+      shown = h.shown;
+      entries_are = h.entries_are;
+      pages_are = h.pages_are;
+    }
+
+pub turns_failed : (old new : Store) (base : ℕ) (low : List ℕ) (high : Option (List ℕ)) (entries : List Entry) (pages : List ℕ) (r : Result Loose TreeFault) (f : TreeFault) → IsErrAnd r (λ g. g ≡ f) → HasCause old new f
+    → Turns old new base low high entries pages r
+turns_failed old new base low high entries pages (Ok v) f h c = absurd h
+turns_failed old new base low high entries pages (Err g) f h c = subst (HasCause old new) (sym h) c
+
+-- what a call without pages gives at the end
+pub concat_turns : (old new : Store) (base : ℕ) (low : List ℕ) (high : Option (List ℕ)) (entries : List Entry) (before after : List ℕ) (a b : Sheaf) (r : Result Loose TreeFault)
+    → IsHeld new base low high entries after (both_of a b) → AreTurned old new before after → IfOk r (λ l. l.rank ≡ a.rank) → IfOk r (λ l. (sheaf_in l).stubs ≡ a.stubs ++ b.stubs) → IfErr r (λ e. e ≡ Memory)
+    → Turns old new base low high entries before r
+concat_turns old new base low high entries before after a b (Ok l) h turned rank stubs err =
+    record {
+      after = after;
+      held = subst (IsHeld new base low high entries after) (ap (λ (n : ℕ). record { rank = n; stubs = a.stubs ++ b.stubs }) (sym rank) ∙ ap (λ ss. record { rank = l.rank; stubs = ss }) (sym stubs)) h;
+      turned = turned;
+    }
+concat_turns old new base low high entries before after a b (Err f) h turned rank stubs err = inl err
+
+pub joined_long : (r : Result Loose TreeFault) (a b k : ℕ) → IfOk r (λ l. length l.units.items ≡ a + b) → k ≤ a + b → IfOk r (λ l. k ≤ length l.units.items)
+joined_long (Ok l) a b k h le = omega (arith, h)
+joined_long (Err e) a b k h le = tt

@@ -6,6 +6,7 @@ pub mod EndLemmas
 pub mod FanLemmas
 pub mod GetLemmas
 pub mod HeldLemmas
+pub mod JoinLemmas
 pub mod KeyLemmas
 pub mod ListLemmas
 pub mod LooseLemmas

@@ -7,7 +7,7 @@ use Rattle.btree.specs.Calls.{HasCause}
 use Rattle.btree.specs.Keys.{Each, Entry, IsBetween, IsNotUnder, times}
 use Rattle.btree.specs.Loose.{IsSpread, IsStub, Stub, bare, child, first_or, stubs_of}
 use Rattle.btree.specs.LooseView.{stub_in}
-use Rattle.btree.specs.Store.{Store, IsAt}
+use Rattle.btree.specs.Store.{Store, Grows, IsAt}
 use Rattle.btree.specs.Tree.{Body, Shows, content_of, entries_of, pages_of}
 
 -- cells or children, and how high above all pages they stand
@@ -101,6 +101,28 @@ pub record AreParted (old new : Store) (base : ℕ) (low : List ℕ) (high : Opt
   pub over : IsNotUnder mid low
   pub within : IsUpTo mid high
 
+abbrev pub both_of : Sheaf → Sheaf → Sheaf
+both_of a b = record { rank = a.rank; stubs = a.stubs ++ b.stubs }
+
+-- What ends where these begin goes together with them.
+abbrev pub GoesBefore : Store → ℕ → List ℕ → Option (List ℕ) → Option (List ℕ) → List Entry → List ℕ → Sheaf → Type 0
+GoesBefore old base low between high last pages back =
+    (s : Store) (more : List Entry) (reached : List ℕ) (sheaf : Sheaf) → Grows old s → IsHeld s base low between more reached sheaf → sheaf.rank ≡ back.rank
+    → IsHeld s base low high (more ++ last) (reached ++ pages) (both_of sheaf back)
+
+-- The first child was taken off. What ends where it ended goes together with the others, if there are any.
+pub record IsFirstCut (old new : Store) (base : ℕ) (low : List ℕ) (high : Option (List ℕ)) (entries : List Entry) (before : List ℕ) (front back : Sheaf) : Type 0 where
+  pub between : Option (List ℕ)
+  pub front_entries : List Entry
+  pub back_entries : List Entry
+  pub front_pages : List ℕ
+  pub back_pages : List ℕ
+  pub entries_are : front_entries ++ back_entries ≡ entries
+  pub front_held : IsHeld new base low between front_entries front_pages front
+  pub within : IsUpTo low between
+  pub turned : AreTurned old new before (front_pages ++ back_pages)
+  pub glue : (low' : List ℕ) → IsNotUnder low low' → GoesBefore new base low' between high back_entries back_pages back
+
 -- The last child, or the first one, was taken off and read.
 abbrev pub PartsLast : Store → Store → ℕ → List ℕ → Option (List ℕ) → List Entry → List ℕ → Result (Loose × Loose) TreeFault → Type 0
 PartsLast old new base low high entries before (Ok parts) =
@@ -109,7 +131,7 @@ PartsLast old new base low high entries before (Err e) = HasCause old new e
 
 abbrev pub PartsFirst : Store → Store → ℕ → List ℕ → Option (List ℕ) → List Entry → List ℕ → Result (Loose × Loose) TreeFault → Type 0
 PartsFirst old new base low high entries before (Ok parts) =
-    AreParted old new base low high entries before (sheaf_in parts.0) (sheaf_in parts.1) × IsReady base (sheaf_in parts.0)
+    IsFirstCut old new base low high entries before (sheaf_in parts.0) (sheaf_in parts.1) × IsReady base (sheaf_in parts.0)
 PartsFirst old new base low high entries before (Err e) = HasCause old new e
 
 -- a page was taken apart

@@ -4,6 +4,7 @@
 mod chain;
 mod cutting;
 mod editing;
+mod joining;
 mod lookup;
 mod loose;
 mod opening;

@@ -1,5 +1,5 @@
 // Cells and children that were taken out of their pages.
-ghost use Rattle.std.specs.Prelude.{◌≡◌, ◌∷◌, [], ℕ, true, List, length, map, ◌++◌, ◌+◌, IfErr, IfOk, OnOk};
+ghost use Rattle.std.specs.Prelude.{◌≡◌, ◌∷◌, [], ℕ, true, List, length, map, ◌++◌, ◌+◌, IfErr, IfOk, OnOk, MatchOption};
 ghost use Rattle.page.specs.Content.{Arm};
 ghost use Rattle.btree.specs.Loose.{IsChild, arm_stub, child, item_stub};
 ghost use Rattle.btree.specs.LooseView.{stub_in};
@@ -35,6 +35,17 @@ impl Unit {
         ensures no { result ≡ true → IsChild (stub_in self.now).load }
     {
         matches!(self.hold, Hold::Page(_))
+    }
+}
+
+/// The page of a child.
+pub(crate) fn page_below(unit: &Unit) -> Option<u32>
+    ensures { MatchOption result (IsChild (stub_in unit.now).load → ⊥)
+        (λ page. (stub_in unit.now).load ≡ child page) }
+{
+    match &unit.hold {
+        Hold::Page(page) => Some(*page),
+        _ => None,
     }
 }
 

@@ -57,8 +57,10 @@ fn units_of_leaf(alloc: Global, leaf: &Leaf) -> Result<Vec<Unit>, TreeFault>
     Ok(units)
 }
 
-fn concat(left: Loose, right: Loose) -> Result<Loose, TreeFault>
+pub(crate) fn concat(left: Loose, right: Loose) -> Result<Loose, TreeFault>
     ensures rank { IfOk result (λ both. both.rank ≡ left.rank) }
+    ensures long { IfOk result (λ both. length both.units.items
+        ≡ length left.units.items + length right.units.items) }
     ensures ok { IfOk result (λ both. map stub_in both.units.items
         ≡ map stub_in left.units.items ++ map stub_in right.units.items) }
     ensures err { IfErr result (λ e. e ≡ Memory) }
@@ -130,7 +132,7 @@ fn units_of(alloc: Global, content: &PageContent, low: &[u8]) -> Result<Vec<Unit
 }
 
 // Takes a page apart, whose keys begin at the low bound, and retires it.
-fn open_page<P: Pages>(
+pub(crate) fn open_page<P: Pages>(
     alloc: Global,
     pages: &mut P,
     page: u32,
