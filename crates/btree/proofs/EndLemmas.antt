@@ -22,11 +22,11 @@ pub within_up_to : (key : List ℕ) (high : Option (List ℕ)) → IsWithin high
 within_up_to key None h = tt
 within_up_to key (Some high) h = not_both key high h
 
-take_here : {X : Type 0} (xs ys : List X) → take (length xs) (xs ++ ys) ≡ xs
+pub take_here : {X : Type 0} (xs ys : List X) → take (length xs) (xs ++ ys) ≡ xs
 take_here [] ys = refl
 take_here (x ∷ xs) ys = ap (λ zs. x ∷ zs) (take_here xs ys)
 
-drop_here : {X : Type 0} (xs ys : List X) → drop (length xs) (xs ++ ys) ≡ ys
+pub drop_here : {X : Type 0} (xs ys : List X) → drop (length xs) (xs ++ ys) ≡ ys
 drop_here [] ys = refl
 drop_here (x ∷ xs) ys = drop_here xs ys
 

@@ -1,5 +1,6 @@
 pub mod ChainLemmas
 pub mod ChangeLemmas
+pub mod ChangingLemmas
 pub mod CuttingLemmas
 pub mod EditLemmas
 pub mod EndLemmas
@@ -14,5 +15,6 @@ pub mod PartLemmas
 pub mod RaiseLemmas
 pub mod ScanLemmas
 pub mod SearchLemmas
+pub mod SplitLemmas
 pub mod StoreLemmas
 pub mod WideLemmas

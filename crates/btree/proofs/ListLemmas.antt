@@ -1,5 +1,5 @@
 -- Lists: what holds of each element, what stands at a place, how often a number stands.
-use Rattle.std.proofs.Common.{◌≡◌, ℕ, zero, suc, ◌+◌, ◌<◌, ◌≤◌, List, [], ◌∷◌, ◌++◌, length, map, take, get_or, refl, sym, ap, ◌∙◌, arith, append_assoc}
+use Rattle.std.proofs.Common.{◌≡◌, ℕ, zero, suc, ◌+◌, ◌<◌, ◌≤◌, List, [], ◌∷◌, ◌++◌, length, map, take, drop, get_or, refl, sym, ap, ◌∙◌, arith, append_assoc}
 use Rattle.std.specs.List.{flat_map}
 use Rattle.btree.specs.Keys.{Each, times, Rises, IsUnder}
 
@@ -140,3 +140,8 @@ pub get_mapped : {X Y : Type 0} (f : X → Y) (xs : List X) (i : ℕ) (d : Y) (d
 get_mapped f [] i d d' lt = absurd (omega arith)
 get_mapped f (x ∷ xs) zero d d' lt = refl
 get_mapped f (x ∷ xs) (suc i) d d' lt = get_mapped f xs i d d' (omega arith)
+
+pub drop_more : {X Y : Type 0} (f : X → Y) (xs : List X) (i : ℕ) (d : X) → i < length xs → drop i (map f xs) ≡ f (get_or xs i d) ∷ drop (suc i) (map f xs)
+drop_more f [] i d lt = absurd (omega arith)
+drop_more f (x ∷ xs) zero d lt = refl
+drop_more f (x ∷ xs) (suc i) d lt = drop_more f xs i d (omega arith)

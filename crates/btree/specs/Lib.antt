@@ -1,4 +1,5 @@
 pub mod Calls
+pub mod Change
 pub mod EditView
 pub mod Keys
 pub mod Loose

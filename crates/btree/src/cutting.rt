@@ -100,8 +100,8 @@ pub(crate) fn go_into_page(units: &[Unit]) -> bool
     true
 }
 
-// How many of the first cells or children find room in so many bytes.
-fn units_within(units: &[Unit], limit: usize) -> usize
+/// How many of the first cells or children find room in so many bytes.
+pub(crate) fn units_within(units: &[Unit], limit: usize) -> usize
     requires { limit ≤ 4080 }
     ensures within { result ≤ length units.now }
     ensures room { stubs_size (take result (map stub_in units.now)) ≤ limit }

@@ -1,14 +1,29 @@
 // Joining what was taken out of neighbouring pages.
-ghost use Rattle.std.specs.Prelude.{◌≡◌, ◌<◌, ◌≤◌, ◌+◌, ◌++◌, ◌∷◌, ℕ, List, Option, Some, length, map, IfErr, IfOk};
+ghost use Rattle.std.specs.Prelude.{◌≡◌, ◌<◌, ◌≤◌, ◌+◌, ◌++◌, ◌∷◌, ℕ, List, Option, Some, true, length, map, IfErr, IfOk};
+ghost use Rattle.btree.specs.Change.{IsBehind};
 ghost use Rattle.btree.specs.Keys.{Entry, IsNotUnder};
 ghost use Rattle.btree.specs.LooseView.{stub_in};
 ghost use Rattle.btree.specs.Store.{Grows, Store};
 ghost use Rattle.btree.specs.Turn.{GoesBefore, IsHeld, IsJoined, IsReady, IsUpTo, PartsFirst, PartsLast, Turns, sheaf_in};
 
+use crate::cutting::units_within;
 use crate::loose::{Loose, page_below};
 use crate::opening::{concat, open_page, raise};
 use crate::{Pages, TreeFault};
 use std::alloc::Global;
+
+/// A quarter of a page, in bytes: what has less is joined with what is beside it.
+const QUARTER: usize = 1020;
+
+// Whether it may stand in pages of its own.
+fn is_full(loose: &Loose) -> bool
+    ensures { result ≡ true → 2 ≤ length loose.now.units.items }
+{
+    if loose.units.len() < 2 {
+        return false;
+    }
+    units_within(&loose.units, QUARTER) < loose.units.len()
+}
 
 // Takes the last child off and takes its page apart.
 fn take_last<P: Pages>(
@@ -167,4 +182,61 @@ pub(crate) fn join<P: Pages>(
     let (first, back) = take_first(alloc, pages, right)?;
     let below = join(alloc, pages, left, first)?;
     raise_before(alloc, pages, below, back)
+}
+
+/// Puts what was taken out of pages behind what was taken out of the pages before them. What stands below the
+/// other is written, if it is enough, and joined with the page beside it, if it isn't.
+pub(crate) fn meet<P: Pages>(
+    alloc: Global,
+    pages: &mut P,
+    left: Loose,
+    right: Loose,
+) -> Result<Loose, TreeFault>
+    ensures grows { Grows (P.store pages.old) (P.store pages.new) }
+    ensures turns { (base : ℕ) (low mid : List ℕ) (high : Option (List ℕ)) (first last : List Entry)
+        (left_pages right_pages : List ℕ)
+        → IsHeld (P.store pages.old) base low (Some mid) first left_pages (sheaf_in left)
+        → IsHeld (P.store pages.old) base mid high last right_pages (sheaf_in right)
+        → IsNotUnder mid low → IsUpTo mid high
+        → Turns (P.store pages.old) (P.store pages.new) base low high (first ++ last)
+        (left_pages ++ right_pages) result }
+{
+    if left.rank > right.rank {
+        if left.rank - right.rank > 1 {
+            return join(alloc, pages, left, right);
+        }
+        if is_full(&right) {
+            return raise_behind(alloc, pages, left, right);
+        }
+        return join(alloc, pages, left, right);
+    }
+    if right.rank - left.rank != 1 {
+        return join(alloc, pages, left, right);
+    }
+    if is_full(&left) {
+        return raise_before(alloc, pages, left, right);
+    }
+    join(alloc, pages, left, right)
+}
+
+/// The same, where there may be nothing behind.
+pub(crate) fn meet_behind<P: Pages>(
+    alloc: Global,
+    pages: &mut P,
+    left: Loose,
+    right: Loose,
+) -> Result<Loose, TreeFault>
+    ensures grows { Grows (P.store pages.old) (P.store pages.new) }
+    ensures turns { (base : ℕ) (low : List ℕ) (between high : Option (List ℕ))
+        (first last : List Entry) (left_pages right_pages : List ℕ)
+        → IsHeld (P.store pages.old) base low between first left_pages (sheaf_in left)
+        → IsBehind (P.store pages.old) base between high last right_pages (sheaf_in right)
+        → IsUpTo low between
+        → Turns (P.store pages.old) (P.store pages.new) base low high (first ++ last)
+        (left_pages ++ right_pages) result }
+{
+    if right.units.is_empty() {
+        return Ok(left);
+    }
+    meet(alloc, pages, left, right)
 }

@@ -2,6 +2,7 @@
 #![tactic(auto)]
 
 mod chain;
+mod changing;
 mod cutting;
 mod editing;
 mod joining;
