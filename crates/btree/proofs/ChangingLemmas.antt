@@ -5,10 +5,16 @@ use Rattle.btree.specs.declared.loose.Loose.{Loose}
 use Rattle.btree.specs.declared.pages.TreeFault.{TreeFault}
 use Rattle.btree.specs.Change.{IsBehind, IsHeldBehind, edit_keys}
 use Rattle.btree.specs.EditView.{edit_in}
-use Rattle.btree.specs.Keys.{Edit, Entry, Each, IsBetween, IsNotUnder, IsUnder, IsWithin, Rises, change, times}
+use Rattle.btree.specs.Keys.{Pair, entry_of, Edit, Entry, Each, IsBetween, IsNotUnder, IsUnder, IsWithin, Rises, change, times}
+use Rattle.std.specs.List.{AllByRecursion}
+use Rattle.page.specs.Content.{Arm, Item, IsItem, branch, leaf}
+use Rattle.btree.specs.Calls.{IsEdited}
+use Rattle.btree.specs.Loose.{IsStub, Stub, arm_stub, first_or, item_stub, under_key}
+use Rattle.btree.specs.Tree.{Body, IsSound, content_of, item_of, pages_of}
 use Rattle.btree.specs.Store.{Store, Grows}
-use Rattle.btree.specs.Turn.{GoesBefore, IsHeld, IsReady, IsTurned, IsUpTo, Sheaf, Turns, both_of, sheaf_in}
-use Rattle.btree.proofs.ListLemmas.{drop_more, each_append, times_append}
+use Rattle.btree.proofs.StoreLemmas.{cause_later}
+use Rattle.btree.specs.Turn.{AreTurned, GoesBefore, IsHeld, IsReady, IsTurned, IsUpTo, Sheaf, Turns, both_of, sheaf_in}
+use Rattle.btree.proofs.ListLemmas.{drop_more, each_append, map_map, times_append}
 use Rattle.btree.proofs.HeldLemmas.{glue_held, held_later}
 use Rattle.btree.proofs.JoinLemmas.{right_gone, up_to_trans}
 
@@ -48,3 +54,52 @@ pub behind_later : (old new : Store) (base : ℕ) (between high : Option (List �
     → IsBehind new base between high last pages right
 behind_later old new base between high last pages right grows (inl e) = inl e
 behind_later old new base between high last pages right grows (inr m) = inr (record { mid = m.mid; is = m.is; held = held_later old new base m.mid high last pages right grows m.held; within = m.within })
+
+-- ---- a leaf
+
+each_item_stub : (items : List Item) → Each IsItem items → Each IsStub (map item_stub items)
+each_item_stub [] h = tt
+each_item_stub (x ∷ xs) h = (record { size = h.0.size; load = h.0.place }, each_item_stub xs h.1)
+
+pub each_of_all : (items : List Item) → AllByRecursion IsItem items → Each IsItem items
+each_of_all [] h = tt
+each_of_all (x ∷ xs) h = (h.0, each_of_all xs h.1)
+
+pub leaf_changed : (old new : Store) (base rank : ℕ) (low : List ℕ) (high : Option (List ℕ)) (edits : List Edit) (pairs : List Pair) (items : List Item) (stubs : List Stub) → rank ≡ base → IsEdited old new edits pairs items
+    → stubs ≡ map item_stub items → Each IsItem items → IsSound zero low high pairs → Each (λ e. IsBetween low high e.key) edits
+    → IsTurned old new base low high (change edits (map entry_of pairs)) (pages_of zero pairs) (record { rank = rank; stubs = stubs })
+leaf_changed old new base rank low high edits pairs items stubs is h stubs_are small sound between =
+    record {
+      after = pages_of zero h.pairs;
+      held = record {
+        d = zero;
+        body = h.pairs;
+        rank_is = λ lt. omega arith;
+        stubs_are = stubs_are ∙ ap (map item_stub) h.items_are ∙ map_map item_of item_stub h.pairs;
+        small = subst (Each IsStub) (sym stubs_are) (each_item_stub items small);
+        spread = (h.rise, h.between low high sound.1 between);
+        shown = h.shown;
+        entries_are = h.entries;
+        pages_are = λ n. refl;
+      };
+      turned = h.pages;
+    }
+
+-- ---- after a page was retired
+
+pub turned_on : (old mid new : Store) (base : ℕ) (low : List ℕ) (high : Option (List ℕ)) (entries : List Entry) (before between : List ℕ) (r : Result Loose TreeFault) → Grows old mid → AreTurned old mid before between
+    → Turns mid new base low high entries between r → Turns old new base low high entries before r
+turned_on old mid new base low high entries before between (Ok l) grows t u = record { after = u.after; held = u.held; turned = λ n. omega (arith, t n, u.turned n) }
+turned_on old mid new base low high entries before between (Err e) grows t u = cause_later old mid new e grows u
+
+pub at_leaf : (C : (d : ℕ) → Body d → Type 0) (items : List Item) → ((pairs : List Pair) → items ≡ map item_of pairs → C zero pairs) → (d : ℕ) (body : Body d) → leaf items ≡ content_of d body → C d body
+at_leaf C items f zero pairs e = let same : items ≡ map item_of pairs = cc in f pairs same
+at_leaf C items f (suc d) twigs e = cc
+
+pub branch_deep : (d : ℕ) (body : Body d) (arms : List Arm) → branch arms ≡ content_of d body → 0 < d
+branch_deep zero pairs arms e = cc
+branch_deep (suc d) twigs arms e = omega arith
+
+pub begins : (low : List ℕ) (arms : List Arm) (stubs : List Stub) → stubs ≡ map arm_stub (under_key low arms) → 0 < length stubs → first_or None stubs ≡ Some low
+begins low [] stubs e some = absurd (omega (arith, ap length e))
+begins low (a ∷ more) stubs e some = ap (first_or None) e

@@ -4,6 +4,7 @@ use Rattle.btree.specs.declared.pages.TreeFault.{TreeFault}
 use Rattle.btree.specs.declared.pages.TreeFault.TheVariants.{Full}
 use Rattle.btree.specs.Calls.{HasCause}
 use Rattle.btree.specs.Keys.{Each, Edit, Entry, IsBetween, IsNotUnder, IsUnder, Rises, change, times}
+use Rattle.btree.specs.Loose.{Stub, first_or}
 use Rattle.btree.specs.Store.{Store}
 use Rattle.btree.specs.Tree.{Body, IsTree, entries_of, pages_of}
 use Rattle.btree.specs.Turn.{AreTurned, IsHeld, IsUpTo, Sheaf}
@@ -48,3 +49,7 @@ abbrev pub IsBehind : Store → ℕ → Option (List ℕ) → Option (List ℕ) 
 IsBehind s base between high entries pages sheaf =
     ((sheaf.stubs ≡ []) × (between ≡ high) × (entries ≡ []) × ((n : ℕ) → times n pages ≡ 0))
     ⊎ IsHeldBehind s base between high entries pages sheaf
+
+-- The first child's key is the low bound, where there is an edit.
+abbrev pub BeginsAt : List ℕ → List Edit → List Stub → Type 0
+BeginsAt low edits stubs = (length edits ≡ 0) ⊎ (first_or None stubs ≡ Some low)

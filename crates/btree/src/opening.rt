@@ -1,6 +1,6 @@
 // Taking pages apart, and putting what was taken apart together.
 ghost use Rattle.std.specs.Prelude.{◌≡◌, ◌<◌, ◌≤◌, ◌+◌, ◌++◌, ◌∷◌, ℕ, List, Option, length, map, IfErr, IfOk, MatchResult};
-ghost use Rattle.page.specs.Content.{Arm, Item};
+ghost use Rattle.page.specs.Content.{Arm, IsLeaf, Item};
 ghost use Rattle.btree.specs.Keys.{Entry};
 ghost use Rattle.btree.specs.Loose.{arm_stub, item_stub, lowered, stubs_of, under_key};
 ghost use Rattle.btree.specs.LooseView.{stub_in};
@@ -20,6 +20,7 @@ use std::alloc::Global;
 /// The cells of a leaf.
 pub(crate) fn leaf_cells(alloc: Global, leaf: &Leaf) -> Result<Vec<Cell<'_>>, TreeFault>
     ensures some { 0 < length leaf.now }
+    ensures sound { IsLeaf leaf.now }
     ensures ok { IfOk result (λ cells. map item_in cells.items ≡ leaf.now) }
     ensures err { IfErr result (λ e. e ≡ Memory) }
 {
