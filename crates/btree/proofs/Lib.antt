@@ -12,6 +12,7 @@ pub mod KeyLemmas
 pub mod ListLemmas
 pub mod LooseLemmas
 pub mod PartLemmas
+pub mod PrepareLemmas
 pub mod RaiseLemmas
 pub mod ScanLemmas
 pub mod SearchLemmas
