@@ -1,6 +1,9 @@
 -- Edits of children: the child that the last edits belong to, what is before it and what is behind it.
 use Rattle.std.proofs.Common.{◌≡◌, ℕ, zero, suc, ◌+◌, ◌-◌, ◌<◌, ◌≤◌, take, drop, get_or, List, [], ◌∷◌, ◌++◌, length, map, Option, Some, None, Result, Ok, Err, refl, sym, ap, ◌∙◌, subst, arith, ◌⊎◌, inl, inr, append-nil, append_assoc}
 use Rattle.btree.specs.declared.loose.Loose.{Loose}
+use Rattle.btree.specs.declared.editing.Edit.{Edit as ProgramEdit}
+use Rattle.btree.specs.EditView.{edit_in}
+use Rattle.btree.proofs.CuttingLemmas.{take_over}
 use Rattle.btree.specs.declared.pages.TreeFault.{TreeFault}
 use Rattle.btree.specs.Change.{BeginsAt, IsBehind, IsHeldBehind, edit_keys}
 use Rattle.btree.specs.Keys.{Edit, Entry, Each, IsBetween, IsNotUnder, IsUnder, IsWithin, Rises, change, times}
@@ -8,9 +11,9 @@ use Rattle.btree.specs.Loose.{Stub, child, first_or}
 use Rattle.btree.specs.Store.{Store, Grows}
 use Rattle.btree.specs.Tree.{entries_of, pages_of}
 use Rattle.btree.specs.Turn.{IsHeld, IsTurned, IsUpTo, Sheaf, Turns, sheaf_in}
-use Rattle.btree.proofs.ListLemmas.{each_append, each_back, each_front, each_map, long_append, map_append, rises_back, rises_front, times_append}
+use Rattle.btree.proofs.ListLemmas.{each_append, each_back, each_front, each_map, get_here, get_mapped, long_append, long_map, map_append, rises_back, rises_front, times_append}
 use Rattle.btree.proofs.EndLemmas.{IsLastOff, last_off, within_up_to}
-use Rattle.btree.proofs.SplitLemmas.{IsTwo, apart, apart_over, change_parts, held_between, two_parts}
+use Rattle.btree.proofs.SplitLemmas.{take_under, IsTwo, apart, apart_over, change_parts, held_between, two_parts}
 use Rattle.btree.proofs.StoreLemmas.{cause_later, grows_trans}
 use Rattle.btree.proofs.JoinLemmas.{up_to_trans}
 use Rattle.btree.proofs.KeyLemmas.{not_under_trans}
@@ -103,3 +106,44 @@ prepared_entries s front_store base low high entries reached rank left right t p
     (apart_over (λ (y : Entry). y.key) t.key mine (change theirs el) (each_map _ _ (λ e b. b.0) mine p.mine_between) (each_map _ _ (λ y b. b.1) _ (held_between front_store base low (Some t.key) _ pages front h)))
     (behind_past s base p.two.between high er p.two.back_pages _ mine p.two.behind (each_map _ _ (λ e b. b.1) mine p.mine_between)))
     ∙ ap (change (theirs ++ mine)) (sym (append_assoc el ew er) ∙ ap (λ es. es ++ er) p.off.entries_are ∙ p.two.entries_are)
+
+-- ---- the program's parts
+
+pub place_next : (key : List ℕ) (stubs left right : List Stub) (t : Stub) (at n : ℕ) → n ≡ length stubs → stubs ≡ (left ++ t ∷ []) ++ right → length left ≡ at → ((s : Stub) → at + 1 < n → IsUnder key (get_or stubs (at + 1) s).key)
+    → (f : Stub) (rest : List Stub) → right ≡ f ∷ rest → IsUnder key f.key
+place_next key stubs left right t at n same e long next f rest is =
+    let whole : stubs ≡ (left ++ t ∷ []) ++ f ∷ rest = e ∙ ap (λ r. (left ++ t ∷ []) ++ r) is in
+    let front : length (left ++ t ∷ []) ≡ at + 1 = omega (arith, long_append left (t ∷ [])) in
+    let here : get_or stubs (at + 1) f ≡ f = ap (λ ss. get_or ss (at + 1) f) whole ∙ ap (λ k. get_or ((left ++ t ∷ []) ++ f ∷ rest) k f) (sym front) ∙ get_here (left ++ t ∷ []) f rest f in
+    subst (λ (s : Stub). IsUnder key s.key) here (next f (omega (arith, ap length whole, long_append (left ++ t ∷ []) (f ∷ rest))))
+
+pub all_up_to_last : (es : List ProgramEdit) (key : List ℕ) (d : ProgramEdit) → 0 < length es → Rises (edit_keys (map edit_in es)) → IsUnder (get_or es (length es - 1) d).key.now key → Each (λ (e : Edit). IsUnder e.key key) (map edit_in es)
+all_up_to_last es key d some rise last =
+    subst (Each (λ (e : Edit). IsUnder e.key key)) (take_over (length es) (map edit_in es) (omega (arith, long_map edit_in es)))
+    (take_under (map edit_in es) (length es) key (omega (arith, long_map edit_in es)) rise
+    (λ k f is. let same : k ≡ length es - 1 = omega arith in subst (λ (e : Edit). IsUnder e.key key) (sym (ap (λ i. get_or (map edit_in es) i f) same ∙ get_mapped edit_in es (length es - 1) f d (omega arith))) last))
+
+pub children_done : (old a b c new : Store) (base : ℕ) (low : List ℕ) (high : Option (List ℕ)) (entries : List Entry) (reached : List ℕ) (rank : ℕ) (left right : List Stub) (t : Stub) (page : ℕ) (theirs mine : List Edit)
+    (p : IsPrepared old base low high entries reached rank left right t page theirs mine) (below front back : Sheaf) (r : Result Loose TreeFault) → Grows old a → Grows a b → Grows b c
+    → (u1 : IsTurned old a base t.key p.two.between (change mine (entries_of p.off.d p.off.body)) (page ∷ pages_of p.off.d p.off.body) below)
+    → (u2 : IsTurned a b base low (Some t.key) (change theirs (entries_of (suc p.off.d) p.off.twigs)) (pages_of (suc p.off.d) p.off.twigs) front)
+    → (u3 : IsTurned b c base t.key high (change mine (entries_of p.off.d p.off.body) ++ p.two.back_entries) (u1.after ++ p.two.back_pages) back)
+    → Turns c new base low high (change theirs (entries_of (suc p.off.d) p.off.twigs) ++ (change mine (entries_of p.off.d p.off.body) ++ p.two.back_entries)) (u2.after ++ u3.after) r
+    → Turns old new base low high (change (theirs ++ mine) entries) reached r
+children_done old a b c new base low high entries reached rank left right t page theirs mine p below front back (Ok l) g1 g2 g3 u1 u2 u3 u4 =
+    record {
+      after = u4.after;
+      held = subst (λ es. IsHeld new base low high es u4.after (sheaf_in l)) (prepared_entries old b base low high entries reached rank left right t page theirs mine p u2.after front u2.held) u4.held;
+      turned = λ n. omega (
+        arith,
+        u1.turned n,
+        u2.turned n,
+        u3.turned n,
+        u4.turned n,
+        p.off.pages_are n,
+        p.two.pages_are n,
+        times_append n u2.after u3.after,
+        times_append n u1.after p.two.back_pages,
+      );
+    }
+children_done old a b c new base low high entries reached rank left right t page theirs mine p below front back (Err e) g1 g2 g3 u1 u2 u3 u4 = cause_later old c new e (grows_trans old b c (grows_trans old a b g1 g2) g3) u4

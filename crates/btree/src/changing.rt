@@ -38,6 +38,19 @@ fn edits_from(edits: &[Edit<'_>], key: &[u8]) -> usize
     0
 }
 
+// The edits below a key, and the others.
+fn edits_at<'s, 'a>(edits: &'s [Edit<'a>], key: &[u8]) -> (&'s [Edit<'a>], &'s [Edit<'a>])
+    requires { Each HasRoom edits.now }
+    ensures room { Each HasRoom result.0.now × Each HasRoom result.1.now }
+    ensures parts { map edit_in edits.now
+        ≡ map edit_in result.0.now ++ map edit_in result.1.now }
+    ensures before { Rises (edit_keys (map edit_in edits.now))
+        → Each (λ e. IsUnder e.key key.now) (map edit_in result.0.now) }
+    ensures behind { Each (λ e. IsNotUnder e.key key.now) (map edit_in result.1.now) }
+{
+    edits.split_at(edits_from(edits, key))
+}
+
 // The last child whose key isn't above this one, or the first child.
 fn child_place(units: &[Unit], key: &[u8]) -> usize
     requires { 0 < length units.now }
@@ -192,20 +205,21 @@ fn change_children<P: Pages>(
         → Turns (P.store pages.old) (P.store pages.new) base low high
         (change (map edit_in edits.now) entries) reached result }
 {
-    let Some(last) = edits.last() else {
+    let len = edits.len();
+    if len == 0 {
         return Ok(loose);
-    };
+    }
     if loose.units.is_empty() {
         return Err(TreeFault::Order);
     }
-    let at = child_place(&loose.units, last.key);
+    let at = child_place(&loose.units, edits[len - 1].key);
     let Parted { left, unit, right } = part_at(loose, at)?;
     let Some(page) = page_below(&unit) else {
         return Err(TreeFault::Kind);
     };
-    let from = edits_from(edits, &unit.key);
-    let (theirs, mine) = edits.split_at(from);
-    let below = change_below(alloc, pages, page, left.rank - 1, &unit.key, mine)?;
+    let key = unit.key.as_slice();
+    let (theirs, mine) = edits_at(edits, key);
+    let below = change_below(alloc, pages, page, left.rank - 1, key, mine)?;
     let front = change_children(alloc, pages, left, theirs)?;
     let back = meet_behind(alloc, pages, below, right)?;
     meet(alloc, pages, front, back)
