@@ -3,6 +3,8 @@ use Rattle.std.proofs.Common.{◌≡◌, ℕ, zero, suc, ◌+◌, ◌-◌, ◌<�
 use Rattle.btree.specs.declared.loose.Loose.{Loose}
 use Rattle.btree.specs.declared.editing.Edit.{Edit as ProgramEdit}
 use Rattle.btree.specs.EditView.{edit_in}
+use Rattle.btree.specs.LooseView.{hold_in, stub_in}
+use Rattle.btree.specs.declared.loose.Unit.{Unit}
 use Rattle.btree.proofs.CuttingLemmas.{take_over}
 use Rattle.btree.specs.declared.pages.TreeFault.{TreeFault}
 use Rattle.btree.specs.Change.{BeginsAt, IsBehind, IsHeldBehind, edit_keys}
@@ -147,3 +149,45 @@ children_done old a b c new base low high entries reached rank left right t page
       );
     }
 children_done old a b c new base low high entries reached rank left right t page theirs mine p below front back (Err e) g1 g2 g3 u1 u2 u3 u4 = cause_later old c new e (grows_trans old b c (grows_trans old a b g1 g2) g3) u4
+
+pub begins_left : (low : List ℕ) (edits theirs : List Edit) (stubs left right : List Stub) (t : Stub) → stubs ≡ (left ++ t ∷ []) ++ right → BeginsAt low edits stubs → 0 < length edits
+    → Each (λ e. IsBetween low (Some t.key) e.key) theirs → BeginsAt low theirs left
+begins_left low edits theirs stubs left right t e (inl none) some h = absurd (omega arith)
+begins_left low edits [] stubs [] right t e (inr f) some h = inl refl
+begins_left low edits (x ∷ xs) stubs [] right t e (inr f) some h =
+    let first : Some t.key ≡ Some low = sym (ap (first_or None) e) ∙ f in
+    let same : t.key ≡ low = cc in absurd (h.0.0 (subst (IsUnder x.key) same h.0.1))
+begins_left low edits theirs stubs (s ∷ left) right t e (inr f) some h = inr (sym (ap (first_or None) e) ∙ f)
+
+module _ (old : Store) (loose left right : Loose) (unit : Unit) (units : List Unit) (key : List ℕ) (page at : ℕ) (es theirs mine : List ProgramEdit) (d : ProgramEdit)
+    (parts : map stub_in loose.units.items ≡ (map stub_in left.units.items ++ stub_in unit ∷ []) ++ map stub_in right.units.items) (key_is : key ≡ unit.key.items) (load : hold_in unit.hold ≡ child page)
+    (edits_are : map edit_in es ≡ map edit_in theirs ++ map edit_in mine) (before : Rises (edit_keys (map edit_in es)) → Each (λ (e : Edit). IsUnder e.key key) (map edit_in theirs))
+    (behind : Each (λ (e : Edit). IsNotUnder e.key key) (map edit_in mine)) (units_are : units ≡ loose.units.items) (long : length left.units.items ≡ at)
+    (next : (s : Stub) → at + 1 < length units → IsUnder (get_or es (length es - 1) d).key.now (get_or (map stub_in units) (at + 1) s).key) (some : 0 < length es) where
+  parts_are : map stub_in loose.units.items ≡ (map stub_in left.units.items ++ record { key = key; load = hold_in unit.hold } ∷ []) ++ map stub_in right.units.items
+  parts_are = parts ∙ ap (λ k. (map stub_in left.units.items ++ record { key = k; load = hold_in unit.hold } ∷ []) ++ map stub_in right.units.items) (sym key_is)
+
+  pub prepare : (base : ℕ) (low : List ℕ) (high : Option (List ℕ)) (entries : List Entry) (reached : List ℕ) → IsHeld old base low high entries reached (sheaf_in loose) → base < loose.rank → Rises (edit_keys (map edit_in es))
+      → Each (λ e. IsBetween low high e.key) (map edit_in es)
+      → IsPrepared old base low high entries reached loose.rank (map stub_in left.units.items) (map stub_in right.units.items) (record { key = key; load = hold_in unit.hold }) page (map edit_in theirs) (map edit_in mine)
+  prepare base low high entries reached h deep rise between =
+      prepared old base low high entries reached (sheaf_in loose) (map stub_in left.units.items) (map stub_in right.units.items) (record { key = key; load = hold_in unit.hold }) page (map edit_in theirs) (map edit_in mine) h parts_are deep load
+      (subst (λ fs. Rises (edit_keys fs)) edits_are rise) (subst (Each (λ e. IsBetween low high e.key)) edits_are between)
+      (λ f rest is. each_back (λ e. IsUnder e.key f.key) (map edit_in theirs) (map edit_in mine) (subst (Each (λ e. IsUnder e.key f.key)) edits_are
+      (all_up_to_last es f.key d some rise
+      (place_next (get_or es (length es - 1) d).key.now (map stub_in loose.units.items) (map stub_in left.units.items) (map stub_in right.units.items) (record { key = key; load = hold_in unit.hold }) at (length units)
+      (omega (arith, ap length units_are, long_map stub_in loose.units.items)) parts_are (omega (arith, long, long_map stub_in left.units.items))
+      (λ s lt. subst (λ us. IsUnder (get_or es (length es - 1) d).key.now (get_or (map stub_in us) (at + 1) s).key) units_are (next s lt)) f rest is))))
+      (before rise) behind
+
+  pub begins_there : (base : ℕ) (low : List ℕ) → BeginsAt low (map edit_in es) (map stub_in loose.units.items) → Each (λ e. IsBetween low (Some key) e.key) (map edit_in theirs)
+      → BeginsAt low (map edit_in theirs) (map stub_in left.units.items)
+  begins_there base low b h = begins_left low (map edit_in es) (map edit_in theirs) (map stub_in loose.units.items) (map stub_in left.units.items) (map stub_in right.units.items) (record { key = key; load = hold_in unit.hold }) parts_are b (omega (arith, long_map edit_in es)) h
+
+pub before_under : (es : List ProgramEdit) (r : ℕ) (key : List ℕ) → r ≤ length es → Rises (edit_keys (map edit_in es)) → ((k : ℕ) (d : ProgramEdit) → k + 1 ≡ r → IsUnder (get_or es k d).key.now key)
+    → Each (λ (e : Edit). IsUnder e.key key) (take r (map edit_in es))
+before_under [] zero key le rise last = tt
+before_under [] (suc r) key le rise last = absurd (omega arith)
+before_under (x ∷ xs) r key le rise last =
+    take_under (map edit_in (x ∷ xs)) r key (omega (arith, long_map edit_in (x ∷ xs))) rise
+    (λ k d is. subst (λ (e : Edit). IsUnder e.key key) (sym (get_mapped edit_in (x ∷ xs) k d x (omega arith))) (last k x is))

@@ -95,10 +95,7 @@ pub(crate) fn unit_of_page(alloc: Global, key: &[u8], page: u32) -> Result<Unit,
 }
 
 /// Cells out of their page.
-pub(crate) fn units_of_cells(
-    alloc: Global,
-    cells: &[Cell<'_>],
-) -> Result<Vec<Unit>, AllocError>
+pub(crate) fn units_of_cells(alloc: Global, cells: &[Cell<'_>]) -> Result<Vec<Unit>, AllocError>
     ensures { IfOk result
         (λ units. map stub_in units.items ≡ map item_stub (map item_in cells.now)) }
 {

@@ -32,7 +32,11 @@ pub(crate) fn leaf_cells(alloc: Global, leaf: &Leaf) -> Result<Vec<Cell<'_>>, Tr
 }
 
 // The children of a branch, the first under a key.
-pub(crate) fn units_of_branch(alloc: Global, branch: &Branch, low: &[u8]) -> Result<Vec<Unit>, TreeFault>
+pub(crate) fn units_of_branch(
+    alloc: Global,
+    branch: &Branch,
+    low: &[u8],
+) -> Result<Vec<Unit>, TreeFault>
     ensures some { IfOk result (λ units. 0 < length units.items) }
     ensures ok { IfOk result
         (λ units. map stub_in units.items ≡ map arm_stub (under_key low.now branch.now)) }
