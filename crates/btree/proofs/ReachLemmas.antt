@@ -4,8 +4,8 @@ use Rattle.std.specs.List.{flat_map}
 use Rattle.page.specs.Content.{Content}
 use Rattle.btree.specs.Keys.{Each, Entry, Pair}
 use Rattle.btree.specs.Store.{Store, IsAt}
-use Rattle.btree.specs.Tree.{Body, Twig, HasChain, HasLinks, IsTree, Shows}
-use Rattle.btree.specs.Reach.{pages_of, HasTree, HasMap}
+use Rattle.btree.specs.Tree.{Body, Twig, HasChain, HasLinks, IsTree, Shows, pages_of}
+use Rattle.btree.specs.Reach.{HasTree, HasMap}
 use Rattle.btree.proofs.ListLemmas.{each_front, each_back}
 use Rattle.std.proofs.Common.{◌≡◌, sym, subst}
 

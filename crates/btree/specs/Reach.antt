@@ -1,14 +1,8 @@
 -- The pages that a tree reaches.
-use Rattle.std.specs.Prelude.{◌≡◌, ◌⊎◌, ℕ, zero, suc, ◌≤◌, List, [], ◌∷◌}
-use Rattle.std.specs.List.{flat_map}
+use Rattle.std.specs.Prelude.{◌≡◌, ◌⊎◌, ℕ, ◌≤◌, List, [], ◌∷◌}
 use Rattle.btree.specs.Keys.{Entry, times}
 use Rattle.btree.specs.Store.{Store}
-use Rattle.btree.specs.Tree.{Body, IsTree, entries_of}
-
--- the pages below the one that holds a body, with those of its values' chains
-abbrev pub pages_of : (d : ℕ) → Body d → List ℕ
-pages_of zero pairs = flat_map (λ x. x.links) pairs
-pages_of (suc d) twigs = flat_map (λ w. w.page ∷ pages_of d w.body) twigs
+use Rattle.btree.specs.Tree.{Body, IsTree, entries_of, pages_of}
 
 -- no page stands there twice
 abbrev pub AreOnce : List ℕ → Type 0

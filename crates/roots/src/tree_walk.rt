@@ -6,8 +6,8 @@ ghost use Rattle.page.specs.CellView.{place_of as place_in};
 ghost use Rattle.page.specs.ImageView.{sheet_of};
 ghost use Rattle.btree.specs.Keys.{Entry, Pair};
 ghost use Rattle.btree.specs.Store.{IsAt};
-ghost use Rattle.btree.specs.Tree.{Body, HasChain, HasLinks, Shows, content_of, item_of, next_of, place_of};
-ghost use Rattle.btree.specs.Reach.{AreOnce, pages_of};
+ghost use Rattle.btree.specs.Tree.{Body, HasChain, HasLinks, Shows, content_of, item_of, next_of, place_of, pages_of};
+ghost use Rattle.btree.specs.Reach.{AreOnce};
 ghost use Rattle.roots.specs.tree.Image.{HoldsMap, sheet_at};
 ghost use Rattle.roots.specs.tree.Walk.{CanReach, KeepsMarks, Looks, Reaches, pages_in, pages_so_far};
 

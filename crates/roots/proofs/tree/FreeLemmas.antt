@@ -8,8 +8,8 @@ use Rattle.page.specs.ImageView.{sheet_of}
 use Rattle.page.specs.declared.page_image.PageImage.{PageImage}
 use Rattle.btree.specs.Keys.{Entry, times}
 use Rattle.btree.specs.Store.{IsAt}
-use Rattle.btree.specs.Tree.{Body, Shows, content_of}
-use Rattle.btree.specs.Reach.{AreOnce, pages_of}
+use Rattle.btree.specs.Tree.{Body, Shows, content_of, pages_of}
+use Rattle.btree.specs.Reach.{AreOnce}
 use Rattle.freelist.specs.Book.{Book, opened}
 use Rattle.roots.specs.declared.opening.OpenFault.{OpenFault}
 use Rattle.roots.specs.declared.opening.OpenFault.TheVariants as faults

@@ -5,9 +5,9 @@ use Rattle.std.proofs.lemmas.List.{take-append-drop}
 use Rattle.page.specs.Content.{Content, Item, Arm, chain}
 use Rattle.btree.specs.Keys.{Each, Entry, Pair, entry_of}
 use Rattle.btree.specs.Store.{Store, IsAt}
-use Rattle.btree.specs.Tree.{Body, HasChain, HasLinks, Shows, Twig, arm_of, content_of, entries_of, item_of, next_of, pairs_of, place_of}
+use Rattle.btree.specs.Tree.{Body, HasChain, HasLinks, Shows, Twig, arm_of, content_of, entries_of, item_of, next_of, pairs_of, place_of, pages_of}
 use Rattle.btree.proofs.ListLemmas.{map_append}
-use Rattle.btree.specs.Reach.{HasMap, pages_of}
+use Rattle.btree.specs.Reach.{HasMap}
 use Rattle.roots.specs.declared.opening.OpenFault.{OpenFault}
 use Rattle.roots.specs.declared.root.Root.{Root}
 use Rattle.roots.specs.tree.Image.{HoldsMap, StandsFor, sheet_at, store_of}

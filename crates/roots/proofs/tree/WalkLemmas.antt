@@ -16,8 +16,7 @@ use Rattle.page.specs.View.{content_of}
 use Rattle.page.specs.declared.page_content.PageContent.{PageContent}
 use Rattle.page.specs.declared.page_content.PageContent.TheVariants as contents
 use Rattle.btree.specs.Store.{Store, IsAt}
-use Rattle.btree.specs.Reach.{pages_of}
-use Rattle.btree.specs.Tree.{Body, HasLinks, Shows, Twig, arm_of, content_of as content_by, item_of, next_of, place_of}
+use Rattle.btree.specs.Tree.{Body, HasLinks, Shows, Twig, arm_of, content_of as content_by, item_of, next_of, place_of, pages_of}
 use Rattle.roots.specs.declared.opening.OpenFault.{OpenFault}
 use Rattle.roots.specs.declared.opening.OpenFault.TheVariants as faults
 use Rattle.roots.specs.declared.root.Root.{Root}

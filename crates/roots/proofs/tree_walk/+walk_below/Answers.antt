@@ -6,8 +6,7 @@ use Rattle.page.specs.ImageView.{sheet_of}
 use Rattle.page.specs.View.{content_of as content_in}
 use Rattle.page.proofs.Moments.{reads_further}
 use Rattle.btree.specs.Store.{Store}
-use Rattle.btree.specs.Reach.{pages_of}
-use Rattle.btree.specs.Tree.{Body, Shows, Twig, arm_of, content_of}
+use Rattle.btree.specs.Tree.{Body, Shows, Twig, arm_of, content_of, pages_of}
 use Rattle.btree.proofs.ListLemmas.{at_place, long_map}
 use Rattle.roots.specs.tree.Image.{sheet_at}
 use Rattle.roots.specs.tree.Walk.{CanReach, Reaches, pages_in, pages_so_far}

@@ -1,8 +1,7 @@
 use Rattle.std.proofs.Common.{◌≡◌, ◌-◌, ◌+◌, ◌<◌, ◌++◌, ℕ, suc, map, take}
 use Rattle.page.specs.History.{KeepsWord}
 use Rattle.page.specs.Crash.{ReadsOnly}
-use Rattle.btree.specs.Reach.{pages_of}
-use Rattle.btree.specs.Tree.{Body, Shows, arm_of}
+use Rattle.btree.specs.Tree.{Body, Shows, arm_of, pages_of}
 use Rattle.roots.specs.tree.Walk.{CanReach, IsMarked, pages_in, pages_so_far}
 use Rattle.roots.proofs.tree_walk.+walk_below.Given as goal
 
