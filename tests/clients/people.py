@@ -42,6 +42,7 @@ def at_terminal(words, stdin):
 
 
 def piped(words, **given):
+    given.setdefault("stdin", subprocess.DEVNULL)
     ran = subprocess.run([PROGRAM, *words], capture_output=True, timeout=PATIENCE, **given)
     return ran.stdout.decode(), ran.stderr.decode(), ran.returncode
 
@@ -81,7 +82,7 @@ def nothing_in_a_pipe(documents):
 
 def a_reader_that_goes_away(_documents):
     for words in (["export", path("c"), "t.c"], ["ask", path("c"), "--db", "t", "--all", '{"find": "c"}']):
-        ran = subprocess.Popen([PROGRAM, *words], stdout=subprocess.PIPE, stderr=subprocess.PIPE)
+        ran = subprocess.Popen([PROGRAM, *words], stdin=subprocess.DEVNULL, stdout=subprocess.PIPE, stderr=subprocess.PIPE)
         ran.stdout.readline()
         ran.stdout.close()
         errors = ran.stderr.read().decode()

@@ -12,11 +12,12 @@ use Rattle.filter.specs.SortLaws.{SortsInParts, All-sorted, sorted-permuted}
 use Rattle.std.proofs.lemmas.List.Sorted.{length_permutation}
 use Rattle.std.proofs.lemmas.List.Elements.{filter-append}
 use Rattle.aggregate.specs.EnoughLaws.{All-filter, All-append, All-front, All-back, Pass, filter-passes, passed-filter, Within, fault-within, within-fault}
-use Rattle.aggregate.specs.Limits.{limit_fault, if_faultless, within_limits}
+use Rattle.aggregate.specs.Limits.{limit_fault, first_fault, if_faultless, within_limits}
 use Rattle.aggregate.specs.Pipeline.{run}
-use Rattle.aggregate.specs.Stage.{Stage, match_stage, sort_stage, skip_stage, limit_stage}
+use Rattle.aggregate.specs.Group.{Grouping}
+use Rattle.aggregate.specs.Stage.{Stage, match_stage, group_stage, sort_stage, skip_stage, limit_stage}
 use Rattle.aggregate.specs.Stages.{apply_stage}
-use Rattle.aggregate.specs.Taking.{takes_by, takes, behind_if_match, behind_match, Suffices, SufficesTaken, IsEnough}
+use Rattle.aggregate.specs.Taking.{takes_by, takes, behind_if_match, behind_match, run_behind_groups, Suffices, SufficesTaken, IsEnough}
 use Rattle.aggregate.specs.TakingLaws.{all_pass}
 
 -- ---- fronts and backs of lists
@@ -84,6 +85,22 @@ suffices_taken (s ∷ stages) most behind = by_match s stages most behind
 pub most_taken : (stages behind : List Stage) (most : Option ℕ) → behind ≡ behind_match stages → IfSome most (λ n. Suffices behind n) → IfSome most (λ n. SufficesTaken stages n)
 most_taken stages behind None is h = tt
 most_taken stages behind (Some n) is h = suffices_taken stages n (subst (λ (ss : List Stage). Suffices ss n) is h)
+
+-- ---- a `$group` in front
+
+by_group : (s : Stage) (stages behind : List Stage) (g : Grouping) → behind_if_match s stages ≡ group_stage g ∷ behind → (limit : ℕ) (ds : List Pairs) → first_fault limit ds ≡ None
+    → run_behind_groups g behind limit (filter (takes_by s) ds) ≡ run (s ∷ stages) limit ds
+by_group (match_stage rules) stages behind g is limit ds e =
+    let found = filter (matches rules) ds in
+    let all = All-filter (λ d. limit_fault limit d ≡ None) (matches rules) ds (fault-within limit ds e) in
+    ap (λ (ss : List Stage). run ss limit found) (sym is) ∙ sym (passes (match_stage rules) stages limit ds found refl all)
+by_group other stages behind g is limit ds e =
+    ap (λ (xs : List Pairs). run (group_stage g ∷ behind) limit xs) (all_pass ds) ∙ ap (λ (ss : List Stage). run ss limit ds) (sym is)
+
+pub groups_taken : (stages behind : List Stage) (g : Grouping) → behind_match stages ≡ group_stage g ∷ behind → (limit : ℕ) (ds : List Pairs) → first_fault limit ds ≡ None
+    → run_behind_groups g behind limit (filter (takes stages) ds) ≡ run stages limit ds
+groups_taken [] behind g is limit ds e = absurd cc
+groups_taken (s ∷ stages) behind g is limit ds e = by_group s stages behind g is limit ds e
 
 -- ---- the first ones in the order of a sort
 

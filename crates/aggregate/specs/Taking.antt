@@ -1,11 +1,14 @@
 -- Which documents a pipeline takes at all: a `$match` in front tells, before anything is made of a document. And which of
 -- these are enough: where it keeps the first ones, of the documents as they come or in the order of a `$sort`.
-use Rattle.std.specs.Prelude.{◌≡◌, ◌≤◌, ℕ, Bool, true, None, List, [], ◌∷◌, ◌++◌, length, take, Ok}
+use Rattle.std.specs.Prelude.{◌≡◌, ◌≤◌, ℕ, Bool, true, false, None, List, [], ◌∷◌, ◌++◌, length, take, Result, Ok}
 use Rattle.std.specs.List.{filter, AllByRecursion}
 use Rattle.bson.specs.Tree.{Pairs}
 use Rattle.filter.specs.Matches.{matches}
-use Rattle.aggregate.specs.Stage.{Stage, match_stage}
-use Rattle.aggregate.specs.Limits.{first_fault}
+use Rattle.outcome.specs.Outcome.{◌>>=◌}
+use Rattle.path.specs.declared.refusal.Refusal.{Refusal}
+use Rattle.aggregate.specs.Group.{Grouping, grouped}
+use Rattle.aggregate.specs.Stage.{Stage, match_stage, group_stage}
+use Rattle.aggregate.specs.Limits.{first_fault, within_limits}
 use Rattle.aggregate.specs.Pipeline.{run}
 
 abbrev pub takes_by : Stage → Pairs → Bool
@@ -29,6 +32,19 @@ behind_if_match other stages = other ∷ stages
 abbrev pub behind_match : List Stage → List Stage
 behind_match [] = []
 behind_match (s ∷ stages) = behind_if_match s stages
+
+-- a `$group` stands in front
+abbrev pub groups_by : Stage → Bool
+groups_by (group_stage g) = true
+groups_by other = false
+
+abbrev pub groups_first : List Stage → Bool
+groups_first [] = false
+groups_first (s ∷ stages) = groups_by s
+
+-- what stages make of the groups of documents
+abbrev pub run_behind_groups : Grouping → List Stage → ℕ → List Pairs → Result (List Pairs) Refusal
+run_behind_groups g stages limit ds = (grouped g ds >>= within_limits limit) >>= run stages limit
 
 -- Of documents within the limits the first ones up to this number are enough.
 abbrev pub Suffices : List Stage → ℕ → Type 0

@@ -4,18 +4,24 @@
 //! is equal for values that the order calls equal.
 
 ghost use Rattle.std.specs.Prelude.{◌≡◌, [], IfOk, OnOk, map};
+ghost use Rattle.std.specs.List.{filter};
 ghost use Rattle.bson.specs.View.{tree};
 ghost use Rattle.outcome.specs.Outcome.{Gives};
 ghost use Rattle.value_order.specs.KeyText.{tree_text};
 ghost use Rattle.aggregate.specs.Group.{same, grouped};
 ghost use Rattle.aggregate.specs.GroupView.{state_of, group_field_of, grouping_of, id_value_of};
+ghost use Rattle.aggregate.specs.Taking.{takes};
+ghost use Rattle.aggregate.specs.View.{stage_of};
 ghost use Rattle.aggregate.specs.Groups.{entry_of, entries_of, IsIndexed, IsPlace};
 ghost use Rattle.aggregate.specs.Table.{starts, taken, put_document, with_outcomes, entry_document, entry_documents, grouped_from};
 
 use crate::accumulators::State;
 use crate::fields::set_field;
 use crate::grouping::{GroupField, Grouping, IdValue};
+use crate::stage::Stage;
+use crate::taking::takes;
 use bson::{Document, NoMemory, Value};
+use filter::AsDocument;
 use indexmap::IndexMap;
 use path::Refusal;
 use std::alloc::Global;
@@ -209,18 +215,39 @@ impl Groups {
     }
 }
 
-/// The groups of documents, one after the other.
-fn grouped_from(grouping: &Grouping, documents: &[Document]) -> Result<Vec<Document>, Refusal>
+/// The groups of those documents that stages take, one after the other.
+fn grouped_from<T: AsDocument>(
+    stages: &[Stage],
+    grouping: &Grouping,
+    documents: &[T],
+) -> Result<Vec<Document>, Refusal>
     ensures { Gives Refusal.OutOfMemory (λ v. v.items) result
-        (grouped_from (grouping_of grouping.now) documents.now []) }
+        (grouped_from (grouping_of grouping.now)
+        (filter (takes (map stage_of stages.now)) (map T.document documents.now)) []) }
 {
     let alloc = grouping.alloc;
     let mut groups = Groups::new(alloc);
-    'documents: for document in documents {
-        let id = grouping.id.value(alloc, document)?;
-        groups.put(alloc, &grouping.fields, id, document)?;
+    'documents: for lent in documents {
+        let document = lent.as_document();
+        if takes(stages, document) {
+            let id = grouping.id.value(alloc, document)?;
+            groups.put(alloc, &grouping.fields, id, document)?;
+        }
     }
     groups.into_documents(alloc, &grouping.fields)
+}
+
+/// A document for each group of those documents that stages take, in the order of first appearance.
+pub(crate) fn grouped_of<T: AsDocument>(
+    stages: &[Stage],
+    grouping: &Grouping,
+    documents: &[T],
+) -> Result<Vec<Document>, Refusal>
+    ensures { Gives Refusal.OutOfMemory (λ v. v.items) result
+        (grouped (grouping_of grouping.now)
+        (filter (takes (map stage_of stages.now)) (map T.document documents.now))) }
+{
+    grouped_from(stages, grouping, documents)
 }
 
 /// A document for each group, in the order of first appearance.
@@ -228,5 +255,5 @@ pub(crate) fn grouped(grouping: &Grouping, documents: &[Document]) -> Result<Vec
     ensures { Gives Refusal.OutOfMemory (λ v. v.items) result
         (grouped (grouping_of grouping.now) documents.now) }
 {
-    grouped_from(grouping, documents)
+    grouped_of(&[], grouping, documents)
 }

@@ -1,7 +1,8 @@
 //! What a document that a stage gives may be.
 
 ghost use Rattle.std.specs.Prelude.{◌≡◌};
-ghost use Rattle.aggregate.specs.Limits.{limit_fault, first_fault};
+ghost use Rattle.outcome.specs.Outcome.{Gives};
+ghost use Rattle.aggregate.specs.Limits.{limit_fault, first_fault, within_limits};
 
 use bson::Document;
 use path::Refusal;
@@ -23,7 +24,7 @@ fn limit_fault(document: &Document, limit: u32) -> Option<Refusal>
 }
 
 /// The fault of the first document that has one.
-pub(crate) fn first_fault(documents: &[Document], limit: u32) -> Option<Refusal>
+fn first_fault(documents: &[Document], limit: u32) -> Option<Refusal>
     ensures { result ≡ first_fault limit documents.now }
 {
     'documents: for document in documents {
@@ -32,4 +33,14 @@ pub(crate) fn first_fault(documents: &[Document], limit: u32) -> Option<Refusal>
         }
     }
     None
+}
+
+/// The documents, where none of them is over a limit: the first one that is decides.
+pub(crate) fn within_limits(documents: Vec<Document>, limit: u32) -> Result<Vec<Document>, Refusal>
+    ensures { Gives Refusal.OutOfMemory (λ v. v.items) result (within_limits limit documents.items) }
+{
+    match first_fault(&documents, limit) {
+        Some(refusal) => Err(refusal),
+        None => Ok(documents),
+    }
 }

@@ -6,7 +6,7 @@ ghost use Rattle.outcome.specs.Outcome.{Gives};
 ghost use Rattle.aggregate.specs.Pipeline.{read_stage, read_pipeline, after_stage, run};
 ghost use Rattle.aggregate.specs.View.{stage_of, pipeline_of};
 
-use crate::limits::first_fault;
+use crate::limits::within_limits;
 use crate::operands::only_pair_in;
 use crate::stage::Stage;
 use crate::stages::{apply_stage, read_operand, stage_named};
@@ -46,11 +46,24 @@ fn after_stage(
     ensures { Gives Refusal.OutOfMemory (λ v. v.items) result
         (after_stage (stage_of stage.now) limit documents.items) }
 {
-    let given = apply_stage(alloc, stage, documents)?;
-    match first_fault(&given, limit) {
-        Some(refusal) => Err(refusal),
-        None => Ok(given),
+    within_limits(apply_stage(alloc, stage, documents)?, limit)
+}
+
+/// What stages make of documents, one after the other.
+pub(crate) fn run_stages(
+    alloc: Global,
+    stages: &[Stage],
+    documents: Vec<Document>,
+    limit: u32,
+) -> Result<Vec<Document>, Refusal>
+    ensures { Gives Refusal.OutOfMemory (λ v. v.items) result
+        (run (map stage_of stages.now) limit documents.items) }
+{
+    let mut documents = documents;
+    'stages: for stage in stages {
+        documents = after_stage(alloc, stage, documents, limit)?;
     }
+    Ok(documents)
 }
 
 impl Pipeline {
@@ -84,10 +97,6 @@ impl Pipeline {
         ensures { Gives Refusal.OutOfMemory (λ v. v.items) result
             (run (pipeline_of self.now) limit documents.items) }
     {
-        let mut documents = documents;
-        'stages: for stage in &self.stages {
-            documents = after_stage(self.alloc, stage, documents, limit)?;
-        }
-        Ok(documents)
+        run_stages(self.alloc, &self.stages, documents, limit)
     }
 }

@@ -1,15 +1,24 @@
 //! Which documents a pipeline needs.
 
-ghost use Rattle.std.specs.Prelude.{◌≡◌, IfOk, IfSome, List, map};
+ghost use Rattle.std.specs.Prelude.{◌≡◌, None, IfOk, IfSome, is_some, List, map};
 ghost use Rattle.bson.specs.Tree.{Pairs};
-ghost use Rattle.aggregate.specs.Taking.{takes, behind_match, Suffices, SufficesTaken, IsEnough};
+ghost use Rattle.outcome.specs.Outcome.{Gives};
+ghost use Rattle.std.specs.List.{filter};
+ghost use Rattle.aggregate.specs.Limits.{first_fault};
+ghost use Rattle.aggregate.specs.Pipeline.{run};
+ghost use Rattle.aggregate.specs.GroupView.{grouping_of};
+ghost use Rattle.aggregate.specs.Taking.{takes, behind_match, groups_first, run_behind_groups, Suffices, SufficesTaken, IsEnough};
 ghost use Rattle.aggregate.specs.View.{stage_of, pipeline_of};
 
+use crate::grouping::Grouping;
+use crate::groups::grouped_of;
+use crate::limits::within_limits;
 use crate::matching::matches;
-use crate::pipeline::Pipeline;
+use crate::pipeline::{Pipeline, run_stages};
 use crate::stage::Stage;
 use bson::{Document, NoMemory};
 use filter::{AsDocument, laws};
+use path::Refusal;
 
 /// The stages behind a `$match` in front.
 fn behind_match(stages: &[Stage]) -> &[Stage]
@@ -32,16 +41,59 @@ fn enough(stages: &[Stage]) -> Option<usize>
     }
 }
 
+/// Whether stages take a document at all: where a `$match` is the first one, whether that matches.
+pub(crate) fn takes(stages: &[Stage], document: &Document) -> bool
+    ensures { result ≡ takes (map stage_of stages.now) document.now }
+{
+    match stages.first() {
+        Some(Stage::Match(filter)) => matches(filter, document),
+        _ => true,
+    }
+}
+
 impl Pipeline {
     /// Whether it takes a document at all: where its first stage is a `$match`, whether that matches. It makes the same
     /// of the documents that it takes as of all of them. It takes no memory.
     pub fn takes(&self, document: &Document) -> bool
         ensures { result ≡ takes (pipeline_of self.now) document.now }
     {
-        match self.stages.first() {
-            Some(Stage::Match(filter)) => matches(filter, document),
-            _ => true,
+        takes(&self.stages, document)
+    }
+
+    /// What the pipeline makes of lent documents that are within the limits, where it groups them before all else but a
+    /// `$match`: so it needs none of them for its own. `None` where it doesn't; refused as `run` is.
+    pub fn run_lent<T: AsDocument>(
+        &self,
+        documents: &[T],
+        limit: u32,
+    ) -> Option<Result<Vec<Document>, Refusal>>
+        ensures runs { let lent = map T.document documents.now in first_fault limit lent ≡ None
+            → IfSome result (λ r. Gives Refusal.OutOfMemory (λ v. v.items) r
+            (run (pipeline_of self.now) limit lent)) }
+        ensures groups { is_some result ≡ groups_first (behind_match (pipeline_of self.now)) }
+    {
+        match behind_match(&self.stages).split_first() {
+            Some((Stage::Group(grouping), behind)) => {
+                Some(self.run_behind_groups(grouping, behind, documents, limit))
+            }
+            _ => None,
         }
+    }
+
+    /// What stages make of the groups of those documents that the pipeline takes.
+    fn run_behind_groups<T: AsDocument>(
+        &self,
+        grouping: &Grouping,
+        behind: &[Stage],
+        documents: &[T],
+        limit: u32,
+    ) -> Result<Vec<Document>, Refusal>
+        ensures { let taken = filter (takes (pipeline_of self.now)) (map T.document documents.now) in
+            Gives Refusal.OutOfMemory (λ v. v.items) result
+            (run_behind_groups (grouping_of grouping.now) (map stage_of behind.now) limit taken) }
+    {
+        let groups = grouped_of(&self.stages, grouping, documents)?;
+        run_stages(self.alloc, behind, within_limits(groups, limit)?, limit)
     }
 
     /// How many of the first documents that it takes are enough, if all are within the limits: where there is a `$limit`

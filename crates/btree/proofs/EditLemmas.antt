@@ -7,7 +7,7 @@ use Rattle.std.specs.declared.cmp.Ordering.TheVariants.{Less, Equal, Greater}
 use Rattle.std.specs.FinMap.{slice_cmp-IsAntisymmetric, nat_cmp-IsAntisymmetric}
 use Rattle.btree.specs.declared.pages.TreeFault.{TreeFault}
 use Rattle.page.specs.declared.cells.Cell.{Cell}
-use Rattle.page.specs.Content.{Item, inline, spilled}
+use Rattle.page.specs.Content.{Item, IsItem, inline, spilled}
 use Rattle.btree.specs.Keys.{Pair, Entry, Edit, Each, Rises, IsBetween, IsUnder, IsNotUnder, behind, edit_map, entries_at, entry_of, key_cmp, times}
 use Rattle.btree.specs.Search.{IsPlace}
 use Rattle.btree.specs.Store.{Store, Grows}
@@ -15,7 +15,7 @@ use Rattle.btree.specs.Tree.{HasChain, HasLinks, item_of, next_of, pair_keys, pl
 use Rattle.btree.specs.declared.editing.Edit.{Edit as ProgramEdit}
 use Rattle.btree.specs.EditView.{edit_in}
 use Rattle.btree.specs.View.{item_in, place_in}
-use Rattle.btree.specs.Calls.{AreRetired, Edits, HasCause, IsChained, IsEdited, IsPutIn, IsStored, IsTakenOut, PutsIn, TakesOut}
+use Rattle.btree.specs.Calls.{AreRetired, Edits, HasCause, IsChained, IsEdited, IsSmallPlace, IsPutIn, IsStored, IsTakenOut, PutsIn, TakesOut}
 use Rattle.btree.proofs.KeyLemmas.{not_under_cases, not_under_itself, under_trans}
 use Rattle.btree.proofs.ListLemmas.{each_append, each_back, each_front, each_map, flat_append, map_append, long_map, at_place, rises_append, rises_back, rises_front, times_append}
 use Rattle.btree.proofs.StoreLemmas.{cause_later, grows_trans, shows_kept}
@@ -311,3 +311,17 @@ pub edits_more : (es : List ProgramEdit) (i : ℕ) (d : ProgramEdit) → i < len
 edits_more [] i d lt = absurd (omega arith)
 edits_more (x ∷ xs) zero d lt = refl
 edits_more (x ∷ xs) (suc i) d lt = (let n : suc i + 1 ≡ suc (i + 1) = omega arith in ap (λ k. take k (map edit_in (x ∷ xs))) n) ∙ ap (λ zs. edit_in x ∷ zs) (edits_more xs i d (omega arith))
+
+pub each_removed : (cells : List Cell) (i : ℕ) → Each IsItem (map item_in cells) → Each IsItem (map item_in (remove cells i))
+each_removed [] zero h = tt
+each_removed [] (suc i) h = tt
+each_removed (x ∷ xs) zero h = h.1
+each_removed (x ∷ xs) (suc i) h = (h.0, each_removed xs i h.1)
+
+pub each_inserted : (cells : List Cell) (i : ℕ) (c : Cell) → IsItem (item_in c) → Each IsItem (map item_in cells) → Each IsItem (map item_in (insert cells i c))
+each_inserted cells zero c g h = (g, h)
+each_inserted [] (suc i) c g h = (g, h)
+each_inserted (x ∷ xs) (suc i) c g h = (h.0, each_inserted xs i c g h.1)
+
+pub item_small : (c : Cell) → length c.key.now ≤ 1024 → IsSmallPlace (place_in c.stored) → IsItem (item_in c)
+item_small c k p = let little = p.1 in record { size = omega arith; place = p.0 }

@@ -1,5 +1,5 @@
 -- Lists: what holds of each element, what stands at a place, how often a number stands.
-use Rattle.std.proofs.Common.{◌≡◌, ℕ, zero, suc, ◌+◌, ◌<◌, ◌≤◌, List, [], ◌∷◌, ◌++◌, length, map, get_or, refl, sym, ap, ◌∙◌, arith, append_assoc}
+use Rattle.std.proofs.Common.{◌≡◌, ℕ, zero, suc, ◌+◌, ◌<◌, ◌≤◌, List, [], ◌∷◌, ◌++◌, length, map, take, drop, get_or, refl, sym, ap, ◌∙◌, arith, append_assoc}
 use Rattle.std.specs.List.{flat_map}
 use Rattle.btree.specs.Keys.{Each, times, Rises, IsUnder}
 
@@ -114,3 +114,34 @@ rises_across (x ∷ xs) ys h = (each_back _ xs ys h.0, rises_across xs ys h.1)
 pub rises_append : (xs ys : List (List ℕ)) → Rises xs → Rises ys → Each (λ x. Each (IsUnder x) ys) xs → Rises (xs ++ ys)
 rises_append [] ys h g k = g
 rises_append (x ∷ xs) ys h g k = (each_append _ xs ys h.0 k.0, rises_append xs ys h.1 g k.1)
+
+-- what was mapped so far, with the next one
+take_next_map : {X Y : Type 0} (f : X → Y) (xs : List X) (i : ℕ) (d : X) → i < length xs → take (suc i) (map f xs) ≡ take i (map f xs) ++ f (get_or xs i d) ∷ []
+take_next_map f [] i d lt = absurd (omega arith)
+take_next_map f (x ∷ xs) zero d lt = refl
+take_next_map f (x ∷ xs) (suc i) d lt = ap (λ zs. f x ∷ zs) (take_next_map f xs i d (omega arith))
+
+pub take_more_map : {X Y : Type 0} (f : X → Y) (xs : List X) (i : ℕ) (d : X) → i < length xs → take (i + 1) (map f xs) ≡ take i (map f xs) ++ f (get_or xs i d) ∷ []
+take_more_map f xs i d lt = let n : i + 1 ≡ suc i = omega arith in ap (λ k. take k (map f xs)) n ∙ take_next_map f xs i d lt
+
+pub map_map : {X Y Z : Type 0} (f : X → Y) (g : Y → Z) (xs : List X) → map g (map f xs) ≡ map (λ x. g (f x)) xs
+map_map f g [] = refl
+map_map f g (x ∷ xs) = ap (λ zs. g (f x) ∷ zs) (map_map f g xs)
+
+take_next_of : {X : Type 0} (xs : List X) (i : ℕ) (d : X) → i < length xs → take (suc i) xs ≡ take i xs ++ get_or xs i d ∷ []
+take_next_of [] i d lt = absurd (omega arith)
+take_next_of (x ∷ xs) zero d lt = refl
+take_next_of (x ∷ xs) (suc i) d lt = ap (λ zs. x ∷ zs) (take_next_of xs i d (omega arith))
+
+pub take_more : {X : Type 0} (xs : List X) (i : ℕ) (d : X) → i < length xs → take (i + 1) xs ≡ take i xs ++ get_or xs i d ∷ []
+take_more xs i d lt = let n : i + 1 ≡ suc i = omega arith in ap (λ k. take k xs) n ∙ take_next_of xs i d lt
+
+pub get_mapped : {X Y : Type 0} (f : X → Y) (xs : List X) (i : ℕ) (d : Y) (d' : X) → i < length xs → get_or (map f xs) i d ≡ f (get_or xs i d')
+get_mapped f [] i d d' lt = absurd (omega arith)
+get_mapped f (x ∷ xs) zero d d' lt = refl
+get_mapped f (x ∷ xs) (suc i) d d' lt = get_mapped f xs i d d' (omega arith)
+
+pub drop_more : {X Y : Type 0} (f : X → Y) (xs : List X) (i : ℕ) (d : X) → i < length xs → drop i (map f xs) ≡ f (get_or xs i d) ∷ drop (suc i) (map f xs)
+drop_more f [] i d lt = absurd (omega arith)
+drop_more f (x ∷ xs) zero d lt = refl
+drop_more f (x ∷ xs) (suc i) d lt = drop_more f xs i d (omega arith)

@@ -1,5 +1,6 @@
 -- What is live stays: a part of a tree in a store is one in every later store.
-use Rattle.std.proofs.Common.{ℕ, zero, suc, ◌+◌, List, [], ◌∷◌, drop, Bool, Option, sym, ap, ◌∙◌, arith, inl, inr}
+use Rattle.std.proofs.Common.{◌≡◌, ℕ, zero, suc, ◌+◌, List, [], ◌∷◌, drop, Bool, Option, Result, Ok, Err, subst, sym, ap, ◌∙◌, arith, inl, inr}
+use Rattle.std.specs.Result.{IfErr, IsErrAnd}
 use Rattle.btree.specs.Keys.{times}
 use Rattle.btree.specs.Store.{Store, Grows, IsSame, flag}
 use Rattle.btree.specs.Tree.{Body, Shows, HasLinks}
@@ -41,3 +42,11 @@ pub cause_later : (old mid new : Store) (e : TreeFault) → Grows old mid → Ha
 cause_later old mid new e g (inl h) = inl h
 cause_later old mid new e g (inr (inl h)) = inr (inl (omega (arith, g.faults)))
 cause_later old mid new e g (inr (inr h)) = inr (inr h)
+
+pub grows_itself : (s : Store) → Grows s s
+grows_itself s = record { kept = λ n content a. a; made = λ n. omega arith; retired = λ n. omega arith; faults = omega arith }
+
+-- a fault that was handed on
+pub failed_so : {X : Type 0} (old new : Store) (r : Result X TreeFault) (f : TreeFault) → IsErrAnd r (λ g. g ≡ f) → HasCause old new f → IfErr r (λ g. HasCause old new g)
+failed_so old new (Ok v) f h c = absurd h
+failed_so old new (Err g) f h c = subst (HasCause old new) (sym h) c

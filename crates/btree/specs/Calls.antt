@@ -5,7 +5,7 @@ use Rattle.std.specs.List.{flat_map, insert}
 use Rattle.btree.specs.declared.pages.TreeFault.{TreeFault}
 use Rattle.btree.specs.declared.pages.TreeFault.TheVariants.{Memory}
 use Rattle.page.specs.declared.cells.Stored.{Stored}
-use Rattle.page.specs.Content.{Item, Place}
+use Rattle.page.specs.Content.{Item, IsPlace, Place, place_size}
 use Rattle.btree.specs.Keys.{Pair, Entry, Edit, Each, IsBetween, IsUnder, Rises, change, entry_of, times, value_at}
 use Rattle.btree.specs.Store.{Store, HasFault, IsAt}
 use Rattle.btree.specs.Tree.{Body, HasChain, HasLinks, content_of, item_of, next_of, pair_keys, place_of, IsSound, IsWhole, Shows}
@@ -72,6 +72,10 @@ pub record IsTakenOut (old new : Store) (key : List ℕ) (pairs : List Pair) (it
 abbrev pub TakesOut : Store → Store → List ℕ → List Pair → List Item → Result ℕ TreeFault → Type 0
 TakesOut old new key pairs items (Ok at) = IsTakenOut old new key pairs items at
 TakesOut old new key pairs items (Err e) = HasCause old new e
+
+-- no longer than what lies in a cell may be
+abbrev pub IsSmallPlace : Place → Type 0
+IsSmallPlace place = IsPlace place × (place_size place ≤ 330)
 
 -- a value has its place in a cell, in it or in a chain that was written
 pub record IsStored (old new : Store) (value : List ℕ) (place : Place) : Type 0 where

@@ -1,8 +1,13 @@
 pub mod Calls
+pub mod Change
 pub mod EditView
 pub mod Keys
+pub mod Loose
+pub mod LooseView
+pub mod Reach
 pub mod Scan
 pub mod Search
 pub mod Store
 pub mod Tree
+pub mod Turn
 pub mod View

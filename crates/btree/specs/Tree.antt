@@ -28,6 +28,11 @@ pairs_of (suc d) twigs = flat_map (λ w. pairs_of d w.body) twigs
 abbrev pub entries_of : (d : ℕ) → Body d → List Entry
 entries_of d body = map entry_of (pairs_of d body)
 
+-- the pages below, those of the values' chains among them
+abbrev pub pages_of : (d : ℕ) → Body d → List ℕ
+pages_of zero pairs = flat_map (λ x. x.links) pairs
+pages_of (suc d) twigs = flat_map (λ w. w.page ∷ pages_of d w.body) twigs
+
 -- ---- the page that holds a body
 
 abbrev pub place_of : List ℕ → List ℕ → Place

@@ -1,5 +1,7 @@
 // Edits of the cells of a leaf.
 ghost use Rattle.std.specs.Prelude.{◌≡◌, ◌∷◌, [], ◌≤◌, ◌<◌, ◌^◌, List, length, map, IfOk, zero};
+ghost use Rattle.page.specs.Content.{IsItem, spilled};
+ghost use Rattle.btree.specs.Calls.{IsSmallPlace};
 ghost use Rattle.btree.specs.Keys.{Each, Pair, Rises};
 ghost use Rattle.btree.specs.Store.{Store, Grows};
 ghost use Rattle.btree.specs.Tree.{HasChain, Shows, item_of, pair_keys, place_of};
@@ -52,6 +54,8 @@ fn take_out<P: Pages>(
 ) -> Result<usize, TreeFault>
     ensures grows { Grows (P.store pages.old) (P.store pages.new) }
     ensures within { IfOk result (λ at. at ≤ length cells.new.items) }
+    ensures small { Each IsItem (map item_in cells.old.items)
+        → Each IsItem (map item_in cells.new.items) }
     ensures takes { (pairs : List Pair) → map item_in cells.old.items ≡ map item_of pairs
         → Rises (pair_keys pairs)
         → Shows (P.store pages.old) zero pairs
@@ -81,6 +85,13 @@ pub struct Edit<'a> {
 /// The longest value that lies in its cell, in bytes.
 const INLINE: usize = 330;
 
+fn chained<'a>(len: u32, first: u32) -> Stored<'a>
+    ensures place { place_in result ≡ spilled len first }
+    ensures range { (len < 2 ^ 32) × (first < 2 ^ 32) }
+{
+    Stored::Chained { len, first }
+}
+
 // Where a value lies in a new cell: in it, or in a chain that is written.
 fn stored_value<'a, P: Pages>(
     alloc: Global,
@@ -89,16 +100,14 @@ fn stored_value<'a, P: Pages>(
 ) -> Result<Stored<'a>, TreeFault>
     requires { length value.now < 2 ^ 32 }
     ensures grows { Grows (P.store pages.old) (P.store pages.new) }
+    ensures small { IfOk result (λ stored. IsSmallPlace (place_in stored)) }
     ensures stores { StoresValue (P.store pages.old) (P.store pages.new) value.now result }
 {
     if value.len() <= INLINE {
         return Ok(Stored::Inline(value));
     }
     let first = write_chain(alloc, pages, value)?;
-    Ok(Stored::Chained {
-        len: value.len() as u32,
-        first,
-    })
+    Ok(chained(value.len() as u32, first))
 }
 
 // Puts a cell with this key and value at a place.
@@ -111,7 +120,10 @@ fn put_in<'a, P: Pages>(
     value: &'a [u8],
 ) -> Result<(), TreeFault>
     requires place { at ≤ length cells.old.items }
+    requires key { length key.now ≤ 1024 }
     requires value { length value.now < 2 ^ 32 }
+    ensures small { Each IsItem (map item_in cells.old.items)
+        → IfOk result (λ done. Each IsItem (map item_in cells.new.items)) }
     ensures grows { Grows (P.store pages.old) (P.store pages.new) }
     ensures puts { PutsIn (P.store pages.old) (P.store pages.new) key.now value.now at
         (map item_in cells.old.items) (map item_in cells.new.items) result }
@@ -132,6 +144,8 @@ fn edit_cell<'a, P: Pages>(
 ) -> Result<(), TreeFault>
     requires { HasRoom edit }
     ensures grows { Grows (P.store pages.old) (P.store pages.new) }
+    ensures small { Each IsItem (map item_in cells.old.items)
+        → IfOk result (λ done. Each IsItem (map item_in cells.new.items)) }
     ensures edits { (pairs : List Pair) → map item_in cells.old.items ≡ map item_of pairs
         → Rises (pair_keys pairs)
         → Shows (P.store pages.old) zero pairs
@@ -145,8 +159,8 @@ fn edit_cell<'a, P: Pages>(
     }
 }
 
-// Makes edits of the cells of a leaf, one after the other.
-fn edit_cells<'a, P: Pages>(
+/// Makes edits of the cells of a leaf, one after the other.
+pub(crate) fn edit_cells<'a, P: Pages>(
     alloc: Global,
     pages: &mut P,
     cells: &mut Vec<Cell<'a>>,
@@ -154,6 +168,8 @@ fn edit_cells<'a, P: Pages>(
 ) -> Result<(), TreeFault>
     requires { Each HasRoom edits.now }
     ensures grows { Grows (P.store pages.old) (P.store pages.new) }
+    ensures small { Each IsItem (map item_in cells.old.items)
+        → IfOk result (λ done. Each IsItem (map item_in cells.new.items)) }
     ensures edits { (pairs : List Pair) → map item_in cells.old.items ≡ map item_of pairs
         → Rises (pair_keys pairs)
         → Shows (P.store pages.old) zero pairs

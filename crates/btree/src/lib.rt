@@ -2,9 +2,15 @@
 #![tactic(auto)]
 
 mod chain;
+mod changing;
+mod cutting;
 mod editing;
+mod joining;
 mod lookup;
+mod loose;
+mod opening;
 mod pages;
+mod parts;
 mod scanning;
 mod search;
 

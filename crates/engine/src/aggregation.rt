@@ -93,6 +93,9 @@ fn after_pipeline(
     ensures { Gives Refusal.OutOfMemory (λ v. v.items) result
         (after_pipeline (pipeline_of pipeline.now) 65535 documents.now) }
 {
+    if let Some(given) = pipeline.run_lent(documents, STORED_LIMIT as u32) {
+        return given;
+    }
     let needed = needed(alloc, pipeline, documents)?;
     pipeline.run(copies(alloc, &needed)?, STORED_LIMIT as u32)
 }

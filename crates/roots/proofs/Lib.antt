@@ -10,5 +10,6 @@ pub mod ReadSteps
 pub mod ReplaceSteps
 mod SplitSteps
 pub mod StandsLemmas
+pub mod tree
 pub mod WriteSteps
 mod WritingLemmas

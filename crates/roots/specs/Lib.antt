@@ -13,3 +13,4 @@ pub mod Reading
 pub mod Replace
 pub mod Root
 pub mod Store
+pub mod tree

@@ -13,3 +13,9 @@ mod growths;
 mod lists;
 #[cfg(test)]
 mod opening;
+#[cfg(test)]
+mod tree_bytes;
+#[cfg(test)]
+mod tree_faults;
+#[cfg(test)]
+mod trees;

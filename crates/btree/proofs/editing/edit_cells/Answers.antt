@@ -12,6 +12,7 @@ pub loop-edit-preserved : goal.loop-edit-preserved
 loop-edit-preserved g c =
     record {
       grows = grows_trans _ _ _ c.loop-edit.invariant.grows c.in_ok-edit_cell.ensures.grows;
+      small = λ h. c.in_ok-edit_cell.ensures.small (c.loop-edit.invariant.small h);
       edited = λ pairs e rise shown.
           let h = c.loop-edit.invariant.edited pairs e rise shown in
           let k = c.in_ok-edit_cell.ensures.edits h.pairs h.items_are h.rise h.shown in

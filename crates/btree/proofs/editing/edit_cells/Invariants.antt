@@ -1,5 +1,6 @@
 use Rattle.std.proofs.Common.{◌≡◌, zero, List, map, take}
-use Rattle.btree.specs.Keys.{Pair, Rises}
+use Rattle.btree.specs.Keys.{Each, Pair, Rises}
+use Rattle.page.specs.Content.{IsItem}
 use Rattle.btree.specs.Store.{Grows}
 use Rattle.btree.specs.Tree.{Shows, item_of, pair_keys}
 use Rattle.btree.specs.View.{item_in}
@@ -10,6 +11,7 @@ use Rattle.btree.proofs.editing.edit_cells.Given as goal
 abbrev pub invariant-loop-edit : goal.invariant-loop-edit
 invariant-loop-edit g l = record {
   grows : Grows (g.P.Pages.store l.initial.pages) (g.P.Pages.store l.pages);
+  small : Each IsItem (map item_in l.initial.cells.items) → Each IsItem (map item_in l.cells.items);
   edited : (pairs : List Pair) → map item_in l.initial.cells.items ≡ map item_of pairs → Rises (pair_keys pairs) → Shows (g.P.Pages.store l.initial.pages) zero pairs
       → IsEdited (g.P.Pages.store l.initial.pages) (g.P.Pages.store l.pages) (take l.edit-index (map edit_in l.edits)) pairs (map item_in l.cells.items);
 }

@@ -1,10 +1,15 @@
 use Rattle.std.proofs.Common.{sym, subst, map}
 use Rattle.btree.specs.Calls.{IsPutIn}
 use Rattle.btree.specs.View.{item_in}
-use Rattle.btree.proofs.EditLemmas.{put_in}
+use Rattle.btree.specs.Keys.{Each}
+use Rattle.page.specs.Content.{IsItem}
+use Rattle.btree.proofs.EditLemmas.{each_inserted, item_small, put_in}
 use Rattle.btree.proofs.editing.put_in.Goals as goal
 
 pub returns-in-Ok-clause-puts : goal.returns-in-Ok-clause-puts
 returns-in-Ok-clause-puts g c =
     subst (λ cs. IsPutIn (g.P.Pages.store c.args.pages.now) (g.P.Pages.store c.stored_value.new.pages) c.args.key.now c.args.value.now c.args.at (map item_in c.args.cells.now.items) (map item_in cs)) (sym c.in-Ok.ensures.items)
     (put_in (g.P.Pages.store c.args.pages.now) (g.P.Pages.store c.stored_value.new.pages) c.args.cells.now.items c.args.at _ c.args.value.now c.in_ok-stored.ensures.stores)
+
+pub returns-in-Ok-clause-small : goal.returns-in-Ok-clause-small
+returns-in-Ok-clause-small g c = λ h. subst (λ cs. Each IsItem (map item_in cs)) (sym c.in-Ok.ensures.items) (each_inserted c.args.cells.now.items c.args.at (record { key = c.args.key; stored = c.in_ok-stored.stored }) (item_small (record { key = c.args.key; stored = c.in_ok-stored.stored }) c.requires.key c.in_ok-stored.ensures.small) h)

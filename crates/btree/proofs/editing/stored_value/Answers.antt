@@ -1,6 +1,9 @@
-use Rattle.std.proofs.Common.{refl, arith}
+use Rattle.std.proofs.Common.{refl, arith, subst, sym}
+use Rattle.btree.specs.Calls.{IsStored}
 use Rattle.btree.proofs.EditLemmas.{chained}
 use Rattle.btree.proofs.editing.stored_value.Goals as goal
 
 pub returns-clause-stores : goal.returns-clause-stores
-returns-clause-stores g c = chained (g.P.Pages.store c.args.pages.now) (g.P.Pages.store c.write_chain.new.pages) c.args.value.now _ _ (omega arith) refl c.in_ok-first.ensures.writes
+returns-clause-stores g c =
+    subst (IsStored (g.P.Pages.store c.args.pages.now) (g.P.Pages.store c.write_chain.new.pages) c.args.value.now) (sym c.chained.ensures.place)
+    (chained (g.P.Pages.store c.args.pages.now) (g.P.Pages.store c.write_chain.new.pages) c.args.value.now _ _ (omega arith) refl c.in_ok-first.ensures.writes)

@@ -2,8 +2,10 @@ use Rattle.std.proofs.Common.{◌≡◌, ◌∙◌, sym, ap, subst, arith, lengt
 use Rattle.std.specs.Ordering.{is_eq}
 use Rattle.btree.specs.Calls.{IsTakenOut}
 use Rattle.btree.specs.View.{item_in}
+use Rattle.btree.specs.Keys.{Each}
+use Rattle.page.specs.Content.{IsItem}
 use Rattle.btree.specs.Search.{IsPlace}
-use Rattle.btree.proofs.EditLemmas.{taken_past, taken_other, taken_here, taken_failed}
+use Rattle.btree.proofs.EditLemmas.{each_removed, taken_past, taken_other, taken_here, taken_failed}
 use Rattle.btree.proofs.editing.take_out.Goals as goal
 
 pub returns-then-at-len-clause-takes : goal.returns-then-at-len-clause-takes
@@ -25,3 +27,6 @@ returns-clause-takes g c =
     subst (λ cs. IsTakenOut (g.P.Pages.store c.args.pages.now) (g.P.Pages.store c.retire_value.new.pages) c.args.key.now pairs (map item_in cs) c.place_among-at.result) (sym c.remove.ensures.items)
     (taken_here c.args.cells.now.items pairs c.args.key.now c.place_among-at.result e rise (subst (λ cs. IsPlace (map item_in cs) c.args.key.now c.place_among-at.result) c.deref.ensures.value c.place_among-at.ensures) (g.P.Pages.store c.args.pages.now) (g.P.Pages.store c.retire_value.new.pages)
     c.index.result.now (let long : vec_len c.args.cells.now ≡ length c.args.cells.now.items = search rules in omega arith) c.index.ensures (ap is_eq (sym c.cmp.ensures) ∙ sym c.is_eq.ensures ∙ c.if-not-is_eq.false) shown c.in_ok-retire_value.ensures.retires)
+
+pub returns-clause-small : goal.returns-clause-small
+returns-clause-small g c = λ h. subst (λ cs. Each IsItem (map item_in cs)) (sym c.remove.ensures.items) (each_removed c.args.cells.now.items c.place_among-at.result h)

@@ -1,9 +1,0 @@
-use Rattle.std.proofs.Common.{◌≡◌, drop, map}
-use Rattle.aggregate.specs.Pipeline.{run}
-use Rattle.aggregate.specs.View.{stage_of}
-use Rattle.aggregate.proofs.pipeline.Pipeline.run.Given as goal
-
-abbrev pub invariant-stages : goal.invariant-stages
-invariant-stages l =
-    run (map stage_of (drop l.stage-index l.self.stages.items)) l.limit l.documents.items
-    ≡ run (map stage_of l.self.stages.items) l.limit l.initial.documents.items

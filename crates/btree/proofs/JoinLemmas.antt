@@ -1,0 +1,87 @@
+-- Joining what was taken out of neighbouring pages.
+use Rattle.std.proofs.Common.{◌≡◌, ℕ, zero, suc, ◌+◌, ◌<◌, ◌≤◌, List, [], ◌∷◌, ◌++◌, length, map, Option, Some, None, Result, Ok, Err, refl, sym, ap, ◌∙◌, subst, arith, ◌⊎◌, inl, inr, append-nil, append_assoc}
+use Rattle.btree.specs.declared.loose.Loose.{Loose}
+use Rattle.btree.specs.declared.pages.TreeFault.{TreeFault}
+use Rattle.btree.specs.Keys.{Entry, IsNotUnder, times}
+use Rattle.btree.specs.Store.{Store, Grows}
+use Rattle.btree.specs.Turn.{AreParted, AreTurned, GoesBefore, IsFirstCut, IsHeld, IsJoined, IsReady, IsTurned, IsUpTo, Sheaf, Turns, sheaf_in}
+use Rattle.btree.proofs.KeyLemmas.{not_under_trans}
+use Rattle.btree.proofs.ListLemmas.{times_append}
+use Rattle.btree.proofs.RaiseLemmas.{no_entries}
+use Rattle.btree.proofs.StoreLemmas.{cause_later, grows_trans}
+use Rattle.btree.proofs.WideLemmas.{spread_high, spread_low, up_to_wider}
+
+module _ (s : Store) (base : ℕ) (low mid : List ℕ) (high : Option (List ℕ)) (first last : List Entry) (left_pages right_pages : List ℕ) (left right : Sheaf) (h : IsHeld s base low (Some mid) first left_pages left)
+    (g : IsHeld s base mid high last right_pages right) (over : IsNotUnder mid low) (within : IsUpTo mid high) where
+  pub left_gone : length left.stubs ≡ 0 → IsTurned s s base low high (first ++ last) (left_pages ++ right_pages) right
+  left_gone none =
+      let empty = no_entries h.d h.body (omega (arith, ap length h.stubs_are)) in
+      let no_e : first ≡ [] = sym h.entries_are ∙ empty.0 in
+      record {
+        after = right_pages;
+        held = record {
+          d = g.d;
+          body = g.body;
+          rank_is = g.rank_is;
+          stubs_are = g.stubs_are;
+          small = g.small;
+          spread = spread_low g.d mid low high over g.body g.spread;
+          shown = g.shown;
+          entries_are = g.entries_are ∙ ap (λ es. es ++ last) (sym no_e);
+          pages_are = g.pages_are;
+        };
+        turned = λ n. omega (arith, h.pages_are n, empty.1 n, times_append n left_pages right_pages);
+      }
+
+  pub right_gone : length right.stubs ≡ 0 → IsTurned s s base low high (first ++ last) (left_pages ++ right_pages) left
+  right_gone none =
+      let empty = no_entries g.d g.body (omega (arith, ap length g.stubs_are)) in
+      let no_e : last ≡ [] = sym g.entries_are ∙ empty.0 in
+      record {
+        after = left_pages;
+        held = record {
+          d = h.d;
+          body = h.body;
+          rank_is = h.rank_is;
+          stubs_are = h.stubs_are;
+          small = h.small;
+          spread = spread_high h.d low (Some mid) high (up_to_wider mid high within) h.body h.spread;
+          shown = h.shown;
+          entries_are = h.entries_are ∙ sym (append-nil first) ∙ ap (λ es. first ++ es) (sym no_e);
+          pages_are = h.pages_are;
+        };
+        turned = λ n. omega (arith, g.pages_are n, empty.1 n, times_append n left_pages right_pages);
+      }
+
+pub up_to_trans : (a mid : List ℕ) (high : Option (List ℕ)) → IsNotUnder mid a → IsUpTo mid high → IsUpTo a high
+up_to_trans a mid None h g = tt
+up_to_trans a mid (Some high) h g = not_under_trans a mid high h g
+
+pub ready_joined : (base : ℕ) (part both : Sheaf) → IsReady base part → both.rank ≡ part.rank → length part.stubs ≤ length both.stubs → IsReady base both
+ready_joined base part both ready rank long = (omega (arith, ready.0), elim ready.1 [ inl low ↦ inl (rank ∙ low) | inr two ↦ inr (omega arith) ])
+
+-- the left one's last child was taken apart
+pub turned_left : (old a b new : Store) (base : ℕ) (low mid : List ℕ) (high : Option (List ℕ)) (first last : List Entry) (left_pages right_pages : List ℕ) (front back below : Sheaf) (r : Result Loose TreeFault)
+    → Grows old a → Grows a b → (p : AreParted old a base low (Some mid) first left_pages front back) → (t : IsTurned a b base p.mid high (p.back_entries ++ last) (p.back_pages ++ right_pages) below)
+    → Turns b new base low high (p.front_entries ++ (p.back_entries ++ last)) (p.front_pages ++ t.after) r → Turns old new base low high (first ++ last) (left_pages ++ right_pages) r
+turned_left old a b new base low mid high first last left_pages right_pages front back below (Ok l) g1 g2 p t u =
+    let same : p.front_entries ++ (p.back_entries ++ last) ≡ first ++ last = sym (append_assoc p.front_entries p.back_entries last) ∙ ap (λ es. es ++ last) p.entries_are in
+    record {
+      after = u.after;
+      held = subst (λ es. IsHeld new base low high es u.after (sheaf_in l)) same u.held;
+      turned = λ n. omega (arith, u.turned n, t.turned n, p.turned n, times_append n p.front_pages t.after, times_append n p.back_pages right_pages, times_append n p.front_pages p.back_pages, times_append n left_pages right_pages);
+    }
+turned_left old a b new base low mid high first last left_pages right_pages front back below (Err e) g1 g2 p t u = cause_later old b new e (grows_trans old a b g1 g2) u
+
+-- the right one's first child was taken apart
+pub turned_right : (old a b new : Store) (base : ℕ) (low mid : List ℕ) (high : Option (List ℕ)) (first last : List Entry) (left_pages right_pages : List ℕ) (front back below : Sheaf) (r : Result Loose TreeFault)
+    → Grows old a → Grows a b → (p : IsFirstCut old a base mid high last right_pages front back) → (t : IsTurned a b base low p.between (first ++ p.front_entries) (left_pages ++ p.front_pages) below)
+    → Turns b new base low high ((first ++ p.front_entries) ++ p.back_entries) (t.after ++ p.back_pages) r → Turns old new base low high (first ++ last) (left_pages ++ right_pages) r
+turned_right old a b new base low mid high first last left_pages right_pages front back below (Ok l) g1 g2 p t u =
+    let same : (first ++ p.front_entries) ++ p.back_entries ≡ first ++ last = append_assoc first p.front_entries p.back_entries ∙ ap (λ es. first ++ es) p.entries_are in
+    record {
+      after = u.after;
+      held = subst (λ es. IsHeld new base low high es u.after (sheaf_in l)) same u.held;
+      turned = λ n. omega (arith, u.turned n, t.turned n, p.turned n, times_append n t.after p.back_pages, times_append n left_pages p.front_pages, times_append n p.front_pages p.back_pages, times_append n left_pages right_pages);
+    }
+turned_right old a b new base low mid high first last left_pages right_pages front back below (Err e) g1 g2 p t u = cause_later old b new e (grows_trans old a b g1 g2) u

@@ -1,0 +1,37 @@
+use Rattle.std.proofs.Common.{◌≡◌, ◌∙◌, [], ap, sym, subst, ◌≤◌, ◌+◌, ◌-◌, ◌<◌, arith, length, map, take, drop, get_or, false}
+use Rattle.page.specs.Content.{inline}
+use Rattle.btree.specs.Loose.{IsPart, Stub, value, stub_size, stubs_size}
+use Rattle.btree.specs.LooseView.{stub_in}
+use Rattle.btree.proofs.ListLemmas.{long_map}
+use Rattle.btree.proofs.CuttingLemmas.{behind_is, behind_long, none_fits, take_over, part_front, part_half}
+use Rattle.btree.proofs.cutting.part_len.Goals as goal
+
+none : Stub
+none = record { key = []; load = value (inline []) }
+
+pub returns-then-whole-eq0-clause-part : goal.returns-then-whole-eq0-clause-part
+returns-then-whole-eq0-clause-part c =
+    λ small. none_fits (map stub_in c.args.units.now) none c.args.fills 4080 (omega (arith, long_map stub_in c.args.units.now)) (omega arith)
+    (subst (λ n. 4080 < stubs_size (take n (map stub_in c.args.units.now)) + stub_size (get_or (map stub_in c.args.units.now) n none)) c.if-whole-eq0.true (c.units_within-whole.ensures.next none (omega arith))) small
+
+pub returns-then-whole-behind-clause-part : goal.returns-then-whole-behind-clause-part
+returns-then-whole-behind-clause-part c =
+    λ small.
+    let long = long_map stub_in c.args.units.now in
+    let next : 1360 < stubs_size (take c.units_within-behind.result (drop c.units_within-whole.result (map stub_in c.args.units.now))) + stub_size (get_or (drop c.units_within-whole.result (map stub_in c.args.units.now)) c.units_within-behind.result none) =
+    subst (λ ss. 1360 < stubs_size (take c.units_within-behind.result ss) + stub_size (get_or ss c.units_within-behind.result none)) (behind_is c.args.units.now c.units_within-whole.result (omega arith)) (c.units_within-behind.ensures.next none (omega (arith, ap length (take_over (length c.args.units.now - c.units_within-whole.result) (drop c.units_within-whole.result c.args.units.now) (omega (arith, behind_long c.units_within-whole.result c.args.units.now (omega arith)))), behind_long c.units_within-whole.result c.args.units.now (omega arith)))) in
+    subst (λ f. IsPart f (map stub_in c.args.units.now) c.units_within-whole.result) (sym c.if-fills.false)
+    (part_front (map stub_in c.args.units.now) none c.units_within-whole.result c.units_within-behind.result (omega arith) (c.units_within-whole.ensures.next none (omega arith)) c.units_within-whole.ensures.room (omega arith) next small)
+
+pub returns-then-half-eq0-clause-part : goal.returns-then-half-eq0-clause-part
+returns-then-half-eq0-clause-part c =
+    λ small. none_fits (map stub_in c.args.units.now) none c.args.fills 2720 (omega (arith, long_map stub_in c.args.units.now)) (omega arith)
+    (subst (λ n. 2720 < stubs_size (take n (map stub_in c.args.units.now)) + stub_size (get_or (map stub_in c.args.units.now) n none)) c.if-half-eq0.true (c.units_within-half.ensures.next none (omega arith))) small
+
+pub returns-clause-part : goal.returns-clause-part
+returns-clause-part c =
+    λ small.
+    let long = long_map stub_in c.args.units.now in
+    subst (λ f. IsPart f (map stub_in c.args.units.now) c.units_within-half.result) (sym c.if-fills.false)
+    (part_half (map stub_in c.args.units.now) none c.units_within-whole.result c.units_within-half.result (omega arith) (c.units_within-whole.ensures.next none (omega arith)) (omega (arith, c.units_within-half.ensures.within)) c.units_within-half.ensures.room
+    (λ lt. c.units_within-half.ensures.next none (omega arith)) small)

@@ -1,0 +1,226 @@
+// A change by a list of edits, from a page down.
+ghost use Rattle.std.specs.Prelude.{◌≡◌, ◌<◌, ◌≤◌, ◌+◌, ◌*◌, ◌++◌, ◌∷◌, [], ℕ, zero, List, Option, Some, None, drop, length, map, slice_index_or, IfErr, IfOk};
+ghost use Rattle.btree.specs.Change.{BeginsAt, edit_keys};
+ghost use Rattle.btree.specs.EditView.{HasRoom, edit_in};
+ghost use Rattle.btree.specs.Keys.{Each, Entry, IsBetween, IsNotUnder, IsUnder, Pair, Rises, change, entry_of};
+ghost use Rattle.btree.specs.Loose.{Stub, first_or};
+ghost use Rattle.btree.specs.LooseView.{stub_in};
+ghost use Rattle.btree.specs.Store.{Grows, IsAt, Store};
+ghost use Rattle.btree.specs.Tree.{Body, IsSound, IsWhole, Shows, content_of, entries_of, item_of, pages_of};
+ghost use Rattle.btree.specs.Turn.{IsHeld, IsUpTo, Turns, sheaf_in};
+ghost use Rattle.btree.specs.declared.pages.TreeFault.TheVariants.{Memory};
+
+use crate::editing::{Edit, edit_cells};
+use crate::joining::{meet, meet_behind};
+use crate::loose::{Loose, Unit, page_below, units_of_cells};
+use crate::opening::{leaf_cells, units_of_branch};
+use crate::search::leaf_key;
+use crate::{Pages, TreeFault};
+use page::{Leaf, PageContent};
+use std::alloc::Global;
+use std::cmp::Ordering;
+
+// The first edit whose key isn't below this one.
+fn edits_from(edits: &[Edit<'_>], key: &[u8]) -> usize
+    ensures within { result ≤ length edits.now }
+    ensures before { (k : ℕ) (d : Edit) → k + 1 ≡ result
+        → IsUnder (slice_index_or edits.now k d).key.now key.now }
+    ensures behind { Each (λ e. IsNotUnder e.key key.now)
+        (drop result (map edit_in edits.now)) }
+{
+    let mut from = edits.len();
+    while from > 0 {
+        if let Ordering::Less = edits[from - 1].key.cmp(key) {
+            return from;
+        }
+        from -= 1;
+    }
+    0
+}
+
+// The edits below a key, and the others.
+fn edits_at<'s, 'a>(edits: &'s [Edit<'a>], key: &[u8]) -> (&'s [Edit<'a>], &'s [Edit<'a>])
+    requires { Each HasRoom edits.now }
+    ensures room { Each HasRoom result.0.now × Each HasRoom result.1.now }
+    ensures parts { map edit_in edits.now
+        ≡ map edit_in result.0.now ++ map edit_in result.1.now }
+    ensures before { Rises (edit_keys (map edit_in edits.now))
+        → Each (λ e. IsUnder e.key key.now) (map edit_in result.0.now) }
+    ensures behind { Each (λ e. IsNotUnder e.key key.now) (map edit_in result.1.now) }
+{
+    edits.split_at(edits_from(edits, key))
+}
+
+// The last child whose key isn't above this one, or the first child.
+fn child_place(units: &[Unit], key: &[u8]) -> usize
+    requires { 0 < length units.now }
+    ensures within { result < length units.now }
+    ensures next { (s : Stub) → result + 1 < length units.now
+        → IsUnder key.now (slice_index_or (map stub_in units.now) (result + 1) s).key }
+{
+    let mut at = units.len() - 1;
+    while at > 0 {
+        match key.cmp(units[at].key.as_slice()) {
+            Ordering::Less => at -= 1,
+            _ => return at,
+        }
+    }
+    0
+}
+
+/// What stands before a child, the child, and what stands behind it.
+struct Parted {
+    left: Loose,
+    unit: Unit,
+    right: Loose,
+}
+
+// Takes a child out from among its neighbours.
+fn part_at(loose: Loose, at: usize) -> Result<Parted, TreeFault>
+    requires { at < length loose.units.items }
+    ensures left { IfOk result (λ p. length p.left.units.items ≡ at) }
+    ensures left_rank { IfOk result (λ p. p.left.rank ≡ loose.rank) }
+    ensures right_rank { IfOk result (λ p. p.right.rank ≡ loose.rank) }
+    ensures parts { IfOk result (λ p. map stub_in loose.units.items
+        ≡ (map stub_in p.left.units.items ++ stub_in p.unit ∷ [])
+        ++ map stub_in p.right.units.items) }
+    ensures err { IfErr result (λ e. e ≡ Memory) }
+{
+    let mut units = loose.units;
+    let Ok(behind) = units.split_off(at + 1) else {
+        return Err(TreeFault::Memory);
+    };
+    let Some(unit) = units.pop() else {
+        return Err(TreeFault::Memory);
+    };
+    let left = Loose {
+        rank: loose.rank,
+        units,
+        fills: false,
+    };
+    let right = Loose {
+        rank: loose.rank,
+        units: behind,
+        fills: false,
+    };
+    Ok(Parted { left, unit, right })
+}
+
+// Whether all edits lie behind the last cell.
+fn come_behind(leaf: &Leaf, edits: &[Edit<'_>]) -> bool {
+    let len = leaf.len();
+    if len == 0 {
+        return false;
+    }
+    let Some(first) = edits.first() else {
+        return false;
+    };
+    matches!(leaf_key(leaf, len - 1).cmp(first.key), Ordering::Less)
+}
+
+// The cells of a leaf after edits.
+fn change_leaf<P: Pages>(
+    alloc: Global,
+    pages: &mut P,
+    leaf: &Leaf,
+    rank: u32,
+    edits: &[Edit<'_>],
+) -> Result<Loose, TreeFault>
+    requires { Each HasRoom edits.now }
+    ensures grows { Grows (P.store pages.old) (P.store pages.new) }
+    ensures turns { (base : ℕ) (low : List ℕ) (high : Option (List ℕ)) (pairs : List Pair)
+        → rank ≡ base → leaf.now ≡ map item_of pairs → IsSound zero low high pairs
+        → Shows (P.store pages.old) zero pairs
+        → Each (λ e. IsBetween low high e.key) (map edit_in edits.now)
+        → Turns (P.store pages.old) (P.store pages.new) base low high
+        (change (map edit_in edits.now) (map entry_of pairs)) (pages_of zero pairs) result }
+{
+    let mut cells = leaf_cells(alloc, leaf)?;
+    edit_cells(alloc, pages, &mut cells, edits)?;
+    let units = units_of_cells(alloc, &cells)?;
+    Ok(Loose {
+        rank,
+        units,
+        fills: come_behind(leaf, edits),
+    })
+}
+
+/// What is below a page after edits. The keys there begin at `low`, and `rank` says how many levels may be below.
+#[cycle(change)]
+pub(crate) fn change_below<P: Pages>(
+    alloc: Global,
+    pages: &mut P,
+    page: u32,
+    rank: u32,
+    low: &[u8],
+    edits: &[Edit<'_>],
+) -> Result<Loose, TreeFault>
+    requires { Each HasRoom edits.now }
+    ensures grows { Grows (P.store pages.old) (P.store pages.new) }
+    ensures turns { (base d : ℕ) (high : Option (List ℕ)) (body : Body d) → rank ≡ base + d
+        → IsAt (P.store pages.old) page (content_of d body) → Shows (P.store pages.old) d body
+        → IsWhole d body → IsSound d low.now high body → 6 + length low.now ≤ 1360
+        → Rises (edit_keys (map edit_in edits.now))
+        → Each (λ e. IsBetween low.now high e.key) (map edit_in edits.now)
+        → Turns (P.store pages.old) (P.store pages.new) base low.now high
+        (change (map edit_in edits.now) (entries_of d body)) (page ∷ pages_of d body) result }
+{
+    let content = pages.read(page)?;
+    pages.retire(page)?;
+    let branch = match &*content {
+        PageContent::Leaf(leaf) => return change_leaf(alloc, pages, leaf, rank, edits),
+        PageContent::Branch(branch) => branch,
+        _ => return Err(TreeFault::Kind),
+    };
+    if rank == 0 {
+        return Err(TreeFault::Order);
+    }
+    let units = units_of_branch(alloc, branch, low)?;
+    let loose = Loose {
+        rank,
+        units,
+        fills: false,
+    };
+    change_children(alloc, pages, loose, edits)
+}
+
+// Children after edits, from the last one to the first.
+#[cycle(change)]
+fn change_children<P: Pages>(
+    alloc: Global,
+    pages: &mut P,
+    loose: Loose,
+    edits: &[Edit<'_>],
+) -> Result<Loose, TreeFault>
+    requires room { Each HasRoom edits.now }
+    requires rank { 0 < loose.rank }
+    ensures grows { Grows (P.store pages.old) (P.store pages.new) }
+    ensures turns { (base : ℕ) (low : List ℕ) (high : Option (List ℕ)) (entries : List Entry)
+        (reached : List ℕ)
+        → IsHeld (P.store pages.old) base low high entries reached (sheaf_in loose)
+        → base < loose.rank
+        → BeginsAt low (map edit_in edits.now) (map stub_in loose.units.items)
+        → Rises (edit_keys (map edit_in edits.now))
+        → Each (λ e. IsBetween low high e.key) (map edit_in edits.now)
+        → Turns (P.store pages.old) (P.store pages.new) base low high
+        (change (map edit_in edits.now) entries) reached result }
+{
+    let len = edits.len();
+    if len == 0 {
+        return Ok(loose);
+    }
+    if loose.units.is_empty() {
+        return Err(TreeFault::Order);
+    }
+    let at = child_place(&loose.units, edits[len - 1].key);
+    let Parted { left, unit, right } = part_at(loose, at)?;
+    let Some(page) = page_below(&unit) else {
+        return Err(TreeFault::Kind);
+    };
+    let key = unit.key.as_slice();
+    let (theirs, mine) = edits_at(edits, key);
+    let below = change_below(alloc, pages, page, left.rank - 1, key, mine)?;
+    let front = change_children(alloc, pages, left, theirs)?;
+    let back = meet_behind(alloc, pages, below, right)?;
+    meet(alloc, pages, front, back)
+}

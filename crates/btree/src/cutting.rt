@@ -1,0 +1,151 @@
+// Cutting cells and children into pages, by bytes.
+ghost use Rattle.std.specs.Prelude.{◌≡◌, ◌<◌, ◌≤◌, ◌+◌, ◌-◌, ◌^◌, ◌⊎◌, ℕ, true, List, length, map, take, drop, None, slice_index_or};
+ghost use Rattle.btree.specs.Keys.{Each};
+ghost use Rattle.btree.specs.Loose.{GoBehind, IsOver, IsPart, IsStub, Stub, stub_size, stubs_size};
+ghost use Rattle.btree.specs.LooseView.{stub_in};
+ghost use Rattle.std.specs.Option.{option_map};
+
+use crate::loose::{Hold, Unit};
+use std::cmp::Ordering;
+
+/// The bytes behind a page's header.
+pub(crate) const ROOM: usize = 4080;
+/// The most bytes of a cell, a third of a page.
+const THIRD: usize = 1360;
+/// The most bytes of the first of two pages that get about as much.
+const TWO_THIRDS: usize = 2720;
+/// The longest value that lies in its cell, in bytes.
+const INLINE: usize = 330;
+
+// The bytes of a cell or child, where they are no more than a cell may have.
+fn unit_size(unit: &Unit) -> usize
+    ensures small { stub_size (stub_in unit.now) ≤ 4080 → result ≡ stub_size (stub_in unit.now) }
+    ensures large { result ≤ 4080 → result ≡ stub_size (stub_in unit.now) }
+{
+    let value = match &unit.hold {
+        Hold::Inline(bytes) => bytes.len(),
+        Hold::Chained { .. } => 4,
+        Hold::Page(_) => 0,
+    };
+    unit.key.len().saturating_add(value).saturating_add(6)
+}
+
+// Any number can be a page's.
+fn is_number(_page: u32) -> bool
+    ensures range { _page < 2 ^ 32 }
+    ensures always { result ≡ true }
+{
+    true
+}
+
+// Whether a chain may have so many bytes.
+fn is_chain(len: u32, first: u32) -> bool
+    ensures yes { 330 < len → result ≡ true }
+    ensures no { result ≡ true → (330 < len) × (len < 2 ^ 32) × (first < 2 ^ 32) }
+{
+    if !is_number(first) {
+        return false;
+    }
+    len as usize > INLINE
+}
+
+// Whether the cell or child may stand in a page.
+fn is_unit(unit: &Unit) -> bool
+    ensures yes { IsStub (stub_in unit.now) → result ≡ true }
+    ensures no { result ≡ true → IsStub (stub_in unit.now) }
+{
+    if unit_size(unit) > THIRD {
+        return false;
+    }
+    match &unit.hold {
+        Hold::Inline(bytes) => bytes.len() <= INLINE,
+        Hold::Chained { len, first } => is_chain(*len, *first),
+        Hold::Page(page) => is_number(*page),
+    }
+}
+
+// Whether the key is above the last one, if there is one.
+fn is_over(key: &[u8], last: Option<&[u8]>) -> bool
+    ensures yes { IsOver (option_map (λ b. b.now) last.entry) key.now → result ≡ true }
+    ensures no { result ≡ true → IsOver (option_map (λ b. b.now) last.entry) key.now }
+{
+    match last {
+        None => true,
+        Some(last) => matches!(last.cmp(key), Ordering::Less),
+    }
+}
+
+/// Whether cells or children ascend, each no larger than it may be, and find room in a page.
+pub(crate) fn go_into_page(units: &[Unit]) -> bool
+    ensures yes { GoBehind None 0 (map stub_in units.now) → result ≡ true }
+    ensures no { result ≡ true → GoBehind None 0 (map stub_in units.now) }
+{
+    let mut used = 0;
+    let mut last = None;
+    for unit in units {
+        if !is_unit(unit) {
+            return false;
+        }
+        let key = unit.key.as_slice();
+        if !is_over(key, last) {
+            return false;
+        }
+        let size = unit_size(unit);
+        if size > ROOM - used {
+            return false;
+        }
+        used += size;
+        last = Some(key);
+    }
+    true
+}
+
+/// How many of the first cells or children find room in so many bytes.
+pub(crate) fn units_within(units: &[Unit], limit: usize) -> usize
+    requires { limit ≤ 4080 }
+    ensures within { result ≤ length units.now }
+    ensures room { stubs_size (take result (map stub_in units.now)) ≤ limit }
+    ensures next { (s : Stub) → result < length units.now
+        → limit < stubs_size (take result (map stub_in units.now))
+        + stub_size (slice_index_or (map stub_in units.now) result s) }
+{
+    let mut used = 0;
+    for (i, unit) in units.iter().enumerate() {
+        let size = unit_size(unit);
+        if size > limit - used {
+            return i;
+        }
+        used += size;
+    }
+    units.len()
+}
+
+/// How many cells or children go into the next page: as many as find room, or so many that what is behind
+/// them isn't next to nothing, where the pages needn't be filled.
+pub(crate) fn part_len(units: &[Unit], fills: bool) -> usize
+    requires { 0 < length units.now }
+    ensures some { 0 < result }
+    ensures within { result ≤ length units.now }
+    ensures part { Each IsStub (map stub_in units.now)
+        → IsPart fills (map stub_in units.now) result }
+{
+    let whole = units_within(units, ROOM);
+    if whole >= units.len() {
+        return whole;
+    }
+    if whole == 0 {
+        return 1;
+    }
+    if fills {
+        return whole;
+    }
+    let behind = units_within(&units[whole..], THIRD);
+    if whole + behind < units.len() {
+        return whole;
+    }
+    let half = units_within(units, TWO_THIRDS);
+    if half == 0 {
+        return 1;
+    }
+    half
+}

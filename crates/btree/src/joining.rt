@@ -1,0 +1,242 @@
+// Joining what was taken out of neighbouring pages.
+ghost use Rattle.std.specs.Prelude.{◌≡◌, ◌<◌, ◌≤◌, ◌+◌, ◌++◌, ◌∷◌, ℕ, List, Option, Some, true, length, map, IfErr, IfOk};
+ghost use Rattle.btree.specs.Change.{IsBehind};
+ghost use Rattle.btree.specs.Keys.{Entry, IsNotUnder};
+ghost use Rattle.btree.specs.LooseView.{stub_in};
+ghost use Rattle.btree.specs.Store.{Grows, Store};
+ghost use Rattle.btree.specs.Turn.{GoesBefore, IsHeld, IsJoined, IsReady, IsUpTo, PartsFirst, PartsLast, Turns, sheaf_in};
+
+use crate::cutting::units_within;
+use crate::loose::{Loose, page_below};
+use crate::opening::{concat, open_page, raise};
+use crate::{Pages, TreeFault};
+use std::alloc::Global;
+
+/// A quarter of a page, in bytes: what has less is joined with what is beside it.
+const QUARTER: usize = 1020;
+
+// Whether it may stand in pages of its own.
+fn is_full(loose: &Loose) -> bool
+    ensures { result ≡ true → 2 ≤ length loose.now.units.items }
+{
+    if loose.units.len() < 2 {
+        return false;
+    }
+    units_within(&loose.units, QUARTER) < loose.units.len()
+}
+
+// Takes the last child off and takes its page apart.
+fn take_last<P: Pages>(
+    alloc: Global,
+    pages: &mut P,
+    loose: Loose,
+) -> Result<(Loose, Loose), TreeFault>
+    requires { 0 < loose.rank }
+    ensures grows { Grows (P.store pages.old) (P.store pages.new) }
+    ensures front_rank { IfOk result (λ parts. parts.0.rank ≡ loose.rank) }
+    ensures front { IfOk result
+        (λ parts. length parts.0.units.items + 1 ≡ length loose.units.items) }
+    ensures back_rank { IfOk result (λ parts. parts.1.rank + 1 ≡ loose.rank) }
+    ensures back { IfOk result (λ parts. 0 < length parts.1.units.items) }
+    ensures parts { (base : ℕ) (low : List ℕ) (high : Option (List ℕ)) (entries : List Entry)
+        (reached : List ℕ)
+        → IsHeld (P.store pages.old) base low high entries reached (sheaf_in loose)
+        → base < loose.rank → 0 < length loose.units.items
+        → PartsLast (P.store pages.old) (P.store pages.new) base low high entries reached result }
+{
+    let mut units = loose.units;
+    let Some(unit) = units.pop() else {
+        return Err(TreeFault::Length);
+    };
+    let Some(page) = page_below(&unit) else {
+        return Err(TreeFault::Kind);
+    };
+    let opened = open_page(alloc, pages, page, loose.rank - 1, &unit.key)?;
+    let front = Loose {
+        rank: loose.rank,
+        units,
+        fills: false,
+    };
+    Ok((front, opened))
+}
+
+// Takes the first child off and takes its page apart.
+fn take_first<P: Pages>(
+    alloc: Global,
+    pages: &mut P,
+    loose: Loose,
+) -> Result<(Loose, Loose), TreeFault>
+    requires { 0 < loose.rank }
+    ensures grows { Grows (P.store pages.old) (P.store pages.new) }
+    ensures front_rank { IfOk result (λ parts. parts.0.rank + 1 ≡ loose.rank) }
+    ensures front { IfOk result (λ parts. 0 < length parts.0.units.items) }
+    ensures back_rank { IfOk result (λ parts. parts.1.rank ≡ loose.rank) }
+    ensures back { IfOk result
+        (λ parts. length parts.1.units.items + 1 ≡ length loose.units.items) }
+    ensures parts { (base : ℕ) (low : List ℕ) (high : Option (List ℕ)) (entries : List Entry)
+        (reached : List ℕ)
+        → IsHeld (P.store pages.old) base low high entries reached (sheaf_in loose)
+        → base < loose.rank → 0 < length loose.units.items → IsUpTo low high
+        → PartsFirst (P.store pages.old) (P.store pages.new) base low high entries reached result }
+{
+    let mut units = loose.units;
+    if units.is_empty() {
+        return Err(TreeFault::Length);
+    }
+    let unit = units.remove(0);
+    let Some(page) = page_below(&unit) else {
+        return Err(TreeFault::Kind);
+    };
+    let opened = open_page(alloc, pages, page, loose.rank - 1, &unit.key)?;
+    let back = Loose {
+        rank: loose.rank,
+        units,
+        fills: loose.fills,
+    };
+    Ok((opened, back))
+}
+
+// Writes what is below, and puts what stands for it behind what is in front.
+fn raise_behind<P: Pages>(
+    alloc: Global,
+    pages: &mut P,
+    front: Loose,
+    below: Loose,
+) -> Result<Loose, TreeFault>
+    requires next { below.rank + 1 ≡ front.rank }
+    requires range { below.rank < 4294967295 }
+    ensures grows { Grows (P.store pages.old) (P.store pages.new) }
+    ensures rank { IfOk result (λ both. both.rank ≡ front.rank) }
+    ensures long { 0 < length below.units.items
+        → IfOk result (λ both. length front.units.items + 1 ≤ length both.units.items) }
+    ensures turns { (base : ℕ) (low mid : List ℕ) (high : Option (List ℕ)) (first last : List Entry)
+        (front_pages pages_below : List ℕ)
+        → IsHeld (P.store pages.old) base low (Some mid) first front_pages (sheaf_in front)
+        → IsHeld (P.store pages.old) base mid high last pages_below (sheaf_in below)
+        → IsReady base (sheaf_in below) → IsNotUnder mid low → IsUpTo mid high
+        → Turns (P.store pages.old) (P.store pages.new) base low high (first ++ last)
+        (front_pages ++ pages_below) result }
+{
+    let above = raise(alloc, pages, below)?;
+    concat(front, above)
+}
+
+// Writes what is below, and puts what stands for it before what is behind.
+fn raise_before<P: Pages>(
+    alloc: Global,
+    pages: &mut P,
+    below: Loose,
+    back: Loose,
+) -> Result<Loose, TreeFault>
+    requires next { below.rank + 1 ≡ back.rank }
+    requires range { below.rank < 4294967295 }
+    ensures grows { Grows (P.store pages.old) (P.store pages.new) }
+    ensures rank { IfOk result (λ both. both.rank ≡ back.rank) }
+    ensures long { 0 < length below.units.items
+        → IfOk result (λ both. length back.units.items + 1 ≤ length both.units.items) }
+    ensures turns { (base : ℕ) (low : List ℕ) (between high : Option (List ℕ))
+        (first last : List Entry) (pages_below back_pages : List ℕ)
+        → IsHeld (P.store pages.old) base low between first pages_below (sheaf_in below)
+        → IsReady base (sheaf_in below)
+        → GoesBefore (P.store pages.old) base low between high last back_pages (sheaf_in back)
+        → Turns (P.store pages.old) (P.store pages.new) base low high (first ++ last)
+        (pages_below ++ back_pages) result }
+{
+    let above = raise(alloc, pages, below)?;
+    concat(above, back)
+}
+
+/// Puts what was taken out of pages behind what was taken out of the pages before them. Where they stand at
+/// different heights, pages at the edge between them are taken apart.
+pub(crate) fn join<P: Pages>(
+    alloc: Global,
+    pages: &mut P,
+    left: Loose,
+    right: Loose,
+) -> Result<Loose, TreeFault>
+    ensures grows { Grows (P.store pages.old) (P.store pages.new) }
+    ensures joined { IfOk result
+        (λ both. IsJoined (sheaf_in left) (sheaf_in right) (sheaf_in both)) }
+    ensures turns { (base : ℕ) (low mid : List ℕ) (high : Option (List ℕ)) (first last : List Entry)
+        (left_pages right_pages : List ℕ)
+        → IsHeld (P.store pages.old) base low (Some mid) first left_pages (sheaf_in left)
+        → IsHeld (P.store pages.old) base mid high last right_pages (sheaf_in right)
+        → IsNotUnder mid low → IsUpTo mid high
+        → Turns (P.store pages.old) (P.store pages.new) base low high (first ++ last)
+        (left_pages ++ right_pages) result }
+{
+    if left.units.is_empty() {
+        return Ok(right);
+    }
+    if right.units.is_empty() {
+        return Ok(left);
+    }
+    if left.rank == right.rank {
+        return concat(left, right);
+    }
+    if left.rank > right.rank {
+        let (front, last) = take_last(alloc, pages, left)?;
+        let below = join(alloc, pages, last, right)?;
+        return raise_behind(alloc, pages, front, below);
+    }
+    let (first, back) = take_first(alloc, pages, right)?;
+    let below = join(alloc, pages, left, first)?;
+    raise_before(alloc, pages, below, back)
+}
+
+/// Puts what was taken out of pages behind what was taken out of the pages before them. What stands below the
+/// other is written, if it is enough, and joined with the page beside it, if it isn't.
+pub(crate) fn meet<P: Pages>(
+    alloc: Global,
+    pages: &mut P,
+    left: Loose,
+    right: Loose,
+) -> Result<Loose, TreeFault>
+    ensures grows { Grows (P.store pages.old) (P.store pages.new) }
+    ensures turns { (base : ℕ) (low mid : List ℕ) (high : Option (List ℕ)) (first last : List Entry)
+        (left_pages right_pages : List ℕ)
+        → IsHeld (P.store pages.old) base low (Some mid) first left_pages (sheaf_in left)
+        → IsHeld (P.store pages.old) base mid high last right_pages (sheaf_in right)
+        → IsNotUnder mid low → IsUpTo mid high
+        → Turns (P.store pages.old) (P.store pages.new) base low high (first ++ last)
+        (left_pages ++ right_pages) result }
+{
+    if left.rank > right.rank {
+        if left.rank - right.rank > 1 {
+            return join(alloc, pages, left, right);
+        }
+        if is_full(&right) {
+            return raise_behind(alloc, pages, left, right);
+        }
+        return join(alloc, pages, left, right);
+    }
+    if right.rank - left.rank != 1 {
+        return join(alloc, pages, left, right);
+    }
+    if is_full(&left) {
+        return raise_before(alloc, pages, left, right);
+    }
+    join(alloc, pages, left, right)
+}
+
+/// The same, where there may be nothing behind.
+pub(crate) fn meet_behind<P: Pages>(
+    alloc: Global,
+    pages: &mut P,
+    left: Loose,
+    right: Loose,
+) -> Result<Loose, TreeFault>
+    ensures grows { Grows (P.store pages.old) (P.store pages.new) }
+    ensures turns { (base : ℕ) (low : List ℕ) (between high : Option (List ℕ))
+        (first last : List Entry) (left_pages right_pages : List ℕ)
+        → IsHeld (P.store pages.old) base low between first left_pages (sheaf_in left)
+        → IsBehind (P.store pages.old) base between high last right_pages (sheaf_in right)
+        → IsUpTo low between
+        → Turns (P.store pages.old) (P.store pages.new) base low high (first ++ last)
+        (left_pages ++ right_pages) result }
+{
+    if right.units.is_empty() {
+        return Ok(left);
+    }
+    meet(alloc, pages, left, right)
+}

@@ -1,0 +1,12 @@
+pub mod TextLemmas
+pub mod LengthLemmas
+pub mod CombinationLemmas
+pub mod SetLemmas
+pub mod RefusalLemmas
+pub mod SearchLemmas
+pub mod OrderLaws
+pub mod SetLaws
+pub mod OneKeyLaws
+pub mod CatalogueLemmas
+pub mod CatalogueLaws
+pub mod SpellableLaws

@@ -1,0 +1,10 @@
+pub mod Definition
+pub mod DefinitionCode
+pub mod Naming
+pub mod IndexKeys
+pub mod KeyTexts
+pub mod Changes
+pub mod View
+pub mod Steps
+pub mod Laws
+pub mod Catalogue

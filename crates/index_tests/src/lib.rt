@@ -1,0 +1,13 @@
+//! Tests of crate `index`, with expected keys and documents worked by hand.
+#![tactic(auto)]
+
+#[cfg(test)]
+mod building;
+#[cfg(test)]
+mod catalogue;
+#[cfg(test)]
+mod growth;
+#[cfg(test)]
+mod keys;
+#[cfg(test)]
+mod limits;

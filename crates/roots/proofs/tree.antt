@@ -1,0 +1,11 @@
+pub mod FreeLemmas
+pub mod ImageLemmas
+pub mod KeptPages
+pub mod MadeLemmas
+pub mod MarkLemmas
+pub mod MovesLemmas
+pub mod OneMap
+pub mod OpenLemmas
+pub mod RootLemmas
+pub mod TurnLemmas
+pub mod WalkLemmas

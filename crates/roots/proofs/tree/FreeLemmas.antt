@@ -1,0 +1,90 @@
+-- What a walk from the root finds, and the book that is opened with it.
+use Rattle.std.proofs.Common.{◌≡◌, ◌≢◌, ℕ, ◌+◌, ◌<◌, ◌≤◌, max, inl, inr, List, [], ◌∷◌, ◌++◌, refl, sym, ◌∙◌, ap, subst, arith}
+use Rattle.std.specs.Prelude.{Result, Ok, Err, MatchResult}
+use Rattle.page.specs.History.{History, Sector, KeepsWord, now, reads}
+use Rattle.page.specs.Crash.{ReadsOnly, IsDurable}
+use Rattle.page.specs.Format.{Sheet}
+use Rattle.page.specs.ImageView.{sheet_of}
+use Rattle.page.specs.declared.page_image.PageImage.{PageImage}
+use Rattle.btree.specs.Keys.{Entry, times}
+use Rattle.btree.specs.Store.{IsAt}
+use Rattle.btree.specs.Tree.{Body, Shows, content_of, pages_of}
+use Rattle.btree.specs.Reach.{AreOnce}
+use Rattle.freelist.specs.Book.{Book, opened}
+use Rattle.roots.specs.declared.opening.OpenFault.{OpenFault}
+use Rattle.roots.specs.declared.opening.OpenFault.TheVariants as faults
+use Rattle.roots.specs.declared.root.Root.{Root}
+use Rattle.roots.specs.declared.tree_store.TreeStore.{TreeStore}
+use Rattle.roots.specs.declared.tree_walk.Reached.{Reached}
+use Rattle.roots.specs.tree.Image.{HoldsMap, OpensAs, sheet_at}
+use Rattle.roots.specs.tree.Store.{Keeps}
+use Rattle.roots.specs.tree.Walk.{CanReach, FindsFree, IsMarked, Reaches, ReadsSheet, pages_in, pages_so_far}
+use Rattle.roots.proofs.OpeningRules.{known}
+
+-- from the root on
+pub reached_all : {X : Type 0} (h : History) (root : Root) (old new : Reached) (result : Result X OpenFault)
+    → ((d : ℕ) (body : Body d) → IsAt (pages_in h root) root.tree (content_of d body) → Shows (pages_in h root) d body → d + 0 < 32 → CanReach root.pages old (root.tree ∷ pages_of d body)
+    → Reaches (root.tree ∷ pages_of d body) old new result)
+    → IsMarked root.pages old → pages_so_far old ≡ [] → root.tree ≢ 0 → (pages : List ℕ) (entries : List Entry) → HoldsMap (sheet_at (reads (now h)) root) root pages entries → Reaches pages old new result
+reached_all h root old new result walks marked none some pages entries holds = elim holds.map [
+  | inl (zero_is, _) ↦ absurd (some zero_is)
+  | inr has ↦
+      let once : AreOnce (root.tree ∷ pages_of has.d has.body) = subst AreOnce has.pages_are holds.once in
+      let can : CanReach root.pages old (root.tree ∷ pages_of has.d has.body) = record { marked = marked; apart = λ n. omega (arith, once n, ap (times n) none) } in
+      subst (λ (l : List ℕ). Reaches l old new result) (sym has.pages_are) (walks has.d has.body has.tree.at has.tree.shown (omega (arith, has.tree.depth)) can)
+]
+
+pub reached_from_none : (old new : Reached) (pages : List ℕ) → pages_so_far old ≡ [] → pages_so_far new ≡ pages_so_far old ++ pages → pages_so_far new ≡ pages
+reached_from_none old new pages none is = is ∙ ap (λ (l : List ℕ). l ++ pages) none
+
+pub no_pages : (root : Root) (found pages : List ℕ) (entries : List Entry) (image : ℕ → List ℕ) → root.tree ≡ 0 → found ≡ [] → HoldsMap (sheet_at image root) root pages entries → found ≡ pages
+no_pages root found pages entries image none is holds = elim holds.map [
+  | inl (_, (empty, _)) ↦ is ∙ sym empty
+  | inr has ↦ absurd (omega (arith, none, has.tree.number))
+]
+
+-- a fault that isn't one of the pages
+pub match_failed : {X : Type 0} (P : X → Type 0) (result : Result X OpenFault) (e : OpenFault) → result ≡ Err e → e ≢ faults.Damaged → MatchResult result P (λ fault. fault ≢ faults.Damaged)
+match_failed P result e is ne = subst (λ r. MatchResult r P (λ fault. fault ≢ faults.Damaged)) (sym is) ne
+
+-- ---- the book
+
+pub still_kept : (h0 h1 : History) (root : Root) (live : List ℕ) (entries : List Entry) → ReadsOnly h0 h1 → Keeps h0 root live entries → Keeps h1 root live entries
+still_kept h0 h1 root live entries only keeps = record {
+  opens = λ k. subst (λ (s : ℕ → Sector). OpensAs (reads s) root) (sym (only.same k)) (keeps.opens (only.on.kept k));
+  holds = λ k. subst (λ (s : ℕ → Sector). HoldsMap (sheet_at (reads s) root) root live entries) (sym (only.same k)) (keeps.holds (only.on.kept k));
+  durable = λ k j kept. subst (λ (s : ℕ → Sector). IsDurable (s j)) (sym (only.same k)) (keeps.durable (only.on.kept k) j kept);
+}
+
+-- what is found is the committed tree's
+pub finds : {D : Type 0} (history : D → History) (limit : ℕ) (result : Result Book OpenFault) (old : TreeStore D) (disk : D) → ReadsOnly (history old.disk) (history disk)
+    → (KeepsWord (history disk) → (live : List ℕ) (entries : List Entry) → HoldsMap (sheet_at (reads (now (history old.disk))) old.root) old.root live entries → 1 ≤ old.root.pages
+    → MatchResult result (λ book. book ≡ opened live (max limit old.root.pages) old.root.generation) (λ fault. fault ≢ faults.Damaged))
+    → FindsFree history limit result old (record old { disk = disk })
+finds history limit result old disk only found = record {
+  root = refl;
+  stopped = refl;
+  committed = λ live entries committed. record { running = committed.running; keeps = still_kept (history old.disk) (history disk) old.root live entries only committed.keeps };
+  book = λ k live entries committed.
+      let image = reads (now (history old.disk)) in
+      let inside = known (image 0) (image 1) old.root (committed.keeps.opens (only.on.kept k)) in
+      found k live entries (committed.keeps.holds (only.on.kept k)) (omega (arith, inside.tree));
+}
+
+pub book_is : (book : Book) (limit found pages generation : ℕ) (given in_use live : List ℕ) → book ≡ opened given (max found 1) generation → found ≡ max limit pages → 1 ≤ pages → given ≡ in_use → in_use ≡ live
+    → book ≡ opened live (max limit pages) generation
+book_is book limit found pages generation given in_use live is most some same named =
+    let count : max found 1 ≡ max limit pages = omega (arith, most, some) in
+    is ∙ (λ i. opened ((same ∙ named) i) (count i) generation)
+
+-- a page was read
+pub page_read : {D : Type 0} (history : D → History) (page : ℕ) (result : Result PageImage OpenFault) (old : TreeStore D) (disk : D) → ReadsOnly (history old.disk) (history disk)
+    → (KeepsWord (history disk) → MatchResult result (λ image. sheet_at (reads (now (history old.disk))) old.root page ≡ Ok (sheet_of image))
+    (λ fault. fault ≡ faults.Damaged → (found : Sheet) → sheet_at (reads (now (history old.disk))) old.root page ≡ Ok found → ⊥))
+    → ReadsSheet history page result old (record old { disk = disk })
+page_read history page result old disk only sheet = record {
+  root = refl;
+  stopped = refl;
+  committed = λ live entries committed. record { running = committed.running; keeps = still_kept (history old.disk) (history disk) old.root live entries only committed.keeps };
+  sheet = sheet;
+}

@@ -1,0 +1,26 @@
+use Rattle.std.proofs.Common.{arith, ◌+◌, true, ◌≡◌}
+use Rattle.roots.specs.declared.root.Root.{Root}
+use Rattle.roots.specs.tree.Turn.{next_root}
+use Rattle.roots.proofs.tree.MovesLemmas.{is_last, failed, done, root_is}
+use Rattle.roots.proofs.tree_store.TreeStore.commit.Goals as goal
+
+pub returns-then-self-2-clause-moves : goal.returns-then-self-2-clause-moves
+returns-then-self-2-clause-moves g c before live committed after pages turn =
+    is_last g.D.Disk.history c.args.self.now (next_root c.args.self.now.root c.args.made.now c.args.tree) live pages before after committed
+
+pub returns-in-Ok-clause-moves : goal.returns-in-Ok-clause-moves
+returns-in-Ok-clause-moves g c before live committed after pages turn =
+    let s = c.args.self.now in
+    let root : Root = record { generation = s.root.generation + 1; tree = c.args.tree; pages = c.greater.result } in
+    let is : root ≡ next_root s.root c.args.made.now c.args.tree = root_is s.root c.args.made.now c.args.tree c.greater.result c.end_of.result c.greater.ensures (c.end_of.ensures turn.inside) in
+    done g.D.Disk.history s c.write_commit.new.disk root (next_root s.root c.args.made.now c.args.tree) pages before after live committed is
+    (c.in-Ok.ensures.moves s.root before live committed.keeps after pages turn is (omega arith))
+
+pub returns-in-Err-clause-moves : goal.returns-in-Err-clause-moves
+returns-in-Err-clause-moves g c before live committed after pages turn =
+    let s = c.args.self.now in
+    let root : Root = record { generation = s.root.generation + 1; tree = c.args.tree; pages = c.greater.result } in
+    let next = next_root s.root c.args.made.now c.args.tree in
+    let is : root ≡ next = root_is s.root c.args.made.now c.args.tree c.greater.result c.end_of.result c.greater.ensures (c.end_of.ensures turn.inside) in
+    failed g.D.Disk.history s (record s { disk = c.write_commit.new.disk; stopped = true }) root next pages before after c.in-Err.field-0
+    (c.in-Err.ensures.moves s.root before live committed.keeps after pages turn is (omega arith))

@@ -1,0 +1,42 @@
+-- What a store of a tree keeps on its disk.
+use Rattle.std.specs.Prelude.{◌≡◌, ◌⊎◌, ℕ, ◌<◌, Bool, List, true, false}
+use Rattle.page.specs.History.{History, KeepsWord, now, reads}
+use Rattle.page.specs.Crash.{IsDurable}
+use Rattle.btree.specs.Keys.{Entry}
+use Rattle.roots.specs.tree.Image.{OpensAs, HoldsMap, IsKept, sheet_at}
+use Rattle.roots.specs.declared.root.Root.{Root}
+use Rattle.roots.specs.declared.tree_store.TreeStore.{TreeStore}
+
+-- each moment of the store's disk so far
+abbrev pub disk_history : {D : Type 0} → (D → History) → TreeStore D → History
+disk_history history store = history store.disk
+
+-- the root that it committed last, or found
+abbrev pub durable_root : {D : Type 0} → TreeStore D → Root
+durable_root store = store.root
+
+-- a write or a sync of the store's has failed
+abbrev pub is_stopped : {D : Type 0} → TreeStore D → Bool
+is_stopped store = store.stopped
+
+abbrev pub IsRunning : {D : Type 0} → TreeStore D → Type 0
+IsRunning store = is_stopped store ≡ false
+
+-- While the disk keeps its word: its root is this one, whose tree reaches these pages and has these entries, and a crash
+-- leaves what these pages and the roots hold.
+pub record Keeps (h : History) (root : Root) (live : List ℕ) (entries : List Entry) : Type 0 where
+  pub opens : KeepsWord h → OpensAs (reads (now h)) root
+  pub holds : KeepsWord h → HoldsMap (sheet_at (reads (now h)) root) root live entries
+  pub durable : KeepsWord h → (k : ℕ) → IsKept live k → IsDurable (now h k)
+
+-- These entries are committed, and these pages live.
+pub record IsCommitted {D : Type 0} (history : D → History) (store : TreeStore D) (live : List ℕ)
+    (entries : List Entry) : Type 0 where
+  pub running : IsRunning store
+  pub keeps : Keeps (disk_history history store) (durable_root store) live entries
+
+-- Why a call from old to new met a failed device: a write or a sync had failed before, or failed in the call.
+abbrev pub HasDeviceCause : {D : Type 0} → (D → History) → TreeStore D → TreeStore D → Type 0
+HasDeviceCause history old new =
+    (is_stopped old ≡ true)
+    ⊎ ((disk_history history old).failures < (disk_history history new).failures)

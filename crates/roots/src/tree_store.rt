@@ -1,0 +1,195 @@
+//! A store of a tree: its disk, and the root that it committed last.
+ghost use Rattle.std.specs.Prelude.{◌≡◌, ◌<◌, IfOk, IfErr, OnOk, OnErr, ℕ, max};
+ghost use Rattle.std.specs.List.{AllByRecursion};
+ghost use Rattle.page.specs.History.{KeepsWord, now, reads};
+ghost use Rattle.page.specs.Crash.{GoesOn, LeavesOnly, IsImageOutside};
+ghost use Rattle.page.specs.Format.{Sheet, page_bytes};
+ghost use Rattle.page.specs.Page.{IsSectorOf, page_at};
+ghost use Rattle.roots.specs.tree.Commit.{CommitsRoot, MovesDisk, MovesMaps};
+ghost use Rattle.roots.specs.tree.Image.{IsOnPages};
+ghost use Rattle.roots.specs.tree.Opening.{IsOpened, IsRefused};
+ghost use Rattle.roots.specs.tree.Store.{disk_history, durable_root, is_stopped};
+ghost use Rattle.roots.specs.tree.Walk.{FindsFree, Looks, ReadsSheet};
+ghost use Rattle.roots.specs.tree.Turn.{AreWritten, LieBehind, end_behind, numbers_of};
+
+use crate::CommitFault;
+use crate::opening::{OpenFault, read_root};
+use crate::replace::replace;
+use crate::root::Root;
+use crate::tree_walk::{reached_pages, read_sheet};
+use freelist::FreePages;
+use page::{DeviceFault, Disk, PageImage, SharedPage, write_page};
+use std::alloc::Global;
+
+fn greater(one: u32, other: u32) -> u32
+    ensures { result ≡ max one other }
+{
+    if one < other { other } else { one }
+}
+
+/// The number of pages of a file that ends behind these, with page 0.
+fn end_of(made: &[SharedPage]) -> u32
+    ensures { AllByRecursion (λ (sheet : Sheet). sheet.page < 1048576) made.now
+        → result ≡ end_behind 1 made.now }
+{
+    match made.last() {
+        Some(last) => last.image().page.saturating_add(1),
+        None => 1,
+    }
+}
+
+/// Writes a page.
+fn write_shared<D: Disk>(disk: &mut D, shared: &SharedPage) -> Result<(), DeviceFault>
+    ensures on { GoesOn (D.history disk.old) (D.history disk.new) }
+    ensures any_moment { let before = now (D.history disk.old) in
+        LeavesOnly (D.history disk.old) (D.history disk.new)
+        (IsImageOutside before (IsSectorOf shared.now.page)) }
+    ensures others { let before = now (D.history disk.old) in
+        KeepsWord (D.history disk.new)
+        → (k : ℕ) → (IsSectorOf shared.now.page k → ⊥) → now (D.history disk.new) k ≡ before k }
+    ensures written { KeepsWord (D.history disk.new) → OnOk result
+        (page_at (reads (now (D.history disk.new))) shared.now.page ≡ page_bytes shared.now) }
+    ensures failed { KeepsWord (D.history disk.new)
+        → OnErr result ((D.history disk.old).failures < (D.history disk.new).failures) }
+{
+    let image = shared.image();
+    let mut bytes = [0; 4096];
+    image.write(&mut bytes);
+    write_page(disk, image.page, &bytes)
+}
+
+/// Writes pages in their order.
+fn write_made<D: Disk>(disk: &mut D, made: &[SharedPage]) -> Result<(), DeviceFault>
+    ensures on { GoesOn (D.history disk.old) (D.history disk.new) }
+
+    // Elsewhere a crash leaves what it could leave before.
+    ensures any_moment { let before = now (D.history disk.old) in
+        LeavesOnly (D.history disk.old) (D.history disk.new)
+        (IsImageOutside before (IsOnPages (numbers_of made.now))) }
+    ensures others { let before = now (D.history disk.old) in
+        KeepsWord (D.history disk.new) → (k : ℕ) → (IsOnPages (numbers_of made.now) k → ⊥)
+        → now (D.history disk.new) k ≡ before k }
+    ensures written { KeepsWord (D.history disk.new) → LieBehind 0 made.now
+        → OnOk result (AreWritten (reads (now (D.history disk.new))) made.now) }
+    ensures failed { KeepsWord (D.history disk.new)
+        → OnErr result ((D.history disk.old).failures < (D.history disk.new).failures) }
+{
+    for shared in made {
+        write_shared(disk, shared)?;
+    }
+    Ok(())
+}
+
+/// Writes pages, and behind them the root that names their tree.
+fn write_commit<D: Disk>(disk: &mut D, made: &[SharedPage], root: Root) -> Result<(), DeviceFault>
+    ensures on { GoesOn (D.history disk.old) (D.history disk.new) }
+    ensures moves { MovesDisk made.now root result (D.history disk.old) (D.history disk.new) }
+    ensures failed { KeepsWord (D.history disk.new)
+        → OnErr result ((D.history disk.old).failures < (D.history disk.new).failures) }
+{
+    write_made(disk, made)?;
+    replace(disk, root.generation % 2, &root.sector())
+}
+
+/// A tree on a disk, made durable by one commit after another.
+#[derive(Drop)]
+pub struct TreeStore<D> {
+    disk: D,
+    root: Root,
+    stopped: bool,
+}
+
+impl<D: Disk> TreeStore<D> {
+    /// Opens a disk that a crash may have left. It reads the two roots, writes nothing, and syncs before it answers. An `Err`
+    /// hands the disk back.
+    pub fn open(mut disk: D) -> Result<TreeStore<D>, (D, OpenFault)>
+        ensures opened { IfOk result (IsOpened D.history disk) }
+        ensures refused { IfErr result (λ e. IsRefused D.history disk e.0 e.1) }
+    {
+        let root = match read_root(&mut disk) {
+            Ok(root) => root,
+            Err(fault) => return Err((disk, fault)),
+        };
+        match disk.sync() {
+            Ok(()) => Ok(TreeStore {
+                disk,
+                root,
+                stopped: false,
+            }),
+            Err(DeviceFault) => Err((disk, OpenFault::Device)),
+        }
+    }
+
+    /// Hands the disk back as it is.
+    pub fn into_disk(self) -> D
+        ensures { D.history result ≡ disk_history D.history self }
+    {
+        self.disk
+    }
+
+    /// The root that was committed last.
+    pub fn root(&self) -> Root
+        ensures { result ≡ durable_root self.now }
+    {
+        self.root
+    }
+
+    /// Whether a write or a sync has failed. A stopped store commits nothing any more.
+    pub fn is_stopped(&self) -> bool
+        ensures { result ≡ is_stopped self.now }
+    {
+        self.stopped
+    }
+
+    /// The page of this number, as the disk holds it under the root that was committed last. Damaged where it is no page of
+    /// that file.
+    pub fn read(&mut self, alloc: Global, page: u32) -> Result<PageImage, OpenFault>
+        ensures looks { Looks result (disk_history D.history self.old)
+            (disk_history D.history self.new) }
+        ensures reads { ReadsSheet D.history page result self.old self.new }
+    {
+        read_sheet(alloc, &mut self.disk, self.root, page)
+    }
+
+    /// The book of the file's pages, in which those that the committed tree reaches are in use. The others below the limit, or
+    /// below the number of pages that the file has, are free. It reads each page of the tree once.
+    pub fn free_pages(&mut self, alloc: Global, limit: u32) -> Result<FreePages, OpenFault>
+        ensures looks { Looks result (disk_history D.history self.old)
+            (disk_history D.history self.new) }
+        ensures finds { FindsFree D.history limit result self.old self.new }
+    {
+        let in_use = reached_pages(alloc, &mut self.disk, self.root)?;
+        let limit = greater(limit, self.root.pages);
+        Ok(FreePages::open(alloc, &in_use, limit, self.root.generation)?)
+    }
+
+    /// Makes the tree below this page the committed one. The pages that the turn made ascend; they are written, then the next
+    /// root. It reads nothing and takes no memory.
+    pub fn commit(&mut self, made: &[SharedPage], tree: u32) -> Result<(), CommitFault>
+        ensures commits { CommitsRoot D.history tree result self.old self.new }
+        ensures moves { MovesMaps D.history made.now tree result self.old self.new }
+    {
+        if self.stopped {
+            return Err(CommitFault::Device);
+        }
+        if self.root.generation == u64::MAX {
+            return Err(CommitFault::Full);
+        }
+        // the number of pages never falls
+        let root = Root {
+            generation: self.root.generation + 1,
+            tree,
+            pages: greater(self.root.pages, end_of(made)),
+        };
+        match write_commit(&mut self.disk, made, root) {
+            Ok(()) => {
+                self.root = root;
+                Ok(())
+            }
+            Err(_) => {
+                self.stopped = true;
+                Err(CommitFault::Device)
+            }
+        }
+    }
+}
