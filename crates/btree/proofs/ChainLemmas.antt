@@ -1,14 +1,13 @@
 -- A chain that is read page after page.
-use Rattle.std.proofs.Common.{◌≡◌, ℕ, zero, suc, ◌+◌, ◌-◌, ◌*◌, ◌<◌, ◌≤◌, List, [], ◌∷◌, ◌++◌, length, take, drop, min, true, Vec, Global, ◌⊎◌, inl, inr, refl, sym, ap, ◌∙◌, subst, arith, append_assoc, append-nil, length-drop, length-take}
-use Rattle.btree.specs.declared.pages.TreeFault.{TreeFault}
+use Rattle.std.proofs.Common.{◌≡◌, ℕ, zero, suc, ◌+◌, ◌-◌, ◌*◌, ◌<◌, ◌≤◌, List, [], ◌∷◌, ◌++◌, length, take, drop, min, Vec, Global, ◌⊎◌, inl, inr, refl, sym, ap, ◌∙◌, subst, arith, append_assoc, append-nil, length-drop, length-take}
 use Rattle.page.specs.declared.page_content.PageContent.{PageContent}
 use Rattle.page.specs.declared.page_content.PageContent.TheVariants as P
 use Rattle.btree.specs.View.{content_in}
 use Rattle.page.specs.Content.{inline, spilled, Content, chain}
 use Rattle.btree.specs.Keys.{Pair, times}
-use Rattle.btree.specs.Store.{Store, IsAt, Grows, IsMade, IsRetired, IsSame}
+use Rattle.btree.specs.Store.{Store, Frame, IsAt, IsMade, IsRetired, IsSame}
 use Rattle.btree.specs.Tree.{HasLinks, HasChain, next_of, place_of}
-use Rattle.btree.specs.Calls.{HasCause, IsChained, AreRetired}
+use Rattle.btree.specs.Calls.{IsChained, AreRetired}
 use Rattle.btree.proofs.ListLemmas.{times_append}
 use Rattle.btree.proofs.StoreLemmas.{links_kept}
 
@@ -55,7 +54,7 @@ part_long s value bytes left page next part pos r e =
     let n = next_page s value bytes left page pos r in
     ap length (part_is next part _ _ (sym e ∙ n.at.holds)) ∙ long_front n.rest ∙ ap (λ k. min k 4076) n.long
 
-pub read_on : (old new : Store) (value bytes : List ℕ) (left left' page next : ℕ) (part : List ℕ) → Grows old new → 0 < left → IsRead old value bytes left page → old.page page ≡ chain next part
+pub read_on : (old new : Store) (value bytes : List ℕ) (left left' page next : ℕ) (part : List ℕ) → Frame old new → 0 < left → IsRead old value bytes left page → old.page page ≡ chain next part
     → left' ≡ left - length part → IsRead new value (bytes ++ part) left' next
 read_on old new value bytes left left' page next part grows pos r e less =
     let n = next_page old value bytes left page pos r in
@@ -132,7 +131,7 @@ pub retiring : (s : Store) (links value : List ℕ) (left page : ℕ) → HasLin
 retiring s links value left page h n e =
     record { gone = []; links = links; rest = value; is = refl; long = e; next = n; has = h; retired = λ n. omega arith; made = refl }
 
-pub retired_on : (start old read new : Store) (all : List ℕ) (left left' page next : ℕ) (part : List ℕ) → Grows old read → IsSame true old read → IsRetired read new page → 0 < left → IsRetiring start old all left page
+pub retired_on : (start old read new : Store) (all : List ℕ) (left left' page next : ℕ) (part : List ℕ) → Frame old read → IsSame old read → IsRetired read new page → 0 < left → IsRetiring start old all left page
     → old.page page ≡ chain next part → left' ≡ left - 4076 → IsRetiring start new all left' next
 retired_on start old read new all left left' page next part grows same gone pos r e less = go r.links refl r.has
   where
@@ -149,7 +148,7 @@ retired_on start old read new all left left' page next part grows same gone pos 
           is = r.is ∙ ap (λ ls. r.gone ++ ls) (sym l ∙ ap (λ q. q ∷ ps) p_is) ∙ sym (append_assoc r.gone (page ∷ []) ps);
           long = length-drop 4076 r.rest ∙ ap (λ n. n - 4076) r.long ∙ sym less;
           next = sym (next_is next part _ _ content);
-          has = links_kept read new gone.grows ps (drop 4076 r.rest) (links_kept old read grows ps (drop 4076 r.rest) h.2);
+          has = links_kept read new gone.frame ps (drop 4076 r.rest) (links_kept old read grows ps (drop 4076 r.rest) h.2);
           retired = λ n. omega (arith, r.retired n, times_append n r.gone (page ∷ []), ap (times n) gone.retired, ap (times n) same.retired);
           made = gone.made ∙ same.made ∙ r.made;
         }
@@ -167,13 +166,25 @@ retired_all old new all left page none r =
     empty (p ∷ ps) h = absurd (omega (arith, r.long, h.0))
 
 -- a page that isn't one of a chain
-pub not_chain : (old new : Store) (all : List ℕ) (left page : ℕ) (content : Content) (e : TreeFault) (later : Store) → 0 < left → IsRetiring old new all left page → new.page page ≡ content
-    → ((next : ℕ) (bytes : List ℕ) → content ≡ chain next bytes → ⊥) → HasCause old later e
-not_chain old new all left page content e later pos r holds differs = go r.links r.next r.has
+pub not_chain : (old new : Store) (all : List ℕ) (left page : ℕ) (content : Content) → 0 < left → IsRetiring old new all left page → new.page page ≡ content
+    → ((next : ℕ) (bytes : List ℕ) → content ≡ chain next bytes → ⊥) → ⊥
+not_chain old new all left page content pos r holds differs = go r.links r.next r.has
   where
-    go : (links : List ℕ) → next_of links ≡ page → HasLinks new links r.rest → HasCause old later e
+    go : (links : List ℕ) → next_of links ≡ page → HasLinks new links r.rest → ⊥
     go [] n h = absurd (omega (arith, r.long, ap length h))
-    go (p ∷ ps) n h = absurd (differs _ _ (sym holds ∙ ap new.page (sym n) ∙ h.1.holds))
+    go (p ∷ ps) n h = differs _ _ (sym holds ∙ ap new.page (sym n) ∙ h.1.holds)
+
+-- the page that is retired next
+pub record IsNextRetired (s : Store) (page : ℕ) : Type 0 where
+  pub content : Content
+  pub at : IsAt s page content
+
+pub next_retired : (old new : Store) (all : List ℕ) (left page : ℕ) → 0 < left → IsRetiring old new all left page → IsNextRetired new page
+next_retired old new all left page pos r = go r.links r.next r.has
+  where
+    go : (links : List ℕ) → next_of links ≡ page → HasLinks new links r.rest → IsNextRetired new page
+    go [] n h = absurd (omega (arith, r.long, ap length h))
+    go (p ∷ ps) n h = record { content = _; at = subst (λ q. IsAt new q (chain (next_of ps) (take 4076 r.rest))) n h.1 }
 
 -- ---- a chain that is written from its last page on
 
@@ -192,7 +203,7 @@ pub chained_on : (old mid new : Store) (value rest bytes : List ℕ) (next page 
 chained_on old mid new value rest bytes next page c made pos b r =
     record {
       links = page ∷ c.links;
-      has = (pos, subst (IsAt new page) (ap (λ q. chain q bytes) (sym c.first) ∙ ap (chain (next_of c.links)) b) made.at, links_kept mid new made.grows c.links (drop 4076 value) (subst (HasLinks mid c.links) r c.has));
+      has = (pos, subst (IsAt new page) (ap (λ q. chain q bytes) (sym c.first) ∙ ap (chain (next_of c.links)) b) made.at, links_kept mid new made.frame c.links (drop 4076 value) (subst (HasLinks mid c.links) r c.has));
       first = refl;
       made = λ n. omega (arith, c.made n, ap (times n) made.made);
       count = omega (arith, c.count, ap length made.made);

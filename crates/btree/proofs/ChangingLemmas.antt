@@ -1,22 +1,22 @@
 -- A change from a page down.
-use Rattle.std.proofs.Common.{◌≡◌, ℕ, zero, suc, ◌+◌, ◌-◌, ◌<◌, ◌≤◌, take, drop, get_or, List, [], ◌∷◌, ◌++◌, length, map, Option, Some, None, Result, Ok, Err, refl, sym, ap, ◌∙◌, subst, arith, ◌⊎◌, inl, inr, append-nil, append_assoc}
+use Rattle.std.proofs.Common.{◌≡◌, ℕ, zero, suc, ◌-◌, ◌<◌, ◌≤◌, drop, get_or, List, [], ◌∷◌, ◌++◌, length, map, Option, Some, None, Result, Ok, Err, refl, sym, ap, ◌∙◌, subst, arith, inl, inr, append-nil}
 use Rattle.btree.specs.declared.editing.Edit.{Edit as ProgramEdit}
 use Rattle.btree.specs.declared.loose.Loose.{Loose}
 use Rattle.btree.specs.declared.pages.TreeFault.{TreeFault}
-use Rattle.btree.specs.Change.{IsBehind, IsHeldBehind, edit_keys}
+use Rattle.btree.specs.Change.{IsBehind, IsHeldBehind}
 use Rattle.btree.specs.EditView.{edit_in}
-use Rattle.btree.specs.Keys.{Pair, entry_of, Edit, Entry, Each, IsBetween, IsNotUnder, IsUnder, IsWithin, Rises, change, times}
+use Rattle.btree.specs.Keys.{Pair, entry_of, Edit, Entry, Each, IsBetween, IsNotUnder, change}
 use Rattle.std.specs.List.{AllByRecursion}
 use Rattle.page.specs.Content.{Arm, Item, IsItem, branch, leaf}
 use Rattle.btree.specs.Calls.{IsEdited}
 use Rattle.btree.specs.Loose.{IsStub, Stub, arm_stub, first_or, item_stub, under_key}
 use Rattle.btree.specs.Tree.{Body, IsSound, content_of, item_of, pages_of}
-use Rattle.btree.specs.Store.{Store, Grows}
+use Rattle.btree.specs.Store.{Store, Frame}
 use Rattle.btree.proofs.StoreLemmas.{cause_later}
-use Rattle.btree.specs.Turn.{AreTurned, GoesBefore, IsHeld, IsReady, IsTurned, IsUpTo, Sheaf, Turns, both_of, sheaf_in}
-use Rattle.btree.proofs.ListLemmas.{drop_more, each_append, map_map, times_append}
-use Rattle.btree.proofs.HeldLemmas.{glue_held, held_later}
-use Rattle.btree.proofs.JoinLemmas.{right_gone, up_to_trans}
+use Rattle.btree.specs.Turn.{AreTurned, GoesBefore, IsHeld, IsReady, IsTurned, IsUpTo, Sheaf}
+use Rattle.btree.proofs.ListLemmas.{drop_more, map_map, times_append}
+use Rattle.btree.proofs.HeldLemmas.{IsTurn, glue_held, held_later}
+use Rattle.btree.proofs.JoinLemmas.{right_gone}
 
 pub behind_more : (es : List ProgramEdit) (n : ℕ) (key : List ℕ) (d : ProgramEdit) → 0 < n → n ≤ length es → IsNotUnder (get_or es (n - 1) d).key.now key → Each (λ (e : Edit). IsNotUnder e.key key) (drop n (map edit_in es))
     → Each (λ (e : Edit). IsNotUnder e.key key) (drop (n - 1) (map edit_in es))
@@ -50,7 +50,7 @@ pub behind_some : (s : Store) (base : ℕ) (between high : Option (List ℕ)) (l
 behind_some s base between high last pages right (inl e) some = absurd (omega (arith, ap length e.0))
 behind_some s base between high last pages right (inr m) some = m
 
-pub behind_later : (old new : Store) (base : ℕ) (between high : Option (List ℕ)) (last : List Entry) (pages : List ℕ) (right : Sheaf) → Grows old new → IsBehind old base between high last pages right
+pub behind_later : (old new : Store) (base : ℕ) (between high : Option (List ℕ)) (last : List Entry) (pages : List ℕ) (right : Sheaf) → Frame old new → IsBehind old base between high last pages right
     → IsBehind new base between high last pages right
 behind_later old new base between high last pages right grows (inl e) = inl e
 behind_later old new base between high last pages right grows (inr m) = inr (record { mid = m.mid; is = m.is; held = held_later old new base m.mid high last pages right grows m.held; within = m.within })
@@ -87,8 +87,8 @@ leaf_changed old new base rank low high edits pairs items stubs is h stubs_are s
 
 -- ---- after a page was retired
 
-pub turned_on : (old mid new : Store) (base : ℕ) (low : List ℕ) (high : Option (List ℕ)) (entries : List Entry) (before between : List ℕ) (r : Result Loose TreeFault) → Grows old mid → AreTurned old mid before between
-    → Turns mid new base low high entries between r → Turns old new base low high entries before r
+pub turned_on : (old mid new : Store) (base : ℕ) (low : List ℕ) (high : Option (List ℕ)) (entries : List Entry) (before between : List ℕ) (r : Result Loose TreeFault) → Frame old mid → AreTurned old mid before between
+    → IsTurn mid new base low high entries between r → IsTurn old new base low high entries before r
 turned_on old mid new base low high entries before between (Ok l) grows t u = record { after = u.after; held = u.held; turned = λ n. omega (arith, t n, u.turned n) }
 turned_on old mid new base low high entries before between (Err e) grows t u = cause_later old mid new e grows u
 

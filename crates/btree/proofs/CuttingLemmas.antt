@@ -1,10 +1,9 @@
 -- Cells and children, cut into pages by bytes.
-use Rattle.std.proofs.Common.{◌≡◌, ℕ, zero, suc, ◌+◌, ◌-◌, ◌*◌, ◌<◌, ◌≤◌, List, [], ◌∷◌, ◌++◌, length, map, take, drop, get_or, Option, Some, None, Bool, true, false, refl, sym, ap, ◌∙◌, subst, arith, ◌⊎◌, inl, inr}
+use Rattle.std.proofs.Common.{◌≡◌, ℕ, zero, suc, ◌+◌, ◌-◌, ◌*◌, ◌<◌, ◌≤◌, List, [], ◌∷◌, length, map, take, drop, get_or, Option, Some, Bool, true, false, refl, sym, ap, ◌∙◌, arith, inl, inr}
 use Rattle.btree.specs.declared.loose.Unit.{Unit}
-use Rattle.btree.specs.Keys.{Each, IsUnder, Rises}
+use Rattle.btree.specs.Keys.{Each, Rises}
 use Rattle.btree.specs.Loose.{GoBehind, IsOver, IsPart, IsStub, Stub, stub_keys, stub_size, stubs_size}
 use Rattle.btree.specs.LooseView.{stub_in}
-use Rattle.btree.proofs.ListLemmas.{long_map}
 
 -- what stands at a place of a list, and behind it
 drop_next : (units : List Unit) (i : ℕ) (u d : Unit) → i < length units → u ≡ get_or units i d → drop i (map stub_in units) ≡ stub_in u ∷ drop (suc i) (map stub_in units)

@@ -10,15 +10,15 @@ use Rattle.page.specs.declared.cells.Cell.{Cell}
 use Rattle.page.specs.Content.{Item, IsItem, inline, spilled}
 use Rattle.btree.specs.Keys.{Pair, Entry, Edit, Each, Rises, IsBetween, IsUnder, IsNotUnder, behind, edit_map, entries_at, entry_of, key_cmp, times}
 use Rattle.btree.specs.Search.{IsPlace}
-use Rattle.btree.specs.Store.{Store, Grows}
+use Rattle.btree.specs.Store.{Store, Frame, HasCause}
 use Rattle.btree.specs.Tree.{HasChain, HasLinks, item_of, next_of, pair_keys, place_of}
 use Rattle.btree.specs.declared.editing.Edit.{Edit as ProgramEdit}
 use Rattle.btree.specs.EditView.{edit_in}
 use Rattle.btree.specs.View.{item_in, place_in}
-use Rattle.btree.specs.Calls.{AreRetired, Edits, HasCause, IsChained, IsEdited, IsSmallPlace, IsPutIn, IsStored, IsTakenOut, PutsIn, TakesOut}
+use Rattle.btree.specs.Calls.{AreRetired, IsAnswer, IsChained, IsEdited, IsSmallPlace, IsPutIn, IsStored, IsTakenOut}
 use Rattle.btree.proofs.KeyLemmas.{not_under_cases, not_under_itself, under_trans}
 use Rattle.btree.proofs.ListLemmas.{each_append, each_back, each_front, each_map, flat_append, map_append, long_map, at_place, rises_append, rises_back, rises_front, times_append}
-use Rattle.btree.proofs.StoreLemmas.{cause_later, grows_trans, shows_kept}
+use Rattle.btree.proofs.StoreLemmas.{cause_later, frame_trans, shows_kept}
 use Rattle.btree.proofs.ChangeLemmas.{before_over, behind_under, change_append, edit_between}
 use Rattle.btree.proofs.ScanLemmas.{each_entry}
 use Rattle.btree.proofs.GetLemmas.{all_under, back_is_over, front_is_under, item_here, mid_not_under}
@@ -140,7 +140,7 @@ module _ (cells : List Cell) (pairs : List Pair) (key : List ℕ) (i : ℕ) (e :
       }
 
   pub taken_failed : (old new : Store) (cell : Cell) (r : Result ℕ TreeFault) (f : TreeFault) (items : List Item) → i < length cells → cell ≡ get_or cells i cell → Each (HasChain old) pairs → IsErrAnd r (λ g. g ≡ f)
-      → ((x : Pair) → place_in cell.stored ≡ place_of x.links x.value → HasChain old x → HasCause old new f) → TakesOut old new key pairs items r
+      → ((x : Pair) → place_in cell.stored ≡ place_of x.links x.value → HasChain old x → HasCause old new f) → IsAnswer old new (λ at. IsTakenOut old new key pairs items at) r
   taken_failed old new cell (Ok v) f items lt h shown is says = absurd is
   taken_failed old new cell (Err g) f items lt h shown is says =
       let p = parted cell lt h in
@@ -218,7 +218,7 @@ links_out n front mid back =
 
 -- any pairs in the place of what was taken out
 module _ (old out new : Store) (key : List ℕ) (value : Option (List ℕ)) (pairs : List Pair) (items items' : List Item) (at : ℕ) (new_pairs : List Pair)
-    (grows : Grows old new) (t : IsTakenOut old out key pairs items at) (rise : Rises (pair_keys pairs)) (shown : Each (HasChain old) pairs)
+    (grows : Frame old new) (t : IsTakenOut old out key pairs items at) (rise : Rises (pair_keys pairs)) (shown : Each (HasChain old) pairs)
     (keys_are : Each (λ (x : Pair). x.key ≡ key) new_pairs) (few : Rises (pair_keys new_pairs)) (has : Each (HasChain new) new_pairs) (entries_are : map entry_of new_pairs ≡ entries_at key value)
     (items_are : items' ≡ map item_of (t.front ++ (new_pairs ++ t.back)))
     (made : (n : ℕ) → times n new.made ≡ times n (flat_map (λ (x : Pair). x.links) new_pairs) + times n out.made) (retired : new.retired ≡ out.retired) where
@@ -269,11 +269,11 @@ module _ (old out new : Store) (key : List ℕ) (value : Option (List ℕ)) (pai
       }
 
 -- a key that was removed, and one that was put in
-pub removed_key : (old new : Store) (key : List ℕ) (pairs : List Pair) (items : List Item) (at : ℕ) → Grows old new → IsTakenOut old new key pairs items at → Rises (pair_keys pairs) → Each (HasChain old) pairs
+pub removed_key : (old new : Store) (key : List ℕ) (pairs : List Pair) (items : List Item) (at : ℕ) → Frame old new → IsTakenOut old new key pairs items at → Rises (pair_keys pairs) → Each (HasChain old) pairs
     → IsEdited old new (record { key = key; value = None } ∷ []) pairs items
 removed_key old new key pairs items at grows t rise shown = edited old new new key None pairs items items at [] grows t rise shown tt tt tt refl t.items_are (λ n. omega arith) refl
 
-pub put_key : (old out new : Store) (key value : List ℕ) (pairs : List Pair) (items items' : List Item) (at : ℕ) → Grows old new → IsTakenOut old out key pairs items at → IsPutIn out new key value at items items'
+pub put_key : (old out new : Store) (key value : List ℕ) (pairs : List Pair) (items items' : List Item) (at : ℕ) → Frame old new → IsTakenOut old out key pairs items at → IsPutIn out new key value at items items'
     → Rises (pair_keys pairs) → Each (HasChain old) pairs → IsEdited old new (record { key = key; value = Some value } ∷ []) pairs items'
 put_key old out new key value pairs items items' at grows t p rise shown =
     let x : Pair = record { key = key; value = value; links = p.links } in
@@ -296,10 +296,10 @@ edited_on old mid new es e pairs items items' h g =
       between = λ low high b s. g.between low high (h.between low high b (each_front _ es (e ∷ []) s)) (each_back _ es (e ∷ []) s);
     }
 
-pub edits_done : {X : Type 0} (old out new : Store) (e : Edit) (value : List ℕ) (pairs : List Pair) (items items' : List Item) (at : ℕ) (r : Result X TreeFault) → e.value ≡ Some value → Grows old out → Grows out new
-    → IsTakenOut old out e.key pairs items at → PutsIn out new e.key value at items items' r → Rises (pair_keys pairs) → Each (HasChain old) pairs → Edits old new (e ∷ []) pairs items' r
+pub edits_done : {X : Type 0} (old out new : Store) (e : Edit) (value : List ℕ) (pairs : List Pair) (items items' : List Item) (at : ℕ) (r : Result X TreeFault) → e.value ≡ Some value → Frame old out → Frame out new
+    → IsTakenOut old out e.key pairs items at → IsAnswer out new (λ done. IsPutIn out new e.key value at items items') r → Rises (pair_keys pairs) → Each (HasChain old) pairs → IsAnswer old new (λ done. IsEdited old new (e ∷ []) pairs items') r
 edits_done old out new e value pairs items items' at (Ok v) is g1 g2 t p rise shown =
-    subst (λ (o : Option (List ℕ)). IsEdited old new (record { key = e.key; value = o } ∷ []) pairs items') (sym is) (put_key old out new e.key value pairs items items' at (grows_trans old out new g1 g2) t p rise shown)
+    subst (λ (o : Option (List ℕ)). IsEdited old new (record { key = e.key; value = o } ∷ []) pairs items') (sym is) (put_key old out new e.key value pairs items items' at (frame_trans old out new g1 g2) t p rise shown)
 edits_done old out new e value pairs items items' at (Err f) is g1 g2 t p rise shown = cause_later old out new f g1 p
 
 pub not_edited : (s : Store) (pairs : List Pair) (items : List Item) → items ≡ map item_of pairs → Rises (pair_keys pairs) → Each (HasChain s) pairs → IsEdited s s [] pairs items

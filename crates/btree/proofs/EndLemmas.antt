@@ -1,22 +1,22 @@
 -- The last and the first child of what was taken out of its page.
-use Rattle.std.proofs.Common.{◌≡◌, ℕ, zero, suc, ◌+◌, ◌<◌, ◌≤◌, List, [], ◌∷◌, ◌++◌, length, map, take, drop, get_or, Option, Some, None, Result, Ok, Err, Bool, refl, sym, ap, ◌∙◌, subst, arith, ◌⊎◌, inl, inr, append-nil}
+use Rattle.std.proofs.Common.{◌≡◌, ℕ, zero, suc, ◌+◌, ◌<◌, ◌≤◌, List, [], ◌∷◌, ◌++◌, length, map, take, drop, get_or, Option, Some, None, Result, Ok, Err, refl, sym, ap, ◌∙◌, subst, arith, append-nil}
 use Rattle.std.specs.Result.{IsErrAnd}
 use Rattle.btree.specs.declared.loose.Loose.{Loose}
 use Rattle.btree.specs.declared.loose.Unit.{Unit}
 use Rattle.btree.specs.LooseView.{hold_in, stub_in}
 use Rattle.std.specs.List.{remove}
 use Rattle.btree.specs.declared.pages.TreeFault.{TreeFault}
-use Rattle.btree.specs.Calls.{HasCause}
-use Rattle.btree.specs.Keys.{Entry, Each, IsBetween, IsNotUnder, IsUnder, IsWithin, Rises, entry_of, times}
-use Rattle.btree.specs.Loose.{IsChild, IsSpread, IsStub, Stub, child, first_or, stubs_of, twig_stub, value}
-use Rattle.btree.specs.Store.{Store, Grows, IsAt}
-use Rattle.btree.specs.Tree.{high_of, pairs_of, Body, Twig, IsSound, IsWhole, Shows, content_of, entries_of, pages_of, place_of, twig_keys}
-use Rattle.btree.specs.Turn.{AreParted, IsHeld, IsReady, IsTurned, IsUpTo, IsFirstCut, PartsFirst, PartsLast, Sheaf, both_of, sheaf_in}
+use Rattle.btree.specs.Calls.{IsAnswer}
+use Rattle.btree.specs.Keys.{Entry, Each, IsBetween, IsNotUnder, IsUnder, IsWithin, entry_of, times}
+use Rattle.btree.specs.Loose.{IsChild, IsSpread, IsStub, Stub, child, stubs_of, twig_stub}
+use Rattle.btree.specs.Store.{Store, Frame, HasCause, IsAt}
+use Rattle.btree.specs.Tree.{high_of, pairs_of, Body, Twig, IsSound, IsWhole, Shows, content_of, entries_of, pages_of, twig_keys}
+use Rattle.btree.specs.Turn.{AreParted, IsHeld, IsReady, IsTurned, IsUpTo, IsFirstCut, Sheaf, both_of, sheaf_in}
 use Rattle.btree.proofs.KeyLemmas.{not_both, not_under_itself, not_under_trans, up_to_then_under}
 use Rattle.btree.proofs.ListLemmas.{each_append, each_back, each_front, map_append, times_append}
 use Rattle.btree.proofs.LooseLemmas.{Lies, entries_joined, joined, pages_joined, shows_parts, split_body, spread_split}
-use Rattle.btree.proofs.HeldLemmas.{glue_held, held_later, held_low}
-use Rattle.btree.proofs.StoreLemmas.{grows_trans, shows_kept}
+use Rattle.btree.proofs.HeldLemmas.{glue_held, held_low}
+use Rattle.btree.proofs.StoreLemmas.{frame_trans, shows_kept}
 
 pub within_up_to : (key : List ℕ) (high : Option (List ℕ)) → IsWithin high key → IsUpTo key high
 within_up_to key None h = tt
@@ -97,7 +97,7 @@ last_off s base low high entries reached sheaf front t page h is deep some load 
 
 -- what it opens to
 pub last_parted : (old new : Store) (base : ℕ) (low : List ℕ) (high : Option (List ℕ)) (entries : List Entry) (reached : List ℕ) (rank : ℕ) (front : List Stub) (t : Stub) (page : ℕ) (sheaf : Sheaf)
-    (o : IsLastOff old base low high entries reached rank front t page) → Grows old new → IsTurned old new base t.key high (entries_of o.d o.body) (page ∷ pages_of o.d o.body) sheaf
+    (o : IsLastOff old base low high entries reached rank front t page) → Frame old new → IsTurned old new base t.key high (entries_of o.d o.body) (page ∷ pages_of o.d o.body) sheaf
     → AreParted old new base low high entries reached (record { rank = rank; stubs = front }) sheaf
 last_parted old new base low high entries reached rank front t page sheaf o grows turned =
     record {
@@ -212,7 +212,7 @@ rest_glued s base low low' high d rank (w ∷ ws) rest more pages other is small
     later (k ∷ ks) u b = ((not_both w.key k u.0, b.0.1), later ks u.1 b.1)
 
 pub first_parted : (old new : Store) (base : ℕ) (low : List ℕ) (high : Option (List ℕ)) (entries : List Entry) (reached : List ℕ) (rank : ℕ) (t : Stub) (rest : List Stub) (page : ℕ) (sheaf : Sheaf)
-    (o : IsFirstOff old base low high entries reached rank t rest page) → Grows old new → IsUpTo low high → IsTurned old new base t.key (high_of high o.twigs) (entries_of o.d o.body) (page ∷ pages_of o.d o.body) sheaf
+    (o : IsFirstOff old base low high entries reached rank t rest page) → Frame old new → IsUpTo low high → IsTurned old new base t.key (high_of high o.twigs) (entries_of o.d o.body) (page ∷ pages_of o.d o.body) sheaf
     → IsFirstCut old new base low high entries reached sheaf (record { rank = rank; stubs = rest })
 first_parted old new base low high entries reached rank t rest page sheaf o grows upto turned =
     record {
@@ -225,7 +225,7 @@ first_parted old new base low high entries reached rank t rest page sheaf o grow
       front_held = held_low new base t.key low (high_of high o.twigs) _ _ sheaf o.between.0 turned.held;
       within = lower o.twigs o.above;
       turned = λ n. omega (arith, turned.turned n, o.pages_are n, times_append n turned.after (pages_of (suc o.d) o.twigs));
-      glue = λ low' over s more pages other grown h same. rest_glued s base low low' high o.d rank o.twigs rest more pages other o.rest_are o.rest_small o.spread (shows_kept old s (grows_trans old new s grows grown) (suc o.d) o.twigs o.rest_shown) o.rank_is h same over;
+      glue = λ low' over s more pages other grown h same. rest_glued s base low low' high o.d rank o.twigs rest more pages other o.rest_are o.rest_small o.spread (shows_kept old s (frame_trans old new s grows grown) (suc o.d) o.twigs o.rest_shown) o.rank_is h same over;
     }
   where
     lower : (ws : List (Twig (Body o.d))) → Each (IsUnder t.key) (twig_keys ws) → IsUpTo low (high_of high ws)
@@ -235,7 +235,7 @@ first_parted old new base low high entries reached rank t rest page sheaf o grow
 -- ---- the program's cases
 
 module _ (old new : Store) (base : ℕ) (low : List ℕ) (high : Option (List ℕ)) (entries : List Entry) (reached : List ℕ) (rank page : ℕ) (t : Stub) (sheaf : Sheaf) (below : ℕ)
-    (grows : Grows old new) (below_is : below + 1 ≡ rank)
+    (grows : Frame old new) (below_is : below + 1 ≡ rank)
     (opens : (base d : ℕ) (high : Option (List ℕ)) (body : Body d) → below ≡ base + d → IsAt old page (content_of d body) → Shows old d body → IsWhole d body → IsSound d t.key high body → 6 + length t.key ≤ 1360
     → IsTurned old new base t.key high (entries_of d body) (page ∷ pages_of d body) sheaf × IsReady base sheaf) where
   pub took_last : (front : List Stub) → IsLastOff old base low high entries reached rank front t page → AreParted old new base low high entries reached (record { rank = rank; stubs = front }) sheaf × IsReady base sheaf
@@ -275,11 +275,11 @@ first_units [] new u key lt e r k = absurd (omega arith)
 first_units (x ∷ xs) new u key lt e r k = ap (λ y. stub_in y ∷ map stub_in xs) (sym e) ∙ ap (λ zs. stub_in u ∷ map stub_in zs) (sym r) ∙ ap (λ i. record { key = i; load = hold_in u.hold } ∷ map stub_in new) (sym k)
 
 pub last_failed : (old new : Store) (base : ℕ) (low : List ℕ) (high : Option (List ℕ)) (entries : List Entry) (reached : List ℕ) (r : Result (Loose × Loose) TreeFault) (f : TreeFault) → IsErrAnd r (λ g. g ≡ f) → HasCause old new f
-    → PartsLast old new base low high entries reached r
+    → IsAnswer old new (λ parts. AreParted old new base low high entries reached (sheaf_in parts.0) (sheaf_in parts.1) × IsReady base (sheaf_in parts.1)) r
 last_failed old new base low high entries reached (Ok v) f h c = absurd h
 last_failed old new base low high entries reached (Err g) f h c = subst (HasCause old new) (sym h) c
 
 pub first_failed : (old new : Store) (base : ℕ) (low : List ℕ) (high : Option (List ℕ)) (entries : List Entry) (reached : List ℕ) (r : Result (Loose × Loose) TreeFault) (f : TreeFault) → IsErrAnd r (λ g. g ≡ f) → HasCause old new f
-    → PartsFirst old new base low high entries reached r
+    → IsAnswer old new (λ parts. IsFirstCut old new base low high entries reached (sheaf_in parts.0) (sheaf_in parts.1) × IsReady base (sheaf_in parts.0)) r
 first_failed old new base low high entries reached (Ok v) f h c = absurd h
 first_failed old new base low high entries reached (Err g) f h c = subst (HasCause old new) (sym h) c

@@ -2,12 +2,12 @@
 use Rattle.std.proofs.Common.{if◌then◌else◌, ◌≡◌, ℕ, zero, suc, ◌+◌, ◌<◌, ◌≤◌, List, [], ◌∷◌, ◌++◌, length, map, get_or, Option, Some, None, Result, Ok, Err, Bool, true, false, refl, sym, ap, ◌∙◌, subst, arith, ◌⊎◌, inl, inr}
 use Rattle.std.specs.Ordering.{is_eq}
 use Rattle.std.specs.List.{flat_map}
-use Rattle.btree.specs.Keys.{Pair, entry_of, value_at, Each, Rises, IsUnder, IsNotUnder, IsWithin, IsPast, IsBetween, key_cmp, find}
+use Rattle.btree.specs.Keys.{Entry, Pair, entry_of, value_at, Each, Rises, IsUnder, IsNotUnder, IsWithin, IsPast, IsBetween, key_cmp, find}
 use Rattle.page.specs.Content.{Item, Arm, Content, leaf, branch, chain, free_list, item_keys}
-use Rattle.btree.specs.Store.{Store, Grows}
+use Rattle.btree.specs.Store.{Store, Frame, HasCause}
 use Rattle.btree.specs.Search.{IsPlace, IsChildPlace, AreBounds, LieBetween}
 use Rattle.btree.specs.Tree.{Twig, Body, IsTree, high_of, twig_keys, pair_keys, pairs_of, entries_of, IsSound, Shows, HasChain, content_of, item_of, arm_of, place_of}
-use Rattle.btree.specs.Calls.{IsPart, IsPlaceOf, Looks, HasCause}
+use Rattle.btree.specs.Calls.{IsAnswer, IsPart, IsPlaceOf}
 use Rattle.page.specs.declared.cells.Stored.{Stored}
 use Rattle.btree.specs.declared.pages.TreeFault.{TreeFault}
 use Rattle.btree.proofs.StoreLemmas.{cause_later, part_kept, shows_kept}
@@ -250,8 +250,12 @@ find_each P key (y ∷ ys) x all e =
     elim (is_eq (key_cmp y.key key)) as (λ b. (if b then Some y else find key ys) ≡ Some x → P x)
     [ true ↦ (λ h. let same : y ≡ x = cc in subst P same all.0) | false ↦ (λ h. find_each P key ys x all.1 h) ] e
 
+-- what a look gives: the value at the key, or none
+abbrev pub IsLooked : {V : Type 0} → (V → List ℕ) → Store → Store → List ℕ → List Entry → Result (Option V) TreeFault → Type 0
+IsLooked bytes old new key entries result = IsAnswer old new (λ answer. option_map bytes answer ≡ value_at key entries) result
+
 -- a value that lies where it was found
-pub none_found : {V : Type 0} (bytes : V → List ℕ) (old new : Store) (key : List ℕ) (pairs : List Pair) → IsPlaceOf (find key pairs) None → Looks bytes old new key (map entry_of pairs) (Ok None)
+pub none_found : {V : Type 0} (bytes : V → List ℕ) (old new : Store) (key : List ℕ) (pairs : List Pair) → IsPlaceOf (find key pairs) None → IsLooked bytes old new key (map entry_of pairs) (Ok None)
 none_found bytes old new key pairs h = go (find key pairs) refl h
   where
     go : (o : Option Pair) → o ≡ find key pairs → IsPlaceOf o None → None ≡ value_at key (map entry_of pairs)
@@ -259,7 +263,7 @@ none_found bytes old new key pairs h = go (find key pairs) refl h
     go (Some x) e h = absurd h
 
 pub some_found : {V : Type 0} (bytes : V → List ℕ) (old new : Store) (key : List ℕ) (pairs : List Pair) (stored : Stored) (v : V) → Shows old zero pairs → IsPlaceOf (find key pairs) (Some stored)
-    → ((x : Pair) → place_in stored ≡ place_of x.links x.value → HasChain old x → bytes v ≡ x.value) → Looks bytes old new key (map entry_of pairs) (Ok (Some v))
+    → ((x : Pair) → place_in stored ≡ place_of x.links x.value → HasChain old x → bytes v ≡ x.value) → IsLooked bytes old new key (map entry_of pairs) (Ok (Some v))
 some_found bytes old new key pairs stored v shown h says = go (find key pairs) refl h
   where
     go : (o : Option Pair) → o ≡ find key pairs → IsPlaceOf o (Some stored) → Some (bytes v) ≡ value_at key (map entry_of pairs)
@@ -269,7 +273,7 @@ some_found bytes old new key pairs stored v shown h says = go (find key pairs) r
 
 pub some_failed : {V : Type 0} (bytes : V → List ℕ) (old new : Store) (key : List ℕ) (pairs : List Pair) (stored : Stored) (r : Result (Option V) TreeFault) (e : TreeFault) → Shows old zero pairs
     → IsPlaceOf (find key pairs) (Some stored) → IsErrAnd r (λ f. f ≡ e)
-    → ((x : Pair) → place_in stored ≡ place_of x.links x.value → HasChain old x → HasCause old new e) → Looks bytes old new key (map entry_of pairs) r
+    → ((x : Pair) → place_in stored ≡ place_of x.links x.value → HasChain old x → HasCause old new e) → IsLooked bytes old new key (map entry_of pairs) r
 some_failed bytes old new key pairs stored (Ok v) e shown h is says = absurd is
 some_failed bytes old new key pairs stored (Err f) e shown h is says = subst (HasCause old new) (sym is) (go (find key pairs) refl h)
   where
@@ -314,8 +318,8 @@ branch_room s page level (suc d) low high twigs arms e p =
     let deep : suc d + level < 32 = p.depth in
     (omega arith, omega (arith, ap (λ (zs : List Arm). length zs) same, p.whole.some))
 
-pub looks_later : {V : Type 0} (bytes : V → List ℕ) (old mid new : Store) (key : List ℕ) (pairs below : List Pair) (r : Result (Option V) TreeFault) → Grows old mid → find key pairs ≡ find key below
-    → Looks bytes mid new key (map entry_of below) r → Looks bytes old new key (map entry_of pairs) r
+pub looks_later : {V : Type 0} (bytes : V → List ℕ) (old mid new : Store) (key : List ℕ) (pairs below : List Pair) (r : Result (Option V) TreeFault) → Frame old mid → find key pairs ≡ find key below
+    → IsLooked bytes mid new key (map entry_of below) r → IsLooked bytes old new key (map entry_of pairs) r
 looks_later bytes old mid new key pairs below (Ok answer) g e h =
     h ∙ value_found key below ∙ ap (option_map (λ (x : Pair). x.value)) (sym e) ∙ sym (value_found key pairs)
 looks_later bytes old mid new key pairs below (Err fault) g e h = cause_later old mid new fault g h
@@ -323,48 +327,48 @@ looks_later bytes old mid new key pairs below (Err fault) g e h = cause_later ol
 -- ---- the cases of the program, over plain variables
 
 module _ (old : Store) (page level : ℕ) (low : List ℕ) (high : Option (List ℕ)) where
-  pub not_between : (new : Store) (content : Content) (r : Bool) (e : TreeFault) → old.page page ≡ content → (LieBetween low high content → r ≡ true) → r ≡ false
-      → (d : ℕ) (body : Body d) → IsPart old page level d low high body → HasCause old new e
-  not_between new content r e holds says fails d body part =
+  pub not_between : (content : Content) (r : Bool) → old.page page ≡ content → (LieBetween low high content → r ≡ true) → r ≡ false
+      → (d : ℕ) (body : Body d) → IsPart old page level d low high body → ⊥
+  not_between content r holds says fails d body part =
       let yes : r ≡ true = says (subst (LieBetween low high) (sym part.at.holds ∙ holds) (lie_between d low high body part.sound)) in cc
 
-  pub too_deep : (new : Store) (arms : List Arm) (e : TreeFault) → old.page page ≡ branch arms → (31 ≤ level) ⊎ (length arms ≡ 0)
-      → (d : ℕ) (body : Body d) → IsPart old page level d low high body → HasCause old new e
-  too_deep new arms e holds why d body part =
+  pub too_deep : (arms : List Arm) → old.page page ≡ branch arms → (31 ≤ level) ⊎ (length arms ≡ 0)
+      → (d : ℕ) (body : Body d) → IsPart old page level d low high body → ⊥
+  too_deep arms holds why d body part =
       let r = branch_room old page level d low high body arms (sym holds ∙ part.at.holds) part in
-      elim why [ inl deep ↦ absurd (omega (arith, r.0)) | inr none ↦ absurd (omega (arith, r.1)) ]
+      elim why [ inl deep ↦ omega (arith, r.0) | inr none ↦ omega (arith, r.1) ]
 
-  pub in_leaf : {V : Type 0} (bytes : V → List ℕ) (mid new : Store) (items : List Item) (key : List ℕ) (r : Result (Option V) TreeFault) → Grows old mid → old.page page ≡ leaf items
-      → ((pairs : List Pair) → items ≡ map item_of pairs → Rises (pair_keys pairs) → Shows mid zero pairs → Looks bytes mid new key (map entry_of pairs) r)
-      → (d : ℕ) (body : Body d) → IsPart old page level d low high body → Looks bytes old new key (entries_of d body) r
+  pub in_leaf : {V : Type 0} (bytes : V → List ℕ) (mid new : Store) (items : List Item) (key : List ℕ) (r : Result (Option V) TreeFault) → Frame old mid → old.page page ≡ leaf items
+      → ((pairs : List Pair) → items ≡ map item_of pairs → Rises (pair_keys pairs) → Shows mid zero pairs → IsLooked bytes mid new key (map entry_of pairs) r)
+      → (d : ℕ) (body : Body d) → IsPart old page level d low high body → IsLooked bytes old new key (entries_of d body) r
   in_leaf bytes mid new items key r grows holds says zero pairs part =
       let l = leaf_pairs zero low high pairs items (sym holds ∙ part.at.holds) part.sound in
       looks_later bytes old mid new key pairs pairs r grows refl (says pairs l.0 l.1 (shows_kept old mid grows zero pairs part.shown))
   in_leaf bytes mid new items key r grows holds says (suc d) twigs part = no_leaf (sym holds ∙ part.at.holds)
     where
-      no_leaf : leaf items ≡ branch (map arm_of twigs) → Looks bytes old new key (entries_of (suc d) twigs) r
+      no_leaf : leaf items ≡ branch (map arm_of twigs) → IsLooked bytes old new key (entries_of (suc d) twigs) r
       no_leaf h = cc
 
   pub in_child : {V : Type 0} (bytes : V → List ℕ) (mid new : Store) (arms : List Arm) (i : ℕ) (from : List ℕ) (to : Option (List ℕ)) (child : ℕ) (key : List ℕ) (r : Result (Option V) TreeFault)
-      → old.page page ≡ branch arms → Grows old mid → IsChildPlace arms key i → AreBounds low high arms i from to
+      → old.page page ≡ branch arms → Frame old mid → IsChildPlace arms key i → AreBounds low high arms i from to
       → ((e : Arm) → (get_or arms i e).child ≡ child)
-      → ((d : ℕ) (body : Body d) → IsPart mid child (level + 1) d from to body → IsBetween from to key → Looks bytes mid new key (entries_of d body) r)
-      → (d : ℕ) (body : Body d) → IsPart old page level d low high body → IsBetween low high key → Looks bytes old new key (entries_of d body) r
+      → ((d : ℕ) (body : Body d) → IsPart mid child (level + 1) d from to body → IsBetween from to key → IsLooked bytes mid new key (entries_of d body) r)
+      → (d : ℕ) (body : Body d) → IsPart old page level d low high body → IsBetween low high key → IsLooked bytes old new key (entries_of d body) r
   in_child bytes mid new arms i from to child key r holds grows place bounds here says d body part within =
       let s = descend old page level d low high body arms i child from to key (sym holds ∙ part.at.holds) part place bounds here within in
       looks_later bytes old mid new key (pairs_of d body) (pairs_of s.d s.body) r grows s.found (says s.d s.body (part_kept old mid grows child (level + 1) s.d from to s.body s.part) s.between)
 
-  pub no_kind : (new : Store) (content : PageContent) (e : TreeFault) → old.page page ≡ content_in content → ((l : List Item) → content ≡ P.Leaf l → ⊥) → ((b : List Arm) → content ≡ P.Branch b → ⊥)
-      → (d : ℕ) (body : Body d) → IsPart old page level d low high body → HasCause old new e
-  no_kind new content e holds no_leaf no_branch d body part = go content (sym holds ∙ part.at.holds) no_leaf no_branch
+  pub no_kind : (content : PageContent) → old.page page ≡ content_in content → ((l : List Item) → content ≡ P.Leaf l → ⊥) → ((b : List Arm) → content ≡ P.Branch b → ⊥)
+      → (d : ℕ) (body : Body d) → IsPart old page level d low high body → ⊥
+  no_kind content holds no_leaf no_branch d body part = go content (sym holds ∙ part.at.holds) no_leaf no_branch
     where
-      other : (c : Content) → (d : ℕ) (body : Body d) → c ≡ content_of d body → ((is : List Item) → c ≡ leaf is → ⊥) → ((bs : List Arm) → c ≡ branch bs → ⊥) → HasCause old new e
-      other c zero pairs h l b = absurd (l _ h)
-      other c (suc d) twigs h l b = absurd (b _ h)
+      other : (c : Content) → (d : ℕ) (body : Body d) → c ≡ content_of d body → ((is : List Item) → c ≡ leaf is → ⊥) → ((bs : List Arm) → c ≡ branch bs → ⊥) → ⊥
+      other c zero pairs h l b = l _ h
+      other c (suc d) twigs h l b = b _ h
 
-      go : (p : PageContent) → content_in p ≡ content_of d body → ((l : List Item) → p ≡ P.Leaf l → ⊥) → ((b : List Arm) → p ≡ P.Branch b → ⊥) → HasCause old new e
-      go (P.Leaf l) h nl nb = absurd (nl l refl)
-      go (P.Branch b) h nl nb = absurd (nb b refl)
+      go : (p : PageContent) → content_in p ≡ content_of d body → ((l : List Item) → p ≡ P.Leaf l → ⊥) → ((b : List Arm) → p ≡ P.Branch b → ⊥) → ⊥
+      go (P.Leaf l) h nl nb = nl l refl
+      go (P.Branch b) h nl nb = nb b refl
       go (P.Chain next bytes) h nl nb = other (chain next bytes.items) d body h (λ is k. cc) (λ bs k. cc)
       go (P.FreeList next pages) h nl nb = other (free_list next pages.items) d body h (λ is k. cc) (λ bs k. cc)
 

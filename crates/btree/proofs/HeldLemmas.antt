@@ -1,22 +1,22 @@
 -- Cells and children out of their pages, and the part of the tree that they stand for.
-use Rattle.std.proofs.Common.{◌≡◌, ℕ, zero, suc, ◌+◌, ◌<◌, ◌≤◌, List, [], ◌∷◌, ◌++◌, length, map, get_or, Option, Some, None, Result, Ok, Err, Bool, refl, sym, ap, ◌∙◌, subst, arith, ◌⊎◌, inl, inr, append-nil}
+use Rattle.std.proofs.Common.{◌≡◌, ℕ, zero, suc, ◌+◌, ◌<◌, ◌≤◌, List, [], ◌∷◌, ◌++◌, length, map, get_or, Option, Some, Result, Ok, Err, Bool, refl, sym, ap, ◌∙◌, subst, arith, ◌⊎◌, inl, inr, append-nil}
 use Rattle.std.specs.Result.{IfErr, IfOk, IsErrAnd, MatchResult}
 use Rattle.btree.specs.declared.pages.TreeFault.TheVariants.{Memory}
-use Rattle.page.specs.Content.{Arm, Item, IsArm, IsItem, Content, branch, leaf}
+use Rattle.page.specs.Content.{Arm, Item, IsArm, IsItem, branch, leaf}
 use Rattle.std.specs.List.{AllByRecursion}
 use Rattle.btree.specs.declared.loose.Loose.{Loose}
 use Rattle.btree.specs.declared.pages.TreeFault.{TreeFault}
-use Rattle.btree.specs.Calls.{HasCause}
-use Rattle.btree.specs.Keys.{Pair, Entry, Each, IsBetween, IsNotUnder, IsUnder, IsWithin, times}
+use Rattle.btree.specs.Calls.{IsAnswer}
+use Rattle.btree.specs.Keys.{Pair, Entry, Each, IsNotUnder, IsUnder, IsWithin, times}
 use Rattle.btree.specs.Loose.{IsEnough, IsSpread, IsStub, Stub, arm_stub, child, first_or, item_stub, lowered, pair_stub, twig_stub, stubs_of, under_key}
-use Rattle.btree.specs.Store.{Store, Grows}
+use Rattle.btree.specs.Store.{Store, Frame, HasCause}
 use Rattle.btree.specs.Tree.{Body, Twig, IsSound, IsWhole, Shows, arm_of, content_of, entries_of, item_of, pages_of, with_low}
-use Rattle.btree.specs.Turn.{AreParted, AreTurned, AreWritten, IsHeld, IsReady, IsTurned, IsUpTo, MayFill, Sheaf, Turns, both_of, sheaf_in}
-use Rattle.btree.proofs.KeyLemmas.{up_to_then_under, under_then_up_to}
+use Rattle.btree.specs.Turn.{AreTurned, AreWritten, IsHeld, IsReady, IsTurned, IsUpTo, MayFill, Sheaf, both_of, sheaf_in}
+use Rattle.btree.proofs.KeyLemmas.{under_then_up_to}
 use Rattle.btree.proofs.ListLemmas.{each_append, get_mapped, long_map, map_map, times_append}
 use Rattle.btree.proofs.LooseLemmas.{entries_joined, joined, pages_joined, shows_joined, spread_glue, stubs_joined}
-use Rattle.btree.proofs.RaiseLemmas.{IsHead, head_of, no_entries, spread_first}
-use Rattle.btree.proofs.StoreLemmas.{cause_later, grows_trans, shows_kept}
+use Rattle.btree.proofs.RaiseLemmas.{no_entries, spread_first}
+use Rattle.btree.proofs.StoreLemmas.{memory_cause, shows_kept}
 use Rattle.btree.proofs.WideLemmas.{sound_spread, spread_high, spread_low, up_to_wider}
 
 -- a child under its bound
@@ -29,7 +29,7 @@ arm_there low (a ∷ more) (suc i) key page lt first later is d =
 
 -- ---- later stores
 
-pub held_later : (old new : Store) (base : ℕ) (low : List ℕ) (high : Option (List ℕ)) (entries : List Entry) (pages : List ℕ) (sheaf : Sheaf) → Grows old new → IsHeld old base low high entries pages sheaf
+pub held_later : (old new : Store) (base : ℕ) (low : List ℕ) (high : Option (List ℕ)) (entries : List Entry) (pages : List ℕ) (sheaf : Sheaf) → Frame old new → IsHeld old base low high entries pages sheaf
     → IsHeld new base low high entries pages sheaf
 held_later old new base low high entries pages sheaf grows h =
     record {
@@ -78,7 +78,7 @@ some_or : (n : ℕ) → (n ≡ 0) ⊎ (0 < n)
 some_or zero = inl refl
 some_or (suc n) = inr (omega arith)
 
-no_stubs : (ss : List Stub) → length ss ≡ 0 → ss ≡ []
+pub no_stubs : (ss : List Stub) → length ss ≡ 0 → ss ≡ []
 no_stubs [] e = refl
 no_stubs (s ∷ ss) e = absurd (omega arith)
 
@@ -192,7 +192,7 @@ lowered_shows s (suc d) low [] h = h
 lowered_shows s (suc d) low (w ∷ ws) h = h
 
 pub opened : (old new : Store) (base d rank page : ℕ) (low : List ℕ) (high : Option (List ℕ)) (body : Body d) (stubs : List Stub) → rank ≡ base + d → Shows old d body → IsWhole d body → IsSound d low high body
-    → 6 + length low ≤ 1360 → stubs ≡ stubs_of d (lowered d low body) → Grows old new → new.made ≡ old.made → new.retired ≡ page ∷ old.retired
+    → 6 + length low ≤ 1360 → stubs ≡ stubs_of d (lowered d low body) → Frame old new → new.made ≡ old.made → new.retired ≡ page ∷ old.retired
     → IsTurned old new base low high (entries_of d body) (page ∷ pages_of d body) (record { rank = rank; stubs = stubs }) × IsReady base (record { rank = rank; stubs = stubs })
 opened old new base d rank page low high body stubs e shown whole sound little is grows made retired = (
   record {
@@ -251,22 +251,26 @@ held_low s base low low' high entries pages sheaf over h =
       pages_are = h.pages_are;
     }
 
+-- what a step gives: cells or children that are held
+abbrev pub IsTurn : Store → Store → ℕ → List ℕ → Option (List ℕ) → List Entry → List ℕ → Result Loose TreeFault → Type 0
+IsTurn old new base low high entries before r = IsAnswer old new (λ loose. IsTurned old new base low high entries before (sheaf_in loose)) r
+
 pub turns_failed : (old new : Store) (base : ℕ) (low : List ℕ) (high : Option (List ℕ)) (entries : List Entry) (pages : List ℕ) (r : Result Loose TreeFault) (f : TreeFault) → IsErrAnd r (λ g. g ≡ f) → HasCause old new f
-    → Turns old new base low high entries pages r
+    → IsTurn old new base low high entries pages r
 turns_failed old new base low high entries pages (Ok v) f h c = absurd h
 turns_failed old new base low high entries pages (Err g) f h c = subst (HasCause old new) (sym h) c
 
 -- what a call without pages gives at the end
 pub concat_turns : (old new : Store) (base : ℕ) (low : List ℕ) (high : Option (List ℕ)) (entries : List Entry) (before after : List ℕ) (a b : Sheaf) (r : Result Loose TreeFault)
     → IsHeld new base low high entries after (both_of a b) → AreTurned old new before after → IfOk r (λ l. l.rank ≡ a.rank) → IfOk r (λ l. (sheaf_in l).stubs ≡ a.stubs ++ b.stubs) → IfErr r (λ e. e ≡ Memory)
-    → Turns old new base low high entries before r
+    → IsTurn old new base low high entries before r
 concat_turns old new base low high entries before after a b (Ok l) h turned rank stubs err =
     record {
       after = after;
       held = subst (IsHeld new base low high entries after) (ap (λ (n : ℕ). record { rank = n; stubs = a.stubs ++ b.stubs }) (sym rank) ∙ ap (λ ss. record { rank = l.rank; stubs = ss }) (sym stubs)) h;
       turned = turned;
     }
-concat_turns old new base low high entries before after a b (Err f) h turned rank stubs err = inl err
+concat_turns old new base low high entries before after a b (Err f) h turned rank stubs err = memory_cause old new f err
 
 pub joined_long : (r : Result Loose TreeFault) (a b k : ℕ) → IfOk r (λ l. length l.units.items ≡ a + b) → k ≤ a + b → IfOk r (λ l. k ≤ length l.units.items)
 joined_long (Ok l) a b k h le = omega (arith, h)

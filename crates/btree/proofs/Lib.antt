@@ -11,11 +11,13 @@ pub mod JoinLemmas
 pub mod KeyLemmas
 pub mod ListLemmas
 pub mod LooseLemmas
+pub mod OnceLemmas
 pub mod PartLemmas
 pub mod PrepareLemmas
 pub mod RaiseLemmas
 pub mod ReachLemmas
-pub mod ScanLemmas
+pub mod RootLemmas
+mod ScanLemmas
 pub mod SearchLemmas
 pub mod SplitLemmas
 pub mod StoreLemmas

@@ -1,12 +1,11 @@
 -- Bodies in parts: what holds of both parts, and of the whole.
-use Rattle.std.proofs.Common.{◌≡◌, ℕ, zero, suc, ◌+◌, ◌<◌, ◌≤◌, List, [], ◌∷◌, ◌++◌, length, map, take, drop, Option, Some, None, refl, sym, ap, ◌∙◌, subst, arith, ◌⊎◌, inl, inr}
-use Rattle.std.specs.List.{flat_map}
-use Rattle.btree.specs.Keys.{Pair, Entry, Each, Rises, IsUnder, IsNotUnder, IsWithin, IsBetween, entry_of, times}
+use Rattle.std.proofs.Common.{◌≡◌, ℕ, zero, suc, ◌+◌, List, [], ◌∷◌, ◌++◌, map, take, drop, Option, Some, refl, sym, ap, ◌∙◌, subst}
+use Rattle.btree.specs.Keys.{Each, Rises, IsUnder, IsBetween, entry_of, times}
 use Rattle.btree.specs.Store.{Store}
-use Rattle.btree.specs.Loose.{IsSpread, IsStub, Stub, bare, first_or, pair_stub, twig_stub, stub_keys, stubs_of}
-use Rattle.btree.specs.Tree.{Twig, Body, HasChain, IsFan, IsSound, IsWhole, Shows, entries_of, high_of, pages_of, pair_keys, pairs_of, twig_keys, with_low}
-use Rattle.btree.proofs.KeyLemmas.{under_trans, up_to_then_under, not_under_itself, not_both, within_wider}
-use Rattle.btree.proofs.ListLemmas.{each_append, each_back, each_front, each_map, flat_append, map_append, rises_across, rises_append, rises_back, rises_front, times_append}
+use Rattle.btree.specs.Loose.{IsSpread, Stub, bare, first_or, pair_stub, twig_stub, stubs_of}
+use Rattle.btree.specs.Tree.{Twig, Body, IsSound, IsWhole, Shows, entries_of, high_of, pages_of, pair_keys, pairs_of, twig_keys}
+use Rattle.btree.proofs.KeyLemmas.{under_trans, not_under_itself, not_both, within_wider}
+use Rattle.btree.proofs.ListLemmas.{each_append, each_back, each_front, each_map, flat_append, map_append, rises_append, rises_back, rises_front, times_append}
 use Rattle.btree.proofs.FanLemmas.{fan_append, fan_back, fan_front}
 
 abbrev pub joined : (d : ℕ) → Body d → Body d → Body d

@@ -1,5 +1,5 @@
 -- Edits of children: the child that the last edits belong to, what is before it and what is behind it.
-use Rattle.std.proofs.Common.{◌≡◌, ℕ, zero, suc, ◌+◌, ◌-◌, ◌<◌, ◌≤◌, take, drop, get_or, List, [], ◌∷◌, ◌++◌, length, map, Option, Some, None, Result, Ok, Err, refl, sym, ap, ◌∙◌, subst, arith, ◌⊎◌, inl, inr, append-nil, append_assoc}
+use Rattle.std.proofs.Common.{◌≡◌, ℕ, zero, suc, ◌+◌, ◌-◌, ◌<◌, ◌≤◌, take, get_or, List, [], ◌∷◌, ◌++◌, length, map, Option, Some, None, Result, Ok, Err, refl, sym, ap, ◌∙◌, subst, arith, inl, inr, append_assoc}
 use Rattle.btree.specs.declared.loose.Loose.{Loose}
 use Rattle.btree.specs.declared.editing.Edit.{Edit as ProgramEdit}
 use Rattle.btree.specs.EditView.{edit_in}
@@ -7,16 +7,17 @@ use Rattle.btree.specs.LooseView.{hold_in, stub_in}
 use Rattle.btree.specs.declared.loose.Unit.{Unit}
 use Rattle.btree.proofs.CuttingLemmas.{take_over}
 use Rattle.btree.specs.declared.pages.TreeFault.{TreeFault}
-use Rattle.btree.specs.Change.{BeginsAt, IsBehind, IsHeldBehind, edit_keys}
-use Rattle.btree.specs.Keys.{Edit, Entry, Each, IsBetween, IsNotUnder, IsUnder, IsWithin, Rises, change, times}
+use Rattle.btree.specs.Change.{BeginsAt, IsBehind, edit_keys}
+use Rattle.btree.specs.Keys.{Edit, Entry, Each, IsBetween, IsNotUnder, IsUnder, IsWithin, Rises, change}
 use Rattle.btree.specs.Loose.{Stub, child, first_or}
-use Rattle.btree.specs.Store.{Store, Grows}
+use Rattle.btree.specs.Store.{Store, Frame}
+use Rattle.btree.proofs.HeldLemmas.{IsTurn}
 use Rattle.btree.specs.Tree.{entries_of, pages_of}
-use Rattle.btree.specs.Turn.{IsHeld, IsTurned, IsUpTo, Sheaf, Turns, sheaf_in}
+use Rattle.btree.specs.Turn.{IsHeld, IsTurned, IsUpTo, Sheaf, sheaf_in}
 use Rattle.btree.proofs.ListLemmas.{each_append, each_back, each_front, each_map, get_here, get_mapped, long_append, long_map, map_append, rises_back, rises_front, times_append}
 use Rattle.btree.proofs.EndLemmas.{IsLastOff, last_off, within_up_to}
 use Rattle.btree.proofs.SplitLemmas.{take_under, IsTwo, apart, apart_over, change_parts, held_between, two_parts}
-use Rattle.btree.proofs.StoreLemmas.{cause_later, grows_trans}
+use Rattle.btree.proofs.StoreLemmas.{cause_later, frame_trans}
 use Rattle.btree.proofs.JoinLemmas.{up_to_trans}
 use Rattle.btree.proofs.KeyLemmas.{not_under_trans}
 use Rattle.btree.proofs.ScanLemmas.{each_entry}
@@ -126,12 +127,12 @@ all_up_to_last es key d some rise last =
     (λ k f is. let same : k ≡ length es - 1 = omega arith in subst (λ (e : Edit). IsUnder e.key key) (sym (ap (λ i. get_or (map edit_in es) i f) same ∙ get_mapped edit_in es (length es - 1) f d (omega arith))) last))
 
 pub children_done : (old a b c new : Store) (base : ℕ) (low : List ℕ) (high : Option (List ℕ)) (entries : List Entry) (reached : List ℕ) (rank : ℕ) (left right : List Stub) (t : Stub) (page : ℕ) (theirs mine : List Edit)
-    (p : IsPrepared old base low high entries reached rank left right t page theirs mine) (below front back : Sheaf) (r : Result Loose TreeFault) → Grows old a → Grows a b → Grows b c
+    (p : IsPrepared old base low high entries reached rank left right t page theirs mine) (below front back : Sheaf) (r : Result Loose TreeFault) → Frame old a → Frame a b → Frame b c
     → (u1 : IsTurned old a base t.key p.two.between (change mine (entries_of p.off.d p.off.body)) (page ∷ pages_of p.off.d p.off.body) below)
     → (u2 : IsTurned a b base low (Some t.key) (change theirs (entries_of (suc p.off.d) p.off.twigs)) (pages_of (suc p.off.d) p.off.twigs) front)
     → (u3 : IsTurned b c base t.key high (change mine (entries_of p.off.d p.off.body) ++ p.two.back_entries) (u1.after ++ p.two.back_pages) back)
-    → Turns c new base low high (change theirs (entries_of (suc p.off.d) p.off.twigs) ++ (change mine (entries_of p.off.d p.off.body) ++ p.two.back_entries)) (u2.after ++ u3.after) r
-    → Turns old new base low high (change (theirs ++ mine) entries) reached r
+    → IsTurn c new base low high (change theirs (entries_of (suc p.off.d) p.off.twigs) ++ (change mine (entries_of p.off.d p.off.body) ++ p.two.back_entries)) (u2.after ++ u3.after) r
+    → IsTurn old new base low high (change (theirs ++ mine) entries) reached r
 children_done old a b c new base low high entries reached rank left right t page theirs mine p below front back (Ok l) g1 g2 g3 u1 u2 u3 u4 =
     record {
       after = u4.after;
@@ -148,7 +149,7 @@ children_done old a b c new base low high entries reached rank left right t page
         times_append n u1.after p.two.back_pages,
       );
     }
-children_done old a b c new base low high entries reached rank left right t page theirs mine p below front back (Err e) g1 g2 g3 u1 u2 u3 u4 = cause_later old c new e (grows_trans old b c (grows_trans old a b g1 g2) g3) u4
+children_done old a b c new base low high entries reached rank left right t page theirs mine p below front back (Err e) g1 g2 g3 u1 u2 u3 u4 = cause_later old c new e (frame_trans old b c (frame_trans old a b g1 g2) g3) u4
 
 pub begins_left : (low : List ℕ) (edits theirs : List Edit) (stubs left right : List Stub) (t : Stub) → stubs ≡ (left ++ t ∷ []) ++ right → BeginsAt low edits stubs → 0 < length edits
     → Each (λ e. IsBetween low (Some t.key) e.key) theirs → BeginsAt low theirs left

@@ -1,20 +1,20 @@
 -- A body that is cut and written stands one level up.
-use Rattle.std.proofs.Common.{◌≡◌, ℕ, zero, suc, ◌+◌, ◌-◌, ◌*◌, ◌^◌, ◌<◌, ◌≤◌, List, [], ◌∷◌, ◌++◌, length, map, take, drop, Option, Some, None, Result, Ok, Err, Bool, false, true, refl, sym, ap, ◌∙◌, subst, arith, ◌⊎◌, inl, inr, append-nil, append_assoc}
-use Rattle.btree.specs.Keys.{Entry, Each, IsBetween, Rises, entry_of, times}
-use Rattle.btree.specs.Loose.{load_size, stub_size, IsLoad, GoBehind, IsEnough, IsOver, IsPart, IsSpread, IsStub, Stub, bare, child, first_or, pair_stub, stub_keys, stubs_of, stubs_size, twig_stub}
-use Rattle.btree.specs.Store.{Store, Grows}
-use Rattle.btree.specs.Tree.{Body, Twig, IsSound, Shows, entries_of, pages_of, pair_keys, pairs_of, twig_keys}
-use Rattle.btree.specs.Turn.{AreWritten, IsWritten, MayFill, WritesParts}
+use Rattle.std.proofs.Common.{◌≡◌, ℕ, zero, suc, ◌+◌, ◌<◌, ◌≤◌, List, [], ◌∷◌, ◌++◌, length, map, take, drop, Option, Some, None, Result, Ok, Err, Bool, refl, sym, ap, ◌∙◌, subst, arith, ◌⊎◌, inl, inr, append-nil, append_assoc}
+use Rattle.btree.specs.Keys.{Each, IsBetween, Rises, entry_of, times}
+use Rattle.btree.specs.Loose.{load_size, stub_size, IsLoad, GoBehind, IsEnough, IsOver, IsPart, IsSpread, IsStub, Stub, bare, first_or, pair_stub, stub_keys, stubs_of, twig_stub}
+use Rattle.btree.specs.Store.{Store, Frame, HasCause}
+use Rattle.btree.specs.Tree.{Body, Twig, IsSound, Shows, entries_of, pages_of, pairs_of}
+use Rattle.btree.specs.Turn.{AreWritten, IsWritten, MayFill}
 use Rattle.std.specs.Result.{IsErrAnd}
 use Rattle.btree.proofs.CuttingLemmas.{behind_long, go_all}
 use Rattle.btree.proofs.ListLemmas.{each_append, long_map, map_append, map_map}
-use Rattle.btree.proofs.LooseLemmas.{Lies, bare_pages, bare_pairs, bare_shows, bare_sound, entries_joined, joined, pages_joined, shows_joined, map_behind, map_take, shows_parts, split_body, spread_glue, spread_split, stubs_joined}
+use Rattle.btree.proofs.LooseLemmas.{Lies, bare_pages, bare_pairs, bare_shows, bare_sound, entries_joined, pages_joined, shows_joined, map_behind, map_take, shows_parts, split_body, spread_glue, spread_split}
 use Rattle.btree.proofs.PartLemmas.{body_whole}
 use Rattle.btree.proofs.StoreLemmas.{cause_later, shows_kept}
 use Rattle.btree.specs.declared.loose.Unit.{Unit}
 use Rattle.btree.specs.declared.pages.TreeFault.{TreeFault}
 use Rattle.btree.specs.LooseView.{stub_in}
-use Rattle.btree.specs.Calls.{HasCause}
+use Rattle.btree.specs.Calls.{IsAnswer}
 
 -- so many were written, and these are left
 pub record ArePartly (old new : Store) (d : ℕ) (low : List ℕ) (high : Option (List ℕ)) (body : Body d) (above rest : List Stub) : Type 0 where
@@ -96,7 +96,7 @@ enough_back (suc d) fills rest at (inr f) part le enough = elim ((part.many f en
 ]
 
 pub partly_more : (old mid new : Store) (d : ℕ) (low : List ℕ) (high : Option (List ℕ)) (body : Body d) (above rest : List Stub) (at : ℕ) (fills : Bool) (stub : Stub) (p : ArePartly old mid d low high body above rest)
-    → MayFill d fills → IsPart fills rest at → 0 < at → at ≤ length rest → Grows mid new
+    → MayFill d fills → IsPart fills rest at → 0 < at → at ≤ length rest → Frame mid new
     → ((b : Body d) → take at rest ≡ stubs_of d b → IsEnough d (take at rest) → GoBehind None 0 (take at rest) → IsWritten mid new d b stub)
     → ArePartly old new d low high body (above ++ stub ∷ []) (drop at rest)
 partly_more old mid new d low high body above rest at fills stub p may part lt le grows says =
@@ -221,7 +221,7 @@ next_part old mid d low high body above rest at fills p may part lt le =
 -- the program's step
 module _ (old mid new : Store) (d : ℕ) (low : List ℕ) (high : Option (List ℕ)) (body : Body d) (above rest part : List Unit) (at : ℕ) (fills : Bool)
     (p : ArePartly old mid d low high body (map stub_in above) (map stub_in rest)) (may : MayFill d fills) (is_part : Each IsStub (map stub_in rest) → IsPart fills (map stub_in rest) at) (lt : 0 < at) (le : at ≤ length rest)
-    (part_is : part ≡ take at rest) (grows : Grows mid new) where
+    (part_is : part ≡ take at rest) (grows : Frame mid new) where
   same_part : take at (map stub_in rest) ≡ map stub_in part
   same_part = sym (map_take stub_in at rest) ∙ ap (map stub_in) (sym part_is)
 
@@ -237,12 +237,12 @@ module _ (old mid new : Store) (d : ℕ) (low : List ℕ) (high : Option (List �
       subst (λ ss. ArePartly old new d low high body ss (map stub_in behind)) (sym pushed)
       (subst (ArePartly old new d low high body (map stub_in above ++ stub_in unit ∷ [])) (sym (map_behind stub_in at rest) ∙ ap (map stub_in) (sym behind_is)) q)
 
-  pub partly_failed : (e : TreeFault) → ((b : Body d) → map stub_in part ≡ stubs_of d b → IsEnough d (map stub_in part) → GoBehind None 0 (map stub_in part) → HasCause mid new e) → Grows old mid → HasCause old new e
+  pub partly_failed : (e : TreeFault) → ((b : Body d) → map stub_in part ≡ stubs_of d b → IsEnough d (map stub_in part) → GoBehind None 0 (map stub_in part) → HasCause mid new e) → Frame old mid → HasCause old new e
   partly_failed e says before =
       let n = next_part old mid d low high body (map stub_in above) (map stub_in rest) at fills p may (is_part p.small) lt le' in
       cause_later old mid new e before (says n.part (sym same_part ∙ n.are) (subst (IsEnough d) same_part n.enough) (subst (GoBehind None 0) same_part n.go))
 
 pub writes_failed : {V : Type 0} (stubs : V → List Stub) (old new : Store) (d : ℕ) (low : List ℕ) (high : Option (List ℕ)) (body : Body d) (r : Result V TreeFault) (f : TreeFault) → IsErrAnd r (λ g. g ≡ f)
-    → HasCause old new f → WritesParts stubs old new d low high body r
+    → HasCause old new f → IsAnswer old new (λ units. AreWritten old new d low high body (stubs units)) r
 writes_failed stubs old new d low high body (Ok v) f h c = absurd h
 writes_failed stubs old new d low high body (Err g) f h c = subst (HasCause old new) (sym h) c

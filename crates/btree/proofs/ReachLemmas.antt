@@ -1,13 +1,12 @@
 -- A tree lies in the pages that it reaches alone: a store that has these has the tree.
-use Rattle.std.proofs.Common.{ℕ, zero, suc, List, [], ◌∷◌, ◌++◌, drop, inl, inr}
-use Rattle.std.specs.List.{flat_map}
+use Rattle.std.proofs.Common.{ℕ, zero, suc, List, [], ◌∷◌, drop, inl, inr}
 use Rattle.page.specs.Content.{Content}
-use Rattle.btree.specs.Keys.{Each, Entry, Pair}
+use Rattle.btree.specs.Keys.{Each, Entry}
 use Rattle.btree.specs.Store.{Store, IsAt}
-use Rattle.btree.specs.Tree.{Body, Twig, HasChain, HasLinks, IsTree, Shows, pages_of}
-use Rattle.btree.specs.Reach.{HasTree, HasMap}
+use Rattle.btree.specs.Tree.{Body, HasLinks, IsTree, Shows, pages_of}
+use Rattle.btree.specs.Reach.{HasMap}
 use Rattle.btree.proofs.ListLemmas.{each_front, each_back}
-use Rattle.std.proofs.Common.{◌≡◌, sym, subst}
+use Rattle.std.proofs.Common.{subst}
 
 -- what the one store has in this page, the other has too
 abbrev pub Moves : Store → Store → ℕ → Type 0
@@ -31,7 +30,6 @@ shows_moved s t (suc d) (w ∷ ws) moves h = (
 
 pub tree_moved : (s t : Store) (root d : ℕ) (body : Body d) → Each (Moves s t) (root ∷ pages_of d body) → IsTree s root d body → IsTree t root d body
 tree_moved s t root d body moves h = record {
-  number = h.number;
   at = moves.0 _ h.at;
   shown = shows_moved s t d body moves.1 h.shown;
   whole = h.whole;

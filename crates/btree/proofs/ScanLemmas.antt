@@ -9,10 +9,10 @@ use Rattle.btree.specs.Keys.{Pair, Entry, entry_of, Each, Rises, IsUnder, IsNotU
 use Rattle.btree.specs.Search.{IsPlace, IsChildPlace, AreBounds}
 use Rattle.std.specs.Result.{IsErrAnd}
 use Rattle.btree.specs.declared.pages.TreeFault.{TreeFault}
-use Rattle.btree.specs.Calls.{HasCause, IsBatch, IsPart}
-use Rattle.btree.specs.Scan.{Holds, Scanned, entry_in}
+use Rattle.btree.specs.Calls.{IsAnswer, IsBatch, IsPart}
+use Rattle.btree.specs.Scan.{Holds, entry_in}
 use Rattle.btree.proofs.StoreLemmas.{cause_later, part_kept, shows_kept}
-use Rattle.btree.specs.Store.{Store, Grows}
+use Rattle.btree.specs.Store.{Store, Frame, HasCause}
 use Rattle.btree.specs.Tree.{Twig, Body, HasChain, Shows, IsSound, IsWhole, arm_of, entries_of, item_of, pair_keys, pairs_of, twig_keys, with_low}
 use Rattle.btree.proofs.KeyLemmas.{not_both, not_under_trans, under_then_up_to, under_trans}
 use Rattle.btree.proofs.ListLemmas.{each_back, each_get, each_map, each_of_map, cut_at, flat_append, long_map, map_append, rises_back}
@@ -165,7 +165,7 @@ module _ (from : List ℕ) (to : Option (List ℕ)) (items : List Item) (pairs :
         (sym (window_past from to (entry_of h.pair ∷ map entry_of h.back) (p, each_entry (IsPast to) h.back (each_map _ _ (λ y u. past_on to h.pair.key y.key p (not_both h.pair.key y.key u)) h.back h.over))))
         ∙ sym (window_append from to (map entry_of (take i pairs)) (entry_of h.pair ∷ map entry_of h.back)) ∙ ap (window from to) (sym h.whole))
 
-pub scan_failed : {X : Type 0} (old mid new : Store) (so : Type 0) (r : Result X TreeFault) (e : TreeFault) → Grows old mid → IsErrAnd r (λ f. f ≡ e) → HasCause mid new e → Scanned old new so r
+pub scan_failed : {X : Type 0} (old mid new : Store) (so : Type 0) (r : Result X TreeFault) (e : TreeFault) → Frame old mid → IsErrAnd r (λ f. f ≡ e) → HasCause mid new e → IsAnswer old new (λ done. so) r
 scan_failed old mid new so (Ok v) e grows h cause = absurd h
 scan_failed old mid new so (Err f) e grows h cause = subst (HasCause old new) (sym h) (cause_later old mid new e grows cause)
 
@@ -277,7 +277,7 @@ full_stays limit all others batch some h = go (option_map (λ (v : Vec ℕ Globa
 
 -- ---- the program's steps below a branch
 
-module _ (old mid : Store) (page level : ℕ) (low : List ℕ) (high : Option (List ℕ)) (arms : List Arm) (holds : old.page page ≡ branch arms) (grows : Grows old mid) where
+module _ (old mid : Store) (page level : ℕ) (low : List ℕ) (high : Option (List ℕ)) (arms : List Arm) (holds : old.page page ≡ branch arms) (grows : Frame old mid) where
   abbrev pub AtBranch : ((d : ℕ) → Body d → Type 0) → Type 0
   AtBranch C = (d : ℕ) (twigs : Body (suc d)) → arms ≡ map arm_of twigs → IsPart mid page level (suc d) low high twigs → C (suc d) twigs
 
@@ -286,13 +286,13 @@ module _ (old mid : Store) (page level : ℕ) (low : List ℕ) (high : Option (L
       open_branch (λ d body. IsPart old page level d low high body → C d body) arms
       (λ d twigs e p. says d twigs e (part_kept old mid grows page level (suc d) low high twigs p)) d body (sym holds ∙ part.at.holds) part
 
-pub scan_leaf_below : {X : Type 0} (old mid new : Store) (page level : ℕ) (low : List ℕ) (high : Option (List ℕ)) (items : List Item) (so : List Entry → Type 0) (r : Result X TreeFault) → Grows old mid
-    → old.page page ≡ leaf items → ((pairs : List Pair) → items ≡ map item_of pairs → Rises (pair_keys pairs) → Shows mid zero pairs → Scanned mid new (so (map entry_of pairs)) r)
-    → (d : ℕ) (body : Body d) → IsPart old page level d low high body → Scanned old new (so (entries_of d body)) r
+pub scan_leaf_below : {X : Type 0} (old mid new : Store) (page level : ℕ) (low : List ℕ) (high : Option (List ℕ)) (items : List Item) (so : List Entry → Type 0) (r : Result X TreeFault) → Frame old mid
+    → old.page page ≡ leaf items → ((pairs : List Pair) → items ≡ map item_of pairs → Rises (pair_keys pairs) → Shows mid zero pairs → IsAnswer mid new (λ done. so (map entry_of pairs)) r)
+    → (d : ℕ) (body : Body d) → IsPart old page level d low high body → IsAnswer old new (λ done. so (entries_of d body)) r
 scan_leaf_below {X = X} old mid new page level low high items so r grows holds says d body part =
-    open_leaf (λ d body. IsPart old page level d low high body → Scanned old new (so (entries_of d body)) r) items
+    open_leaf (λ d body. IsPart old page level d low high body → IsAnswer old new (λ done. so (entries_of d body)) r) items
     (λ pairs e p. later r (so (map entry_of pairs)) (says pairs e p.sound.0 (shows_kept old mid grows zero pairs p.shown))) d body (sym holds ∙ part.at.holds) part
   where
-    later : (r : Result X TreeFault) (so : Type 0) → Scanned mid new so r → Scanned old new so r
+    later : (r : Result X TreeFault) (so : Type 0) → IsAnswer mid new (λ done. so) r → IsAnswer old new (λ done. so) r
     later (Ok v) so h = h
     later (Err e) so h = cause_later old mid new e grows h

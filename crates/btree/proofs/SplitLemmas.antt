@@ -1,16 +1,16 @@
 -- What was taken out of a page, in three parts: what is before a child, the child, and what is behind it.
-use Rattle.std.proofs.Common.{◌≡◌, ℕ, zero, suc, ◌+◌, ◌-◌, ◌<◌, ◌≤◌, take, drop, get_or, List, [], ◌∷◌, ◌++◌, length, map, Option, Some, None, Result, Ok, Err, refl, sym, ap, ◌∙◌, subst, arith, ◌⊎◌, inl, inr, append-nil, append_assoc}
-use Rattle.btree.specs.Keys.{Pair, Edit, Entry, Each, IsBetween, IsNotUnder, IsUnder, IsWithin, Rises, change, entry_of, times}
-use Rattle.btree.specs.Loose.{IsSpread, IsStub, Stub, child, first_or, stubs_of, twig_stub}
-use Rattle.btree.specs.Change.{IsBehind, IsHeldBehind, edit_keys}
-use Rattle.btree.specs.Store.{Store, Grows, IsAt}
-use Rattle.btree.specs.Tree.{Body, Twig, IsSound, IsWhole, Shows, content_of, entries_of, pages_of, pairs_of, pair_keys, twig_keys}
-use Rattle.btree.specs.Turn.{IsHeld, IsTurned, IsUpTo, Sheaf}
-use Rattle.btree.proofs.KeyLemmas.{not_both, not_under_itself, not_under_trans, under_then_up_to, under_trans, up_to_then_under}
-use Rattle.btree.proofs.ListLemmas.{each_append, each_back, each_front, each_map, each_of_map, long_append, map_append, times_append}
+use Rattle.std.proofs.Common.{◌≡◌, ℕ, zero, suc, ◌+◌, ◌<◌, ◌≤◌, take, drop, get_or, List, [], ◌∷◌, ◌++◌, length, Option, refl, sym, ap, ◌∙◌, subst, arith, inl, inr}
+use Rattle.btree.specs.Keys.{Edit, Entry, Each, IsBetween, IsNotUnder, IsUnder, Rises, change, times}
+use Rattle.btree.specs.Loose.{IsSpread, IsStub, Stub, first_or, stubs_of}
+use Rattle.btree.specs.Change.{IsBehind, edit_keys}
+use Rattle.btree.specs.Store.{Store}
+use Rattle.btree.specs.Tree.{Body, Shows, entries_of, pages_of, pairs_of, pair_keys, twig_keys}
+use Rattle.btree.specs.Turn.{IsHeld, Sheaf}
+use Rattle.btree.proofs.KeyLemmas.{not_both, not_under_itself, not_under_trans, under_then_up_to, under_trans}
+use Rattle.btree.proofs.ListLemmas.{each_back, each_front, each_map, each_of_map, long_append, map_append}
 use Rattle.btree.proofs.FanLemmas.{fan_between, pairs_between}
-use Rattle.btree.proofs.LooseLemmas.{Lies, entries_joined, joined, pages_joined, shows_parts, split_body, spread_split, take_drop}
-use Rattle.btree.proofs.EndLemmas.{IsLastOff, drop_here, last_off, take_here, within_up_to}
+use Rattle.btree.proofs.LooseLemmas.{Lies, entries_joined, pages_joined, shows_parts, split_body, spread_split, take_drop}
+use Rattle.btree.proofs.EndLemmas.{drop_here, take_here, within_up_to}
 use Rattle.btree.proofs.RaiseLemmas.{no_entries, spread_first}
 use Rattle.btree.proofs.ScanLemmas.{each_entry}
 use Rattle.btree.proofs.ChangeLemmas.{change_append, change_between}

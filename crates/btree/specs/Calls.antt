@@ -1,19 +1,22 @@
 -- What the calls of a tree give.
-use Rattle.std.specs.Prelude.{◌≡◌, ◌⊎◌, ℕ, ◌+◌, ◌<◌, ◌≤◌, ⊤, List, ◌∷◌, ◌++◌, length, map, Option, Some, None, Result, Ok, Err}
+use Rattle.std.specs.Prelude.{◌≡◌, ℕ, ◌+◌, ◌<◌, ◌≤◌, ⊤, List, ◌∷◌, ◌++◌, length, map, Option, Some, None, Result, MatchResult}
 use Rattle.std.specs.Option.{option_map}
 use Rattle.std.specs.List.{flat_map, insert}
 use Rattle.btree.specs.declared.pages.TreeFault.{TreeFault}
-use Rattle.btree.specs.declared.pages.TreeFault.TheVariants.{Memory}
 use Rattle.page.specs.declared.cells.Stored.{Stored}
 use Rattle.page.specs.Content.{Item, IsPlace, Place, place_size}
 use Rattle.btree.specs.Keys.{Pair, Entry, Edit, Each, IsBetween, IsUnder, Rises, change, entry_of, times, value_at}
-use Rattle.btree.specs.Store.{Store, HasFault, IsAt}
+use Rattle.btree.specs.Store.{HasCause, IsAt, KeepsWord, Store}
 use Rattle.btree.specs.Tree.{Body, HasChain, HasLinks, content_of, item_of, next_of, pair_keys, place_of, IsSound, IsWhole, Shows}
 use Rattle.btree.specs.View.{place_in}
 
--- A fault has its cause in a call of the pages, or is want of memory.
-abbrev pub HasCause : Store → Store → TreeFault → Type 0
-HasCause old new e = (e ≡ Memory) ⊎ HasFault old new
+-- an answer of which this holds, or a fault with its cause
+abbrev pub IsAnswer : {X : Type 0} → Store → Store → (X → Type 0) → Result X TreeFault → Type 0
+IsAnswer old new P result = MatchResult result P (HasCause old new)
+
+-- What a call gives while the device keeps its word.
+abbrev pub Yields : {X : Type 0} → Store → Store → (X → Type 0) → Result X TreeFault → Type 0
+Yields old new P result = KeepsWord new → IsAnswer old new P result
 
 -- a page that heads a sound part of a tree, at a level below its root
 pub record IsPart (s : Store) (page level d : ℕ) (low : List ℕ) (high : Option (List ℕ)) (body : Body d) : Type 0 where
@@ -31,8 +34,7 @@ IsPlaceOf _ _ = ⊥
 
 -- the value itself
 abbrev pub Reads : {V : Type 0} → (V → List ℕ) → Store → Store → List ℕ → Result V TreeFault → Type 0
-Reads bytes old new value (Ok answer) = bytes answer ≡ value
-Reads bytes old new value (Err e) = HasCause old new e
+Reads bytes old new value result = Yields old new (λ answer. bytes answer ≡ value) result
 
 -- a value was written into a chain of pages
 pub record IsChained (old new : Store) (value : List ℕ) (page : ℕ) : Type 0 where
@@ -44,8 +46,7 @@ pub record IsChained (old new : Store) (value : List ℕ) (page : ℕ) : Type 0 
   pub retired : new.retired ≡ old.retired
 
 abbrev pub WritesChain : Store → Store → List ℕ → Result ℕ TreeFault → Type 0
-WritesChain old new value (Ok page) = IsChained old new value page
-WritesChain old new value (Err e) = HasCause old new e
+WritesChain old new value result = Yields old new (λ page. IsChained old new value page) result
 
 -- pages were retired
 pub record AreRetired (old new : Store) (links : List ℕ) : Type 0 where
@@ -53,8 +54,7 @@ pub record AreRetired (old new : Store) (links : List ℕ) : Type 0 where
   pub made : new.made ≡ old.made
 
 abbrev pub Retires : {X : Type 0} → Store → Store → List ℕ → Result X TreeFault → Type 0
-Retires old new links (Ok done) = AreRetired old new links
-Retires old new links (Err e) = HasCause old new e
+Retires old new links result = Yields old new (λ done. AreRetired old new links) result
 
 -- What stands at a key was taken out of a leaf's pairs, and its value's pages were retired.
 pub record IsTakenOut (old new : Store) (key : List ℕ) (pairs : List Pair) (items : List Item) (at : ℕ) : Type 0 where
@@ -70,8 +70,7 @@ pub record IsTakenOut (old new : Store) (key : List ℕ) (pairs : List Pair) (it
   pub retired : AreRetired old new (flat_map (λ x. x.links) mid)
 
 abbrev pub TakesOut : Store → Store → List ℕ → List Pair → List Item → Result ℕ TreeFault → Type 0
-TakesOut old new key pairs items (Ok at) = IsTakenOut old new key pairs items at
-TakesOut old new key pairs items (Err e) = HasCause old new e
+TakesOut old new key pairs items result = Yields old new (λ at. IsTakenOut old new key pairs items at) result
 
 -- no longer than what lies in a cell may be
 abbrev pub IsSmallPlace : Place → Type 0
@@ -86,8 +85,7 @@ pub record IsStored (old new : Store) (value : List ℕ) (place : Place) : Type 
   pub retired : new.retired ≡ old.retired
 
 abbrev pub StoresValue : Store → Store → List ℕ → Result Stored TreeFault → Type 0
-StoresValue old new value (Ok stored) = IsStored old new value (place_in stored)
-StoresValue old new value (Err e) = HasCause old new e
+StoresValue old new value result = Yields old new (λ stored. IsStored old new value (place_in stored)) result
 
 -- a cell was put in at a place
 pub record IsPutIn (old new : Store) (key value : List ℕ) (at : ℕ) (items items' : List Item) : Type 0 where
@@ -98,8 +96,7 @@ pub record IsPutIn (old new : Store) (key value : List ℕ) (at : ℕ) (items it
   pub retired : new.retired ≡ old.retired
 
 abbrev pub PutsIn : {X : Type 0} → Store → Store → List ℕ → List ℕ → ℕ → List Item → List Item → Result X TreeFault → Type 0
-PutsIn old new key value at items items' (Ok done) = IsPutIn old new key value at items items'
-PutsIn old new key value at items items' (Err e) = HasCause old new e
+PutsIn old new key value at items items' result = Yields old new (λ done. IsPutIn old new key value at items items') result
 
 -- The pairs of a leaf after edits: the map that the edits make, in order, with the pages of their chains.
 pub record IsEdited (old new : Store) (edits : List Edit) (before : List Pair) (items : List Item) : Type 0 where
@@ -114,8 +111,7 @@ pub record IsEdited (old new : Store) (edits : List Edit) (before : List Pair) (
       → Each (IsBetween low high) (pair_keys pairs)
 
 abbrev pub Edits : {X : Type 0} → Store → Store → List Edit → List Pair → List Item → Result X TreeFault → Type 0
-Edits old new edits before items (Ok done) = IsEdited old new edits before items
-Edits old new edits before items (Err e) = HasCause old new e
+Edits old new edits before items result = Yields old new (λ done. IsEdited old new edits before items) result
 
 -- Some first of these entries, and the key of the one behind them: at most so many, and all where no key is given.
 pub record IsCut (limit : ℕ) (all entries : List Entry) (key : List ℕ) : Type 0 where
@@ -131,5 +127,4 @@ IsBatch limit all entries (Some key) = IsCut limit all entries key
 
 -- the value at the key, or none
 abbrev pub Looks : {V : Type 0} → (V → List ℕ) → Store → Store → List ℕ → List Entry → Result (Option V) TreeFault → Type 0
-Looks bytes old new key entries (Ok answer) = option_map bytes answer ≡ value_at key entries
-Looks bytes old new key entries (Err e) = HasCause old new e
+Looks bytes old new key entries result = Yields old new (λ answer. option_map bytes answer ≡ value_at key entries) result

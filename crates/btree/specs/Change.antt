@@ -1,9 +1,12 @@
 -- Edits of a tree's children.
-use Rattle.std.specs.Prelude.{◌≡◌, ℕ, ◌⊎◌, List, [], length, map, Option, Some, None}
+use Rattle.std.specs.Prelude.{◌≡◌, ℕ, ◌⊎◌, ◌≤◌, List, [], length, map, Option, Some, None, Result, MatchResult}
 use Rattle.btree.specs.Keys.{Edit, Entry, times}
 use Rattle.btree.specs.Loose.{Stub, first_or}
-use Rattle.btree.specs.Store.{Store}
-use Rattle.btree.specs.Turn.{IsHeld, IsUpTo, Sheaf}
+use Rattle.btree.specs.Reach.{HasMap}
+use Rattle.btree.specs.Store.{HasCause, KeepsWord, Store}
+use Rattle.btree.specs.Turn.{AreTurned, IsHeld, IsUpTo, Sheaf}
+use Rattle.btree.specs.declared.pages.TreeFault.{TreeFault}
+use Rattle.btree.specs.declared.pages.TreeFault.TheVariants.{Full}
 
 abbrev pub edit_keys : List Edit → List (List ℕ)
 edit_keys edits = map (λ e. e.key) edits
@@ -23,3 +26,27 @@ IsBehind s base between high entries pages sheaf =
 -- The first child's key is the low bound, where there is an edit.
 abbrev pub BeginsAt : List ℕ → List Edit → List Stub → Type 0
 BeginsAt low edits stubs = (length edits ≡ 0) ⊎ (first_or None stubs ≡ Some low)
+
+-- a value put at a key, and a key removed
+abbrev pub put : List ℕ → List ℕ → Edit
+put key value = record { key = key; value = Some value }
+
+abbrev pub removal : List ℕ → Edit
+removal key = record { key = key; value = None }
+
+-- ---- the whole tree
+
+-- The tree below this root has these entries. It reaches the pages from before, less those retired, with those made.
+pub record IsChanged (old new : Store) (root : ℕ) (entries : List Entry) (before : List ℕ) : Type 0 where
+  pub after : List ℕ
+  pub map : HasMap new root after entries
+  pub turned : AreTurned old new before after
+
+-- A tree of more than 32 levels has at least 2^32 entries.
+abbrev pub IsTooHigh : List Entry → TreeFault → Type 0
+IsTooHigh entries e = (e ≡ Full) × (4294967296 ≤ length entries)
+
+-- While the device keeps its word: the root of a tree of these entries, or a fault with its cause.
+abbrev pub Changes : Store → Store → List Entry → List ℕ → Result ℕ TreeFault → Type 0
+Changes old new entries before result = KeepsWord new → MatchResult result
+    (λ root. IsChanged old new root entries before) (λ e. HasCause old new e ⊎ IsTooHigh entries e)

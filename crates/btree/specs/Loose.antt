@@ -1,6 +1,6 @@
 -- Cells and children that were taken out of their pages, and stand in none yet.
 use Rattle.std.specs.Prelude.{◌≡◌, ℕ, zero, suc, ◌+◌, ◌^◌, ◌<◌, ◌≤◌, ◌⊎◌, ⊤, Bool, false, List, [], ◌∷◌, map, take, length, Option, Some, None}
-use Rattle.page.specs.Content.{Place, inline, spilled, Item, Arm, IsPlace, place_size}
+use Rattle.page.specs.Content.{Place, Item, Arm, IsPlace, place_size}
 use Rattle.btree.specs.Keys.{Pair, Each, IsUnder, Rises, IsBetween}
 use Rattle.btree.specs.Tree.{with_low, Twig, Body, IsFan, IsWhole, IsSound, arm_of, item_of, pair_keys, twig_keys}
 

@@ -1,5 +1,4 @@
 -- What the program's cells and children out of pages stand for.
-use Rattle.std.specs.Prelude.{List, map}
 use Rattle.page.specs.Content.{inline, spilled}
 use Rattle.btree.specs.Loose.{Load, value, child, Stub}
 use Rattle.btree.specs.declared.loose.Hold.{Hold}

@@ -1,11 +1,11 @@
 -- Entries that a scan hands out.
-use Rattle.std.specs.Prelude.{ℕ, List, map, Result, Ok, Err}
+use Rattle.std.specs.Prelude.{ℕ, List, map, Result}
 use Rattle.std.specs.Option.{option_map}
 use Rattle.btree.specs.declared.scanning.Entry.{Entry as KeptEntry}
 use Rattle.btree.specs.declared.scanning.Batch.{Batch}
 use Rattle.btree.specs.declared.scanning.Range.{Range}
 use Rattle.btree.specs.Keys.{Entry, window}
-use Rattle.btree.specs.Calls.{IsBatch, HasCause}
+use Rattle.btree.specs.Calls.{IsBatch, Yields}
 use Rattle.btree.specs.Store.{Store}
 use Rattle.btree.specs.declared.pages.TreeFault.{TreeFault}
 
@@ -21,5 +21,4 @@ within range entries = window range.from.now (option_map (λ b. b.now) range.to)
 
 -- so it is, or there is a cause
 abbrev pub Scanned : {X : Type 0} → Store → Store → Type 0 → Result X TreeFault → Type 0
-Scanned old new so (Ok done) = so
-Scanned old new so (Err e) = HasCause old new e
+Scanned old new so result = Yields old new (λ done. so) result

@@ -1,19 +1,35 @@
 -- Pages by their numbers, as the calls of a tree see them.
-use Rattle.std.specs.Prelude.{◌≡◌, ℕ, ◌+◌, ◌<◌, ◌≤◌, Bool, true, false, ◌⊎◌, List, ◌∷◌, if◌then◌else◌}
+use Rattle.std.specs.Prelude.{◌≡◌, ℕ, ◌+◌, ◌<◌, ◌≤◌, Bool, true, IsTrue, ◌⊎◌, List, ◌∷◌, if◌then◌else◌}
 use Rattle.page.specs.Content.{Content}
+use Rattle.page.specs.History.{Sector}
+use Rattle.btree.specs.declared.pages.TreeFault.{TreeFault}
+use Rattle.btree.specs.declared.pages.TreeFault.TheVariants as faults
 use Rattle.btree.specs.Keys.{times}
 
--- The content of each page; the pages that may not be given out, as something still reaches them; the pages that
--- calls have given out and retired so far; and how many calls were answered with a fault, as far as a u64 counts.
+-- What no call of the pages changes: what the device holds, and numbers that say what it was when a turn began.
+pub record Base : Type 0 where
+  pub sectors : ℕ → Sector
+  pub numbers : List ℕ
+
+-- What no call changes; the content of each page; the pages that may not be given out, as something still reaches them; the pages that
+-- calls have given out and retired so far; how often the device has failed, and how often no page was free, as far as a
+-- u64 counts. What is said of a call holds while the device keeps its word after it.
 pub record Store : Type 0 where
+  pub keeps_word : Bool
+  pub base : Base
   pub page : ℕ → Content
   pub live : ℕ → Bool
   pub made : List ℕ
   pub retired : List ℕ
-  pub faults : ℕ
+  pub failures : ℕ
+  pub full_takes : ℕ
 
--- a live page with this content
+abbrev pub KeepsWord : Store → Type 0
+KeepsWord s = IsTrue s.keeps_word
+
+-- a live page with this content, which is never page 0
 pub record IsAt (s : Store) (n : ℕ) (content : Content) : Type 0 where
+  pub number : 0 < n
   pub live : s.live n ≡ true
   pub holds : s.page n ≡ content
 
@@ -21,41 +37,58 @@ abbrev pub flag : Bool → ℕ
 flag b = if b then 1 else 0
 
 -- THE FRAME: what is live stays, with its content; each page that became live was made once.
-pub record Grows (old new : Store) : Type 0 where
+pub record Frame (old new : Store) : Type 0 where
+  pub word : KeepsWord old
+  pub base : new.base ≡ old.base
   pub kept : (n : ℕ) (content : Content) → IsAt old n content → IsAt new n content
   pub made : (n : ℕ) → times n new.made + flag (old.live n) ≡ times n old.made + flag (new.live n)
   pub retired : (n : ℕ) → times n old.retired ≤ times n new.retired
-  pub faults : old.faults ≤ new.faults
+  pub failures : old.failures ≤ new.failures
+  pub full_takes : old.full_takes ≤ new.full_takes
 
--- A call was answered with a fault: their count grew, or is the greatest that a u64 can tell.
-abbrev pub HasFault : Store → Store → Type 0
-HasFault old new = (old.faults < new.faults) ⊎ (new.faults ≡ 18446744073709551615)
+abbrev pub Grows : Store → Store → Type 0
+Grows old new = KeepsWord new → Frame old new
 
-abbrev pub CountsFault : Bool → Store → Store → Type 0
-CountsFault true old new = new.faults ≡ old.faults
-CountsFault false old new = HasFault old new
+-- A page was asked for and none was free: their count grew, or is the greatest that a u64 can tell.
+abbrev pub HasNoPage : Store → Store → Type 0
+HasNoPage old new = (old.full_takes < new.full_takes) ⊎ (new.full_takes ≡ 18446744073709551615)
 
--- Nothing has changed but the count of faults, which tells each answer that is one.
-pub record IsSame (ok : Bool) (old new : Store) : Type 0 where
-  pub faults : CountsFault ok old new
-  pub more : old.faults ≤ new.faults
+-- A fault has its cause: the device failed, or no page was free, or memory ran out. The others are those of pages that
+-- are no tree.
+abbrev pub HasCause : Store → Store → TreeFault → Type 0
+HasCause old new faults.Memory = Unit {0}
+HasCause old new faults.Device = old.failures < new.failures
+HasCause old new faults.Full = HasNoPage old new
+HasCause old new faults.Kind = ⊥
+HasCause old new faults.Number = ⊥
+HasCause old new faults.Order = ⊥
+HasCause old new faults.Length = ⊥
+
+-- Nothing has changed but how often the device has failed and no page was free.
+pub record IsSame (old new : Store) : Type 0 where
+  pub word : KeepsWord old
+  pub base : new.base ≡ old.base
   pub page : new.page ≡ old.page
   pub live : new.live ≡ old.live
   pub made : new.made ≡ old.made
   pub retired : new.retired ≡ old.retired
+  pub failures : old.failures ≤ new.failures
+  pub full_takes : old.full_takes ≤ new.full_takes
+
+-- nothing has changed, and the fault has its cause
+pub record HasFailed (old new : Store) (e : TreeFault) : Type 0 where
+  pub same : IsSame old new
+  pub cause : HasCause old new e
 
 -- a page that wasn't live was given out and written
 pub record IsMade (old new : Store) (n : ℕ) (content : Content) : Type 0 where
-  pub grows : Grows old new
-  pub number : 0 < n
+  pub frame : Frame old new
   pub at : IsAt new n content
   pub made : new.made ≡ n ∷ old.made
   pub retired : new.retired ≡ old.retired
-  pub faults : new.faults ≡ old.faults
 
 -- a page was noted as retired, and can still be read
 pub record IsRetired (old new : Store) (n : ℕ) : Type 0 where
-  pub grows : Grows old new
+  pub frame : Frame old new
   pub made : new.made ≡ old.made
   pub retired : new.retired ≡ n ∷ old.retired
-  pub faults : new.faults ≡ old.faults

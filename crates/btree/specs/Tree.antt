@@ -104,7 +104,6 @@ Shows s (suc d) twigs = Each (λ w. IsAt s w.page (content_of d w.body) × Shows
 -- ---- a whole tree
 
 pub record IsTree (s : Store) (root d : ℕ) (body : Body d) : Type 0 where
-  pub number : 0 < root
   pub at : IsAt s root (content_of d body)
   pub shown : Shows s d body
   pub whole : IsWhole d body

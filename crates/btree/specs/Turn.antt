@@ -1,13 +1,13 @@
 -- What a change gives at each step: cells or children that were taken out of pages, for a part of the tree.
-use Rattle.std.specs.Prelude.{◌≡◌, ℕ, zero, suc, ◌+◌, ◌^◌, ◌<◌, ◌≤◌, ⊤, ◌⊎◌, Bool, false, List, [], ◌∷◌, ◌++◌, length, map, Option, Some, None, Result, Ok, Err}
+use Rattle.std.specs.Prelude.{◌≡◌, ℕ, suc, ◌+◌, ◌^◌, ◌<◌, ◌≤◌, ⊤, ◌⊎◌, Bool, false, List, ◌∷◌, ◌++◌, length, map, Option, Some, None, Result}
 use Rattle.btree.specs.declared.loose.Loose.{Loose}
 use Rattle.btree.specs.declared.loose.Unit.{Unit}
 use Rattle.btree.specs.declared.pages.TreeFault.{TreeFault}
-use Rattle.btree.specs.Calls.{HasCause}
-use Rattle.btree.specs.Keys.{Each, Entry, IsBetween, IsNotUnder, times}
+use Rattle.btree.specs.Calls.{Yields}
+use Rattle.btree.specs.Keys.{Each, Entry, IsNotUnder, times}
 use Rattle.btree.specs.Loose.{IsSpread, IsStub, Stub, bare, child, first_or, stubs_of}
 use Rattle.btree.specs.LooseView.{stub_in}
-use Rattle.btree.specs.Store.{Store, Grows, IsAt}
+use Rattle.btree.specs.Store.{Store, Frame, IsAt}
 use Rattle.btree.specs.Tree.{Body, Shows, content_of, entries_of, pages_of}
 
 -- cells or children, and how high above all pages they stand
@@ -41,8 +41,8 @@ pub record IsTurned (old new : Store) (base : ℕ) (low : List ℕ) (high : Opti
   pub turned : AreTurned old new before after
 
 abbrev pub Turns : Store → Store → ℕ → List ℕ → Option (List ℕ) → List Entry → List ℕ → Result Loose TreeFault → Type 0
-Turns old new base low high entries before (Ok loose) = IsTurned old new base low high entries before (sheaf_in loose)
-Turns old new base low high entries before (Err e) = HasCause old new e
+Turns old new base low high entries before result =
+    Yields old new (λ loose. IsTurned old new base low high entries before (sheaf_in loose)) result
 
 -- a bound that no other is above
 abbrev pub IsUpTo : List ℕ → Option (List ℕ) → Type 0
@@ -52,7 +52,6 @@ IsUpTo mid (Some high) = IsNotUnder high mid
 -- a part was written to a page, and this stands for it above
 pub record IsWritten (old new : Store) (d : ℕ) (body : Body d) (stub : Stub) : Type 0 where
   pub page : ℕ
-  pub number : 0 < page
   pub range : page < 2 ^ 32
   pub at : IsAt new page (content_of d (bare d body))
   pub made : new.made ≡ page ∷ old.made
@@ -61,8 +60,7 @@ pub record IsWritten (old new : Store) (d : ℕ) (body : Body d) (stub : Stub) :
   pub key : first_or None (stubs_of d body) ≡ Some stub.key
 
 abbrev pub WritesPart : Store → Store → (d : ℕ) → Body d → Result Unit TreeFault → Type 0
-WritesPart old new d body (Ok unit) = IsWritten old new d body (stub_in unit)
-WritesPart old new d body (Err e) = HasCause old new e
+WritesPart old new d body result = Yields old new (λ unit. IsWritten old new d body (stub_in unit)) result
 
 -- A body was cut and written: it stands one level up.
 pub record AreWritten (old new : Store) (d : ℕ) (low : List ℕ) (high : Option (List ℕ)) (body : Body d) (above : List Stub) : Type 0 where
@@ -76,8 +74,8 @@ pub record AreWritten (old new : Store) (d : ℕ) (low : List ℕ) (high : Optio
   pub retired : new.retired ≡ old.retired
 
 abbrev pub WritesParts : {V : Type 0} → (V → List Stub) → Store → Store → (d : ℕ) → List ℕ → Option (List ℕ) → Body d → Result V TreeFault → Type 0
-WritesParts stubs old new d low high body (Ok units) = AreWritten old new d low high body (stubs units)
-WritesParts stubs old new d low high body (Err e) = HasCause old new e
+WritesParts stubs old new d low high body result =
+    Yields old new (λ units. AreWritten old new d low high body (stubs units)) result
 
 -- leaves alone are filled
 abbrev pub MayFill : ℕ → Bool → Type 0
@@ -107,7 +105,7 @@ both_of a b = record { rank = a.rank; stubs = a.stubs ++ b.stubs }
 -- What ends where these begin goes together with them.
 abbrev pub GoesBefore : Store → ℕ → List ℕ → Option (List ℕ) → Option (List ℕ) → List Entry → List ℕ → Sheaf → Type 0
 GoesBefore old base low between high last pages back =
-    (s : Store) (more : List Entry) (reached : List ℕ) (sheaf : Sheaf) → Grows old s → IsHeld s base low between more reached sheaf → sheaf.rank ≡ back.rank
+    (s : Store) (more : List Entry) (reached : List ℕ) (sheaf : Sheaf) → Frame old s → IsHeld s base low between more reached sheaf → sheaf.rank ≡ back.rank
     → IsHeld s base low high (more ++ last) (reached ++ pages) (both_of sheaf back)
 
 -- The first child was taken off. What ends where it ended goes together with the others, if there are any.
@@ -125,19 +123,19 @@ pub record IsFirstCut (old new : Store) (base : ℕ) (low : List ℕ) (high : Op
 
 -- The last child, or the first one, was taken off and read.
 abbrev pub PartsLast : Store → Store → ℕ → List ℕ → Option (List ℕ) → List Entry → List ℕ → Result (Loose × Loose) TreeFault → Type 0
-PartsLast old new base low high entries before (Ok parts) =
-    AreParted old new base low high entries before (sheaf_in parts.0) (sheaf_in parts.1) × IsReady base (sheaf_in parts.1)
-PartsLast old new base low high entries before (Err e) = HasCause old new e
+PartsLast old new base low high entries before result =
+    Yields old new (λ parts. AreParted old new base low high entries before (sheaf_in parts.0) (sheaf_in parts.1)
+    × IsReady base (sheaf_in parts.1)) result
 
 abbrev pub PartsFirst : Store → Store → ℕ → List ℕ → Option (List ℕ) → List Entry → List ℕ → Result (Loose × Loose) TreeFault → Type 0
-PartsFirst old new base low high entries before (Ok parts) =
-    IsFirstCut old new base low high entries before (sheaf_in parts.0) (sheaf_in parts.1) × IsReady base (sheaf_in parts.0)
-PartsFirst old new base low high entries before (Err e) = HasCause old new e
+PartsFirst old new base low high entries before result =
+    Yields old new (λ parts. IsFirstCut old new base low high entries before (sheaf_in parts.0) (sheaf_in parts.1)
+    × IsReady base (sheaf_in parts.0)) result
 
 -- a page was taken apart
 abbrev pub Opens : Store → Store → ℕ → List ℕ → Option (List ℕ) → List Entry → List ℕ → Result Loose TreeFault → Type 0
-Opens old new base low high entries before (Ok loose) = IsTurned old new base low high entries before (sheaf_in loose) × IsReady base (sheaf_in loose)
-Opens old new base low high entries before (Err e) = HasCause old new e
+Opens old new base low high entries before result =
+    Yields old new (λ loose. IsTurned old new base low high entries before (sheaf_in loose) × IsReady base (sheaf_in loose)) result
 
 -- What stands at one height is no shorter than what is joined with it.
 pub record IsJoined (left right both : Sheaf) : Type 0 where

@@ -30,8 +30,8 @@ fn chain_bytes<P: Pages>(
     let mut page = first;
     let mut left = len as usize;
     while left > 0 {
-        let content = pages.read(page)?;
-        let PageContent::Chain { next, bytes: part } = &*content else {
+        let shared = pages.read(page)?;
+        let PageContent::Chain { next, bytes: part } = &shared.image().content else {
             return Err(TreeFault::Kind);
         };
         if part.len() != left.min(LINK) {
@@ -104,8 +104,8 @@ pub(crate) fn retire_chain<P: Pages>(pages: &mut P, first: u32, len: u32) -> Res
     let mut page = first;
     let mut left = len as usize;
     while left > 0 {
-        let content = pages.read(page)?;
-        let PageContent::Chain { next, bytes: _ } = &*content else {
+        let shared = pages.read(page)?;
+        let PageContent::Chain { next, bytes: _ } = &shared.image().content else {
             return Err(TreeFault::Kind);
         };
         pages.retire(page)?;

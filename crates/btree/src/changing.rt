@@ -165,9 +165,9 @@ pub(crate) fn change_below<P: Pages>(
         → Turns (P.store pages.old) (P.store pages.new) base low.now high
         (change (map edit_in edits.now) (entries_of d body)) (page ∷ pages_of d body) result }
 {
-    let content = pages.read(page)?;
+    let shared = pages.read(page)?;
     pages.retire(page)?;
-    let branch = match &*content {
+    let branch = match &shared.image().content {
         PageContent::Leaf(leaf) => return change_leaf(alloc, pages, leaf, rank, edits),
         PageContent::Branch(branch) => branch,
         _ => return Err(TreeFault::Kind),

@@ -6,14 +6,18 @@ mod changing;
 mod cutting;
 mod editing;
 mod joining;
+pub mod laws;
 mod lookup;
 mod loose;
 mod opening;
 mod pages;
 mod parts;
+mod root;
 mod scanning;
 mod search;
 
+pub use editing::Edit;
 pub use lookup::get;
 pub use pages::{Pages, TreeFault};
+pub use root::{change, insert, remove};
 pub use scanning::{Batch, Entry, Range, scan};

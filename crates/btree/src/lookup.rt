@@ -68,11 +68,11 @@ pub(crate) fn get_below<P: Pages>(
         → Looks (λ v. v.items) (P.store pages.old) (P.store pages.new) key.now
         (entries_of d body) result }
 {
-    let content = pages.read(page)?;
-    if !lies_between(&content, low, high) {
+    let shared = pages.read(page)?;
+    if !lies_between(&shared.image().content, low, high) {
         return Err(TreeFault::Order);
     }
-    let branch = match &*content {
+    let branch = match &shared.image().content {
         PageContent::Leaf(leaf) => return value_in_leaf(alloc, pages, leaf, key),
         PageContent::Branch(branch) => branch,
         _ => return Err(TreeFault::Kind),

@@ -153,9 +153,9 @@ pub(crate) fn open_page<P: Pages>(
         → Opens (P.store pages.old) (P.store pages.new) base low.now high (entries_of d body)
         (page ∷ pages_of d body) result }
 {
-    let content = pages.read(page)?;
+    let shared = pages.read(page)?;
     pages.retire(page)?;
-    let units = units_of(alloc, &content, low)?;
+    let units = units_of(alloc, &shared.image().content, low)?;
     Ok(Loose {
         rank,
         units,

@@ -1,12 +1,12 @@
 // The pages of a tree.
-ghost use Rattle.std.specs.Prelude.{◌≡◌, false, is_ok, IfOk, MatchResult};
-ghost use Rattle.btree.specs.Store.{Store, IsSame, IsMade, IsRetired};
+ghost use Rattle.std.specs.Prelude.{◌≡◌, IfErr, IfOk, MatchResult};
+ghost use Rattle.btree.specs.Store.{HasCause, HasFailed, IsAt, IsMade, IsRetired, IsSame, KeepsWord, Store};
+ghost use Rattle.page.specs.Content.{Content};
 ghost use Rattle.page.specs.Format.{IsFit};
 ghost use Rattle.btree.specs.View.{content_in};
 
-use page::PageContent;
+use page::{PageContent, SharedPage};
 use std::alloc::AllocError;
-use std::rc::Rc;
 
 /// Why a call of a tree gave no answer.
 #[derive(Clone, Copy, Debug, PartialEq, Eq)]
@@ -37,25 +37,31 @@ impl From<AllocError> for TreeFault {
     }
 }
 
-/// Pages that are written once, read often, and given back.
+/// Pages that are written once, read often, and given back. What is said of a call holds while the device that keeps
+/// them keeps its word after it.
 pub trait Pages {
     /// The pages now.
     ghost store: { Self → Store };
 
-    /// What the page holds.
-    fn read(&mut self, page: u32) -> Result<Rc<PageContent>, TreeFault>
-        ensures same { IsSame (is_ok result) (store self.old) (store self.new) }
-        ensures value { IfOk result (λ rc. (store self.old).page page ≡ content_in rc.value) };
+    /// The page of this number. Device where the device failed; one of the other faults where it is no page.
+    fn read(&mut self, page: u32) -> Result<SharedPage, TreeFault>
+        ensures same { KeepsWord (store self.new) → IsSame (store self.old) (store self.new) }
+        ensures value { KeepsWord (store self.new)
+            → IfOk result (λ shared. (store self.old).page page ≡ shared.content) }
+        ensures cause { KeepsWord (store self.new) → (content : Content)
+            → IsAt (store self.old) page content
+            → IfErr result (HasCause (store self.old) (store self.new)) };
 
-    /// Writes a page that nothing reaches.
+    /// Writes a page that nothing reaches. Full where no page is free.
     fn fresh(&mut self, content: PageContent) -> Result<u32, TreeFault>
         requires { IsFit (content_in content) }
-        ensures { MatchResult result
+        ensures { KeepsWord (store self.new) → MatchResult result
             (λ page. IsMade (store self.old) (store self.new) page (content_in content))
-            (λ e. IsSame false (store self.old) (store self.new)) };
+            (HasFailed (store self.old) (store self.new)) };
 
     /// Notes that the page isn't reached by what will be written.
     fn retire(&mut self, page: u32) -> Result<(), TreeFault>
-        ensures { MatchResult result (λ done. IsRetired (store self.old) (store self.new) page)
-            (λ e. IsSame false (store self.old) (store self.new)) };
+        ensures { KeepsWord (store self.new) → MatchResult result
+            (λ done. IsRetired (store self.old) (store self.new) page)
+            (HasFailed (store self.old) (store self.new)) };
 }

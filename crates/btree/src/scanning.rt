@@ -2,10 +2,10 @@
 ghost use Rattle.std.specs.Prelude.{◌≡◌, ◌++◌, ◌∷◌, [], Ok, ℕ, zero, List, map, IfErr, IfOk, MatchResult, true, false};
 ghost use Rattle.std.specs.Option.{option_map};
 ghost use Rattle.btree.specs.Keys.{Pair, Rises, entry_of, Entry as MapEntry};
-ghost use Rattle.btree.specs.Store.{Store, Grows};
+ghost use Rattle.btree.specs.Store.{Grows, HasCause, KeepsWord, Store};
 ghost use Rattle.btree.specs.Tree.{Body, HasChain, IsTree, Shows, entries_of, item_of, pair_keys};
 ghost use Rattle.btree.specs.View.{item_in};
-ghost use Rattle.btree.specs.Calls.{HasCause, IsPart};
+ghost use Rattle.btree.specs.Calls.{IsPart, Yields};
 ghost use Rattle.btree.specs.Scan.{Holds, Scanned, entry_in, within};
 
 use crate::chain::value_bytes;
@@ -45,8 +45,7 @@ pub struct Batch {
 fn entry_at<P: Pages>(alloc: Global, pages: &mut P, cell: Cell<'_>) -> Result<Entry, TreeFault>
     ensures grows { Grows (P.store pages.old) (P.store pages.new) }
     ensures reads { (x : Pair) → item_in cell.entry ≡ item_of x → HasChain (P.store pages.old) x
-        → MatchResult result (λ e. entry_in e ≡ entry_of x)
-        (λ f. HasCause (P.store pages.old) (P.store pages.new) f) }
+        → Yields (P.store pages.old) (P.store pages.new) (λ e. entry_in e ≡ entry_of x) result }
 {
     let key = Vec::from_slice(alloc, cell.key)?;
     let value = value_bytes(alloc, pages, cell.stored)?;
@@ -63,14 +62,15 @@ fn hand_out<P: Pages>(
 ) -> Result<bool, TreeFault>
     ensures grows { Grows (P.store pages.old) (P.store pages.new) }
     ensures failed { (x : Pair) → item_in cell.entry ≡ item_of x → HasChain (P.store pages.old) x
-        → IfErr result (λ f. HasCause (P.store pages.old) (P.store pages.new) f) }
+        → KeepsWord (P.store pages.new)
+        → IfErr result (HasCause (P.store pages.old) (P.store pages.new)) }
     ensures more { (x : Pair) (all : List MapEntry) → item_in cell.entry ≡ item_of x
         → HasChain (P.store pages.old) x
-        → Holds limit all batch.old → result ≡ Ok true
+        → Holds limit all batch.old → KeepsWord (P.store pages.new) → result ≡ Ok true
         → Holds limit (all ++ entry_of x ∷ []) batch.new }
     ensures full { (x : Pair) (all others : List MapEntry) → item_in cell.entry ≡ item_of x
         → HasChain (P.store pages.old) x
-        → Holds limit all batch.old → result ≡ Ok false
+        → Holds limit all batch.old → KeepsWord (P.store pages.new) → result ≡ Ok false
         → Holds limit (all ++ entry_of x ∷ others) batch.new }
 {
     if batch.next.is_some() {
@@ -132,11 +132,11 @@ fn scan_below<P: Pages>(
         (Holds range.entry.limit (all ++ within range.entry
         (entries_of d body)) batch.new) result }
 {
-    let content = pages.read(page)?;
-    if !lies_between(&content, low, high) {
+    let shared = pages.read(page)?;
+    if !lies_between(&shared.image().content, low, high) {
         return Err(TreeFault::Order);
     }
-    let branch = match &*content {
+    let branch = match &shared.image().content {
         PageContent::Leaf(leaf) => return scan_leaf(alloc, pages, leaf, range, batch),
         PageContent::Branch(branch) => branch,
         _ => return Err(TreeFault::Kind),
@@ -173,9 +173,9 @@ pub fn scan<P: Pages>(
     ensures grows { Grows (P.store pages.old) (P.store pages.new) }
     ensures empty { root ≡ 0 → IfOk result (λ batch. Holds range.entry.limit [] batch) }
     ensures scans { (d : ℕ) (body : Body d) → IsTree (P.store pages.old) root d body
-        → MatchResult result
+        → Yields (P.store pages.old) (P.store pages.new)
         (λ batch. Holds range.entry.limit (within range.entry (entries_of d body)) batch)
-        (λ e. HasCause (P.store pages.old) (P.store pages.new) e) }
+        result }
 {
     let mut batch = Batch {
         entries: Vec::new(alloc),

@@ -1,25 +1,24 @@
 // Pages in memory that can be read alone.
 
 use btree::{Pages, TreeFault};
-use page::PageContent;
-use std::rc::Rc;
+use page::{PageContent, SharedPage};
 
 /// Pages in memory: the first is page 0. None can be made or retired.
 #[derive(Drop)]
 pub struct ReadPages {
-    pub contents: Vec<Rc<PageContent>>,
-    pub faults: u64,
+    pub images: Vec<SharedPage>,
+    pub full_takes: u64,
 }
 
 impl ReadPages {
-    ghost use Rattle.btree.specs.Store.{IsSame};
+    ghost use Rattle.btree.specs.Store.{HasFailed};
+    ghost use Rattle.btree.specs.declared.pages.TreeFault.TheVariants.{Full};
     ghost use Rattle.btree_tests.specs.Memory.{store_of};
-    ghost use Rattle.std.specs.Prelude.{false};
 
-    fn count_fault(&mut self)
-        ensures { IsSame false (store_of self.old) (store_of self.new) }
+    fn count_full(&mut self)
+        ensures { HasFailed (store_of self.old) (store_of self.new) Full }
     {
-        self.faults = self.faults.saturating_add(1);
+        self.full_takes = self.full_takes.saturating_add(1);
     }
 }
 
@@ -28,29 +27,25 @@ impl Pages for ReadPages {
 
     ghost store = { λ s. store_of s };
 
-    fn read(&mut self, page: u32) -> Result<Rc<PageContent>, TreeFault> {
+    fn read(&mut self, page: u32) -> Result<SharedPage, TreeFault> {
         let i = page as usize;
-        if i >= self.contents.len() {
-            self.count_fault();
+        if i >= self.images.len() {
             return Err(TreeFault::Number);
         }
-        match self.contents[i].clone() {
-            Ok(content) => Ok(content),
-            Err(_) => {
-                self.count_fault();
-                Err(TreeFault::Memory)
-            }
+        match self.images[i].share() {
+            Ok(shared) => Ok(shared),
+            Err(_) => Err(TreeFault::Memory),
         }
     }
 
     fn fresh(&mut self, content: PageContent) -> Result<u32, TreeFault> {
         let _ = content;
-        self.count_fault();
+        self.count_full();
         Err(TreeFault::Full)
     }
 
     fn retire(&mut self, _page: u32) -> Result<(), TreeFault> {
-        self.count_fault();
+        self.count_full();
         Err(TreeFault::Full)
     }
 }

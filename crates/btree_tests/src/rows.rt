@@ -2,13 +2,14 @@
 
 use crate::ReadPages;
 use btree::{Range, TreeFault, get, scan};
-use page::{PageContent, PageImage};
+use page::{PageImage, SharedPage};
 use std::alloc::Global;
-use std::rc::Rc;
 use std::test::Fail;
 
-/// The pages from 1 on, all of generation 1, up to their last byte that isn't zero.
-const PAGES: [&[u8]; 9] = [
+/// The pages, all of generation 1, up to their last byte that isn't zero.
+const PAGES: [&[u8]; 10] = [
+    // No page of a tree: an empty free list.
+    &[4, 0, 0, 0, 0, 0, 0, 0, 1],
     // A branch: page 2, and from the key "m" on page 3.
     &[
         2, 0, 2, 0, 1, 0, 0, 0, 1, 0, 0, 0, 0, 0, 0, 0, 2, 0, 0, 0, 1, 0, 0x6d, 3,
@@ -55,27 +56,18 @@ fn page_of(front: &[u8]) -> [u8; 4096] {
     bytes
 }
 
-/// The pages above, with an empty free list as page 0.
+/// The pages above.
 fn pages_of(alloc: Global) -> Result<ReadPages, Fail> {
-    let mut contents = Vec::new(alloc);
-    let none = PageContent::FreeList {
-        next: 0,
-        pages: Vec::new(alloc),
-    };
-    contents.push(Rc::new(alloc, none)?)?;
-    let mut number = 1;
+    let mut images = Vec::new(alloc);
+    let mut number = 0;
     for front in PAGES {
-        let PageImage {
-            page: _,
-            generation: _,
-            content,
-        } = PageImage::read(alloc, &page_of(front), number, 1)?;
-        contents.push(Rc::new(alloc, content)?)?;
+        let image = PageImage::read(alloc, &page_of(front), number, 1)?;
+        images.push(SharedPage::new(alloc, image)?)?;
         number = number.wrapping_add(1);
     }
     Ok(ReadPages {
-        contents,
-        faults: 0,
+        images,
+        full_takes: 0,
     })
 }
 

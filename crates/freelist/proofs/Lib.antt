@@ -1,5 +1,5 @@
-mod LeastLaws
-mod Rewinding
+pub mod LeastLaws
+pub mod Rewinding
 mod Searching
-mod SoundBooks
-mod Undoing
+pub mod SoundBooks
+pub mod Undoing

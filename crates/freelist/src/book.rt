@@ -1,6 +1,6 @@
 //! The book of a file's pages.
 ghost use Rattle.std.specs.Prelude.{◌≡◌, ◌-◌, IfOk, OnOk, OnErr, max, length};
-ghost use Rattle.freelist.specs.Book.{Takes, retired, committed, pinned, unpinned, undone, opened};
+ghost use Rattle.freelist.specs.Book.{Takes, is_in_use, retired, committed, pinned, unpinned, undone, opened};
 
 use crate::states::{PageState, PageStates};
 use crate::turns::{Change, Retirement, note, release, remove_pin, settle};
@@ -105,6 +105,13 @@ impl FreePages {
         )?;
         self.pages.set(page, PageState::Retired);
         Ok(())
+    }
+
+    /// Whether the page was taken, or was in use at the opening, and wasn't retired since then.
+    pub fn is_in_use(&self, page: u32) -> bool
+        ensures { result ≡ is_in_use self.now.states page }
+    {
+        self.pages.is_in_use(page)
     }
 
     /// Ends the turn. What it retired is free, but for pages that a pin keeps, which wait.

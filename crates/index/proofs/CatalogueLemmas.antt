@@ -22,7 +22,7 @@ use Rattle.index.specs.Naming.{field_named, definition_of}
 use Rattle.index.specs.Catalogue.{index_number, number_in, name_in, truth_in, direction_in, if_named, field_in, fields_in, counted, key_in, definition_in}
 use Rattle.index.proofs.TextLemmas.{drop_step}
 
-differ : (xs ys : List ℕ) → bytes_eq xs ys ≡ false → xs ≢ ys
+pub differ : (xs ys : List ℕ) → bytes_eq xs ys ≡ false → xs ≢ ys
 differ xs ys e same = let f = (bytes_eq-Decides xs ys).1 same in absurd cc
 
 pub lacks : (ps : Pairs) (name : List ℕ) → lookup ps name ≡ None → Lacks ps name

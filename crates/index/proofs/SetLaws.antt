@@ -33,7 +33,7 @@ and_false : (a : Bool) → (a && false) ≡ false
 and_false true = refl
 and_false false = refl
 
-not_among : (keys others : List (List ℕ)) (key : List ℕ) → is_among (without keys others) key ≡ (is_among keys key && not (is_among others key))
+pub not_among : (keys others : List (List ℕ)) (key : List ℕ) → is_among (without keys others) key ≡ (is_among keys key && not (is_among others key))
 not_among [] others key = refl
 not_among (k ∷ ks) others key = by (is_among others k) refl (eq_by_cmp bytes_cmp key k) refl (not_among ks others key)
   where

@@ -20,11 +20,11 @@ use Rattle.index.specs.IndexKeys.{array_keys, keys_of, or_missing, field_keys, i
 use Rattle.index.specs.Laws.{IsIndexKey, KeysSpellable}
 
 -- a value that BSON can spell in so many bytes
-record Fits (most : ℕ) (t : Tree) : Type 0 where
-  lawful : IsTree t
-  size : length (tree_bytes t) ≤ most
+pub record Fits (most : ℕ) (t : Tree) : Type 0 where
+  pub lawful : IsTree t
+  pub size : length (tree_bytes t) ≤ most
 
-abbrev IfFound : ℕ → Option Tree → Type 0
+abbrev pub IfFound : ℕ → Option Tree → Type 0
 IfFound most None = Unit {0}
 IfFound most (Some t) = Fits most t
 
@@ -42,7 +42,7 @@ items_inside : (most : ℕ) (ts : Items) → Fits most (array ts) → length (it
 unfolding tree_bytes
 items_inside most ts h = omega (arith, h.size, length-append (items_bytes 0 ts) (0 ∷ []))
 
-field_fits : (most : ℕ) (ps : Pairs) (name : List ℕ) → IsPairs ps → length (pairs_bytes ps) ≤ most → IfFound most (lookup ps name)
+pub field_fits : (most : ℕ) (ps : Pairs) (name : List ℕ) → IsPairs ps → length (pairs_bytes ps) ≤ most → IfFound most (lookup ps name)
 field_fits most no_pairs name h small = tt
 field_fits most (pair other t ps) name h small = by (bytes_eq name other) (field_fits most ps name h.3 (omega (arith, small, pairs_size-pair other t ps)))
   where

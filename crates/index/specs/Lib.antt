@@ -8,3 +8,11 @@ pub mod View
 pub mod Steps
 pub mod Laws
 pub mod Catalogue
+pub mod State
+pub mod StateEntries
+pub mod EditOrder
+pub mod LawfulState
+pub mod StateLaws
+pub mod KeptLaws
+pub mod StateRows
+pub mod StateReads

@@ -10,6 +10,7 @@ mod changes;
 mod definition;
 mod keys;
 pub mod laws;
+pub mod state_laws;
 mod texts;
 
 pub use changes::{KeyChanges, entry_key};

@@ -1,5 +1,5 @@
 -- What a page holds.
-use Rattle.std.specs.Prelude.{◌≡◌, ◌⊎◌, ℕ, ◌+◌, ◌^◌, ◌<◌, ◌≤◌, Bool, true, ◌&&◌, List, [], ◌∷◌, length, map}
+use Rattle.std.specs.Prelude.{◌≡◌, ◌⊎◌, ℕ, ◌+◌, ◌^◌, ◌<◌, ◌≤◌, Bool, true, false, ◌&&◌, ◌||◌, ◌==◌, List, [], ◌∷◌, length, map}
 use Rattle.std.specs.List.{AllByRecursion}
 use Rattle.std.specs.Ordering.{nat_cmp, is_lt}
 use Rattle.std.specs.Cmp.Lexicographic.{slice_cmp}
@@ -104,6 +104,13 @@ pub record IsBranch (arms : List Arm) : Type 0 where
   pub each : AllByRecursion IsArm arms
   pub ascending : rise (arm_keys arms) ≡ true
   pub room : arms_size arms ≤ 4080
+
+-- What a tree may have: a page of a chain that names the next one is full, and a list of free pages has no place there.
+abbrev pub is_of_tree : Content → Bool
+is_of_tree (leaf items) = true
+is_of_tree (branch arms) = true
+is_of_tree (chain next bytes) = next == 0 || length bytes == 4076
+is_of_tree (free_list next pages) = false
 
 -- A page of a chain holds 4,076 bytes, the last one at most as many, and one of the free list at most 1,019 numbers.
 abbrev pub IsContent : Content → Type 0

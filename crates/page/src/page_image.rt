@@ -1,8 +1,8 @@
 //! Pages as 4,096 bytes.
 
-ghost use Rattle.std.specs.Prelude.{◌≡◌, ◌≢◌, ◌≤◌, ◌<◌, ◌*◌, ◌^◌, ◌++◌, length, IfOk, vec_len};
+ghost use Rattle.std.specs.Prelude.{IsTrue, ◌≡◌, ◌≢◌, ◌≤◌, ◌<◌, ◌*◌, ◌^◌, ◌++◌, length, IfOk, vec_len};
 ghost use Rattle.byteorder.specs.Endian.{little_bytes};
-ghost use Rattle.page.specs.Content.{chain, free_list};
+ghost use Rattle.page.specs.Content.{IsContent, chain, free_list, is_of_tree};
 ghost use Rattle.page.specs.Format.{header, IsFit, page_bytes, chain_in, free_list_in, numbers_in, generation_in, content_in, sheet_in};
 ghost use Rattle.page.specs.View.{content_of};
 ghost use Rattle.outcome.specs.Outcome.{Gives};
@@ -188,6 +188,20 @@ pub fn free_list_page(generation: u64, page: u32, next: u32, numbers: &[u32]) ->
 
 impl PageImage {
     ghost use Rattle.page.specs.ImageView.{sheet_of};
+
+    /// Whether a tree may have this page, which is read back once it is written: one of a chain that names the next page has
+    /// to be full.
+    pub fn is_of_tree(&self) -> bool
+        ensures exact { result ≡ is_of_tree (content_of self.now.content) }
+        ensures content { IsTrue result → IsContent (content_of self.now.content) }
+    {
+        match &self.content {
+            PageContent::Leaf(leaf) => leaf.len() > 0,
+            PageContent::Branch(branch) => branch.len() > 1,
+            PageContent::Chain { next, bytes } => *next == 0 || bytes.len() == CHAIN_BYTES,
+            PageContent::FreeList { .. } => false,
+        }
+    }
 
     /// Writes the page's bytes. It takes no memory.
     pub fn write(&self, bytes: &mut [u8; 4096])

@@ -1,5 +1,5 @@
 //! A sector is replaced behind everything that was written before.
-ghost use Rattle.std.specs.Prelude.{◌≡◌, ◌⊎◌, ◌<◌, OnOk, OnErr};
+ghost use Rattle.std.specs.Prelude.{◌≡◌, ◌≢◌, ◌⊎◌, ◌<◌, ℕ, OnOk, OnErr};
 ghost use Rattle.page.specs.History.{KeepsWord, now, reads, IsImage};
 ghost use Rattle.page.specs.Crash.{GoesOn, LeavesOnly, AreDurable, put};
 ghost use Rattle.roots.specs.Replace.{IsOldOrPut};
@@ -22,6 +22,8 @@ pub(crate) fn replace<D: Disk>(
     ensures reads { let before = reads (now (D.history disk.old)) in
         KeepsWord (D.history disk.new)
         → OnOk result (reads (now (D.history disk.new)) ≡ put before sector bytes.now) }
+    ensures others { KeepsWord (D.history disk.new) → (k : ℕ) → k ≢ sector
+        → reads (now (D.history disk.new)) k ≡ reads (now (D.history disk.old)) k }
     ensures failed { KeepsWord (D.history disk.new)
         → OnErr result ((D.history disk.old).failures < (D.history disk.new).failures) }
 {

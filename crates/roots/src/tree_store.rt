@@ -1,11 +1,11 @@
 //! A store of a tree: its disk, and the root that it committed last.
-ghost use Rattle.std.specs.Prelude.{◌≡◌, ◌<◌, IfOk, IfErr, OnOk, OnErr, ℕ, max};
+ghost use Rattle.std.specs.Prelude.{◌≡◌, ◌<◌, ◌≤◌, IfOk, IfErr, OnOk, OnErr, ℕ, max};
 ghost use Rattle.std.specs.List.{AllByRecursion};
 ghost use Rattle.page.specs.History.{KeepsWord, now, reads};
 ghost use Rattle.page.specs.Crash.{GoesOn, LeavesOnly, IsImageOutside};
 ghost use Rattle.page.specs.Format.{Sheet, page_bytes};
 ghost use Rattle.page.specs.Page.{IsSectorOf, page_at};
-ghost use Rattle.roots.specs.tree.Commit.{CommitsRoot, MovesDisk, MovesMaps};
+ghost use Rattle.roots.specs.tree.Commit.{CommitsRoot, LeavesPages, MovesDisk, MovesMaps};
 ghost use Rattle.roots.specs.tree.Image.{IsOnPages};
 ghost use Rattle.roots.specs.tree.Opening.{IsOpened, IsRefused};
 ghost use Rattle.roots.specs.tree.Store.{disk_history, durable_root, is_stopped};
@@ -84,6 +84,11 @@ fn write_made<D: Disk>(disk: &mut D, made: &[SharedPage]) -> Result<(), DeviceFa
 fn write_commit<D: Disk>(disk: &mut D, made: &[SharedPage], root: Root) -> Result<(), DeviceFault>
     ensures on { GoesOn (D.history disk.old) (D.history disk.new) }
     ensures moves { MovesDisk made.now root result (D.history disk.old) (D.history disk.new) }
+    ensures others { KeepsWord (D.history disk.new) → (k : ℕ) → 2 ≤ k
+        → (IsOnPages (numbers_of made.now) k → ⊥)
+        → reads (now (D.history disk.new)) k ≡ reads (now (D.history disk.old)) k }
+    ensures written { KeepsWord (D.history disk.new) → LieBehind 0 made.now
+        → OnOk result (AreWritten (reads (now (D.history disk.new))) made.now) }
     ensures failed { KeepsWord (D.history disk.new)
         → OnErr result ((D.history disk.old).failures < (D.history disk.new).failures) }
 {
@@ -168,6 +173,7 @@ impl<D: Disk> TreeStore<D> {
     pub fn commit(&mut self, made: &[SharedPage], tree: u32) -> Result<(), CommitFault>
         ensures commits { CommitsRoot D.history tree result self.old self.new }
         ensures moves { MovesMaps D.history made.now tree result self.old self.new }
+        ensures pages { LeavesPages D.history made.now tree result self.old self.new }
     {
         if self.stopped {
             return Err(CommitFault::Device);

@@ -1,6 +1,6 @@
 -- What a walk from the root finds, and the book that is opened with it.
 use Rattle.std.proofs.Common.{◌≡◌, ◌≢◌, ℕ, ◌+◌, ◌<◌, ◌≤◌, max, inl, inr, List, [], ◌∷◌, ◌++◌, refl, sym, ◌∙◌, ap, subst, arith}
-use Rattle.std.specs.Prelude.{Result, Ok, Err, MatchResult}
+use Rattle.std.specs.Prelude.{Result, Ok, Err, IfOk, MatchResult}
 use Rattle.page.specs.History.{History, Sector, KeepsWord, now, reads}
 use Rattle.page.specs.Crash.{ReadsOnly, IsDurable}
 use Rattle.page.specs.Format.{Sheet}
@@ -18,7 +18,7 @@ use Rattle.roots.specs.declared.tree_store.TreeStore.{TreeStore}
 use Rattle.roots.specs.declared.tree_walk.Reached.{Reached}
 use Rattle.roots.specs.tree.Image.{HoldsMap, OpensAs, sheet_at}
 use Rattle.roots.specs.tree.Store.{Keeps}
-use Rattle.roots.specs.tree.Walk.{CanReach, FindsFree, IsMarked, Reaches, ReadsSheet, pages_in, pages_so_far}
+use Rattle.roots.specs.tree.Walk.{CanReach, FindsFree, IsBookOf, IsMarked, Reaches, ReadsSheet, pages_in, pages_so_far}
 use Rattle.roots.proofs.OpeningRules.{known}
 
 -- from the root on
@@ -40,7 +40,7 @@ reached_from_none old new pages none is = is ∙ ap (λ (l : List ℕ). l ++ pag
 pub no_pages : (root : Root) (found pages : List ℕ) (entries : List Entry) (image : ℕ → List ℕ) → root.tree ≡ 0 → found ≡ [] → HoldsMap (sheet_at image root) root pages entries → found ≡ pages
 no_pages root found pages entries image none is holds = elim holds.map [
   | inl (_, (empty, _)) ↦ is ∙ sym empty
-  | inr has ↦ absurd (omega (arith, none, has.tree.number))
+  | inr has ↦ absurd (omega (arith, none, has.tree.at.number))
 ]
 
 -- a fault that isn't one of the pages
@@ -58,13 +58,15 @@ still_kept h0 h1 root live entries only keeps = record {
 
 -- what is found is the committed tree's
 pub finds : {D : Type 0} (history : D → History) (limit : ℕ) (result : Result Book OpenFault) (old : TreeStore D) (disk : D) → ReadsOnly (history old.disk) (history disk)
+    → IfOk result (IsBookOf limit old.root)
     → (KeepsWord (history disk) → (live : List ℕ) (entries : List Entry) → HoldsMap (sheet_at (reads (now (history old.disk))) old.root) old.root live entries → 1 ≤ old.root.pages
     → MatchResult result (λ book. book ≡ opened live (max limit old.root.pages) old.root.generation) (λ fault. fault ≢ faults.Damaged))
     → FindsFree history limit result old (record old { disk = disk })
-finds history limit result old disk only found = record {
+finds history limit result old disk only some found = record {
   root = refl;
   stopped = refl;
   committed = λ live entries committed. record { running = committed.running; keeps = still_kept (history old.disk) (history disk) old.root live entries only committed.keeps };
+  some = some;
   book = λ k live entries committed.
       let image = reads (now (history old.disk)) in
       let inside = known (image 0) (image 1) old.root (committed.keeps.opens (only.on.kept k)) in
@@ -76,6 +78,15 @@ pub book_is : (book : Book) (limit found pages generation : ℕ) (given in_use l
 book_is book limit found pages generation given in_use live is most some same named =
     let count : max found 1 ≡ max limit pages = omega (arith, most, some) in
     is ∙ (λ i. opened ((same ∙ named) i) (count i) generation)
+
+pub book_some : (book : Book) (limit found : ℕ) (root : Root) (given in_use : List ℕ) → book ≡ opened given (max found 1) root.generation → found ≡ max limit root.pages → given ≡ in_use → IsBookOf limit root book
+book_some book limit found root given in_use is most same = record {
+  in_use = in_use;
+  is = is ∙ (λ i. opened (same i) (max (most i) 1) root.generation);
+}
+
+pub none_so : {X E : Type 0} (result : Result X E) (P : X → Type 0) (e : E) → result ≡ Err e → IfOk result P
+none_so result P e is = subst (λ r. IfOk r P) (sym is) tt
 
 -- a page was read
 pub page_read : {D : Type 0} (history : D → History) (page : ℕ) (result : Result PageImage OpenFault) (old : TreeStore D) (disk : D) → ReadsOnly (history old.disk) (history disk)

@@ -24,7 +24,7 @@ pub moves_by : (a b : ℕ → List ℕ) (root : Root) (pages : List ℕ) → ((k
 moves_by a b root [] same = tt
 moves_by a b root (page ∷ pages) same =
     let here : sheet_at b root page ≡ sheet_at a root page = sheet_same a b root page (λ k is. same k (inl is)) in (
-      (λ content at. record { live = ap is_ok here ∙ at.live; holds = ap content_in here ∙ at.holds }),
+      (λ content at. record { number = at.number; live = ap is_ok here ∙ at.live; holds = ap content_in here ∙ at.holds }),
       moves_by a b root pages (λ k is. same k (inr is)),
     )
 

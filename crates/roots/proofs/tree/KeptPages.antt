@@ -75,7 +75,7 @@ kept_there image old made tree n content ne at =
     let found : IsFound (sheet_at image old n) content = found_at (sheet_at image old) n content at.live at.holds in
     let there : made_or made n (sheet_at image (next_root old made tree) n) ≡ Ok found.sheet =
     made_other made n (sheet_at image (next_root old made tree) n) ne ∙ still_read image old (next_root old made tree) n found.sheet (omega arith) (omega arith) found.is in
-    record { live = ap is_ok there; holds = ap content_of there ∙ found.holds }
+    record { number = at.number; live = ap is_ok there; holds = ap content_of there ∙ found.holds }
 
 all_behind : (last : ℕ) (made : List Sheet) → LieBehind last made → AllByRecursion (λ (m : Sheet). last < m.page) made
 all_behind last [] lie = tt

@@ -1,6 +1,6 @@
 -- Pages that were made and written.
 use Rattle.std.proofs.Common.{◌≡◌, ◌≢◌, ℕ, zero, suc, ◌+◌, ◌*◌, ◌^◌, ◌≤◌, ◌<◌, inl, inr, Bool, true, false, List, [], ◌∷◌, ◌++◌, length, take, get_or, refl, sym, ◌∙◌, ap, subst, arith}
-use Rattle.std.specs.Prelude.{◌-◌, ◌&&◌, ◌==◌, nat_lt, min, if◌then◌else◌, Some, slice_get, Result, Ok, Err}
+use Rattle.std.specs.Prelude.{◌-◌, ◌&&◌, ◌==◌, nat_lt, min, if◌then◌else◌, Some, slice_get, Result, Ok, Err, OnOk}
 use Rattle.std.specs.List.{AllByRecursion}
 use Rattle.std.proofs.lemmas.Bool.{cases_eq}
 use Rattle.std.proofs.lemmas.Bool.Decides.{nat_tests}
@@ -106,6 +106,16 @@ written_step a b made i x is lie lt others before here =
     let below : AllByRecursion (λ (m : Sheet). m.page < x.page) (take i made) = subst (λ (y : Sheet). AllByRecursion (λ (m : Sheet). m.page < y.page) (take i made)) same (before_at 0 made i x lie lt) in
     subst (AreWritten b) (sym (take_more made i x lt ∙ ap (λ (y : Sheet). take i made ++ y ∷ []) same))
     (all_more (λ (m : Sheet). page_at b m.page ≡ page_bytes m) (take i made) x (still_written a b x.page (take i made) others below before) here)
+
+-- a root is no page
+pub written_apart : (a b : ℕ → List ℕ) (last : ℕ) (made : List Sheet) → ((k : ℕ) → 2 ≤ k → b k ≡ a k) → LieBehind last made → AreWritten a made → AreWritten b made
+written_apart a b last [] others lie written = tt
+written_apart a b last (m ∷ ms) others lie written =
+    (bytes_from_same a b (8 * m.page) 8 (λ k le lt. others k (omega (arith, lie.0, le))) ∙ written.0, written_apart a b m.page ms others lie.1 written.1)
+
+pub ok_anyway : {X E : Type 0} (result : Result X E) (P : Type 0) → P → OnOk result P
+ok_anyway (Ok x) P p = p
+ok_anyway (Err e) P p = tt
 
 -- ---- what is read then
 

@@ -93,8 +93,8 @@ module _ (s : Store) (none : s.live 0 ≡ false) where
 
   pub one_map : (root : ℕ) (pages pages' : List ℕ) (entries entries' : List Entry) → HasMap s root pages entries → HasMap s root pages' entries' → SameMap entries entries' pages pages'
   one_map root pages pages' entries entries' (inl (_, (p, e))) (inl (_, (q, f))) = record { entries_are = e ∙ sym f; pages_are = p ∙ sym q }
-  one_map root pages pages' entries entries' (inl (zero_is, _)) (inr has) = absurd (omega (arith, zero_is, has.tree.number))
-  one_map root pages pages' entries entries' (inr has) (inl (zero_is, _)) = absurd (omega (arith, zero_is, has.tree.number))
+  one_map root pages pages' entries entries' (inl (zero_is, _)) (inr has) = absurd (omega (arith, zero_is, has.tree.at.number))
+  one_map root pages pages' entries entries' (inr has) (inl (zero_is, _)) = absurd (omega (arith, zero_is, has.tree.at.number))
   one_map root pages pages' entries entries' (inr one) (inr two) =
       let same = one_body one.d two.d one.body two.body (sym one.tree.at.holds ∙ two.tree.at.holds) one.tree.shown two.tree.shown in
       record {

@@ -5,13 +5,14 @@ use Rattle.page.specs.Crash.{AreDurable, LeavesNow, ReadsOnly}
 use Rattle.page.proofs.Moments.{goes_further, goes_one, leaves_call, reads_moments, then_syncs}
 use Rattle.page.proofs.TwoFacts.{all_durable, reads_synced}
 use Rattle.roots.specs.declared.root.Root.{Root}
+use Rattle.roots.specs.Root.{IsKnown}
 use Rattle.roots.specs.tree.Image.{HoldsMap, OpensAs, StandsFor, sheet_at}
 use Rattle.roots.specs.tree.Opening.{IsOpened}
 
 pub opened : {D : Type 0} (history : D → History) (before disk : D) (root : Root) (h1 : History) (ok : Bool) → ReadsOnly (history before) h1
     → (KeepsWord h1 → OpensAs (reads (now (history before))) root) → Ticks h1 (history disk) ok
-    → (KeepsWord (history disk) → (k : ℕ) → Syncs (now h1 k) (now (history disk) k)) → IsOpened history before (record { disk = disk; root = root; stopped = false })
-opened history before disk root h1 ok only opens tick syncs =
+    → (KeepsWord (history disk) → (k : ℕ) → Syncs (now h1 k) (now (history disk) k)) → IsKnown root → IsOpened history before (record { disk = disk; root = root; stopped = false })
+opened history before disk root h1 ok only opens tick syncs known =
     let h0 = history before in
     let h2 = history disk in
     let all : KeepsWord h2 → AreDurable (now h2) = λ k. all_durable (now h1) (now h2) (syncs k) in
@@ -19,6 +20,7 @@ opened history before disk root h1 ok only opens tick syncs =
     let synced : LeavesNow h2 (λ image. image ≡ reads (now h0)) = λ k image is. (λ i j. all k j (image j) (is j) i) ∙ same k in
     record {
       running = refl;
+      known = known;
       on = goes_further h0 h1 h2 only.on (goes_one h1 h2 ok tick);
       only = then_syncs h0 h1 h2 ok only tick syncs;
       opens = λ k. opens (tick.kept k);

@@ -1,12 +1,13 @@
 -- What the commit of a tree does.
-use Rattle.std.specs.Prelude.{◌≡◌, ◌≢◌, ◌⊎◌, ℕ, ◌+◌, ◌-◌, ◌^◌, ◌<◌, List, true, Result, Err, OnOk}
+use Rattle.std.specs.Prelude.{◌≡◌, ◌≢◌, ◌⊎◌, ℕ, ◌+◌, ◌-◌, ◌^◌, ◌<◌, ◌≤◌, List, true, Result, Err, OnOk, OnErr}
+use Rattle.std.specs.List.{AllByRecursion}
 use Rattle.page.specs.Format.{Sheet}
-use Rattle.page.specs.History.{History, KeepsWord}
+use Rattle.page.specs.History.{History, KeepsWord, now, reads}
 use Rattle.page.specs.Crash.{GoesOn, LeavesOnly, LeavesNow}
 use Rattle.btree.specs.Keys.{Entry}
-use Rattle.roots.specs.tree.Image.{StandsFor}
+use Rattle.roots.specs.tree.Image.{IsOnPages, StandsFor}
 use Rattle.roots.specs.tree.Store.{disk_history, durable_root, is_stopped, IsRunning, HasDeviceCause, IsCommitted, Keeps}
-use Rattle.roots.specs.tree.Turn.{IsTurn, next_root}
+use Rattle.roots.specs.tree.Turn.{AreWritten, IsTurn, LieBehind, next_root, numbers_of}
 use Rattle.roots.specs.declared.root.Root.{Root}
 use Rattle.roots.specs.declared.tree_store.TreeStore.{TreeStore}
 use Rattle.roots.specs.declared.store.CommitFault.{CommitFault}
@@ -28,6 +29,18 @@ pub record CommitsRoot {D : Type 0} (history : D → History) (root_page : ℕ)
       → HasDeviceCause history old new
   pub stops : result ≡ Err faults.Device → is_stopped new ≡ true
   pub idle : is_stopped old ≡ true → new ≡ old
+
+-- What reads give after it: the pages that were handed in, where it is done, and in each other page what was there.
+pub record LeavesPages {D : Type 0} (history : D → History) (made : List Sheet) (tree : ℕ)
+    (result : Result (Unit {0}) CommitFault) (old new : TreeStore D) : Type 0 where
+  pub others : KeepsWord (disk_history history new) → (k : ℕ) → 2 ≤ k
+      → (IsOnPages (numbers_of made) k → ⊥)
+      → reads (now (disk_history history new)) k ≡ reads (now (disk_history history old)) k
+  pub written : KeepsWord (disk_history history new) → LieBehind 0 made
+      → OnOk result (AreWritten (reads (now (disk_history history new))) made)
+  pub root : AllByRecursion (λ (sheet : Sheet). sheet.page < 1048576) made
+      → OnOk result (durable_root new ≡ next_root (durable_root old) made tree)
+  pub still : OnErr result (durable_root new ≡ durable_root old)
 
 -- A crash at any moment of the call leaves the entries from before, or those of the turn. At Ok it leaves the turn's alone.
 pub record MovesMap {D : Type 0} (history : D → History) (next : Root) (pages : List ℕ)

@@ -1,5 +1,5 @@
 -- What an image of the disk stands for: the entries of the tree whose root page its root names.
-use Rattle.std.specs.Prelude.{◌≡◌, ◌⊎◌, ℕ, ◌<◌, ◌&&◌, nat_lt, if◌then◌else◌, List, [], ◌∷◌, Result, Ok, Err, is_ok}
+use Rattle.std.specs.Prelude.{◌≡◌, ◌⊎◌, ℕ, ◌<◌, ◌&&◌, nat_lt, if◌then◌else◌, List, [], ◌∷◌, true, Result, Ok, Err, is_ok}
 use Rattle.page.specs.Content.{Content, chain}
 use Rattle.page.specs.Format.{Sheet, sheet_in}
 use Rattle.page.specs.Page.{page_at, IsSectorOf}
@@ -24,11 +24,14 @@ content_in (Err fault) = chain 0 []
 -- pages as the definitions of a tree see them: what can be read is there
 abbrev pub store_of : (ℕ → Result Sheet PageFault) → Store
 store_of sheets = record {
+  keeps_word = true;
+  base = record { sectors = λ k. record { read = []; synced = []; pending = [] }; numbers = [] };
   page = λ n. content_in (sheets n);
   live = λ n. is_ok (sheets n);
   made = [];
   retired = [];
-  faults = 0;
+  failures = 0;
+  full_takes = 0;
 }
 
 -- The root's tree in these pages reaches these, each once, and has these entries. Tree 0 is empty.

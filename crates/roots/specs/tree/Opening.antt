@@ -3,7 +3,7 @@ use Rattle.std.specs.Prelude.{◌≡◌, ◌≢◌, ℕ, ◌<◌, List, Err}
 use Rattle.page.specs.History.{History, KeepsWord, now, reads, IsImage}
 use Rattle.page.specs.Crash.{GoesOn, LeavesOnly, LeavesNow, OnlySyncs, ReadsOnly}
 use Rattle.btree.specs.Keys.{Entry}
-use Rattle.roots.specs.Root.{root_of}
+use Rattle.roots.specs.Root.{IsKnown, root_of}
 use Rattle.roots.specs.tree.Image.{OpensAs, HoldsMap, StandsFor, sheet_at}
 use Rattle.roots.specs.tree.Store.{IsRunning, IsCommitted, disk_history, durable_root}
 use Rattle.roots.specs.declared.opening.OpenFault.{OpenFault}
@@ -15,6 +15,7 @@ pub record IsOpened {D : Type 0} (history : D → History) (disk : D) (store : T
   pub running : IsRunning store
   pub on : GoesOn (history disk) (disk_history history store)
   pub only : OnlySyncs (history disk) (disk_history history store)
+  pub known : IsKnown (durable_root store)
   -- its root is the one that the disk's sectors give
   pub opens : KeepsWord (disk_history history store)
       → OpensAs (reads (now (history disk))) (durable_root store)

@@ -1,5 +1,5 @@
 -- What a walk over a tree's pages gives: those that it reaches, each once, in the order of its keys.
-use Rattle.std.specs.Prelude.{◌≡◌, ◌≢◌, ℕ, ◌+◌, ◌<◌, ◌≤◌, false, if◌then◌else◌, List, ◌++◌, length, get_or, max, Result, Ok, Err, IfErr, OnOk, MatchResult}
+use Rattle.std.specs.Prelude.{◌≡◌, ◌≢◌, ℕ, ◌+◌, ◌<◌, ◌≤◌, false, if◌then◌else◌, List, ◌++◌, length, get_or, max, Result, Ok, Err, IfErr, IfOk, OnOk, MatchResult}
 use Rattle.page.specs.History.{History, KeepsWord, now, reads}
 use Rattle.page.specs.Crash.{ReadsOnly}
 use Rattle.page.specs.Format.{Sheet}
@@ -70,6 +70,11 @@ pub record ReadsSheet {D : Type 0} (history : D → History) (page : ℕ)
 
 -- ---- the book of a file's pages
 
+-- a book that was opened with some pages in use
+pub record IsBookOf (limit : ℕ) (root : Root) (book : Book) : Type 0 where
+  pub in_use : List ℕ
+  pub is : book ≡ opened in_use (max (max limit root.pages) 1) root.generation
+
 -- Nothing of the store has changed; where a tree is committed, the pages that it reaches are in use, and the fault isn't one
 -- of the pages.
 pub record FindsFree {D : Type 0} (history : D → History) (limit : ℕ)
@@ -78,6 +83,7 @@ pub record FindsFree {D : Type 0} (history : D → History) (limit : ℕ)
   pub stopped : is_stopped new ≡ is_stopped old
   pub committed : (live : List ℕ) (entries : List Entry) → IsCommitted history old live entries
       → IsCommitted history new live entries
+  pub some : IfOk result (IsBookOf limit (durable_root old))
   pub book : KeepsWord (disk_history history new) → (live : List ℕ) (entries : List Entry)
       → IsCommitted history old live entries → let root = durable_root old in
       MatchResult result (λ book. book ≡ opened live (max limit root.pages) root.generation)

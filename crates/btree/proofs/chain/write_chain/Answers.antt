@@ -1,15 +1,17 @@
 use Rattle.std.proofs.Common.{◌*◌, ◌-◌, arith, drop}
-use Rattle.btree.proofs.StoreLemmas.{grows_trans}
+use Rattle.btree.proofs.StoreLemmas.{grows_made, grows_trans}
 use Rattle.btree.proofs.ChainLemmas.{chained_on, drop_on, first_of, some_left}
 use Rattle.btree.proofs.chain.write_chain.Goals as goal
 
 pub loop-left-preserved : goal.loop-left-preserved
 loop-left-preserved g c =
     record {
-      grows = grows_trans _ _ _ c.loop-left.invariant.grows c.in_ok-next.ensures.grows;
+      grows = grows_trans _ _ _ c.loop-left.invariant.grows (grows_made (g.P.Pages.store c.loop-left.pages) (g.P.Pages.store c.fresh.new.self) _ _ c.in_ok-next.ensures);
       room = omega arith;
-      written = chained_on (g.P.Pages.store c.args.pages.now) (g.P.Pages.store c.loop-left.pages) (g.P.Pages.store c.fresh.new.self) (drop (4076 * (c.loop-left.left - 1)) c.args.value.now)
-          (drop (4076 * c.loop-left.left) c.args.value.now) c.in_ok-bytes.bytes.items _ _ c.loop-left.invariant.written c.in_ok-next.ensures
+      written = λ k.
+          let made = c.in_ok-next.ensures k in
+          chained_on (g.P.Pages.store c.args.pages.now) (g.P.Pages.store c.loop-left.pages) (g.P.Pages.store c.fresh.new.self) (drop (4076 * (c.loop-left.left - 1)) c.args.value.now)
+          (drop (4076 * c.loop-left.left) c.args.value.now) c.in_ok-bytes.bytes.items _ _ (c.loop-left.invariant.written made.frame.word) made
           (some_left c.args.value.now c.loop-left.left c.loop-left.invariant.room c.loop-left-test.true)
           (first_of c.args.value.now c.in_ok-bytes.bytes.items c.loop-left.left c.min-end.result c.loop-left.invariant.room c.loop-left-test.true c.min-end.ensures c.in_ok-bytes.ensures.items)
           (drop_on c.args.value.now c.loop-left.left c.loop-left-test.true);

@@ -1,5 +1,5 @@
 use Rattle.std.proofs.Common.{◌*◌, ◌+◌, ◌<◌, length, drop}
-use Rattle.btree.specs.Store.{Grows}
+use Rattle.btree.specs.Store.{Grows, KeepsWord}
 use Rattle.btree.specs.Calls.{IsChained}
 use Rattle.btree.proofs.chain.write_chain.Given as goal
 
@@ -7,7 +7,7 @@ abbrev pub invariant-loop-left : goal.invariant-loop-left
 invariant-loop-left g l = record {
   grows : Grows (g.P.Pages.store l.initial.pages) (g.P.Pages.store l.pages);
   room : 4076 * l.left < length l.value + 4076;
-  written : IsChained (g.P.Pages.store l.initial.pages) (g.P.Pages.store l.pages) (drop (4076 * l.left) l.value) l.next;
+  written : KeepsWord (g.P.Pages.store l.pages) → IsChained (g.P.Pages.store l.initial.pages) (g.P.Pages.store l.pages) (drop (4076 * l.left) l.value) l.next;
 }
 
 abbrev pub decreases-loop-left : goal.decreases-loop-left

@@ -1,13 +1,13 @@
-use Rattle.std.proofs.Common.{rules, ◌≡◌, ◌<◌, ◌∙◌, ◌++◌, ◌∷◌, ◌+◌, ◌-◌, [], Some, None, length, map, sym, ap, subst, arith, refl, inr, inl, suc}
-use Rattle.btree.specs.LooseView.{hold_in, stub_in}
+use Rattle.std.proofs.Common.{◌≡◌, ◌∙◌, ◌++◌, ◌∷◌, ◌+◌, [], Some, map, sym, ap, subst, arith, refl, inr, suc}
+use Rattle.btree.specs.LooseView.{stub_in}
 use Rattle.btree.specs.EditView.{edit_in}
 use Rattle.btree.specs.View.{content_in}
 use Rattle.btree.specs.Keys.{change, times}
-use Rattle.btree.specs.Tree.{Body, Shows, IsSound, entries_of, pages_of}
-use Rattle.btree.specs.Turn.{Turns, sheaf_in}
-use Rattle.btree.proofs.ListLemmas.{long_map}
-use Rattle.btree.proofs.StoreLemmas.{cause_later, grows_same, grows_trans, shows_kept}
-use Rattle.btree.proofs.HeldLemmas.{branch_stubs, held_later, opened, turns_failed}
+use Rattle.btree.specs.Tree.{Shows, IsSound, entries_of, pages_of}
+use Rattle.page.specs.Format.{Sheet}
+use Rattle.btree.specs.Turn.{sheaf_in}
+use Rattle.btree.proofs.StoreLemmas.{answer_failed, cause_later, frame_same, frame_trans, grows_retired, grows_same, grows_trans, shows_kept}
+use Rattle.btree.proofs.HeldLemmas.{IsTurn, branch_stubs, held_later, opened, turns_failed}
 use Rattle.btree.proofs.ChangingLemmas.{at_leaf, begins, behind_later, branch_deep, turned_on}
 use Rattle.btree.specs.Change.{IsBehind}
 use Rattle.btree.specs.Turn.{IsHeld}
@@ -17,101 +17,119 @@ use Rattle.btree.proofs.ListLemmas.{long_append}
 use Rattle.btree.proofs.PrepareLemmas.{begins_there, children_done, prepare}
 use Rattle.btree.proofs.changing.+change.Goals as goal
 
+pub change_below-returns-in_err-shared-clause-turns : goal.change_below-returns-in_err-shared-clause-turns
+change_below-returns-in_err-shared-clause-turns g t c =
+    λ base d high body rank at shown whole sound little rise between word.
+    answer_failed (g.P.Pages.store c.args.pages.now) (g.P.Pages.store c.read.new.self) _ _ _ c.from_residual.ensures.1 (c.in_err-shared.ensures.cause word _ at)
+
 pub change_below-returns-in-Leaf-clause-turns : goal.change_below-returns-in-Leaf-clause-turns
 change_below-returns-in-Leaf-clause-turns g t c =
-    λ base d high body rank at shown whole sound little rise between.
-    let grown = grows_trans _ _ _ (grows_same _ _ _ c.in_ok-content.ensures.same) c.in_ok-retire.ensures.grows in
+    λ base d high body rank at shown whole sound little rise between word.
+    let gone = c.in_ok-retire.ensures (c.change_leaf.ensures.grows word).word in
+    let same = c.in_ok-shared.ensures.same gone.frame.word in
+    let grown = frame_trans (g.P.Pages.store c.args.pages.now) (g.P.Pages.store c.read.new.self) (g.P.Pages.store c.retire.new.self) (frame_same _ _ same) gone.frame in
     at_leaf (λ d body. c.args.rank ≡ base + d → Shows (g.P.Pages.store c.retire.new.self) d body → IsSound d c.args.low.now high body
-    → Turns (g.P.Pages.store c.args.pages.now) (g.P.Pages.store c.change_leaf.new.pages) base c.args.low.now high (change (map edit_in c.args.edits.now) (entries_of d body)) (c.args.page ∷ pages_of d body) c.change_leaf.result)
+    → IsTurn (g.P.Pages.store c.args.pages.now) (g.P.Pages.store c.change_leaf.new.pages) base c.args.low.now high (change (map edit_in c.args.edits.now) (entries_of d body)) (c.args.page ∷ pages_of d body) c.change_leaf.result)
     c.in-Leaf.leaf
     (λ pairs is rank shown sound. turned_on (g.P.Pages.store c.args.pages.now) (g.P.Pages.store c.retire.new.self) (g.P.Pages.store c.change_leaf.new.pages) base c.args.low.now high _ (c.args.page ∷ pages_of 0 pairs) (pages_of 0 pairs) c.change_leaf.result grown
-    (λ n. omega (arith, ap (times n) (c.in_ok-retire.ensures.made ∙ c.in_ok-content.ensures.same.made), ap (times n) (c.in_ok-retire.ensures.retired ∙ ap (λ zs. c.args.page ∷ zs) c.in_ok-content.ensures.same.retired)))
-    (c.change_leaf.ensures.turns base c.args.low.now high pairs (omega arith) is sound shown between))
-    d body (sym (ap content_in c.in-Leaf.is) ∙ ap content_in c.deref.ensures ∙ sym c.in_ok-content.ensures.value ∙ at.holds) rank (shows_kept _ _ grown d body shown) sound
+    (λ n. omega (arith, ap (times n) (gone.made ∙ same.made), ap (times n) (gone.retired ∙ ap (λ zs. c.args.page ∷ zs) same.retired)))
+    (c.change_leaf.ensures.turns base c.args.low.now high pairs (omega arith) is sound shown between word))
+    d body (sym (ap content_in c.in-Leaf.is) ∙ ap (λ (s : Sheet). s.content) c.image.ensures ∙ sym (c.in_ok-shared.ensures.value gone.frame.word) ∙ at.holds) rank (shows_kept _ _ grown d body shown) sound
 
 pub change_below-returns-clause-grows : goal.change_below-returns-clause-grows
-change_below-returns-clause-grows g t c = grows_trans _ _ _ (grows_trans _ _ _ (grows_same _ _ _ c.in_ok-content.ensures.same) c.in_ok-retire.ensures.grows) c.change_children.ensures.grows
+change_below-returns-clause-grows g t c = grows_trans _ _ _ (grows_trans (g.P.Pages.store c.args.pages.now) (g.P.Pages.store c.read.new.self) (g.P.Pages.store c.retire.new.self) (grows_same (g.P.Pages.store c.args.pages.now) (g.P.Pages.store c.read.new.self) c.in_ok-shared.ensures.same) (grows_retired (g.P.Pages.store c.read.new.self) (g.P.Pages.store c.retire.new.self) _ c.in_ok-retire.ensures)) c.change_children.ensures.grows
 
 pub change_below-returns-clause-turns : goal.change_below-returns-clause-turns
 change_below-returns-clause-turns g t c =
-    λ base d high body rank at shown whole sound little rise between.
-    let grown = grows_trans _ _ _ (grows_same _ _ _ c.in_ok-content.ensures.same) c.in_ok-retire.ensures.grows in
-    let e = sym (ap content_in c.in-Branch.is) ∙ ap content_in c.deref.ensures ∙ sym c.in_ok-content.ensures.value ∙ at.holds in
+    λ base d high body rank at shown whole sound little rise between word.
+    let gone = c.in_ok-retire.ensures (c.change_children.ensures.grows word).word in
+    let same = c.in_ok-shared.ensures.same gone.frame.word in
+    let grown = frame_trans (g.P.Pages.store c.args.pages.now) (g.P.Pages.store c.read.new.self) (g.P.Pages.store c.retire.new.self) (frame_same _ _ same) gone.frame in
+    let e = sym (ap content_in c.in-Branch.is) ∙ ap (λ (s : Sheet). s.content) c.image.ensures ∙ sym (c.in_ok-shared.ensures.value gone.frame.word) ∙ at.holds in
     let o = opened (g.P.Pages.store c.args.pages.now) (g.P.Pages.store c.retire.new.self) base d c.args.rank c.args.page c.args.low.now high body _ rank shown whole sound little (branch_stubs d c.args.low.now body c.in-Branch.branch _ e c.in_ok-units.ensures.ok) grown
-    (c.in_ok-retire.ensures.made ∙ c.in_ok-content.ensures.same.made) (c.in_ok-retire.ensures.retired ∙ ap (λ zs. c.args.page ∷ zs) c.in_ok-content.ensures.same.retired) in
+    (gone.made ∙ same.made) (gone.retired ∙ ap (λ zs. c.args.page ∷ zs) same.retired) in
     turned_on (g.P.Pages.store c.args.pages.now) (g.P.Pages.store c.retire.new.self) (g.P.Pages.store c.change_children.new.pages) base c.args.low.now high _ _ o.0.after c.change_children.result grown o.0.turned
     (c.change_children.ensures.turns base c.args.low.now high (entries_of d body) o.0.after o.0.held (omega (arith, branch_deep d body c.in-Branch.branch e))
-    (inr (begins c.args.low.now c.in-Branch.branch _ c.in_ok-units.ensures.ok o.1.0)) rise between)
+    (inr (begins c.args.low.now c.in-Branch.branch _ c.in_ok-units.ensures.ok o.1.0)) rise between word)
 
 pub change_children-returns-in_default-clause-turns : goal.change_children-returns-in_default-clause-turns
 change_children-returns-in_default-clause-turns g t c =
-    λ base low high entries reached h deep begin rise between.
+    λ base low high entries reached h deep begin rise between word.
     let w = two_parts (g.P.Pages.store c.args.pages.now) base low high entries reached (sheaf_in c.args.loose) (map stub_in c.in_ok-left.field-0.left.units.items ++ stub_in c.in_ok-left.field-0.unit ∷ []) _ h c.in_ok-left.ensures.parts
     (omega (arith, long_append (map stub_in c.in_ok-left.field-0.left.units.items) (stub_in c.in_ok-left.field-0.unit ∷ []))) in
-    absurd (c.in_default.ensures (last_is_child (g.P.Pages.store c.args.pages.now) base low w.between w.front_entries w.front_pages _ (map stub_in c.in_ok-left.field-0.left.units.items) (stub_in c.in_ok-left.field-0.unit) w.front_held deep
-    (omega (arith, long_append (map stub_in c.in_ok-left.field-0.left.units.items) (stub_in c.in_ok-left.field-0.unit ∷ []))) refl))
+    c.in_default.ensures (last_is_child (g.P.Pages.store c.args.pages.now) base low w.between w.front_entries w.front_pages _ (map stub_in c.in_ok-left.field-0.left.units.items) (stub_in c.in_ok-left.field-0.unit) w.front_held deep
+    (omega (arith, long_append (map stub_in c.in_ok-left.field-0.left.units.items) (stub_in c.in_ok-left.field-0.unit ∷ []))) refl)
 
 pub change_children-returns-in_err-below-clause-turns : goal.change_children-returns-in_err-below-clause-turns
 change_children-returns-in_err-below-clause-turns g t c =
-    λ base low high entries reached h deep begin rise between.
+    λ base low high entries reached h deep begin rise between word.
     let p = prepare (g.P.Pages.store c.args.pages.now) c.args.loose c.in_ok-left.field-0.left c.in_ok-left.field-0.right c.in_ok-left.field-0.unit c.deref.result.now c.as_slice-key.result.now c.in-Some.page c.child_place-at.result c.args.edits.now _ _ _
     c.in_ok-left.ensures.parts c.as_slice-key.ensures.value c.in-Some.ensures c.edits_at.ensures.parts c.edits_at.ensures.before c.edits_at.ensures.behind c.deref.ensures.value c.in_ok-left.ensures.left c.child_place-at.ensures.next (omega arith)
     base low high entries reached h deep rise between in
     turns_failed (g.P.Pages.store c.args.pages.now) (g.P.Pages.store c.change_below.new.pages) base low high _ _ c.from_residual-in_err-below.result _ c.from_residual-in_err-below.ensures.1
-    (c.in_err-below.ensures.turns base p.off.d p.two.between p.off.body (omega (arith, p.off.rank_is, c.in_ok-left.ensures.left_rank)) p.off.at p.off.shown p.off.lies.0 p.off.lies.1 p.off.little p.mine_rise p.mine_between)
+    (c.in_err-below.ensures.turns base p.off.d p.two.between p.off.body (omega (arith, p.off.rank_is, c.in_ok-left.ensures.left_rank)) p.off.at p.off.shown p.off.lies.0 p.off.lies.1 p.off.little p.mine_rise p.mine_between word)
 
 pub change_children-returns-in_err-front-clause-turns : goal.change_children-returns-in_err-front-clause-turns
 change_children-returns-in_err-front-clause-turns g t c =
-    λ base low high entries reached h deep begin rise between.
+    λ base low high entries reached h deep begin rise between word.
+    let g2 = c.in_err-front.ensures.grows word in
+    let g1 = c.in_ok-below.ensures.grows g2.word in
     let p = prepare (g.P.Pages.store c.args.pages.now) c.args.loose c.in_ok-left.field-0.left c.in_ok-left.field-0.right c.in_ok-left.field-0.unit c.deref.result.now c.as_slice-key.result.now c.in-Some.page c.child_place-at.result c.args.edits.now _ _ _
     c.in_ok-left.ensures.parts c.as_slice-key.ensures.value c.in-Some.ensures c.edits_at.ensures.parts c.edits_at.ensures.before c.edits_at.ensures.behind c.deref.ensures.value c.in_ok-left.ensures.left c.child_place-at.ensures.next (omega arith)
     base low high entries reached h deep rise between in
     turns_failed (g.P.Pages.store c.args.pages.now) (g.P.Pages.store c.change_children.new.pages) base low high _ _ c.from_residual-in_err-front.result _ c.from_residual-in_err-front.ensures.1
-    (cause_later (g.P.Pages.store c.args.pages.now) (g.P.Pages.store c.change_below.new.pages) (g.P.Pages.store c.change_children.new.pages) _ c.in_ok-below.ensures.grows
-    (c.in_err-front.ensures.turns base low (Some c.as_slice-key.result.now) (entries_of (suc p.off.d) p.off.twigs) (pages_of (suc p.off.d) p.off.twigs) (held_later _ _ base low _ _ _ _ c.in_ok-below.ensures.grows (subst (λ k. IsHeld (g.P.Pages.store c.args.pages.now) base low (Some c.as_slice-key.result.now) (entries_of (suc p.off.d) p.off.twigs) (pages_of (suc p.off.d) p.off.twigs) (record { rank = k; stubs = map stub_in c.in_ok-left.field-0.left.units.items })) (sym c.in_ok-left.ensures.left_rank) p.left_held))
+    (cause_later (g.P.Pages.store c.args.pages.now) (g.P.Pages.store c.change_below.new.pages) (g.P.Pages.store c.change_children.new.pages) _ g1
+    (c.in_err-front.ensures.turns base low (Some c.as_slice-key.result.now) (entries_of (suc p.off.d) p.off.twigs) (pages_of (suc p.off.d) p.off.twigs) (held_later _ _ base low _ _ _ _ g1 (subst (λ k. IsHeld (g.P.Pages.store c.args.pages.now) base low (Some c.as_slice-key.result.now) (entries_of (suc p.off.d) p.off.twigs) (pages_of (suc p.off.d) p.off.twigs) (record { rank = k; stubs = map stub_in c.in_ok-left.field-0.left.units.items })) (sym c.in_ok-left.ensures.left_rank) p.left_held))
     (omega (arith, c.in_ok-left.ensures.left_rank))
     (begins_there (g.P.Pages.store c.args.pages.now) c.args.loose c.in_ok-left.field-0.left c.in_ok-left.field-0.right c.in_ok-left.field-0.unit c.deref.result.now c.as_slice-key.result.now c.in-Some.page c.child_place-at.result c.args.edits.now _ _ _
     c.in_ok-left.ensures.parts c.as_slice-key.ensures.value c.in-Some.ensures c.edits_at.ensures.parts c.edits_at.ensures.before c.edits_at.ensures.behind c.deref.ensures.value c.in_ok-left.ensures.left c.child_place-at.ensures.next (omega arith) base low begin p.theirs_between)
-    p.theirs_rise p.theirs_between))
+    p.theirs_rise p.theirs_between word))
 
 pub change_children-returns-in_err-back-clause-grows : goal.change_children-returns-in_err-back-clause-grows
 change_children-returns-in_err-back-clause-grows g t c = grows_trans _ _ _ (grows_trans _ _ _ c.in_ok-below.ensures.grows c.in_ok-front.ensures.grows) c.in_err-back.ensures.grows
 
 pub change_children-returns-in_err-back-clause-turns : goal.change_children-returns-in_err-back-clause-turns
 change_children-returns-in_err-back-clause-turns g t c =
-    λ base low high entries reached h deep begin rise between.
+    λ base low high entries reached h deep begin rise between word.
+    let g3 = c.in_err-back.ensures.grows word in
+    let g2 = c.in_ok-front.ensures.grows g3.word in
+    let g1 = c.in_ok-below.ensures.grows g2.word in
     let p = prepare (g.P.Pages.store c.args.pages.now) c.args.loose c.in_ok-left.field-0.left c.in_ok-left.field-0.right c.in_ok-left.field-0.unit c.deref.result.now c.as_slice-key.result.now c.in-Some.page c.child_place-at.result c.args.edits.now _ _ _
     c.in_ok-left.ensures.parts c.as_slice-key.ensures.value c.in-Some.ensures c.edits_at.ensures.parts c.edits_at.ensures.before c.edits_at.ensures.behind c.deref.ensures.value c.in_ok-left.ensures.left c.child_place-at.ensures.next (omega arith)
     base low high entries reached h deep rise between in
-    let u1 = c.in_ok-below.ensures.turns base p.off.d p.two.between p.off.body (omega (arith, p.off.rank_is, c.in_ok-left.ensures.left_rank)) p.off.at p.off.shown p.off.lies.0 p.off.lies.1 p.off.little p.mine_rise p.mine_between in
+    let u1 = c.in_ok-below.ensures.turns base p.off.d p.two.between p.off.body (omega (arith, p.off.rank_is, c.in_ok-left.ensures.left_rank)) p.off.at p.off.shown p.off.lies.0 p.off.lies.1 p.off.little p.mine_rise p.mine_between g2.word in
     turns_failed (g.P.Pages.store c.args.pages.now) (g.P.Pages.store c.meet_behind.new.pages) base low high _ _ c.from_residual-in_err-back.result _ c.from_residual-in_err-back.ensures.1
-    (cause_later (g.P.Pages.store c.args.pages.now) (g.P.Pages.store c.change_children.new.pages) (g.P.Pages.store c.meet_behind.new.pages) _ (grows_trans _ _ _ c.in_ok-below.ensures.grows c.in_ok-front.ensures.grows)
-    (c.in_err-back.ensures.turns base c.as_slice-key.result.now p.two.between high (change (map edit_in c.edits_at.result.1.now) (entries_of p.off.d p.off.body)) p.two.back_entries u1.after p.two.back_pages (held_later _ _ base _ _ _ _ _ c.in_ok-front.ensures.grows u1.held)
-    (behind_later _ _ base p.two.between high p.two.back_entries p.two.back_pages _ (grows_trans _ _ _ c.in_ok-below.ensures.grows c.in_ok-front.ensures.grows)
+    (cause_later (g.P.Pages.store c.args.pages.now) (g.P.Pages.store c.change_children.new.pages) (g.P.Pages.store c.meet_behind.new.pages) _ (frame_trans _ _ _ g1 g2)
+    (c.in_err-back.ensures.turns base c.as_slice-key.result.now p.two.between high (change (map edit_in c.edits_at.result.1.now) (entries_of p.off.d p.off.body)) p.two.back_entries u1.after p.two.back_pages (held_later _ _ base _ _ _ _ _ g2 u1.held)
+    (behind_later _ _ base p.two.between high p.two.back_entries p.two.back_pages _ (frame_trans _ _ _ g1 g2)
     (subst (λ k. IsBehind (g.P.Pages.store c.args.pages.now) base p.two.between high p.two.back_entries p.two.back_pages (record { rank = k; stubs = map stub_in c.in_ok-left.field-0.right.units.items })) (sym c.in_ok-left.ensures.right_rank) p.two.behind))
-    (within_up_to c.as_slice-key.result.now p.two.between p.off.between.1)))
+    (within_up_to c.as_slice-key.result.now p.two.between p.off.between.1) word))
 
 pub change_children-returns-clause-grows : goal.change_children-returns-clause-grows
 change_children-returns-clause-grows g t c = grows_trans _ _ _ (grows_trans _ _ _ (grows_trans _ _ _ c.in_ok-below.ensures.grows c.in_ok-front.ensures.grows) c.in_ok-back.ensures.grows) c.meet.ensures.grows
 
 pub change_children-returns-clause-turns : goal.change_children-returns-clause-turns
 change_children-returns-clause-turns g t c =
-    λ base low high entries reached h deep begin rise between.
+    λ base low high entries reached h deep begin rise between word.
+    let g4 = c.meet.ensures.grows word in
+    let g3 = c.in_ok-back.ensures.grows g4.word in
+    let g2 = c.in_ok-front.ensures.grows g3.word in
+    let g1 = c.in_ok-below.ensures.grows g2.word in
     let p = prepare (g.P.Pages.store c.args.pages.now) c.args.loose c.in_ok-left.field-0.left c.in_ok-left.field-0.right c.in_ok-left.field-0.unit c.deref.result.now c.as_slice-key.result.now c.in-Some.page c.child_place-at.result c.args.edits.now _ _ _
     c.in_ok-left.ensures.parts c.as_slice-key.ensures.value c.in-Some.ensures c.edits_at.ensures.parts c.edits_at.ensures.before c.edits_at.ensures.behind c.deref.ensures.value c.in_ok-left.ensures.left c.child_place-at.ensures.next (omega arith)
     base low high entries reached h deep rise between in
-    let u1 = c.in_ok-below.ensures.turns base p.off.d p.two.between p.off.body (omega (arith, p.off.rank_is, c.in_ok-left.ensures.left_rank)) p.off.at p.off.shown p.off.lies.0 p.off.lies.1 p.off.little p.mine_rise p.mine_between in
-    let u2 = c.in_ok-front.ensures.turns base low (Some c.as_slice-key.result.now) (entries_of (suc p.off.d) p.off.twigs) (pages_of (suc p.off.d) p.off.twigs) (held_later _ _ base low _ _ _ _ c.in_ok-below.ensures.grows (subst (λ k. IsHeld (g.P.Pages.store c.args.pages.now) base low (Some c.as_slice-key.result.now) (entries_of (suc p.off.d) p.off.twigs) (pages_of (suc p.off.d) p.off.twigs) (record { rank = k; stubs = map stub_in c.in_ok-left.field-0.left.units.items })) (sym c.in_ok-left.ensures.left_rank) p.left_held))
+    let u1 = c.in_ok-below.ensures.turns base p.off.d p.two.between p.off.body (omega (arith, p.off.rank_is, c.in_ok-left.ensures.left_rank)) p.off.at p.off.shown p.off.lies.0 p.off.lies.1 p.off.little p.mine_rise p.mine_between g2.word in
+    let u2 = c.in_ok-front.ensures.turns base low (Some c.as_slice-key.result.now) (entries_of (suc p.off.d) p.off.twigs) (pages_of (suc p.off.d) p.off.twigs) (held_later _ _ base low _ _ _ _ g1 (subst (λ k. IsHeld (g.P.Pages.store c.args.pages.now) base low (Some c.as_slice-key.result.now) (entries_of (suc p.off.d) p.off.twigs) (pages_of (suc p.off.d) p.off.twigs) (record { rank = k; stubs = map stub_in c.in_ok-left.field-0.left.units.items })) (sym c.in_ok-left.ensures.left_rank) p.left_held))
     (omega (arith, c.in_ok-left.ensures.left_rank))
     (begins_there (g.P.Pages.store c.args.pages.now) c.args.loose c.in_ok-left.field-0.left c.in_ok-left.field-0.right c.in_ok-left.field-0.unit c.deref.result.now c.as_slice-key.result.now c.in-Some.page c.child_place-at.result c.args.edits.now _ _ _
     c.in_ok-left.ensures.parts c.as_slice-key.ensures.value c.in-Some.ensures c.edits_at.ensures.parts c.edits_at.ensures.before c.edits_at.ensures.behind c.deref.ensures.value c.in_ok-left.ensures.left c.child_place-at.ensures.next (omega arith) base low begin p.theirs_between)
-    p.theirs_rise p.theirs_between in
-    let u3 = c.in_ok-back.ensures.turns base c.as_slice-key.result.now p.two.between high (change (map edit_in c.edits_at.result.1.now) (entries_of p.off.d p.off.body)) p.two.back_entries u1.after p.two.back_pages (held_later _ _ base _ _ _ _ _ c.in_ok-front.ensures.grows u1.held)
-    (behind_later _ _ base p.two.between high p.two.back_entries p.two.back_pages _ (grows_trans _ _ _ c.in_ok-below.ensures.grows c.in_ok-front.ensures.grows)
+    p.theirs_rise p.theirs_between g3.word in
+    let u3 = c.in_ok-back.ensures.turns base c.as_slice-key.result.now p.two.between high (change (map edit_in c.edits_at.result.1.now) (entries_of p.off.d p.off.body)) p.two.back_entries u1.after p.two.back_pages (held_later _ _ base _ _ _ _ _ g2 u1.held)
+    (behind_later _ _ base p.two.between high p.two.back_entries p.two.back_pages _ (frame_trans _ _ _ g1 g2)
     (subst (λ k. IsBehind (g.P.Pages.store c.args.pages.now) base p.two.between high p.two.back_entries p.two.back_pages (record { rank = k; stubs = map stub_in c.in_ok-left.field-0.right.units.items })) (sym c.in_ok-left.ensures.right_rank) p.two.behind))
-    (within_up_to c.as_slice-key.result.now p.two.between p.off.between.1) in
-    subst (λ es. Turns (g.P.Pages.store c.args.pages.now) (g.P.Pages.store c.meet.new.pages) base low high (change es entries) reached c.meet.result) (sym c.edits_at.ensures.parts)
+    (within_up_to c.as_slice-key.result.now p.two.between p.off.between.1) g4.word in
+    subst (λ es. IsTurn (g.P.Pages.store c.args.pages.now) (g.P.Pages.store c.meet.new.pages) base low high (change es entries) reached c.meet.result) (sym c.edits_at.ensures.parts)
     (children_done (g.P.Pages.store c.args.pages.now) (g.P.Pages.store c.change_below.new.pages) (g.P.Pages.store c.change_children.new.pages) (g.P.Pages.store c.meet_behind.new.pages) (g.P.Pages.store c.meet.new.pages) base low high entries reached c.args.loose.rank _ _ _ c.in-Some.page _ _
-    p _ _ _ c.meet.result c.in_ok-below.ensures.grows c.in_ok-front.ensures.grows c.in_ok-back.ensures.grows u1 u2 u3
+    p _ _ _ c.meet.result g1 g2 g3 u1 u2 u3
     (c.meet.ensures.turns base low c.as_slice-key.result.now high (change (map edit_in c.edits_at.result.0.now) (entries_of (suc p.off.d) p.off.twigs)) (change (map edit_in c.edits_at.result.1.now) (entries_of p.off.d p.off.body) ++ p.two.back_entries) u2.after u3.after
-    (held_later _ _ base low _ _ _ _ c.in_ok-back.ensures.grows u2.held) u3.held p.off.between.0 p.within))
+    (held_later _ _ base low _ _ _ _ g3 u2.held) u3.held p.off.between.0 p.within word))

@@ -1,4 +1,4 @@
-use Rattle.std.proofs.Common.{◌≡◌, ◌∙◌, ap, sym, subst, map}
+use Rattle.std.proofs.Common.{◌∙◌, ap, sym, subst, map}
 use Rattle.page.specs.Content.{IsItem}
 use Rattle.btree.specs.Keys.{Each}
 use Rattle.btree.specs.Loose.{item_stub}
@@ -7,7 +7,7 @@ use Rattle.btree.proofs.ChangingLemmas.{each_of_all, leaf_changed}
 use Rattle.btree.proofs.changing.change_leaf.Goals as goal
 
 pub returns-clause-turns : goal.returns-clause-turns
-returns-clause-turns g c = λ base low high pairs rank e sound shown between.
+returns-clause-turns g c = λ base low high pairs rank e sound shown between k.
     leaf_changed (g.P.Pages.store c.args.pages.now) (g.P.Pages.store c.edit_cells.new.pages) base c.args.rank low high _ pairs _ _ rank
-    (c.in_ok-edit_cells.ensures.edits pairs (c.in_ok-cells.ensures.ok ∙ e) sound.0 shown) (c.in_ok-units.ensures ∙ ap (λ cs. map item_stub (map item_in cs)) c.deref.ensures.value)
+    (c.in_ok-edit_cells.ensures.edits pairs (c.in_ok-cells.ensures.ok ∙ e) sound.0 shown k) (c.in_ok-units.ensures ∙ ap (λ cs. map item_stub (map item_in cs)) c.deref.ensures.value)
     (c.in_ok-edit_cells.ensures.small (subst (Each IsItem) (sym c.in_ok-cells.ensures.ok) (each_of_all c.args.leaf.now c.in_ok-cells.ensures.sound.each))) sound between

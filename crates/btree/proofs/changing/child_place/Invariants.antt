@@ -1,4 +1,4 @@
-use Rattle.std.proofs.Common.{◌≡◌, ◌+◌, ◌<◌, map, get_or, length}
+use Rattle.std.proofs.Common.{◌+◌, ◌<◌, map, get_or, length}
 use Rattle.btree.specs.Keys.{IsUnder}
 use Rattle.btree.specs.Loose.{Stub}
 use Rattle.btree.specs.LooseView.{stub_in}

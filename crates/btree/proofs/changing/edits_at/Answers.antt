@@ -1,4 +1,4 @@
-use Rattle.std.proofs.Common.{◌≡◌, ◌∙◌, sym, ap, subst, map}
+use Rattle.std.proofs.Common.{◌∙◌, sym, ap, subst, map}
 use Rattle.btree.specs.EditView.{edit_in}
 use Rattle.btree.specs.Keys.{Each, Edit, IsUnder}
 use Rattle.btree.proofs.LooseLemmas.{map_take}

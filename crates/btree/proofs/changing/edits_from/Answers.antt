@@ -1,4 +1,4 @@
-use Rattle.std.proofs.Common.{◌≡◌, ◌∙◌, ◌-◌, arith}
+use Rattle.std.proofs.Common.{◌∙◌, arith}
 use Rattle.btree.proofs.ChangingLemmas.{behind_more}
 use Rattle.btree.proofs.changing.edits_from.Goals as goal
 

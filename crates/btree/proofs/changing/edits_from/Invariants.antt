@@ -1,4 +1,4 @@
-use Rattle.std.proofs.Common.{◌≡◌, ◌≤◌, map, drop, length}
+use Rattle.std.proofs.Common.{◌≤◌, map, drop, length}
 use Rattle.btree.specs.Keys.{Each, IsNotUnder}
 use Rattle.btree.specs.EditView.{edit_in}
 use Rattle.btree.proofs.changing.edits_from.Given as goal

@@ -1,4 +1,4 @@
-use Rattle.std.proofs.Common.{◌≡◌, ◌∙◌, ◌++◌, ◌∷◌, ◌+◌, [], ap, sym, map, take, drop}
+use Rattle.std.proofs.Common.{◌∙◌, ◌++◌, ◌∷◌, ◌+◌, [], ap, sym, map, take, drop}
 use Rattle.btree.specs.LooseView.{stub_in}
 use Rattle.btree.proofs.ListLemmas.{map_append}
 use Rattle.btree.proofs.LooseLemmas.{take_drop}

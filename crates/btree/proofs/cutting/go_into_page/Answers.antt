@@ -1,8 +1,8 @@
-use Rattle.std.proofs.Common.{◌≡◌, ◌≤◌, ◌+◌, sym, subst, arith, false, true, Some, map, drop}
+use Rattle.std.proofs.Common.{◌≡◌, ◌≤◌, ◌+◌, sym, subst, arith}
 use Rattle.std.specs.Option.{option_map}
 use Rattle.btree.specs.Loose.{GoBehind, stub_size}
 use Rattle.btree.specs.LooseView.{stub_in}
-use Rattle.btree.proofs.CuttingLemmas.{drop_at, drop_end}
+use Rattle.btree.proofs.CuttingLemmas.{drop_at}
 use Rattle.btree.proofs.cutting.go_into_page.Goals as goal
 
 pub returns-then-not-is_unit-clause-yes : goal.returns-then-not-is_unit-clause-yes

@@ -1,4 +1,4 @@
-use Rattle.std.proofs.Common.{◌≡◌, ◌≤◌, map, drop, None}
+use Rattle.std.proofs.Common.{◌≤◌, map, drop, None}
 use Rattle.std.specs.Option.{option_map}
 use Rattle.btree.specs.Loose.{GoBehind}
 use Rattle.btree.specs.LooseView.{stub_in}

@@ -1,4 +1,4 @@
-use Rattle.std.proofs.Common.{◌≡◌, ◌∙◌, [], ap, sym, subst, ◌≤◌, ◌+◌, ◌-◌, ◌<◌, arith, length, map, take, drop, get_or, false}
+use Rattle.std.proofs.Common.{[], ap, sym, subst, ◌+◌, ◌-◌, ◌<◌, arith, length, map, take, drop, get_or}
 use Rattle.page.specs.Content.{inline}
 use Rattle.btree.specs.Loose.{IsPart, Stub, value, stub_size, stubs_size}
 use Rattle.btree.specs.LooseView.{stub_in}

@@ -1,7 +1,7 @@
-use Rattle.std.proofs.Common.{◌≡◌, ◌≤◌, ◌+◌, arith}
+use Rattle.std.proofs.Common.{◌≡◌, arith}
 use Rattle.btree.specs.Loose.{stub_size}
 use Rattle.btree.specs.LooseView.{stub_in}
-use Rattle.btree.proofs.CuttingLemmas.{take_at, at_stub}
+use Rattle.btree.proofs.CuttingLemmas.{take_at}
 use Rattle.btree.proofs.cutting.units_within.Goals as goal
 
 pub loop-i-preserved : goal.loop-i-preserved

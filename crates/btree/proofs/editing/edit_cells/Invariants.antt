@@ -1,7 +1,7 @@
 use Rattle.std.proofs.Common.{◌≡◌, zero, List, map, take}
 use Rattle.btree.specs.Keys.{Each, Pair, Rises}
 use Rattle.page.specs.Content.{IsItem}
-use Rattle.btree.specs.Store.{Grows}
+use Rattle.btree.specs.Store.{Grows, KeepsWord}
 use Rattle.btree.specs.Tree.{Shows, item_of, pair_keys}
 use Rattle.btree.specs.View.{item_in}
 use Rattle.btree.specs.EditView.{edit_in}
@@ -13,5 +13,5 @@ invariant-loop-edit g l = record {
   grows : Grows (g.P.Pages.store l.initial.pages) (g.P.Pages.store l.pages);
   small : Each IsItem (map item_in l.initial.cells.items) → Each IsItem (map item_in l.cells.items);
   edited : (pairs : List Pair) → map item_in l.initial.cells.items ≡ map item_of pairs → Rises (pair_keys pairs) → Shows (g.P.Pages.store l.initial.pages) zero pairs
-      → IsEdited (g.P.Pages.store l.initial.pages) (g.P.Pages.store l.pages) (take l.edit-index (map edit_in l.edits)) pairs (map item_in l.cells.items);
+      → KeepsWord (g.P.Pages.store l.pages) → IsEdited (g.P.Pages.store l.initial.pages) (g.P.Pages.store l.pages) (take l.edit-index (map edit_in l.edits)) pairs (map item_in l.cells.items);
 }

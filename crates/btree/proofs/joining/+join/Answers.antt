@@ -1,88 +1,98 @@
-use Rattle.std.proofs.Common.{◌≡◌, ◌<◌, ◌≤◌, ◌∙◌, ◌++◌, ◌+◌, ℕ, List, sym, ap, arith, length, map, rules}
+use Rattle.std.proofs.Common.{◌≡◌, ◌<◌, ◌++◌, arith, length, rules}
 use Rattle.btree.specs.LooseView.{stub_in}
-use Rattle.btree.specs.Turn.{IsReady, sheaf_in}
-use Rattle.btree.proofs.ListLemmas.{long_map, times_append}
-use Rattle.btree.proofs.StoreLemmas.{cause_later, grows_trans}
+use Rattle.btree.specs.Turn.{sheaf_in}
+use Rattle.btree.proofs.ListLemmas.{long_map}
+use Rattle.btree.proofs.StoreLemmas.{cause_later, frame_trans}
 use Rattle.btree.proofs.HeldLemmas.{concat_turns, glue_held, held_later, turns_failed}
 use Rattle.btree.proofs.JoinLemmas.{left_gone, ready_joined, right_gone, turned_left, turned_right, up_to_trans}
 use Rattle.btree.proofs.joining.+join.Goals as goal
 
 pub returns-then-is_empty-clause-turns : goal.returns-then-is_empty-clause-turns
 returns-then-is_empty-clause-turns g t c =
-    λ base low mid high first last lp rp h1 h2 over upto.
+    λ base low mid high first last lp rp h1 h2 over upto k.
     let none : length c.args.left.units.items ≡ 0 = search rules in
     left_gone (g.P.Pages.store c.args.pages.now) base low mid high first last lp rp (sheaf_in c.args.left) (sheaf_in c.args.right) h1 h2 over upto (omega (arith, long_map stub_in c.args.left.units.items))
 
 pub returns-then-is_empty-2-clause-turns : goal.returns-then-is_empty-2-clause-turns
 returns-then-is_empty-2-clause-turns g t c =
-    λ base low mid high first last lp rp h1 h2 over upto.
+    λ base low mid high first last lp rp h1 h2 over upto k.
     let none : length c.args.right.units.items ≡ 0 = search rules in
     right_gone (g.P.Pages.store c.args.pages.now) base low mid high first last lp rp (sheaf_in c.args.left) (sheaf_in c.args.right) h1 h2 over upto (omega (arith, long_map stub_in c.args.right.units.items))
 
 pub returns-then-left-right-clause-turns : goal.returns-then-left-right-clause-turns
 returns-then-left-right-clause-turns g t c =
-    λ base low mid high first last lp rp h1 h2 over upto.
+    λ base low mid high first last lp rp h1 h2 over upto k.
     concat_turns (g.P.Pages.store c.args.pages.now) (g.P.Pages.store c.args.pages.now) base low high (first ++ last) (lp ++ rp) (lp ++ rp) (sheaf_in c.args.left) (sheaf_in c.args.right) c.concat.result
     (glue_held (g.P.Pages.store c.args.pages.now) base low mid high first last lp rp _ _ h1 h2 c.if-left-right.true over upto) (λ n. omega arith) c.concat.ensures.rank c.concat.ensures.ok c.concat.ensures.err
 
 pub returns-in_err-front-clause-turns : goal.returns-in_err-front-clause-turns
 returns-in_err-front-clause-turns g t c =
-    λ base low mid high first last lp rp h1 h2 over upto.
+    λ base low mid high first last lp rp h1 h2 over upto k.
     let some : 0 < length c.args.left.units.items = search rules in
     let more : 0 < length c.args.right.units.items = search rules in
     turns_failed (g.P.Pages.store c.args.pages.now) (g.P.Pages.store c.take_last.new.pages) base low high _ _ c.from_residual.result _ c.from_residual.ensures.1
-    (c.in_err-front.ensures.parts base low _ first lp h1 (omega (arith, h2.rank_is (omega (arith, long_map stub_in c.args.right.units.items)))) some)
+    (c.in_err-front.ensures.parts base low _ first lp h1 (omega (arith, h2.rank_is (omega (arith, long_map stub_in c.args.right.units.items)))) some k)
 
 pub returns-in_err-below-clause-turns : goal.returns-in_err-below-clause-turns
 returns-in_err-below-clause-turns g t c =
-    λ base low mid high first last lp rp h1 h2 over upto.
+    λ base low mid high first last lp rp h1 h2 over upto k.
+    let v = (c.in_err-below.ensures.grows k).word in
+    let g1 = c.in_ok-front.ensures.grows v in
     let some : 0 < length c.args.left.units.items = search rules in
     let more : 0 < length c.args.right.units.items = search rules in
-    let p = c.in_ok-front.ensures.parts base low _ first lp h1 (omega (arith, h2.rank_is (omega (arith, long_map stub_in c.args.right.units.items)))) some in
+    let p = c.in_ok-front.ensures.parts base low _ first lp h1 (omega (arith, h2.rank_is (omega (arith, long_map stub_in c.args.right.units.items)))) some v in
     turns_failed (g.P.Pages.store c.args.pages.now) (g.P.Pages.store c.join.new.pages) base low high _ _ c.from_residual-in_err-below.result _ c.from_residual-in_err-below.ensures.1
-    (cause_later (g.P.Pages.store c.args.pages.now) (g.P.Pages.store c.take_last.new.pages) (g.P.Pages.store c.join.new.pages) _ c.in_ok-front.ensures.grows
-    (c.in_err-below.ensures.turns base p.0.mid mid high p.0.back_entries last p.0.back_pages rp p.0.back_held (held_later _ _ base mid high last rp _ c.in_ok-front.ensures.grows h2) p.0.within upto))
+    (cause_later (g.P.Pages.store c.args.pages.now) (g.P.Pages.store c.take_last.new.pages) (g.P.Pages.store c.join.new.pages) _ g1
+    (c.in_err-below.ensures.turns base p.0.mid mid high p.0.back_entries last p.0.back_pages rp p.0.back_held (held_later _ _ base mid high last rp _ g1 h2) p.0.within upto k))
 
 pub returns-then-left-right-2-clause-turns : goal.returns-then-left-right-2-clause-turns
 returns-then-left-right-2-clause-turns g t c =
-    λ base low mid high first last lp rp h1 h2 over upto.
+    λ base low mid high first last lp rp h1 h2 over upto k.
+    let g3 = c.raise_behind.ensures.grows k in
+    let g2 = c.in_ok-below.ensures.grows g3.word in
+    let g1 = c.in_ok-front.ensures.grows g2.word in
     let some : 0 < length c.args.left.units.items = search rules in
     let more : 0 < length c.args.right.units.items = search rules in
-    let p = c.in_ok-front.ensures.parts base low _ first lp h1 (omega (arith, h2.rank_is (omega (arith, long_map stub_in c.args.right.units.items)))) some in
-    let u = c.in_ok-below.ensures.turns base p.0.mid mid high p.0.back_entries last p.0.back_pages rp p.0.back_held (held_later _ _ base mid high last rp _ c.in_ok-front.ensures.grows h2) p.0.within upto in
+    let p = c.in_ok-front.ensures.parts base low _ first lp h1 (omega (arith, h2.rank_is (omega (arith, long_map stub_in c.args.right.units.items)))) some g2.word in
+    let u = c.in_ok-below.ensures.turns base p.0.mid mid high p.0.back_entries last p.0.back_pages rp p.0.back_held (held_later _ _ base mid high last rp _ g1 h2) p.0.within upto g3.word in
     let j = c.in_ok-below.ensures.joined.left_higher (omega (arith, c.in_ok-front.ensures.back_rank)) (omega (arith, c.in_ok-front.ensures.back, long_map stub_in c.in_ok-front.last.units.items)) in
     turned_left (g.P.Pages.store c.args.pages.now) (g.P.Pages.store c.take_last.new.pages) (g.P.Pages.store c.join.new.pages) (g.P.Pages.store c.raise_behind.new.pages) base low mid high first last lp rp _ _ _ c.raise_behind.result
-    c.in_ok-front.ensures.grows c.in_ok-below.ensures.grows p.0 u
-    (c.raise_behind.ensures.turns base low p.0.mid high p.0.front_entries (p.0.back_entries ++ last) p.0.front_pages u.after (held_later _ _ base low _ p.0.front_entries p.0.front_pages _ c.in_ok-below.ensures.grows p.0.front_held) u.held
-    (ready_joined base _ _ p.1 j.0 j.1) p.0.over (up_to_trans p.0.mid mid high p.0.within upto))
+    g1 g2 p.0 u
+    (c.raise_behind.ensures.turns base low p.0.mid high p.0.front_entries (p.0.back_entries ++ last) p.0.front_pages u.after (held_later _ _ base low _ p.0.front_entries p.0.front_pages _ g2 p.0.front_held) u.held
+    (ready_joined base _ _ p.1 j.0 j.1) p.0.over (up_to_trans p.0.mid mid high p.0.within upto) k)
 
 pub returns-in_err-first-clause-turns : goal.returns-in_err-first-clause-turns
 returns-in_err-first-clause-turns g t c =
-    λ base low mid high first last lp rp h1 h2 over upto.
+    λ base low mid high first last lp rp h1 h2 over upto k.
     let some : 0 < length c.args.left.units.items = search rules in
     let more : 0 < length c.args.right.units.items = search rules in
     turns_failed (g.P.Pages.store c.args.pages.now) (g.P.Pages.store c.take_first.new.pages) base low high _ _ c.from_residual-in_err-first.result _ c.from_residual-in_err-first.ensures.1
-    (c.in_err-first.ensures.parts base mid high last rp h2 (omega (arith, h1.rank_is (omega (arith, long_map stub_in c.args.left.units.items)))) more upto)
+    (c.in_err-first.ensures.parts base mid high last rp h2 (omega (arith, h1.rank_is (omega (arith, long_map stub_in c.args.left.units.items)))) more upto k)
 
 pub returns-in_err-below-2-clause-turns : goal.returns-in_err-below-2-clause-turns
 returns-in_err-below-2-clause-turns g t c =
-    λ base low mid high first last lp rp h1 h2 over upto.
+    λ base low mid high first last lp rp h1 h2 over upto k.
+    let v = (c.in_err-below-2.ensures.grows k).word in
+    let g1 = c.in_ok-first.ensures.grows v in
     let some : 0 < length c.args.left.units.items = search rules in
     let more : 0 < length c.args.right.units.items = search rules in
-    let p = c.in_ok-first.ensures.parts base mid high last rp h2 (omega (arith, h1.rank_is (omega (arith, long_map stub_in c.args.left.units.items)))) more upto in
+    let p = c.in_ok-first.ensures.parts base mid high last rp h2 (omega (arith, h1.rank_is (omega (arith, long_map stub_in c.args.left.units.items)))) more upto v in
     turns_failed (g.P.Pages.store c.args.pages.now) (g.P.Pages.store c.join-2.new.pages) base low high _ _ c.from_residual-in_err-below-2.result _ c.from_residual-in_err-below-2.ensures.1
-    (cause_later (g.P.Pages.store c.args.pages.now) (g.P.Pages.store c.take_first.new.pages) (g.P.Pages.store c.join-2.new.pages) _ c.in_ok-first.ensures.grows
-    (c.in_err-below-2.ensures.turns base low mid p.0.between first p.0.front_entries lp p.0.front_pages (held_later _ _ base low _ first lp _ c.in_ok-first.ensures.grows h1) p.0.front_held over p.0.within))
+    (cause_later (g.P.Pages.store c.args.pages.now) (g.P.Pages.store c.take_first.new.pages) (g.P.Pages.store c.join-2.new.pages) _ g1
+    (c.in_err-below-2.ensures.turns base low mid p.0.between first p.0.front_entries lp p.0.front_pages (held_later _ _ base low _ first lp _ g1 h1) p.0.front_held over p.0.within k))
 
 pub returns-clause-turns : goal.returns-clause-turns
 returns-clause-turns g t c =
-    λ base low mid high first last lp rp h1 h2 over upto.
+    λ base low mid high first last lp rp h1 h2 over upto k.
+    let g3 = c.raise_before.ensures.grows k in
+    let g2 = c.in_ok-below-2.ensures.grows g3.word in
+    let g1 = c.in_ok-first.ensures.grows g2.word in
     let some : 0 < length c.args.left.units.items = search rules in
     let more : 0 < length c.args.right.units.items = search rules in
-    let p = c.in_ok-first.ensures.parts base mid high last rp h2 (omega (arith, h1.rank_is (omega (arith, long_map stub_in c.args.left.units.items)))) more upto in
-    let u = c.in_ok-below-2.ensures.turns base low mid p.0.between first p.0.front_entries lp p.0.front_pages (held_later _ _ base low _ first lp _ c.in_ok-first.ensures.grows h1) p.0.front_held over p.0.within in
+    let p = c.in_ok-first.ensures.parts base mid high last rp h2 (omega (arith, h1.rank_is (omega (arith, long_map stub_in c.args.left.units.items)))) more upto g2.word in
+    let u = c.in_ok-below-2.ensures.turns base low mid p.0.between first p.0.front_entries lp p.0.front_pages (held_later _ _ base low _ first lp _ g1 h1) p.0.front_held over p.0.within g3.word in
     let j = c.in_ok-below-2.ensures.joined.right_higher (omega (arith, c.in_ok-first.ensures.front_rank)) (omega (arith, c.in_ok-first.ensures.front, long_map stub_in c.in_ok-first.first.units.items)) in
     turned_right (g.P.Pages.store c.args.pages.now) (g.P.Pages.store c.take_first.new.pages) (g.P.Pages.store c.join-2.new.pages) (g.P.Pages.store c.raise_before.new.pages) base low mid high first last lp rp _ _ _ c.raise_before.result
-    c.in_ok-first.ensures.grows c.in_ok-below-2.ensures.grows p.0 u
+    g1 g2 p.0 u
     (c.raise_before.ensures.turns base low p.0.between high (first ++ p.0.front_entries) p.0.back_entries u.after p.0.back_pages u.held (ready_joined base _ _ p.1 j.0 j.1)
-    (λ s more reached sh grown h same. p.0.glue low over s more reached sh (grows_trans _ _ s c.in_ok-below-2.ensures.grows grown) h same))
+    (λ s more reached sh grown h same. p.0.glue low over s more reached sh (frame_trans _ _ s g2 grown) h same) k)

@@ -1,4 +1,4 @@
-use Rattle.std.proofs.Common.{◌≡◌, ◌∙◌, ◌++◌, sym, ap, arith}
+use Rattle.std.proofs.Common.{◌++◌, arith}
 use Rattle.btree.specs.Turn.{sheaf_in}
 use Rattle.btree.proofs.ListLemmas.{times_append}
 use Rattle.btree.proofs.HeldLemmas.{concat_turns, joined_long, turns_failed}
@@ -6,16 +6,16 @@ use Rattle.btree.proofs.joining.raise_before.Goals as goal
 
 pub returns-in_err-above-clause-turns : goal.returns-in_err-above-clause-turns
 returns-in_err-above-clause-turns g c =
-    λ base low between high first last pages_below back_pages h ready glue.
-    turns_failed (g.P.Pages.store c.args.pages.now) (g.P.Pages.store c.raise.new.pages) base low high _ _ c.from_residual.result _ c.from_residual.ensures.1 (c.in_err-above.ensures.turns base low between first pages_below h ready)
+    λ base low between high first last pages_below back_pages h ready glue k.
+    turns_failed (g.P.Pages.store c.args.pages.now) (g.P.Pages.store c.raise.new.pages) base low high _ _ c.from_residual.result _ c.from_residual.ensures.1 (c.in_err-above.ensures.turns base low between first pages_below h ready k)
 
 pub returns-clause-long : goal.returns-clause-long
 returns-clause-long g c = λ some. joined_long c.concat.result _ _ _ c.concat.ensures.long (let one = c.in_ok-above.ensures.some some in omega arith)
 
 pub returns-clause-turns : goal.returns-clause-turns
 returns-clause-turns g c =
-    λ base low between high first last pages_below back_pages h ready glue.
-    let t = c.in_ok-above.ensures.turns base low between first pages_below h ready in
+    λ base low between high first last pages_below back_pages h ready glue k.
+    let t = c.in_ok-above.ensures.turns base low between first pages_below h ready k in
     concat_turns (g.P.Pages.store c.args.pages.now) (g.P.Pages.store c.raise.new.pages) base low high (first ++ last) (pages_below ++ back_pages) (t.after ++ back_pages) (sheaf_in c.in_ok-above.above) (sheaf_in c.args.back) c.concat.result
-    (glue (g.P.Pages.store c.raise.new.pages) first t.after (sheaf_in c.in_ok-above.above) c.in_ok-above.ensures.grows t.held (omega (arith, c.requires.next, c.in_ok-above.ensures.rank)))
+    (glue (g.P.Pages.store c.raise.new.pages) first t.after (sheaf_in c.in_ok-above.above) (c.in_ok-above.ensures.grows k) t.held (omega (arith, c.requires.next, c.in_ok-above.ensures.rank)))
     (λ n. omega (arith, t.turned n, times_append n pages_below back_pages, times_append n t.after back_pages)) c.concat.ensures.rank c.concat.ensures.ok c.concat.ensures.err

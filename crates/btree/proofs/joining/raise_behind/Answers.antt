@@ -1,4 +1,4 @@
-use Rattle.std.proofs.Common.{◌≡◌, ◌∙◌, ◌++◌, sym, ap, arith}
+use Rattle.std.proofs.Common.{◌++◌, arith}
 use Rattle.btree.specs.Turn.{sheaf_in}
 use Rattle.btree.proofs.ListLemmas.{times_append}
 use Rattle.btree.proofs.HeldLemmas.{concat_turns, glue_held, held_later, joined_long, turns_failed}
@@ -6,16 +6,16 @@ use Rattle.btree.proofs.joining.raise_behind.Goals as goal
 
 pub returns-in_err-above-clause-turns : goal.returns-in_err-above-clause-turns
 returns-in_err-above-clause-turns g c =
-    λ base low mid high first last front_pages pages_below h1 h2 ready over upto.
-    turns_failed (g.P.Pages.store c.args.pages.now) (g.P.Pages.store c.raise.new.pages) base low high _ _ c.from_residual.result _ c.from_residual.ensures.1 (c.in_err-above.ensures.turns base mid high last pages_below h2 ready)
+    λ base low mid high first last front_pages pages_below h1 h2 ready over upto k.
+    turns_failed (g.P.Pages.store c.args.pages.now) (g.P.Pages.store c.raise.new.pages) base low high _ _ c.from_residual.result _ c.from_residual.ensures.1 (c.in_err-above.ensures.turns base mid high last pages_below h2 ready k)
 
 pub returns-clause-long : goal.returns-clause-long
 returns-clause-long g c = λ some. joined_long c.concat.result _ _ _ c.concat.ensures.long (let one = c.in_ok-above.ensures.some some in omega arith)
 
 pub returns-clause-turns : goal.returns-clause-turns
 returns-clause-turns g c =
-    λ base low mid high first last front_pages pages_below h1 h2 ready over upto.
-    let t = c.in_ok-above.ensures.turns base mid high last pages_below h2 ready in
+    λ base low mid high first last front_pages pages_below h1 h2 ready over upto k.
+    let t = c.in_ok-above.ensures.turns base mid high last pages_below h2 ready k in
     concat_turns (g.P.Pages.store c.args.pages.now) (g.P.Pages.store c.raise.new.pages) base low high (first ++ last) (front_pages ++ pages_below) (front_pages ++ t.after) (sheaf_in c.args.front) (sheaf_in c.in_ok-above.above) c.concat.result
-    (glue_held (g.P.Pages.store c.raise.new.pages) base low mid high first last front_pages t.after _ _ (held_later _ _ base low _ first front_pages _ c.in_ok-above.ensures.grows h1) t.held (omega (arith, c.requires.next, c.in_ok-above.ensures.rank)) over upto)
+    (glue_held (g.P.Pages.store c.raise.new.pages) base low mid high first last front_pages t.after _ _ (held_later _ _ base low _ first front_pages _ (c.in_ok-above.ensures.grows k) h1) t.held (omega (arith, c.requires.next, c.in_ok-above.ensures.rank)) over upto)
     (λ n. omega (arith, t.turned n, times_append n front_pages pages_below, times_append n front_pages t.after)) c.concat.ensures.rank c.concat.ensures.ok c.concat.ensures.err

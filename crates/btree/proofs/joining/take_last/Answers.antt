@@ -1,5 +1,5 @@
-use Rattle.std.proofs.Common.{◌≡◌, ◌∙◌, ◌++◌, ◌∷◌, [], sym, ap, arith, map, length, refl}
-use Rattle.btree.specs.LooseView.{hold_in, stub_in}
+use Rattle.std.proofs.Common.{arith, refl}
+use Rattle.btree.specs.LooseView.{stub_in}
 use Rattle.btree.specs.Turn.{sheaf_in}
 use Rattle.btree.proofs.ListLemmas.{long_map}
 use Rattle.btree.proofs.EndLemmas.{last_failed, last_is_child, last_off, last_units, took_last}
@@ -7,22 +7,22 @@ use Rattle.btree.proofs.joining.take_last.Goals as goal
 
 pub returns-in_default-page_below-clause-parts : goal.returns-in_default-page_below-clause-parts
 returns-in_default-page_below-clause-parts g c =
-    λ base low high entries reached h deep some.
-    absurd (c.in_default-page_below.ensures (last_is_child (g.P.Pages.store c.args.pages.now) base low high entries reached (sheaf_in c.args.loose) _ _ h deep (omega (arith, long_map stub_in c.args.loose.units.items, some))
-    (last_units c.args.loose.units.items c.pop.new.self.items c.in-Some.unit c.in-Some.unit.key.items c.in-Some.ensures.items refl)))
+    λ base low high entries reached h deep some k.
+    c.in_default-page_below.ensures (last_is_child (g.P.Pages.store c.args.pages.now) base low high entries reached (sheaf_in c.args.loose) _ _ h deep (omega (arith, long_map stub_in c.args.loose.units.items, some))
+    (last_units c.args.loose.units.items c.pop.new.self.items c.in-Some.unit c.in-Some.unit.key.items c.in-Some.ensures.items refl))
 
 pub returns-in_err-opened-clause-parts : goal.returns-in_err-opened-clause-parts
 returns-in_err-opened-clause-parts g c =
-    λ base low high entries reached h deep some.
+    λ base low high entries reached h deep some k.
     let o = last_off (g.P.Pages.store c.args.pages.now) base low high entries reached (sheaf_in c.args.loose) _ _ c.in-Some-page_below.page h
     (last_units c.args.loose.units.items c.pop.new.self.items c.in-Some.unit c.deref.result.now c.in-Some.ensures.items c.deref.ensures.value) deep (omega (arith, long_map stub_in c.args.loose.units.items, some)) c.in-Some-page_below.ensures in
     last_failed (g.P.Pages.store c.args.pages.now) (g.P.Pages.store c.open_page.new.pages) base low high entries reached c.from_residual.result _ c.from_residual.ensures.1
-    (c.in_err-opened.ensures.opens base o.d high o.body (omega (arith, o.rank_is)) o.at o.shown o.lies.0 o.lies.1 o.little)
+    (c.in_err-opened.ensures.opens base o.d high o.body (omega (arith, o.rank_is)) o.at o.shown o.lies.0 o.lies.1 o.little k)
 
 pub returns-clause-parts : goal.returns-clause-parts
 returns-clause-parts g c =
-    λ base low high entries reached h deep some.
+    λ base low high entries reached h deep some k.
     let o = last_off (g.P.Pages.store c.args.pages.now) base low high entries reached (sheaf_in c.args.loose) _ _ c.in-Some-page_below.page h
     (last_units c.args.loose.units.items c.pop.new.self.items c.in-Some.unit c.deref.result.now c.in-Some.ensures.items c.deref.ensures.value) deep (omega (arith, long_map stub_in c.args.loose.units.items, some)) c.in-Some-page_below.ensures in
     took_last (g.P.Pages.store c.args.pages.now) (g.P.Pages.store c.open_page.new.pages) base low high entries reached c.args.loose.rank c.in-Some-page_below.page _ (sheaf_in c.in_ok-opened.opened) _
-    c.in_ok-opened.ensures.grows (omega (arith, c.requires)) c.in_ok-opened.ensures.opens _ o
+    (c.in_ok-opened.ensures.grows k) (omega (arith, c.requires)) (λ base d high body r a s w so l. c.in_ok-opened.ensures.opens base d high body r a s w so l k) _ o

@@ -1,4 +1,4 @@
-use Rattle.std.proofs.Common.{◌≡◌, ◌∙◌, ◌∷◌, ◌++◌, [], sym, ap, map, take}
+use Rattle.std.proofs.Common.{◌∙◌, ◌∷◌, ◌++◌, [], sym, ap, map, take}
 use Rattle.btree.specs.Loose.{item_stub}
 use Rattle.btree.specs.LooseView.{stub_in}
 use Rattle.btree.specs.View.{item_in}

@@ -1,13 +1,19 @@
-use Rattle.std.proofs.Common.{◌≡◌, ◌∙◌, ◌∷◌, sym, ap}
-use Rattle.btree.specs.View.{content_in}
-use Rattle.btree.proofs.StoreLemmas.{grows_same, grows_trans}
+use Rattle.std.proofs.Common.{◌∙◌, ◌∷◌, sym, ap}
+use Rattle.page.specs.Format.{Sheet}
+use Rattle.btree.proofs.StoreLemmas.{answer_failed, frame_same, frame_trans}
 use Rattle.btree.proofs.HeldLemmas.{opened}
 use Rattle.btree.proofs.opening.open_page.Goals as goal
 
+pub returns-in_err-shared-clause-opens : goal.returns-in_err-shared-clause-opens
+returns-in_err-shared-clause-opens g c =
+    λ base d high body rank at shown whole sound little k.
+    answer_failed (g.P.Pages.store c.args.pages.now) (g.P.Pages.store c.read.new.self) _ _ _ c.from_residual.ensures.1 (c.in_err-shared.ensures.cause k _ at)
+
 pub returns-clause-opens : goal.returns-clause-opens
 returns-clause-opens g c =
-    λ base d high body rank at shown whole sound little.
+    λ base d high body rank at shown whole sound little k.
+    let gone = c.in_ok-retire.ensures k in
+    let same = c.in_ok-shared.ensures.same gone.frame.word in
     opened (g.P.Pages.store c.args.pages.now) (g.P.Pages.store c.retire.new.self) base d c.args.rank c.args.page c.args.low.now high body _ rank shown whole sound little
-    (c.in_ok-units.ensures.holds d body (ap content_in c.deref.ensures ∙ sym c.in_ok-content.ensures.value ∙ at.holds))
-    (grows_trans _ _ _ (grows_same _ _ _ c.in_ok-content.ensures.same) c.in_ok-retire.ensures.grows) (c.in_ok-retire.ensures.made ∙ c.in_ok-content.ensures.same.made)
-    (c.in_ok-retire.ensures.retired ∙ ap (λ zs. c.args.page ∷ zs) c.in_ok-content.ensures.same.retired)
+    (c.in_ok-units.ensures.holds d body (ap (λ (s : Sheet). s.content) c.image.ensures ∙ sym (c.in_ok-shared.ensures.value gone.frame.word) ∙ at.holds))
+    (frame_trans _ (g.P.Pages.store c.read.new.self) _ (frame_same _ _ same) gone.frame) (gone.made ∙ same.made) (gone.retired ∙ ap (λ zs. c.args.page ∷ zs) same.retired)

@@ -1,4 +1,4 @@
-use Rattle.std.proofs.Common.{◌≡◌, ◌∙◌, sym, ap, subst, map, refl}
+use Rattle.std.proofs.Common.{◌∙◌, sym, ap, subst, map, refl}
 use Rattle.btree.specs.Keys.{Each}
 use Rattle.btree.specs.Loose.{IsEnough, IsStub}
 use Rattle.btree.specs.LooseView.{stub_in}
@@ -8,8 +8,8 @@ use Rattle.btree.proofs.opening.raise.Goals as goal
 
 pub returns-clause-turns : goal.returns-clause-turns
 returns-clause-turns g c =
-    λ base low high entries reached h ready.
+    λ base low high entries reached h ready k.
     let same = ap (map stub_in) c.deref.ensures.value in
     raised (g.P.Pages.store c.args.pages.now) (g.P.Pages.store c.write_parts.new.pages) base low high entries reached (sheaf_in c.args.loose) _ h ready
     (c.in_ok-units.ensures.writes h.d low high h.body (same ∙ h.stubs_are) (subst (IsEnough h.d) (sym same) (ready_enough base h.d (sheaf_in c.args.loose) (h.rank_is ready.0) ready))
-    (c.may_fill-fills.ensures h.d h.body h.stubs_are) (subst (Each IsStub) (sym same) h.small) h.spread h.shown) refl
+    (c.may_fill-fills.ensures h.d h.body h.stubs_are) (subst (Each IsStub) (sym same) h.small) h.spread h.shown k) refl

@@ -1,4 +1,4 @@
-use Rattle.std.proofs.Common.{◌≡◌, ◌∙◌, sym, ap, map, refl}
+use Rattle.std.proofs.Common.{◌∙◌, sym, ap, map, refl}
 use Rattle.btree.specs.Loose.{arm_stub, item_stub, under_key}
 use Rattle.btree.specs.View.{content_in}
 use Rattle.btree.proofs.HeldLemmas.{branch_stubs, leaf_stubs, taken}

@@ -2,7 +2,7 @@ use Rattle.std.proofs.Common.{◌∙◌, ◌∷◌, ◌++◌, [], sym, ap, arith
 use Rattle.page.specs.Content.{Arm}
 use Rattle.btree.specs.Loose.{Stub, arm_stub, child, under_key}
 use Rattle.btree.specs.LooseView.{stub_in}
-use Rattle.btree.proofs.ListLemmas.{take_more, long_map}
+use Rattle.btree.proofs.ListLemmas.{take_more}
 use Rattle.btree.proofs.HeldLemmas.{arm_there, under_long}
 use Rattle.btree.proofs.opening.units_of_branch.Goals as goal
 

@@ -1,4 +1,4 @@
-use Rattle.std.proofs.Common.{None, ◌≡◌, ◌∙◌, sym, ap, subst, arith, map, length, rules}
+use Rattle.std.proofs.Common.{sym, subst, arith, map}
 use Rattle.page.specs.Content.{IsBranch}
 use Rattle.btree.specs.View.{arm_in}
 use Rattle.btree.proofs.ListLemmas.{long_map}

@@ -1,4 +1,4 @@
-use Rattle.std.proofs.Common.{None, ◌≡◌, ◌∙◌, sym, ap, subst, arith, map, length, rules}
+use Rattle.std.proofs.Common.{None, ◌∙◌, sym, ap, subst, map}
 use Rattle.page.specs.Content.{branch}
 use Rattle.btree.specs.Loose.{GoBehind, arm_stub, bare_arms}
 use Rattle.btree.specs.View.{arm_in}

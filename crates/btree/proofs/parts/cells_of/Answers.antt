@@ -1,7 +1,5 @@
-use Rattle.std.proofs.Common.{◌≡◌, ◌∙◌, ◌∷◌, ◌++◌, [], sym, ap, map, take}
 use Rattle.btree.specs.Loose.{item_stub}
 use Rattle.btree.specs.LooseView.{stub_in}
-use Rattle.btree.specs.View.{item_in}
 use Rattle.btree.proofs.PartLemmas.{is_memory, mapped_at, next_mapped}
 use Rattle.btree.proofs.parts.cells_of.Goals as goal
 

@@ -1,4 +1,3 @@
-use Rattle.std.proofs.Common.{◌≡◌, ◌∙◌, ◌∷◌, ◌++◌, [], sym, ap, map, take}
 use Rattle.btree.specs.Loose.{arm_stub}
 use Rattle.btree.specs.LooseView.{stub_in}
 use Rattle.btree.proofs.PartLemmas.{is_memory, mapped_at, next_mapped}

@@ -1,4 +1,4 @@
-use Rattle.std.proofs.Common.{None, ◌≡◌, ◌∙◌, sym, ap, subst, arith, map, length, rules}
+use Rattle.std.proofs.Common.{None, ◌∙◌, sym, ap, subst, arith, map, length}
 use Rattle.page.specs.Content.{IsLeaf, leaf}
 use Rattle.btree.specs.Loose.{GoBehind, item_stub}
 use Rattle.btree.specs.LooseView.{stub_in}

@@ -1,5 +1,4 @@
-use Rattle.std.proofs.Common.{None, ◌≡◌, ◌∙◌, sym, ap, subst, arith, map, length, rules, false, true}
-use Rattle.page.specs.Content.{leaf, branch}
+use Rattle.std.proofs.Common.{◌≡◌, ◌∙◌, sym, false}
 use Rattle.btree.proofs.PartLemmas.{as_branch, as_leaf, first_here, is_a_child, too_few}
 use Rattle.btree.proofs.parts.page_of.Goals as goal
 

@@ -1,4 +1,4 @@
-use Rattle.std.proofs.Common.{◌≡◌, ◌∙◌, ◌+◌, ◌<◌, [], Ok, Err, sym, ap, subst, arith, map, length, inl, rules}
+use Rattle.std.proofs.Common.{◌≡◌, sym, subst, arith, map, length, rules}
 use Rattle.btree.proofs.ListLemmas.{long_map}
 use Rattle.btree.specs.LooseView.{stub_in}
 use Rattle.btree.proofs.StoreLemmas.{grows_itself, grows_trans}
@@ -9,28 +9,29 @@ pub loop-rest-init : goal.loop-rest-init
 loop-rest-init g c = record {
   grows = grows_itself (g.P.Pages.store c.args.pages.now);
   some = λ lt. omega arith;
-  partly = λ d low high body e enough may small spread shown.
+  partly = λ d low high body e enough may small spread shown k.
       subst (λ us. ArePartly (g.P.Pages.store c.args.pages.now) (g.P.Pages.store c.args.pages.now) d low high body (map stub_in us) (map stub_in c.args.units.now)) (sym c.new-above.ensures.items)
       (partly_none (g.P.Pages.store c.args.pages.now) d low high body _ e enough small spread shown);
 }
 
 pub returns-in_err-unit-clause-writes : goal.returns-in_err-unit-clause-writes
-returns-in_err-unit-clause-writes g c = λ d low high body e enough may small spread shown.
+returns-in_err-unit-clause-writes g c = λ d low high body e enough may small spread shown k.
+    let step = c.in_err-unit.ensures.grows k in
     writes_failed _ (g.P.Pages.store c.args.pages.now) (g.P.Pages.store c.write_part.new.pages) d low high body c.from_residual.result _ c.from_residual.ensures.1
     (partly_failed (g.P.Pages.store c.args.pages.now) (g.P.Pages.store c.loop-rest.pages) (g.P.Pages.store c.write_part.new.pages) d low high body _ c.loop-rest.rest.now _ c.part_len-at.result c.args.fills
-    (c.loop-rest.invariant.partly d low high body e enough may small spread shown) may c.part_len-at.ensures.part c.part_len-at.ensures.some c.part_len-at.ensures.within
-    c.split_at.ensures.front c.in_err-unit.ensures.grows _ (c.in_err-unit.ensures.writes d) c.loop-rest.invariant.grows)
+    (c.loop-rest.invariant.partly d low high body e enough may small spread shown step.word) may c.part_len-at.ensures.part c.part_len-at.ensures.some c.part_len-at.ensures.within
+    c.split_at.ensures.front step _ (λ b is enough go. c.in_err-unit.ensures.writes d b is enough go k) (c.loop-rest.invariant.grows step.word))
 
 pub loop-rest-preserved : goal.loop-rest-preserved
 loop-rest-preserved g c = record {
   grows = grows_trans _ _ _ c.loop-rest.invariant.grows c.in_ok-unit.ensures.grows;
   some = λ lt. omega (arith, c.in_ok-push_unit.ensures.long);
-  partly = λ d low high body e enough may small spread shown.
+  partly = λ d low high body e enough may small spread shown k.
       partly_step (g.P.Pages.store c.args.pages.now) (g.P.Pages.store c.loop-rest.pages) (g.P.Pages.store c.write_part.new.pages) d low high body _ c.loop-rest.rest.now _ c.part_len-at.result c.args.fills
-      (c.loop-rest.invariant.partly d low high body e enough may small spread shown) may c.part_len-at.ensures.part c.part_len-at.ensures.some c.part_len-at.ensures.within
-      c.split_at.ensures.front c.in_ok-unit.ensures.grows _ _ c.in_ok-unit.unit c.split_at.ensures.back (c.in_ok-unit.ensures.writes d) c.in_ok-push_unit.ensures.ok;
+      (c.loop-rest.invariant.partly d low high body e enough may small spread shown (c.in_ok-unit.ensures.grows k).word) may c.part_len-at.ensures.part c.part_len-at.ensures.some c.part_len-at.ensures.within
+      c.split_at.ensures.front (c.in_ok-unit.ensures.grows k) _ _ c.in_ok-unit.unit c.split_at.ensures.back (λ b is enough go. c.in_ok-unit.ensures.writes d b is enough go k) c.in_ok-push_unit.ensures.ok;
 }
 
 pub returns-clause-writes : goal.returns-clause-writes
-returns-clause-writes g c = λ d low high body e enough may small spread shown.
-    partly_done (g.P.Pages.store c.args.pages.now) (g.P.Pages.store c.loop-rest.pages) d low high body _ _ (c.loop-rest.invariant.partly d low high body e enough may small spread shown) (let none : length c.loop-rest.rest.now ≡ 0 = search rules in omega (arith, long_map stub_in c.loop-rest.rest.now))
+returns-clause-writes g c = λ d low high body e enough may small spread shown k.
+    partly_done (g.P.Pages.store c.args.pages.now) (g.P.Pages.store c.loop-rest.pages) d low high body _ _ (c.loop-rest.invariant.partly d low high body e enough may small spread shown k) (let none : length c.loop-rest.rest.now ≡ 0 = search rules in omega (arith, long_map stub_in c.loop-rest.rest.now))

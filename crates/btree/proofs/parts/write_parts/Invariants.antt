@@ -2,7 +2,7 @@ use Rattle.std.proofs.Common.{◌≡◌, ℕ, ◌+◌, ◌<◌, List, Option, ma
 use Rattle.btree.specs.Keys.{Each}
 use Rattle.btree.specs.Loose.{IsEnough, IsSpread, IsStub, stubs_of}
 use Rattle.btree.specs.LooseView.{stub_in}
-use Rattle.btree.specs.Store.{Grows}
+use Rattle.btree.specs.Store.{Grows, KeepsWord}
 use Rattle.btree.specs.Tree.{Body, Shows}
 use Rattle.btree.specs.Turn.{MayFill}
 use Rattle.btree.proofs.RaiseLemmas.{ArePartly}
@@ -14,7 +14,7 @@ invariant-loop-rest g l = record {
   some : 0 < length l.units → 0 < length l.above.items + length l.rest;
   partly : (d : ℕ) (low : List ℕ) (high : Option (List ℕ)) (body : Body d) → map stub_in l.units ≡ stubs_of d body → IsEnough d (map stub_in l.units) → MayFill d l.fills
       → Each IsStub (map stub_in l.units) → IsSpread d low high body → Shows (g.P.Pages.store l.initial.pages) d body
-      → ArePartly (g.P.Pages.store l.initial.pages) (g.P.Pages.store l.pages) d low high body (map stub_in l.above.items) (map stub_in l.rest);
+      → KeepsWord (g.P.Pages.store l.pages) → ArePartly (g.P.Pages.store l.initial.pages) (g.P.Pages.store l.pages) d low high body (map stub_in l.above.items) (map stub_in l.rest);
 }
 
 abbrev pub decreases-loop-rest : goal.decreases-loop-rest

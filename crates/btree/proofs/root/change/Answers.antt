@@ -1,0 +1,17 @@
+use Rattle.std.proofs.Common.{◌≡◌, map}
+use Rattle.btree.specs.EditView.{edit_in}
+use Rattle.btree.specs.Keys.{change}
+use Rattle.btree.proofs.RootLemmas.{change_failed, change_on}
+use Rattle.btree.proofs.root.change.Goals as goal
+
+pub returns-in_err-top-clause-changes : goal.returns-in_err-top-clause-changes
+returns-in_err-top-clause-changes g c =
+    λ before entries there rise k. change_failed (g.P.Pages.store c.args.pages.now) (g.P.Pages.store c.change_root.new.pages) _ before c.from_residual.result _ c.from_residual.ensures.1 (c.in_err-top.ensures.turns before entries there rise k)
+
+pub returns-clause-changes : goal.returns-clause-changes
+returns-clause-changes g c =
+    λ before entries there rise k.
+    let word = (c.write_root.ensures.grows k).word in
+    let u = c.in_ok-top.ensures.turns before entries there rise word in
+    change_on (g.P.Pages.store c.args.pages.now) (g.P.Pages.store c.change_root.new.pages) (g.P.Pages.store c.write_root.new.pages) (change (map edit_in c.args.edits.now) entries) before u.after c.write_root.result (c.in_ok-top.ensures.grows word) u.turned
+    (c.write_root.ensures.roots (change (map edit_in c.args.edits.now) entries) u.after u.held k)

@@ -1,0 +1,20 @@
+use Rattle.std.proofs.Common.{◌≡◌, ◌∙◌, ◌∷◌, [], None, Some, ap, map, sym, subst, arith, inl, inr}
+use Rattle.btree.specs.EditView.{edit_in}
+use Rattle.btree.proofs.GetLemmas.{root_part}
+use Rattle.btree.proofs.RootLemmas.{all_between, turned_behind}
+use Rattle.btree.proofs.StoreLemmas.{part_kept}
+use Rattle.btree.proofs.root.change_root.Goals as goal
+
+pub returns-clause-turns : goal.returns-clause-turns
+returns-clause-turns g c =
+    λ before entries there rise k. elim there [
+      | inl none ↦ absurd (c.if-root-eq0.false none.0)
+      | inr t ↦
+          let word = (c.change_below.ensures.grows k).word in
+          let old = g.P.Pages.store c.args.pages.now in
+          let mid = g.P.Pages.store c.levels_below.new.pages in
+          let part = root_part old c.args.root t.d t.body t.tree in
+          let kept = part_kept old mid (c.in_ok-below.ensures.grows word) c.args.root 0 t.d [] None t.body part in
+          turned_behind old mid (g.P.Pages.store c.change_below.new.pages) (map edit_in c.args.edits.now) entries _ before _ c.change_below.result (c.in_ok-below.ensures.same word) t.entries_are t.pages_are
+          (c.change_below.ensures.turns 0 t.d None t.body (omega (arith, c.in_ok-below.ensures.levels t.d [] None t.body part word)) kept.at kept.shown kept.whole kept.sound (omega arith) rise (all_between _) k)
+    ]

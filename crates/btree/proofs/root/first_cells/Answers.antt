@@ -1,0 +1,24 @@
+use Rattle.std.proofs.Common.{◌≡◌, ◌∙◌, [], None, ap, map, refl, rules, subst, sym}
+use Rattle.page.specs.Content.{IsItem}
+use Rattle.btree.specs.Keys.{Each}
+use Rattle.btree.specs.EditView.{edit_in}
+use Rattle.btree.specs.Loose.{item_stub}
+use Rattle.btree.specs.View.{item_in}
+use Rattle.btree.proofs.ChangingLemmas.{leaf_changed}
+use Rattle.btree.proofs.RootLemmas.{all_between}
+use Rattle.btree.proofs.StoreLemmas.{answer_failed}
+use Rattle.btree.proofs.root.first_cells.Goals as goal
+
+pub returns-in_err-edit_cells-clause-turns : goal.returns-in_err-edit_cells-clause-turns
+returns-in_err-edit_cells-clause-turns g c =
+    λ k.
+    let none : map item_in c.new-cells.result.items ≡ [] = search rules in
+    answer_failed (g.P.Pages.store c.args.pages.now) (g.P.Pages.store c.edit_cells.new.pages) _ _ _ c.from_residual.ensures.1 (c.in_err-edit_cells.ensures.edits [] none tt tt k)
+
+pub returns-clause-turns : goal.returns-clause-turns
+returns-clause-turns g c =
+    λ k.
+    let none : map item_in c.new-cells.result.items ≡ [] = search rules in
+    leaf_changed (g.P.Pages.store c.args.pages.now) (g.P.Pages.store c.edit_cells.new.pages) 0 0 [] None (map edit_in c.args.edits.now) [] _ _ refl
+    (c.in_ok-edit_cells.ensures.edits [] none tt tt k) (c.in_ok-units.ensures ∙ ap (λ cs. map item_stub (map item_in cs)) c.deref.ensures.value)
+    (c.in_ok-edit_cells.ensures.small (subst (Each IsItem) (sym none) tt)) (tt, tt) (all_between (map edit_in c.args.edits.now))

@@ -1,0 +1,192 @@
+// A change of a whole tree, which gives a new root.
+ghost use Rattle.std.specs.Prelude.{◌≡◌, ◌≤◌, ◌<◌, ◌+◌, ◌∷◌, [], ℕ, List, Option, None, Some, length, map, IfNone, IfOk, IfSome};
+ghost use Rattle.btree.specs.Calls.{IsPart, Yields};
+ghost use Rattle.btree.specs.Change.{Changes, edit_keys, put, removal};
+ghost use Rattle.btree.specs.EditView.{HasRoom, IsRoomy, edit_in};
+ghost use Rattle.btree.specs.Keys.{Each, Entry, Rises, change};
+ghost use Rattle.btree.specs.Loose.{IsChild, Stub, child};
+ghost use Rattle.btree.specs.LooseView.{stub_in};
+ghost use Rattle.btree.specs.Reach.{HasMap};
+ghost use Rattle.btree.specs.Store.{Grows, IsSame, KeepsWord, Store};
+ghost use Rattle.btree.specs.Tree.{Body};
+ghost use Rattle.btree.specs.Turn.{IsHeld, Turns, sheaf_in};
+
+use crate::changing::change_below;
+use crate::editing::{Edit, edit_cells};
+use crate::loose::{Loose, page_below, units_of_cells};
+use crate::opening::raise;
+use crate::search::branch_child;
+use crate::{Pages, TreeFault};
+use page::PageContent;
+use std::alloc::Global;
+
+/// The most levels of a tree.
+const LEVELS: u32 = 32;
+
+// How many levels stand below a page, by its first children.
+fn levels_below<P: Pages>(pages: &mut P, page: u32, level: u32) -> Result<u32, TreeFault>
+    ensures grows { Grows (P.store pages.old) (P.store pages.new) }
+    ensures same { KeepsWord (P.store pages.new)
+        → IsSame (P.store pages.old) (P.store pages.new) }
+    ensures small { IfOk result (λ below. below ≤ 31) }
+    ensures levels { (d : ℕ) (low : List ℕ) (high : Option (List ℕ)) (body : Body d)
+        → IsPart (P.store pages.old) page level d low high body
+        → Yields (P.store pages.old) (P.store pages.new) (λ below. below ≡ d) result }
+{
+    let shared = pages.read(page)?;
+    let branch = match &shared.image().content {
+        PageContent::Leaf(_) => return Ok(0),
+        PageContent::Branch(branch) => branch,
+        _ => return Err(TreeFault::Kind),
+    };
+    if level >= LEVELS - 1 {
+        return Err(TreeFault::Order);
+    }
+    if branch.len() == 0 {
+        return Err(TreeFault::Length);
+    }
+    let below = levels_below(pages, branch_child(branch, 0).page, level + 1)?;
+    if below >= LEVELS - 1 {
+        return Err(TreeFault::Order);
+    }
+    Ok(below + 1)
+}
+
+// The page of one child alone.
+fn single_page(loose: &Loose) -> Option<u32>
+    ensures one { IfSome result (λ page. length loose.now.units.items ≡ 1) }
+    ensures page { IfSome result (λ page. (s : Stub) (rest : List Stub)
+        → map stub_in loose.now.units.items ≡ s ∷ rest → s.load ≡ child page) }
+    ensures none { IfNone result ((s : Stub) → map stub_in loose.now.units.items ≡ s ∷ []
+        → IsChild s.load → ⊥) }
+{
+    if loose.units.len() != 1 {
+        return None;
+    }
+    page_below(&loose.units[0])
+}
+
+// Writes cells or children up to one page, the root: 0 where there are none.
+fn write_root<P: Pages>(alloc: Global, pages: &mut P, top: Loose) -> Result<u32, TreeFault>
+    ensures grows { Grows (P.store pages.old) (P.store pages.new) }
+    ensures roots { (entries : List Entry) (reached : List ℕ)
+        → IsHeld (P.store pages.old) 0 [] None entries reached (sheaf_in top)
+        → Changes (P.store pages.old) (P.store pages.new) entries reached result }
+{
+    if top.units.is_empty() {
+        return Ok(0);
+    }
+    if top.rank > LEVELS {
+        return Err(TreeFault::Full);
+    }
+    if let Some(page) = single_page(&top) {
+        return Ok(page);
+    }
+    if top.rank == LEVELS {
+        return Err(TreeFault::Full);
+    }
+    let above = raise(alloc, pages, top)?;
+    write_root(alloc, pages, above)
+}
+
+// The cells of an empty tree after edits.
+fn first_cells<P: Pages>(
+    alloc: Global,
+    pages: &mut P,
+    edits: &[Edit<'_>],
+) -> Result<Loose, TreeFault>
+    requires { Each HasRoom edits.now }
+    ensures grows { Grows (P.store pages.old) (P.store pages.new) }
+    ensures turns { Turns (P.store pages.old) (P.store pages.new) 0 [] None
+        (change (map edit_in edits.now) []) [] result }
+{
+    let mut cells = Vec::new(alloc);
+    edit_cells(alloc, pages, &mut cells, edits)?;
+    let units = units_of_cells(alloc, &cells)?;
+    Ok(Loose {
+        rank: 0,
+        units,
+        fills: true,
+    })
+}
+
+// What stands below a root after edits, taken out of its pages.
+fn change_root<P: Pages>(
+    alloc: Global,
+    pages: &mut P,
+    root: u32,
+    edits: &[Edit<'_>],
+) -> Result<Loose, TreeFault>
+    requires { Each HasRoom edits.now }
+    ensures grows { Grows (P.store pages.old) (P.store pages.new) }
+    ensures turns { (before : List ℕ) (entries : List Entry)
+        → HasMap (P.store pages.old) root before entries
+        → Rises (edit_keys (map edit_in edits.now))
+        → Turns (P.store pages.old) (P.store pages.new) 0 [] None
+        (change (map edit_in edits.now) entries) before result }
+{
+    if root == 0 {
+        return first_cells(alloc, pages, edits);
+    }
+    let below = levels_below(pages, root, 0)?;
+    change_below(alloc, pages, root, below, &[], edits)
+}
+
+/// Makes edits of a tree, whose keys ascend, each once: the new root, 0 where no entry is left. The old root stays readable.
+/// Full where no page is free, or the tree would have more than 32 levels.
+pub fn change<P: Pages>(
+    alloc: Global,
+    pages: &mut P,
+    root: u32,
+    edits: &[Edit<'_>],
+) -> Result<u32, TreeFault>
+    requires { Each HasRoom edits.now }
+    ensures grows { Grows (P.store pages.old) (P.store pages.new) }
+    ensures changes { (before : List ℕ) (entries : List Entry)
+        → HasMap (P.store pages.old) root before entries
+        → Rises (edit_keys (map edit_in edits.now))
+        → Changes (P.store pages.old) (P.store pages.new)
+        (change (map edit_in edits.now) entries) before result }
+{
+    if edits.is_empty() {
+        return Ok(root);
+    }
+    let top = change_root(alloc, pages, root, edits)?;
+    write_root(alloc, pages, top)
+}
+
+/// Puts a value at a key, in place of the one that is there.
+pub fn insert<P: Pages>(
+    alloc: Global,
+    pages: &mut P,
+    root: u32,
+    key: &[u8],
+    value: &[u8],
+) -> Result<u32, TreeFault>
+    requires { IsRoomy key.now (Some value.now) }
+    ensures grows { Grows (P.store pages.old) (P.store pages.new) }
+    ensures changes { (before : List ℕ) (entries : List Entry)
+        → HasMap (P.store pages.old) root before entries
+        → Changes (P.store pages.old) (P.store pages.new)
+        (change (put key.now value.now ∷ []) entries) before result }
+{
+    let value = Some(value);
+    change(alloc, pages, root, &[Edit { key, value }])
+}
+
+/// Takes the value at a key away, if there is one.
+pub fn remove<P: Pages>(
+    alloc: Global,
+    pages: &mut P,
+    root: u32,
+    key: &[u8],
+) -> Result<u32, TreeFault>
+    requires { IsRoomy key.now None }
+    ensures grows { Grows (P.store pages.old) (P.store pages.new) }
+    ensures changes { (before : List ℕ) (entries : List Entry)
+        → HasMap (P.store pages.old) root before entries
+        → Changes (P.store pages.old) (P.store pages.new)
+        (change (removal key.now ∷ []) entries) before result }
+{
+    change(alloc, pages, root, &[Edit { key, value: None }])
+}

@@ -1,0 +1,212 @@
+-- What a turn makes of the book: pages in use, before and after its commit.
+use Rattle.std.proofs.Common.{◌≡◌, ◌≢◌, ℕ, zero, suc, ◌+◌, ◌<◌, Bool, true, false, List, [], ◌∷◌, ◌++◌, length, take, map, set, get_or, refl, sym, ◌∙◌, ap, arith, inl, inr}
+use Rattle.std.specs.Prelude.{◌==◌, ◌&&◌, not, nat_lt, if◌then◌else◌}
+use Rattle.std.proofs.lemmas.Bool.{cases_Bool, cases_eq}
+use Rattle.std.proofs.lemmas.Bool.Decides.{nat_tests}
+use Rattle.std.proofs.lemmas.List.{get_or-set_other, get_or-set_same, get_or_default, length-set, take_more}
+use Rattle.page.specs.Format.{Sheet}
+use Rattle.btree.specs.Keys.{times}
+use Rattle.btree.specs.Store.{flag}
+use Rattle.freelist.specs.Book.{Book, CanRewind, committed, freed, is_free, is_free_state, is_in_use, is_used_state, kept, retired, retired_in, rewind, undone}
+use Rattle.freelist.specs.Sound.{IsSound, retired_count, times as listed}
+use Rattle.freelist.specs.Undone.{Call, after, retire}
+use Rattle.freelist.specs.declared.states.PageState.{PageState}
+use Rattle.freelist.specs.declared.states.PageState.TheVariants as states
+use Rattle.freelist.specs.declared.turns.Change.{Change}
+use Rattle.freelist.specs.declared.turns.Retirement.{Retirement}
+use Rattle.freelist.proofs.Rewinding.{below, one_same, used_is}
+use Rattle.freelist.proofs.SoundBooks.{stays_sound}
+use Rattle.freelist.proofs.Undoing.{undoing_leads_back}
+use Rattle.roots.specs.tree.Turn.{numbers_of}
+use Rattle.pager.specs.Kept.{IsBookFor, takes_of}
+use Rattle.pager.specs.Writing.{retired_all}
+
+-- ---- counting
+
+pub one_time : (n p : ℕ) (rest : List ℕ) → n ≡ p → times n (p ∷ rest) ≡ 1 + times n rest
+one_time n p rest is =
+    let test : (n == p) ≡ true = grind (arith, nat_tests, is) in
+    let one : ℕ = 1 in
+    let none : ℕ = 0 in
+    ap (λ (b : Bool). (if b then one else none) + times n rest) test
+
+pub no_time : (n p : ℕ) (rest : List ℕ) → n ≢ p → times n (p ∷ rest) ≡ times n rest
+no_time n p rest ne =
+    let test : (n == p) ≡ false = grind (arith, nat_tests, ne) in
+    let one : ℕ = 1 in
+    let none : ℕ = 0 in
+    ap (λ (b : Bool). (if b then one else none) + times n rest) test ∙ omega arith
+
+-- ---- retirements
+
+retired_after : (v : ℕ) (pages : List ℕ) (b : Book) → retired_all v pages b ≡ after (map (λ p. retire p v) pages) b
+retired_after v [] b = refl
+retired_after v (p ∷ pages) b = retired_after v pages (retired p v b)
+
+same_full : (p v : ℕ) (b : Book) → (retired p v b).full_takes ≡ b.full_takes
+same_full p v b = elim (cases_Bool (is_in_use b.states p)) [ inl so ↦ rw so refl | inr not_so ↦ rw not_so refl ]
+
+same_pins : (p v : ℕ) (b : Book) → (retired p v b).pins ≡ b.pins
+same_pins p v b = elim (cases_Bool (is_in_use b.states p)) [ inl so ↦ rw so refl | inr not_so ↦ rw not_so refl ]
+
+same_waiting : (p v : ℕ) (b : Book) → (retired p v b).waiting ≡ b.waiting
+same_waiting p v b = elim (cases_Bool (is_in_use b.states p)) [ inl so ↦ rw so refl | inr not_so ↦ rw not_so refl ]
+
+same_length : (p v : ℕ) (b : Book) → length (retired p v b).states ≡ length b.states
+same_length p v b = elim (cases_Bool (is_in_use b.states p)) [ inl so ↦ rw so (length-set b.states p states.Retired) | inr not_so ↦ rw not_so refl ]
+
+pub all_full : (v : ℕ) (pages : List ℕ) (b : Book) → (retired_all v pages b).full_takes ≡ b.full_takes
+all_full v [] b = refl
+all_full v (p ∷ pages) b = all_full v pages (retired p v b) ∙ same_full p v b
+
+pub all_pins : (v : ℕ) (pages : List ℕ) (b : Book) → (retired_all v pages b).pins ≡ b.pins
+all_pins v [] b = refl
+all_pins v (p ∷ pages) b = all_pins v pages (retired p v b) ∙ same_pins p v b
+
+pub all_waiting : (v : ℕ) (pages : List ℕ) (b : Book) → (retired_all v pages b).waiting ≡ b.waiting
+all_waiting v [] b = refl
+all_waiting v (p ∷ pages) b = all_waiting v pages (retired p v b) ∙ same_waiting p v b
+
+pub all_length : (v : ℕ) (pages : List ℕ) (b : Book) → length (retired_all v pages b).states ≡ length b.states
+all_length v [] b = refl
+all_length v (p ∷ pages) b = all_length v pages (retired p v b) ∙ same_length p v b
+
+pub all_sound : (v : ℕ) (pages : List ℕ) (b : Book) → IsSound b → IsSound (retired_all v pages b)
+all_sound v [] b sound = sound
+all_sound v (p ∷ pages) b sound = all_sound v pages (retired p v b) ((stays_sound b sound).retired p v)
+
+pub back_all : (v : ℕ) (pages : List ℕ) (b : Book) → undone (length b.turn) (retired_all v pages b) ≡ b
+back_all v pages b =
+    let calls : List Call = map (λ p. retire p v) pages in
+    let full : (after calls b).full_takes ≡ b.full_takes = ap (λ (c : Book). c.full_takes) (sym (retired_after v pages b)) ∙ all_full v pages b in
+    ap (undone (length b.turn)) (retired_after v pages b) ∙ undoing_leads_back b calls ∙ (λ i. record b { full_takes = full i })
+
+retired_last : (v : ℕ) (pages : List ℕ) (p : ℕ) (b : Book) → retired_all v (pages ++ p ∷ []) b ≡ retired p v (retired_all v pages b)
+retired_last v [] p b = refl
+retired_last v (q ∷ pages) p b = retired_last v pages p (retired q v b)
+
+pub retired_more : (v : ℕ) (pages : List ℕ) (i d : ℕ) (b : Book) → i < length pages → retired_all v (take (i + 1) pages) b ≡ retired (get_or pages i d) v (retired_all v (take i pages) b)
+retired_more v pages i d b lt = ap (λ l. retired_all v l b) (take_more pages i d lt) ∙ retired_last v (take i pages) (get_or pages i d) b
+
+use_other : (p v n : ℕ) (b : Book) → n ≢ p → is_in_use (retired p v b).states n ≡ is_in_use b.states n
+use_other p v n b ne = elim (cases_Bool (is_in_use b.states p)) [
+  | inl so ↦ rw so (ap is_used_state (get_or-set_other b.states p n states.Retired states.Retired ne))
+  | inr not_so ↦ rw not_so refl
+]
+
+use_same : (p v : ℕ) (b : Book) → is_in_use (retired p v b).states p ≡ false
+use_same p v b = elim (cases_Bool (is_in_use b.states p)) [
+  | inl so ↦
+      let within : p < length b.states = below b.states p states.InUse (used_is (get_or b.states p states.Retired) so) (λ e. cc) in
+      rw so (ap is_used_state (get_or-set_same b.states p states.Retired states.Retired within))
+  | inr not_so ↦ rw not_so not_so
+]
+
+pub kept_use : (v : ℕ) (pages : List ℕ) (n : ℕ) (b : Book) → times n pages ≡ 0 → is_in_use (retired_all v pages b).states n ≡ is_in_use b.states n
+kept_use v [] n b none = refl
+kept_use v (p ∷ pages) n b none = elim (cases_eq n p) [
+  | inl is ↦ absurd (omega (arith, one_time n p pages is, none))
+  | inr ne ↦ kept_use v pages n (retired p v b) (sym (no_time n p pages ne) ∙ none) ∙ use_other p v n b ne
+]
+
+stays_lost : (v : ℕ) (pages : List ℕ) (n : ℕ) (b : Book) → is_in_use b.states n ≡ false → is_in_use (retired_all v pages b).states n ≡ false
+stays_lost v [] n b lost = lost
+stays_lost v (p ∷ pages) n b lost = elim (cases_eq n p) [
+  | inl is ↦ stays_lost v pages n (retired p v b) (ap (is_in_use (retired p v b).states) is ∙ use_same p v b)
+  | inr ne ↦ stays_lost v pages n (retired p v b) (use_other p v n b ne ∙ lost)
+]
+
+pub lost_use : (v : ℕ) (pages : List ℕ) (n : ℕ) (b : Book) → 0 < times n pages → is_in_use (retired_all v pages b).states n ≡ false
+lost_use v [] n b some = absurd (omega (arith, some))
+lost_use v (p ∷ pages) n b some = elim (cases_eq n p) [
+  | inl is ↦ stays_lost v pages n (retired p v b) (ap (is_in_use (retired p v b).states) is ∙ use_same p v b)
+  | inr ne ↦ lost_use v pages n (retired p v b) (omega (arith, some, no_time n p pages ne))
+]
+
+-- ---- the end of a turn, where nothing is pinned
+
+freed_other : (rs : List Retirement) (n : ℕ) (pages : List PageState) (d : PageState) → listed n rs ≡ 0 → get_or (freed [] rs pages) n d ≡ get_or pages n d
+freed_other [] n pages d none = refl
+freed_other (r ∷ rs) n pages d none = elim (cases_eq n r.page) [
+  | inl is ↦ absurd (omega (arith, none, one_same n r is))
+  | inr ne ↦ freed_other rs n (set pages r.page states.Free) d (omega (arith, none)) ∙ get_or-set_other pages r.page n states.Free d ne
+]
+
+set_free : (pages : List PageState) (p n : ℕ) → is_in_use pages n ≡ false → is_in_use (set pages p states.Free) n ≡ false
+set_free [] p n h = h
+set_free (s ∷ pages) zero zero h = refl
+set_free (s ∷ pages) zero (suc n) h = h
+set_free (s ∷ pages) (suc p) zero h = h
+set_free (s ∷ pages) (suc p) (suc n) h = set_free pages p n h
+
+freed_unused : (rs : List Retirement) (n : ℕ) (pages : List PageState) → is_in_use pages n ≡ false → is_in_use (freed [] rs pages) n ≡ false
+freed_unused [] n pages h = h
+freed_unused (r ∷ rs) n pages h = freed_unused rs n (set pages r.page states.Free) (set_free pages r.page n h)
+
+kept_none : (rs : List Retirement) → kept [] rs ≡ []
+kept_none [] = refl
+kept_none (r ∷ rs) = kept_none rs
+
+length_freed : (rs : List Retirement) (pages : List PageState) → length (freed [] rs pages) ≡ length pages
+length_freed [] pages = refl
+length_freed (r ∷ rs) pages = length_freed rs (set pages r.page states.Free) ∙ length-set pages r.page states.Free
+
+module _ (v : ℕ) (b : Book) (sound : IsSound b) (no_pins : b.pins ≡ []) (none_waits : b.waiting ≡ []) where
+  states_are : (committed v b).states ≡ freed [] (retired_in b.turn) b.states
+  states_are = ap (λ (pins : List ℕ). freed pins (retired_in b.turn) b.states) no_pins
+
+  pub committed_waiting : (committed v b).waiting ≡ []
+  committed_waiting = (λ i. none_waits i ++ kept (no_pins i) (retired_in b.turn)) ∙ kept_none (retired_in b.turn)
+
+  pub committed_length : length (committed v b).states ≡ length b.states
+  committed_length = ap length states_are ∙ length_freed (retired_in b.turn) b.states
+
+  pub committed_use : (n : ℕ) → is_in_use (committed v b).states n ≡ is_in_use b.states n
+  committed_use n = ap (λ (pages : List PageState). is_in_use pages n) states_are ∙ elim (cases_Bool (is_in_use b.states n)) [
+    | inl so ↦
+        let here : get_or b.states n states.Retired ≡ states.InUse = used_is (get_or b.states n states.Retired) so in
+        let within : n < length b.states = below b.states n states.InUse here (λ e. cc) in
+        let count : retired_count (get_or b.states n states.Free) ≡ 0 = ap retired_count (get_or_default b.states n states.Free states.Retired within ∙ here) in
+        let none : listed n (retired_in b.turn) ≡ 0 = omega (arith, sound.listed n, count) in
+        ap is_used_state (freed_other (retired_in b.turn) n b.states states.Retired none)
+    | inr not_so ↦ freed_unused (retired_in b.turn) n b.states not_so ∙ sym not_so
+  ]
+
+-- ---- what isn't in use is free
+
+takes_retire_none : (made : List Sheet) → retired_in (takes_of made) ≡ []
+takes_retire_none [] = refl
+takes_retire_none (m ∷ made) = takes_retire_none made
+
+pub others_of : (made : List Sheet) (b : Book) → IsBookFor made b → (n : ℕ) → 0 < n → n < length b.states → is_free b.states n ≡ not (is_in_use b.states n)
+others_of made b so n some within =
+    let test : nat_lt 0 n ≡ true = grind (arith, nat_tests, some) in
+    let none : listed n (retired_in b.turn) ≡ 0 = ap (λ (turn : List Change). listed n (retired_in turn)) so.turn ∙ ap (listed n) (takes_retire_none made) in
+    let waits : listed n b.waiting ≡ 0 = ap (listed n) so.none_waits in
+    let count : retired_count (get_or b.states n states.Retired) ≡ 0 = ap retired_count (sym (get_or_default b.states n states.Free states.Retired within)) ∙ omega (arith, so.sound.listed n, none, waits) in
+    by_state (nat_lt 0 n) test (get_or b.states n states.Retired) count
+  where
+    by_state : (some : Bool) → some ≡ true → (s : PageState) → retired_count s ≡ 0 → (some && is_free_state s) ≡ not (is_used_state s)
+    by_state true test states.Free count = refl
+    by_state true test states.InUse count = refl
+    by_state true test states.Retired count = absurd (omega (arith, count))
+    by_state false test s count = absurd cc
+
+-- ---- what the turn took is in use
+
+pub taken_use : (made : List Sheet) (pages : List PageState) → CanRewind (takes_of made) pages → (n : ℕ)
+    → flag (is_in_use pages n) ≡ flag (is_in_use (rewind (takes_of made) pages) n) + times n (numbers_of made)
+taken_use [] pages can n = omega arith
+taken_use (m ∷ made) pages can n =
+    let later : List PageState = rewind (takes_of made) pages in
+    elim (cases_eq n m.page) [
+      | inl is ↦
+          let within : m.page < length later = below later m.page states.InUse can.0 (λ e. cc) in
+          let used : flag (is_in_use later n) ≡ 1 = ap (λ (k : ℕ). flag (is_in_use later k)) is ∙ ap (λ (s : PageState). flag (is_used_state s)) can.0 in
+          let free : flag (is_in_use (set later m.page states.Free) n) ≡ 0 =
+          ap (λ (k : ℕ). flag (is_in_use (set later m.page states.Free) k)) is ∙ ap (λ (s : PageState). flag (is_used_state s)) (get_or-set_same later m.page states.Free states.Retired within) in
+          omega (arith, taken_use made pages can.1 n, used, free, one_time n m.page (numbers_of made) is)
+      | inr ne ↦
+          let same : flag (is_in_use (set later m.page states.Free) n) ≡ flag (is_in_use later n) = ap (λ (s : PageState). flag (is_used_state s)) (get_or-set_other later m.page n states.Free states.Retired ne) in
+          omega (arith, taken_use made pages can.1 n, same, no_time n m.page (numbers_of made) ne)
+    ]

@@ -1,0 +1,122 @@
+-- How a commit ends.
+use Rattle.std.proofs.Common.{◌≡◌, ℕ, ◌<◌, List, [], length, refl, ◌∙◌, ap, arith, inl, inr}
+use Rattle.std.specs.Prelude.{◌⊎◌, Result, Ok, Err}
+use Rattle.std.specs.List.{AllByRecursion}
+use Rattle.std.proofs.lemmas.Bool.{cases_lt}
+use Rattle.page.specs.Content.{IsContent}
+use Rattle.page.specs.Format.{Sheet}
+use Rattle.page.specs.History.{History, KeepsWord}
+use Rattle.page.specs.declared.page_cache.PageCache.{PageCache}
+use Rattle.page.proofs.Moments.{started}
+use Rattle.btree.specs.Keys.{Entry, times}
+use Rattle.btree.specs.Store.{flag}
+use Rattle.freelist.specs.Book.{Book, committed, is_in_use}
+use Rattle.roots.specs.declared.store.CommitFault.{CommitFault}
+use Rattle.roots.specs.declared.store.CommitFault.TheVariants as faults
+use Rattle.roots.specs.declared.tree_store.TreeStore.{TreeStore}
+use Rattle.roots.specs.tree.Commit.{CommitsRoot, MovesMap, MovesMaps}
+use Rattle.roots.specs.tree.Image.{StandsFor}
+use Rattle.roots.specs.tree.Store.{disk_history, durable_root}
+use Rattle.roots.specs.tree.Turn.{next_root}
+use Rattle.roots.proofs.tree.TurnLemmas.{stands_now}
+use Rattle.pager.specs.Commit.{Commits, IsTurn, MovesTurns}
+use Rattle.pager.specs.Kept.{IsKept}
+use Rattle.pager.specs.State.{State}
+use Rattle.pager.specs.Turn.{AreInUse, IsBegun}
+use Rattle.pager.specs.Writing.{retired_all, written_of}
+use Rattle.pager.proofs.AfterLemmas.{booked_after, written_inside, written_lie, written_sheets}
+use Rattle.pager.proofs.BookLemmas.{all_length, all_pins, all_sound, all_waiting, committed_length, committed_use, kept_use, lost_use, others_of}
+use Rattle.pager.proofs.TurnLemmas.{account, committed_still, flag_most, roots_turn, used_now}
+
+module _ {D : Type 0} (history : D → History) (store : TreeStore D) (cache : PageCache) (made : List Sheet) (retired : List ℕ) (book : Book) (so : IsKept history store cache made book) (version : ℕ) where
+  abbrev p : State D
+  p = record { store = store; made = made; retired = retired; book = book }
+
+  abbrev planned : Book
+  planned = retired_all version retired book
+
+  abbrev written : List Sheet
+  written = written_of planned made
+
+  module _ (root : ℕ) (start : State D) (live : List ℕ) (before : List Entry) (begun : IsBegun history start live before) (pages : List ℕ) (after : List Entry) (turn : IsTurn history start p root live pages after) where
+    -- in the book the pages of the new tree are in use
+    in_use_after : (last : ℕ) → AreInUse pages (committed last planned)
+    in_use_after last =
+        let sound = all_sound version retired book so.booked.sound in
+        let pins = all_pins version retired book ∙ so.booked.no_pins in
+        let waiting = all_waiting version retired book ∙ so.booked.none_waits in
+        record {
+          used = λ n within.
+              let low : n < length book.states = omega (arith, within, committed_length last planned sound pins waiting, all_length version retired book) in
+              let count = account history p start turn.frame live before begun so.booked root pages after turn version n in
+              let now_used = used_now history p start turn.frame live before begun so.booked n low in
+              let same : flag (is_in_use (committed last planned).states n) ≡ flag (is_in_use planned.states n) = ap flag (committed_use last planned sound pins waiting n) in
+              elim (cases_lt 0 (times n retired)) [
+                | inl some ↦ omega (arith, some, count, now_used, flag_most (is_in_use book.states n), same, ap flag (lost_use version retired n book some))
+                | inr none ↦ omega (arith, none, count, now_used, same, ap flag (kept_use version retired n book (omega (arith, none))))
+              ];
+          others = others_of [] (committed last planned) (booked_after history store cache made retired book so version last);
+        }
+
+  module _ (root : ℕ) (result : Result (Unit {0}) CommitFault) (new : TreeStore D) (commits : CommitsRoot history root result store new) (moves : MovesMaps history written root result store new)
+      (content : AllByRecursion (λ (m : Sheet). IsContent m.content) written) where
+    moved : (start : State D) (live : List ℕ) (before : List Entry) → IsBegun history start live before → (pages : List ℕ) (after : List Entry) → (KeepsWord (disk_history history store) → IsTurn history start p root live pages after)
+        → KeepsWord (disk_history history new) → MovesMap history (next_root (durable_root store) written root) pages before after result store new
+    moved start live before begun pages after turn k2 =
+        let k = commits.on.kept k2 in
+        moves before live (committed_still history p start (turn k).frame live before begun so.booked) after pages
+        (roots_turn history p start (turn k).frame live before begun so.booked root pages after (turn k) version (written_lie history store cache made retired book so version) (written_inside history store cache made retired book so version)
+        (written_sheets history store cache made retired book so version content) k)
+
+  pub moves_done : (root : ℕ) (new : TreeStore D) → CommitsRoot history root (Ok tt) store new → MovesMaps history written root (Ok tt) store new → AllByRecursion (λ (m : Sheet). IsContent m.content) written → (last : ℕ)
+      → MovesTurns history root (Ok tt) p (record { store = new; made = []; retired = []; book = committed last planned })
+  moves_done root new commits moves content last start live before begun pages after turn =
+      let all = moved root (Ok tt) new commits moves content start live before begun pages after turn in
+      record {
+        any_moment = λ k2 image left. (all k2).any_moment k2 image left;
+        acknowledged = λ k2 image is. (all k2).acknowledged k2 image is;
+        begun = record {
+          made = refl;
+          retired = refl;
+          turn = refl;
+          committed = λ k2. (all k2).committed;
+          in_use = λ k2. in_use_after root start live before begun pages after (turn (commits.on.kept k2)) last;
+        };
+      }
+
+  pub moves_failed : (root : ℕ) (fault : CommitFault) (new : TreeStore D) → CommitsRoot history root (Err fault) store new → MovesMaps history written root (Err fault) store new → AllByRecursion (λ (m : Sheet). IsContent m.content) written
+      → MovesTurns history root (Err fault) p (record { store = new; made = made; retired = retired; book = book })
+  moves_failed root fault new commits moves content start live before begun pages after turn =
+      let all = moved root (Err fault) new commits moves content start live before begun pages after turn in
+      record {
+        any_moment = λ k2 image left. (all k2).any_moment k2 image left;
+        acknowledged = tt;
+        begun = tt;
+      }
+
+  pub moves_nothing : (root : ℕ) → MovesTurns history root (Err faults.Memory) p p
+  moves_nothing root start live before begun pages after turn = record {
+    any_moment = λ k image left.
+        let committed_now = committed_still history p start (turn k).frame live before begun so.booked in
+        started (disk_history history store) (λ i. StandsFor i before ⊎ StandsFor i after)
+        (λ k1 i is. inl (stands_now (disk_history history store) (durable_root store) live before committed_now.keeps k1 i is)) k image left;
+    acknowledged = tt;
+    begun = tt;
+  }
+
+  pub commits_failed : (root : ℕ) (fault : CommitFault) (new : TreeStore D) → CommitsRoot history root (Err fault) store new → Commits history root (Err fault) p (record { store = new; made = made; retired = retired; book = book })
+  commits_failed root fault new commits = record {
+    on = commits.on;
+    running = tt;
+    version = tt;
+    tree = tt;
+    memory = λ is. absurd (commits.no_memory is);
+    full = λ is. ((commits.full is).0, (λ i. record { store = (commits.full is).1 i; made = made; retired = retired; book = book }));
+    device = commits.device;
+    stops = λ is. (commits.stops is, refl);
+  }
+
+-- what isn't a fault is done
+pub ok_of : {E : Type 0} (result : Result (Unit {0}) E) → ((e : E) → result ≡ Err e → ⊥) → result ≡ Ok tt
+ok_of (Ok tt) not_err = refl
+ok_of (Err e) not_err = absurd (not_err e refl)

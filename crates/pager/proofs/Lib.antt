@@ -1,0 +1,12 @@
+pub mod AfterLemmas
+pub mod BookLemmas
+pub mod CallLemmas
+pub mod EndLemmas
+pub mod ListLemmas
+pub mod MemberLemmas
+pub mod OpenLemmas
+pub mod ReadLemmas
+pub mod TakeLemmas
+pub mod TreeLemmas
+pub mod TurnLemmas
+pub mod UndoLemmas

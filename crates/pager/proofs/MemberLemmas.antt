@@ -1,0 +1,118 @@
+-- Pages by their numbers, among those that were made and those of them that are written.
+use Rattle.std.proofs.Common.{◌≡◌, ◌≢◌, ℕ, zero, suc, ◌+◌, ◌<◌, ◌≤◌, Bool, true, false, List, [], ◌∷◌, ◌++◌, length, get_or, refl, sym, ◌∙◌, ap, subst, arith, inl, inr}
+use Rattle.std.specs.Prelude.{◌⊎◌, ◌==◌, if◌then◌else◌, reverse, Result, Ok}
+use Rattle.std.specs.List.{AllByRecursion, filter}
+use Rattle.std.proofs.lemmas.Bool.{cases_Bool, cases_eq}
+use Rattle.std.proofs.lemmas.Bool.Decides.{nat_tests}
+use Rattle.std.proofs.lemmas.List.{reverse-append}
+use Rattle.page.specs.Format.{Sheet}
+use Rattle.page.specs.declared.page_cache.PageCache.{PageCache}
+use Rattle.page.specs.declared.page_fault.PageFault.{PageFault}
+use Rattle.btree.specs.Keys.{times}
+use Rattle.roots.specs.tree.Turn.{LieBehind, made_or, numbers_of}
+use Rattle.pager.specs.Calls.{Keeps}
+use Rattle.pager.specs.Writing.{IsAmong, KeepsAll}
+use Rattle.pager.proofs.BookLemmas.{no_time, one_time}
+use Rattle.pager.proofs.ListLemmas.{all_weaker, made_here}
+
+-- ---- the cache
+
+pub among_at : (pages : List Sheet) (i : ℕ) (x d : Sheet) → x ≡ get_or pages i d → i < length pages → IsAmong x pages
+among_at [] i x d is lt = absurd (omega (arith, lt))
+among_at (m ∷ ms) zero x d is lt = inl is
+among_at (m ∷ ms) (suc i) x d is lt = inr (among_at ms i x d is (omega (arith, lt)))
+
+pub keeps_more : (pages : List Sheet) (before mid after : PageCache) (page : ℕ) (x : Sheet) → KeepsAll pages before mid → Keeps page x mid after → x.page ≡ page → IsAmong x pages → KeepsAll pages before after
+keeps_more pages before mid after page x all keeps named among n found is = elim (keeps n found is) [
+  | inl earlier ↦ all n found earlier
+  | inr (at, same) ↦ inr (ap (λ (m : Sheet). m.page) same ∙ named ∙ sym at, subst (λ (m : Sheet). IsAmong m pages) (sym same) among)
+]
+
+pub all_among : (P : Sheet → Type 0) (xs : List Sheet) (x : Sheet) → AllByRecursion P xs → IsAmong x xs → P x
+all_among P [] x all among = absurd among
+all_among P (y ∷ ys) x all (inl is) = subst P (sym is) all.0
+all_among P (y ∷ ys) x all (inr later) = all_among P ys x all.1 later
+
+-- ---- those that pass a test
+
+pub all_filter : (P : Sheet → Type 0) (p : Sheet → Bool) (xs : List Sheet) → AllByRecursion P xs → AllByRecursion P (filter p xs)
+all_filter P p [] all = tt
+all_filter P p (x ∷ xs) all = elim (cases_Bool (p x)) [
+  | inl so ↦ rw so (all.0, all_filter P p xs all.1)
+  | inr not_so ↦ rw not_so (all_filter P p xs all.1)
+]
+
+lie_lower : (low high : ℕ) (xs : List Sheet) → low ≤ high → LieBehind high xs → LieBehind low xs
+lie_lower low high [] le lie = tt
+lie_lower low high (x ∷ xs) le lie = (omega (arith, le, lie.0), lie.1)
+
+pub lie_filter : (last : ℕ) (p : Sheet → Bool) (xs : List Sheet) → LieBehind last xs → LieBehind last (filter p xs)
+lie_filter last p [] lie = tt
+lie_filter last p (x ∷ xs) lie = elim (cases_Bool (p x)) [
+  | inl so ↦ rw so (lie.0, lie_filter x.page p xs lie.1)
+  | inr not_so ↦ rw not_so (lie_lower last x.page (filter p xs) (omega (arith, lie.0)) (lie_filter x.page p xs lie.1))
+]
+
+-- the page of this number, and that it is one of those that pass
+pub record IsMember (made : List Sheet) (n : ℕ) : Type 0 where
+  pub sheet : Sheet
+  pub among : IsAmong sheet made
+  pub is : sheet.page ≡ n
+  pub there : (other : Result Sheet PageFault) → made_or made n other ≡ Ok sheet
+  pub passed : (p : Sheet → Bool) → p sheet ≡ true → (other : Result Sheet PageFault) → made_or (filter p made) n other ≡ Ok sheet
+  pub count : 1 ≤ times n (numbers_of made)
+
+later_member : (m : Sheet) (ms : List Sheet) (n : ℕ) → m.page ≢ n → IsMember ms n → IsMember (m ∷ ms) n
+later_member m ms n ne r = record {
+  sheet = r.sheet;
+  among = inr r.among;
+  is = r.is;
+  there = λ other. skip (made_or ms n other) ∙ r.there other;
+  passed = λ p pass other. elim (cases_Bool (p m)) [
+    | inl so ↦ rw so (skip (made_or (filter p ms) n other) ∙ r.passed p pass other)
+    | inr not_so ↦ rw not_so (r.passed p pass other)
+  ];
+  count = omega (arith, r.count, no_time n m.page (numbers_of ms) (λ is. ne (sym is)));
+}
+  where
+    skip : (rest : Result Sheet PageFault) → (if m.page == n then Ok m else rest) ≡ rest
+    skip rest =
+        let test : (m.page == n) ≡ false = grind (arith, nat_tests, ne) in
+        ap (λ (b : Bool). if b then Ok m else rest) test
+
+pub member : (made : List Sheet) (n : ℕ) → AllByRecursion (λ (m : Sheet). m.page ≢ n) made ⊎ IsMember made n
+member [] n = inl tt
+member (m ∷ ms) n = elim (cases_eq m.page n) [
+  | inl is ↦ inr (record {
+    sheet = m;
+    among = inl refl;
+    is = is;
+    there = λ other. made_here m ms n other is;
+    passed = λ p pass other. rw pass (made_here m (filter p ms) n other is);
+    count = omega (arith, one_time n m.page (numbers_of ms) (sym is));
+  })
+  | inr ne ↦ elim (member ms n) [
+    | inl none ↦ inl (ne, none)
+    | inr r ↦ inr (later_member m ms n ne r)
+  ]
+]
+
+-- ---- counting
+
+pub more_times : (n p : ℕ) (rest : List ℕ) → times n rest ≤ times n (p ∷ rest)
+more_times n p rest = omega arith
+
+pub each_counted : (made : List Sheet) → AllByRecursion (λ (m : Sheet). 1 ≤ times m.page (numbers_of made)) made
+each_counted [] = tt
+each_counted (m ∷ ms) = (
+  omega (arith, one_time m.page m.page (numbers_of ms) refl),
+  all_weaker (λ (x : Sheet). 1 ≤ times x.page (numbers_of ms)) (λ (x : Sheet). 1 ≤ times x.page (numbers_of (m ∷ ms))) (λ x some. omega (arith, some, more_times x.page m.page (numbers_of ms))) ms (each_counted ms),
+)
+
+times_append : (n : ℕ) (xs ys : List ℕ) → times n (xs ++ ys) ≡ times n xs + times n ys
+times_append n [] ys = omega arith
+times_append n (x ∷ xs) ys = omega (arith, times_append n xs ys)
+
+pub times_reverse : (n : ℕ) (xs : List ℕ) → times n (reverse xs) ≡ times n xs
+times_reverse n [] = refl
+times_reverse n (x ∷ xs) = omega (arith, ap (times n) (reverse-append (x ∷ []) xs), times_append n (reverse xs) (x ∷ []), times_reverse n xs)

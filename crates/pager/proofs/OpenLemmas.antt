@@ -1,0 +1,126 @@
+-- What opening leaves.
+use Rattle.std.proofs.Common.{◌≡◌, ℕ, zero, suc, ◌+◌, ◌<◌, ◌≤◌, max, false, List, [], ◌∷◌, length, set, replicate, refl, sym, ◌∙◌, ap, subst, arith, inl, inr, Some, None}
+use Rattle.std.specs.Prelude.{Ok}
+use Rattle.std.proofs.lemmas.Bool.{cases_eq}
+use Rattle.std.proofs.lemmas.List.{get_or-set_other, get_or-set_same, length-replicate, length-set}
+use Rattle.page.specs.Cache.{kept}
+use Rattle.page.specs.Format.{Sheet}
+use Rattle.page.specs.History.{History, Sector, KeepsWord, IsImage, now, reads}
+use Rattle.page.specs.Crash.{ReadsOnly}
+use Rattle.page.specs.declared.page_cache.PageCache.{PageCache}
+use Rattle.page.proofs.Moments.{goes_further, leaves_further, leaves_now, reads_moments}
+use Rattle.btree.specs.Keys.{Entry, times}
+use Rattle.btree.specs.Reach.{AreOnce}
+use Rattle.btree.specs.Store.{flag}
+use Rattle.freelist.specs.Book.{Book, is_in_use, is_used_state, opened, with_used}
+use Rattle.freelist.specs.declared.states.PageState.{PageState}
+use Rattle.freelist.specs.declared.states.PageState.TheVariants as states
+use Rattle.freelist.proofs.SoundBooks.{opens_sound}
+use Rattle.roots.specs.declared.opening.OpenFault.{OpenFault}
+use Rattle.roots.specs.declared.root.Root.{Root}
+use Rattle.roots.specs.declared.tree_store.TreeStore.{TreeStore}
+use Rattle.roots.specs.tree.Image.{HoldsMap, OpensAs, sheet_at}
+use Rattle.roots.specs.tree.Opening.{IsOpened as IsStoreOpened, IsRefused as IsStoreRefused}
+use Rattle.roots.specs.tree.Store.{IsCommitted, disk_history, durable_root}
+use Rattle.roots.specs.tree.Walk.{FindsFree}
+use Rattle.pager.specs.Kept.{IsBookFor, IsKept}
+use Rattle.pager.specs.Opening.{IsOpened, IsRefused}
+use Rattle.pager.specs.Turn.{IsBegun}
+use Rattle.pager.proofs.BookLemmas.{no_time, one_time, others_of}
+
+length_used : (in_use : List ℕ) (pages : List PageState) → length (with_used in_use pages) ≡ length pages
+length_used [] pages = refl
+length_used (p ∷ rest) pages = length_used rest (set pages p states.InUse) ∙ length-set pages p states.InUse
+
+none_used : (count n : ℕ) → is_in_use (replicate count states.Free) n ≡ false
+none_used zero n = refl
+none_used (suc count) zero = refl
+none_used (suc count) (suc n) = none_used count n
+
+used_all : (in_use : List ℕ) (pages : List PageState) (n : ℕ) → n < length pages → flag (is_in_use pages n) + times n in_use ≤ 1 → flag (is_in_use (with_used in_use pages) n) ≡ flag (is_in_use pages n) + times n in_use
+used_all [] pages n within once = omega arith
+used_all (p ∷ rest) pages n within once = elim (cases_eq n p) [
+  | inl is ↦
+      let here : flag (is_in_use (set pages p states.InUse) n) ≡ 1 =
+      ap (λ (k : ℕ). flag (is_in_use (set pages p states.InUse) k)) is ∙ ap (λ (s : PageState). flag (is_used_state s)) (get_or-set_same pages p states.InUse states.Retired (omega (arith, within, is))) in
+      let one = one_time n p rest is in
+      omega (arith, used_all rest (set pages p states.InUse) n (omega (arith, within, length-set pages p states.InUse)) (omega (arith, here, one, once)), here, one, once)
+  | inr ne ↦
+      let same : flag (is_in_use (set pages p states.InUse) n) ≡ flag (is_in_use pages n) = ap (λ (s : PageState). flag (is_used_state s)) (get_or-set_other pages p n states.InUse states.Retired ne) in
+      let none = no_time n p rest ne in
+      omega (arith, used_all rest (set pages p states.InUse) n (omega (arith, within, length-set pages p states.InUse)) (omega (arith, same, none, once)), same, none)
+]
+
+opened_used : (live : List ℕ) (count generation : ℕ) → AreOnce live → (n : ℕ) → n < length (opened live count generation).states → times n live ≡ flag (is_in_use (opened live count generation).states n)
+opened_used live count generation once n within =
+    let low : n < length (replicate count states.Free) = omega (arith, within, length_used live (replicate count states.Free)) in
+    let none : flag (is_in_use (replicate count states.Free) n) ≡ 0 = ap flag (none_used count n) in
+    omega (arith, used_all live (replicate count states.Free) n low (omega (arith, none, once n)), none)
+
+booked_new : (in_use : List ℕ) (count generation : ℕ) → count ≤ 1048576 → IsBookFor [] (opened in_use count generation)
+booked_new in_use count generation few = record {
+  sound = opens_sound in_use count generation;
+  no_pins = refl;
+  none_waits = refl;
+  turn = refl;
+  limit = omega (arith, length_used in_use (replicate count states.Free), length-replicate count states.Free, few);
+  count = omega arith;
+  behind = λ n free. tt;
+}
+
+module _ {D : Type 0} (history : D → History) (disk : D) (mid new : TreeStore D) (book : Book) (limit : ℕ) (few : limit ≤ 1048576) (first : IsStoreOpened history disk mid)
+    (only : ReadsOnly (disk_history history mid) (disk_history history new)) (finds : FindsFree history limit (Ok book) mid new) where
+  booked : IsBookFor [] book
+  booked = subst (IsBookFor []) (sym finds.some.is) (booked_new finds.some.in_use _ (durable_root mid).generation (omega (arith, few, first.known.pages)))
+
+  pub kept_opened : (cache : PageCache) (made : List Sheet) → made ≡ [] → ((n : ℕ) → kept cache n ≡ None) → IsKept history new cache made book
+  kept_opened cache made is none = subst (λ (m : List Sheet). IsKept history new cache m book) (sym is) (record {
+    cached = λ k n found there. let never : Some found ≡ None = sym there ∙ none n in absurd cc;
+    ascending = tt;
+    each = tt;
+    booked = booked;
+  })
+
+  begins : (live : List ℕ) (entries : List Entry) → (KeepsWord (disk_history history new) → HoldsMap (sheet_at (reads (now (history disk))) (durable_root new)) (durable_root new) live entries)
+      → IsBegun history (record { store = new; made = []; retired = []; book = book }) live entries
+  begins live entries holds = record {
+    made = refl;
+    retired = refl;
+    turn = booked.turn;
+    committed = λ k. finds.committed live entries (committed_then k);
+    in_use = λ k.
+        let is : book ≡ opened live (max limit (durable_root mid).pages) (durable_root mid).generation = finds.book k live entries (committed_then k) in
+        let once : AreOnce live = (holds k).once in
+        record {
+          used = λ n within. subst (λ (b : Book). n < length b.states → times n live ≡ flag (is_in_use b.states n)) (sym is)
+              (opened_used live (max limit (durable_root mid).pages) (durable_root mid).generation once n) within;
+          others = others_of [] book booked;
+        };
+  }
+    where
+      committed_then : KeepsWord (disk_history history new) → IsCommitted history mid live entries
+      committed_then k = first.committed live entries (λ _. subst (λ (r : Root). HoldsMap (sheet_at (reads (now (history disk))) r) r live entries) finds.root (holds k))
+
+  pub opened_so : (made : List Sheet) (retired : List ℕ) → made ≡ [] → retired ≡ [] → IsOpened history disk (record { store = new; made = made; retired = retired; book = book })
+  opened_so made retired none empty =
+      let h0 = history disk in
+      let h1 = disk_history history mid in
+      let h2 = disk_history history new in
+      subst (IsOpened history disk) (λ i. record { store = new; made = sym none i; retired = sym empty i; book = book }) (record {
+        running = finds.stopped ∙ first.running;
+        on = goes_further h0 h1 h2 first.on only.on;
+        opens = λ k. subst (OpensAs (reads (now h0))) (sym finds.root) (first.opens (only.on.kept k));
+        begun = begins;
+        alone = λ entries stands k image is. first.alone entries stands (only.on.kept k) image (subst (λ (s : ℕ → Sector). IsImage s image) (only.same k) is);
+        any_moment = λ readable.
+            leaves_further h0 h1 h2 (IsImage (now h0)) only.on (first.any_moment readable)
+            (λ k image left. leaves_now h0 h1 (IsImage (now h0)) first.on (first.any_moment readable) (only.on.kept k) image (reads_moments h1 h2 only k image left));
+      })
+
+-- a disk whose roots weren't read
+pub refused_so : {D : Type 0} (history : D → History) (disk back : D) (fault : OpenFault) → IsStoreRefused history disk back fault → IsRefused history disk back fault
+refused_so history disk back fault refused = record {
+  on = refused.untouched.on;
+  any_moment = λ readable. reads_moments (history disk) (history back) refused.untouched;
+  device = refused.device;
+}

@@ -1,0 +1,84 @@
+-- A page is read from the cache or from the disk.
+use Rattle.std.proofs.Common.{◌≡◌, ℕ, Some, refl, sym, ◌∙◌, ap, inl, inr}
+use Rattle.std.specs.Prelude.{Result, Ok, Err}
+use Rattle.page.specs.Cache.{kept}
+use Rattle.page.specs.Format.{Sheet}
+use Rattle.page.specs.History.{History, KeepsWord, now, reads}
+use Rattle.page.specs.declared.page_fault.PageFault.{PageFault}
+use Rattle.page.specs.declared.page_cache.PageCache.{PageCache}
+use Rattle.page.proofs.Moments.{reads_nothing}
+use Rattle.btree.specs.declared.pages.TreeFault.{TreeFault}
+use Rattle.roots.specs.declared.opening.OpenFault.{OpenFault}
+use Rattle.roots.specs.declared.opening.OpenFault.TheVariants as opens
+use Rattle.roots.specs.declared.root.Root.{Root}
+use Rattle.roots.specs.declared.tree_store.TreeStore.{TreeStore}
+use Rattle.roots.specs.tree.Image.{sheet_at}
+use Rattle.roots.specs.tree.Store.{disk_history, durable_root}
+use Rattle.roots.specs.tree.Walk.{HasCause}
+use Rattle.pager.specs.Calls.{HasReadCause, Keeps, OnlyRead, ReadsPage, tree_fault}
+use Rattle.pager.specs.Kept.{Agrees}
+
+pub nothing_read : {D : Type 0} (history : D → History) (store : TreeStore D) → OnlyRead history store store
+nothing_read history store = record { root = refl; stopped = refl; reads = reads_nothing (disk_history history store) }
+
+abbrev pub sheet_in : {D : Type 0} → (D → History) → TreeStore D → ℕ → Result Sheet PageFault
+sheet_in history store n = sheet_at (reads (now (disk_history history store))) (durable_root store) n
+
+module _ {D : Type 0} (history : D → History) (old new : TreeStore D) (only : OnlyRead history old new) where
+  -- the disk holds what it held
+  pub still_there : KeepsWord (disk_history history new) → (n : ℕ) → sheet_in history new n ≡ sheet_in history old n
+  still_there k n =
+      (λ i. sheet_at (reads (only.reads.same k i)) (durable_root new) n)
+      ∙ ap (λ (root : Root). sheet_at (reads (now (disk_history history old))) root n) only.root
+
+  pub still_agrees : (before after : PageCache) → ((n : ℕ) (found : Sheet) → kept after n ≡ Some found → kept before n ≡ Some found) → Agrees history old before → Agrees history new after
+  still_agrees before after less agrees k n found is = still_there k n ∙ agrees (only.reads.on.kept k) n found (less n found is)
+
+  -- no page was read
+  pub read_failed : (page : ℕ) (fault : TreeFault) (before after : PageCache) → ((n : ℕ) → kept after n ≡ kept before n)
+      → (KeepsWord (disk_history history new) → (found : Sheet) → sheet_in history old page ≡ Ok found → HasReadCause (disk_history history old) (disk_history history new) fault)
+      → ReadsPage history page (Err fault) old new before after
+  read_failed page fault before after same cause = record {
+    only = only;
+    value = λ agrees k. tt;
+    cause = cause;
+    agrees = still_agrees before after (λ n found is. sym (same n) ∙ is);
+    others = λ n found ne is. sym (same n) ∙ is;
+  }
+
+  -- a page was read, and is kept
+  pub read_done : (page : ℕ) (sheet : Sheet) (before mid after : PageCache) → ((n : ℕ) → kept mid n ≡ kept before n) → Keeps page sheet mid after
+      → (KeepsWord (disk_history history new) → sheet_in history old page ≡ Ok sheet) → ReadsPage history page (Ok sheet) old new before after
+  read_done page sheet before mid after same keeps is = record {
+    only = only;
+    value = λ agrees k. is k;
+    cause = λ k found there. tt;
+    agrees = λ agrees k n found there. elim (keeps n found there) [
+      | inl earlier ↦ still_there k n ∙ agrees (only.reads.on.kept k) n found (sym (same n) ∙ earlier)
+      | inr (at, named) ↦ still_there k n ∙ ap (sheet_in history old) at ∙ is k ∙ ap Ok (sym named)
+    ];
+    others = λ n found ne there. elim (keeps n found there) [
+      | inl earlier ↦ sym (same n) ∙ earlier
+      | inr (at, named) ↦ absurd (ne at)
+    ];
+  }
+
+-- it was kept
+pub found_kept : {D : Type 0} (history : D → History) (store : TreeStore D) (page : ℕ) (sheet : Sheet) (before after : PageCache) → kept before page ≡ Some sheet
+    → ((n : ℕ) → kept after n ≡ kept before n) → ReadsPage history page (Ok sheet) store store before after
+found_kept history store page sheet before after found same = record {
+  only = nothing_read history store;
+  value = λ agrees k. agrees k page sheet found;
+  cause = λ k found there. tt;
+  agrees = λ agrees k n found there. agrees k n found (sym (same n) ∙ there);
+  others = λ n found ne there. sym (same n) ∙ there;
+}
+
+-- a page that is there isn't refused for what its bytes are
+pub read_cause : (old new : History) (fault : OpenFault) (found : Result Sheet PageFault) (sheet : Sheet) → HasCause old new fault → (fault ≡ opens.Damaged → (other : Sheet) → found ≡ Ok other → ⊥)
+    → KeepsWord new → found ≡ Ok sheet → HasReadCause old new (tree_fault fault)
+read_cause old new opens.Device found sheet cause none k is = cause k
+read_cause old new opens.Memory found sheet cause none k is = tt
+read_cause old new opens.Damaged found sheet cause none k is = none refl sheet is
+read_cause old new opens.NotADatabase found sheet cause none k is = cause
+read_cause old new opens.NewerFormat found sheet cause none k is = cause

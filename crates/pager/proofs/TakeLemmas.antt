@@ -1,0 +1,316 @@
+-- A page is taken and made.
+use Rattle.std.proofs.Common.{◌≡◌, ◌≢◌, ℕ, ◌+◌, ◌-◌, ◌^◌, ◌<◌, ◌≤◌, Bool, true, false, List, [], ◌∷◌, ◌++◌, length, map, set, refl, sym, ◌∙◌, ap, subst, arith, inl, inr, Option, Some, None}
+use Rattle.std.specs.Prelude.{◌&&◌, ◌==◌, not, nat_lt, min, get_or, reverse, if◌then◌else◌, is_ok, Result, Ok, Err, MatchResult}
+use Rattle.std.specs.List.{AllByRecursion}
+use Rattle.std.proofs.lemmas.Bool.{cases_eq, cases_lt}
+use Rattle.std.proofs.lemmas.Bool.Decides.{nat_tests}
+use Rattle.std.proofs.lemmas.List.{get_or-set_other, get_or-set_same, length-set, map-append, reverse-append}
+use Rattle.page.specs.Cache.{kept}
+use Rattle.page.specs.Content.{Content}
+use Rattle.page.specs.Format.{Sheet}
+use Rattle.page.specs.History.{History, now, reads}
+use Rattle.page.specs.declared.page_cache.PageCache.{PageCache}
+use Rattle.btree.specs.Keys.{times}
+use Rattle.btree.specs.Store.{Base, HasFailed, HasNoPage, IsAt, IsMade, IsSame, KeepsWord, flag}
+use Rattle.btree.specs.declared.pages.TreeFault.{TreeFault}
+use Rattle.btree.specs.declared.pages.TreeFault.TheVariants as faults
+use Rattle.freelist.specs.Book.{Book, Takes, is_free, is_free_state, least_free, rewind, taken, undone}
+use Rattle.freelist.specs.Coding.{state_number}
+use Rattle.freelist.specs.Undone.{after, given, take as asks}
+use Rattle.freelist.specs.declared.states.PageState.{PageState}
+use Rattle.freelist.specs.declared.states.PageState.TheVariants as states
+use Rattle.freelist.specs.declared.turns.Change.{Change}
+use Rattle.freelist.specs.declared.turns.Change.TheVariants as changes
+use Rattle.freelist.proofs.LeastLaws.{takes_least}
+use Rattle.freelist.proofs.Rewinding.{below, free_is, put_back, rewind-append}
+use Rattle.freelist.proofs.SoundBooks.{stays_sound}
+use Rattle.freelist.proofs.Undoing.{undoing_leads_back}
+use Rattle.roots.specs.declared.tree_store.TreeStore.{TreeStore}
+use Rattle.roots.specs.tree.Image.{content_in, sheet_at}
+use Rattle.roots.specs.tree.Store.{disk_history, durable_root, is_stopped}
+use Rattle.roots.specs.tree.Turn.{numbers_of}
+use Rattle.pager.specs.Calls.{Refuses}
+use Rattle.pager.specs.Kept.{Agrees, IsKept, IsNew}
+use Rattle.pager.specs.State.{State}
+use Rattle.pager.specs.View.{base_of, pager_history, root_numbers, sheets_of, store_of}
+use Rattle.pager.proofs.ListLemmas.{all_both, all_more, lie_more, made_last, made_others}
+
+abbrev base_with : {D : Type 0} → (D → History) → TreeStore D → List PageState → Base
+base_with history store pages = record {
+  sectors = now (disk_history history store);
+  numbers = flag (is_stopped store) ∷ root_numbers (durable_root store) ++ map state_number pages;
+}
+
+-- a take that is taken back
+pub taken_back : (b mid new : Book) (page mark : ℕ) → Takes (Some page) b mid → mark ≡ length b.turn → new ≡ undone mark mid → new ≡ b
+taken_back b mid new page mark takes is undo =
+    let there : after (asks ∷ []) b ≡ taken page b = ap (λ (found : Option ℕ). given found b) takes.0 in
+    let back : undone (length b.turn) (taken page b) ≡ record b { full_takes = (taken page b).full_takes } =
+    subst (λ (c : Book). undone (length b.turn) c ≡ record b { full_takes = c.full_takes }) there (undoing_leads_back b (asks ∷ [])) in
+    undo ∙ (λ i. undone (is i) (takes.1 i)) ∙ back
+
+module _ (b : Book) (page : ℕ) (least : least_free b.states ≡ Some page) where
+  pub was_free : is_free b.states page ≡ true
+  was_free = (takes_least b.states page least).0
+
+  pub none_below : (n : ℕ) → n < page → is_free b.states n ≡ false
+  none_below = (takes_least b.states page least).1
+
+  -- a page that is free is a number from 1 to below the limit
+  pub some_page : 0 < page
+  some_page = by_test (nat_lt 0 page) refl was_free
+    where
+      by_test : (some : Bool) → nat_lt 0 page ≡ some → (some && is_free_state (get_or b.states page states.Retired)) ≡ true → 0 < page
+      by_test true test is = grind (arith, nat_tests, test)
+      by_test false test is = absurd cc
+
+  free_state : get_or b.states page states.Retired ≡ states.Free
+  free_state = by_test (nat_lt 0 page) was_free
+    where
+      by_test : (some : Bool) → (some && is_free_state (get_or b.states page states.Retired)) ≡ true → get_or b.states page states.Retired ≡ states.Free
+      by_test true is = free_is (get_or b.states page states.Retired) is
+      by_test false is = absurd cc
+
+  pub page_below : page < length b.states
+  page_below = below b.states page states.Free free_state (λ e. cc)
+
+  -- it isn't free any more, and the others are what they were
+  pub not_free : is_free (taken page b).states page ≡ false
+  not_free = by_test (nat_lt 0 page)
+    where
+      by_test : (some : Bool) → (some && is_free_state (get_or (set b.states page states.InUse) page states.Retired)) ≡ false
+      by_test true = ap is_free_state (get_or-set_same b.states page states.InUse states.Retired page_below)
+      by_test false = refl
+
+  pub others_free : (n : ℕ) → n ≢ page → is_free (taken page b).states n ≡ is_free b.states n
+  others_free n ne = ap (λ (s : PageState). nat_lt 0 n && is_free_state s) (get_or-set_other b.states page n states.InUse states.Retired ne)
+
+-- ---- a page more
+
+module _ {D : Type 0} (history : D → History) (store : TreeStore D) (cache : PageCache) (made : List Sheet) (retired : List ℕ) (book : Book) (kept_so : IsKept history store cache made book)
+    (sheet : Sheet) (least : least_free book.states ≡ Some sheet.page) where
+  below_all : AllByRecursion (λ (m : Sheet). m.page < sheet.page) made
+  below_all = kept_so.booked.behind sheet.page (was_free book sheet.page least)
+
+  abbrev before : State D
+  before = record { store = store; made = made; retired = retired; book = book }
+
+  abbrev afterwards : State D
+  afterwards = record { store = store; made = made ++ sheet ∷ []; retired = retired; book = taken sheet.page book }
+
+  sheet_new : sheets_of history afterwards sheet.page ≡ Ok sheet
+  sheet_new = made_last made sheet (sheet_at (reads (now (pager_history history before))) (durable_root store) sheet.page) below_all
+
+  sheet_other : (n : ℕ) → n ≢ sheet.page → sheets_of history afterwards n ≡ sheets_of history before n
+  sheet_other n ne = made_others made sheet n (sheet_at (reads (now (pager_history history before))) (durable_root store) n) ne
+
+  live_other : (n : ℕ) → n ≢ sheet.page → (store_of history afterwards).live n ≡ (store_of history before).live n
+  live_other n ne = (λ i. is_ok (sheet_other n ne i) && not (others_free book sheet.page least n ne i))
+
+  was_dead : (store_of history before).live sheet.page ≡ false
+  was_dead = (λ i. is_ok (sheets_of history before sheet.page) && not (was_free book sheet.page least i)) ∙ and_false (is_ok (sheets_of history before sheet.page))
+    where
+      and_false : (b : Bool) → (b && false) ≡ false
+      and_false true = refl
+      and_false false = refl
+
+  is_live : (store_of history afterwards).live sheet.page ≡ true
+  is_live = (λ i. is_ok (sheet_new i) && not (not_free book sheet.page least i))
+
+  still_at : (n : ℕ) (content : Content) → IsAt (store_of history before) n content → IsAt (store_of history afterwards) n content
+  still_at n content at = elim (cases_eq n sheet.page) [
+    | inl is ↦ let never : true ≡ false = sym at.live ∙ ap (store_of history before).live is ∙ was_dead in absurd cc
+    | inr ne ↦ record { number = at.number; live = live_other n ne ∙ at.live; holds = ap content_in (sheet_other n ne) ∙ at.holds }
+  ]
+
+  newest : reverse (numbers_of (made ++ sheet ∷ [])) ≡ sheet.page ∷ reverse (numbers_of made)
+  newest = ap reverse (map-append (λ (m : Sheet). m.page) made (sheet ∷ [])) ∙ reverse-append (numbers_of made) (sheet.page ∷ [])
+
+  counted : (n : ℕ) → times n (store_of history afterwards).made + flag ((store_of history before).live n) ≡ times n (store_of history before).made + flag ((store_of history afterwards).live n)
+  counted n = elim (cases_eq n sheet.page) [
+    | inl is ↦
+        let test : (n == sheet.page) ≡ true = grind (arith, nat_tests, is) in
+        let one : ℕ = 1 in
+        let none : ℕ = 0 in
+        let count : (if n == sheet.page then one else none) ≡ 1 = ap (λ (b : Bool). if b then one else none) test in
+        let dead : flag ((store_of history before).live n) ≡ 0 = ap (λ (k : ℕ). flag ((store_of history before).live k)) is ∙ ap flag was_dead in
+        let alive : flag ((store_of history afterwards).live n) ≡ 1 = ap (λ (k : ℕ). flag ((store_of history afterwards).live k)) is ∙ ap flag is_live in
+        omega (arith, ap (times n) newest, count, dead, alive)
+    | inr ne ↦
+        let test : (n == sheet.page) ≡ false = grind (arith, nat_tests, ne) in
+        let one : ℕ = 1 in
+        let none : ℕ = 0 in
+        let count : (if n == sheet.page then one else none) ≡ 0 = ap (λ (b : Bool). if b then one else none) test in
+        omega (arith, ap (times n) newest, count, ap flag (live_other n ne))
+  ]
+
+  -- the pages are what they were when the turn began
+  same_states : rewind (taken sheet.page book).turn (taken sheet.page book).states ≡ rewind book.turn book.states
+  same_states =
+      rewind-append book.turn (changes.Taken sheet.page ∷ []) (set book.states sheet.page states.InUse)
+      ∙ ap (rewind book.turn) (put_back book.states sheet.page states.Free states.InUse (free_state book sheet.page least))
+
+  same_base : base_of history afterwards ≡ base_of history before
+  same_base = (λ i. base_with history store (same_states i))
+
+  pub one_made : KeepsWord (store_of history afterwards) → IsMade (store_of history before) (store_of history afterwards) sheet.page sheet.content
+  one_made word = record {
+    frame = record {
+      word = word;
+      base = same_base;
+      kept = still_at;
+      made = counted;
+      retired = λ n. omega arith;
+      failures = omega arith;
+      full_takes = omega arith;
+    };
+    at = record { number = some_page book sheet.page least; live = is_live; holds = ap content_in sheet_new };
+    made = newest;
+    retired = refl;
+  }
+
+  module _ (after_cache : PageCache) (this : kept after_cache sheet.page ≡ None) (others : (n : ℕ) → n ≢ sheet.page → kept after_cache n ≡ kept cache n) (some : 1 ≤ sheet.generation)
+      (small : sheet.generation < 2 ^ 64) (until : sheet.generation ≤ (durable_root store).generation + 1) where
+    agrees_still : Agrees history store after_cache
+    agrees_still k n found is = elim (cases_eq n sheet.page) [
+      | inl same ↦ let never : Some found ≡ None = sym is ∙ ap (kept after_cache) same ∙ this in absurd cc
+      | inr ne ↦ kept_so.cached k n found (sym (others n ne) ∙ is)
+    ]
+
+    new_still : (m : Sheet) → IsNew (durable_root store).generation cache m → m.page < sheet.page → IsNew (durable_root store).generation after_cache m
+    new_still m new less = record {
+      inside = new.inside;
+      some = new.some;
+      small = new.small;
+      until = new.until;
+      uncached = others m.page (λ is. omega (arith, is, less)) ∙ new.uncached;
+    }
+
+    behind_still : (n : ℕ) → is_free (taken sheet.page book).states n ≡ true → AllByRecursion (λ (m : Sheet). m.page < n) (made ++ sheet ∷ [])
+    behind_still n free = elim (cases_eq n sheet.page) [
+      | inl same ↦ let never : true ≡ false = sym free ∙ ap (is_free (taken sheet.page book).states) same ∙ not_free book sheet.page least in absurd cc
+      | inr ne ↦
+          let earlier : is_free book.states n ≡ true = sym (others_free book sheet.page least n ne) ∙ free in
+          all_more (λ (m : Sheet). m.page < n) made sheet (kept_so.booked.behind n earlier) (above n ne earlier)
+    ]
+      where
+        above : (n : ℕ) → n ≢ sheet.page → is_free book.states n ≡ true → sheet.page < n
+        above n ne free = elim (cases_lt n sheet.page) [
+          | inl less ↦ let never : true ≡ false = sym free ∙ none_below book sheet.page least n less in absurd cc
+          | inr not_less ↦ omega (arith, ne, not_less)
+        ]
+
+    pub one_kept : IsKept history store after_cache (made ++ sheet ∷ []) (taken sheet.page book)
+    one_kept = record {
+      cached = agrees_still;
+      ascending = lie_more 0 made sheet kept_so.ascending (some_page book sheet.page least) below_all;
+      each = all_more (IsNew (durable_root store).generation after_cache) made sheet
+          (all_both (IsNew (durable_root store).generation cache) (λ (m : Sheet). m.page < sheet.page) (IsNew (durable_root store).generation after_cache) new_still made kept_so.each below_all)
+          (record { inside = omega (arith, page_below book sheet.page least, kept_so.booked.limit); some = some; small = small; until = until; uncached = this });
+      booked = record {
+        sound = (stays_sound book kept_so.booked.sound).taken sheet.page least;
+        no_pins = kept_so.booked.no_pins;
+        none_waits = kept_so.booked.none_waits;
+        turn = ap (λ (turn : List Change). turn ++ changes.Taken sheet.page ∷ []) kept_so.booked.turn ∙ sym (map-append (λ (m : Sheet). changes.Taken m.page) made (sheet ∷ []));
+        limit = omega (arith, length-set book.states sheet.page states.InUse, kept_so.booked.limit);
+        count = kept_so.booked.count;
+        behind = behind_still;
+      };
+    }
+
+-- ---- no page more
+
+module _ {D : Type 0} (history : D → History) (store : TreeStore D) (made : List Sheet) (retired : List ℕ) (book new_book : Book) (count : book.full_takes < 2 ^ 64) where
+  abbrev start : State D
+  start = record { store = store; made = made; retired = retired; book = book }
+
+  abbrev stop : State D
+  stop = record { store = store; made = made; retired = retired; book = new_book }
+
+  same_pages : new_book.states ≡ book.states → new_book.turn ≡ book.turn → book.full_takes ≤ new_book.full_takes → KeepsWord (store_of history stop) → IsSame (store_of history start) (store_of history stop)
+  same_pages is turn more word = record {
+    word = word;
+    base = (λ i. base_with history store (rewind (turn i) (is i)));
+    page = refl;
+    live = λ i n. is_ok (sheets_of history start n) && not (is_free (is i) n);
+    made = refl;
+    retired = refl;
+    failures = omega arith;
+    full_takes = more;
+  }
+
+  counted_full : new_book.full_takes ≡ min (book.full_takes + 1) (2 ^ 64 - 1) → HasNoPage (store_of history start) (store_of history stop)
+  counted_full is = elim (cases_lt book.full_takes (2 ^ 64 - 1)) [
+    | inl less ↦ inl (omega (arith, is, less))
+    | inr most ↦ inr (omega (arith, is, most))
+  ]
+
+  pub take_failed : (fault : TreeFault) → Refuses fault book new_book → KeepsWord (store_of history stop) → HasFailed (store_of history start) (store_of history stop) fault
+  take_failed faults.Memory is word = record {
+    same = same_pages (ap (λ (b : Book). b.states) is) (ap (λ (b : Book). b.turn) is) (omega (arith, ap (λ (b : Book). b.full_takes) is)) word;
+    cause = tt;
+  }
+  take_failed faults.Full (none, is) word = record {
+    same = same_pages (ap (λ (b : Book). b.states) is) (ap (λ (b : Book). b.turn) is) (omega (arith, ap (λ (b : Book). b.full_takes) is, count)) word;
+    cause = counted_full (ap (λ (b : Book). b.full_takes) is);
+  }
+  take_failed faults.Device is word = absurd is
+  take_failed faults.Kind is word = absurd is
+  take_failed faults.Number is word = absurd is
+  take_failed faults.Order is word = absurd is
+  take_failed faults.Length is word = absurd is
+
+  pub refused_kept : (cache : PageCache) (fault : TreeFault) → Refuses fault book new_book → IsKept history store cache made book → IsKept history store cache made new_book
+  refused_kept cache faults.Memory is so = subst (IsKept history store cache made) (sym is) so
+  refused_kept cache faults.Full (none, is) so = subst (IsKept history store cache made) (sym is) (record {
+    cached = so.cached;
+    ascending = so.ascending;
+    each = so.each;
+    booked = record {
+      sound = (stays_sound book so.booked.sound).refused;
+      no_pins = so.booked.no_pins;
+      none_waits = so.booked.none_waits;
+      turn = so.booked.turn;
+      limit = so.booked.limit;
+      count = omega arith;
+      behind = so.booked.behind;
+    };
+  })
+  refused_kept cache faults.Device is so = absurd is
+  refused_kept cache faults.Kind is so = absurd is
+  refused_kept cache faults.Number is so = absurd is
+  refused_kept cache faults.Order is so = absurd is
+  refused_kept cache faults.Length is so = absurd is
+
+-- ---- as the call has it
+
+pub fresh_refused : {D : Type 0} (history : D → History) (store : TreeStore D) (made more : List Sheet) (retired : List ℕ) (book new_book : Book) (old : State D) → book.full_takes < 2 ^ 64
+    → record { store = store; made = made; retired = retired; book = book } ≡ old → more ≡ made → (fault : TreeFault) → Refuses fault book new_book → (content : Content) (result : Result ℕ TreeFault) → result ≡ Err fault
+    → let new : State D = record { store = store; made = more; retired = retired; book = new_book } in KeepsWord (store_of history new)
+    → MatchResult result (λ page. IsMade (store_of history old) (store_of history new) page content) (HasFailed (store_of history old) (store_of history new))
+fresh_refused {D = D} history store made more retired book new_book old count view_is same fault refuses content result is =
+    let new : List Sheet → State D = λ m. record { store = store; made = m; retired = retired; book = new_book } in
+    subst (λ (m : List Sheet). KeepsWord (store_of history (new m)) → MatchResult result (λ page. IsMade (store_of history old) (store_of history (new m)) page content) (HasFailed (store_of history old) (store_of history (new m)))) (sym same)
+    (subst (λ (s : State D). KeepsWord (store_of history (new made)) → MatchResult result (λ page. IsMade (store_of history s) (store_of history (new made)) page content) (HasFailed (store_of history s) (store_of history (new made)))) view_is
+    (λ word. subst (λ (r : Result ℕ TreeFault). MatchResult r (λ page. IsMade (store_of history (start history store made retired book new_book count)) (store_of history (new made)) page content) (HasFailed (store_of history (start history store made retired book new_book count)) (store_of history (new made)))) (sym is)
+    (take_failed history store made retired book new_book count fault refuses word)))
+
+pub fresh_done : {D : Type 0} (history : D → History) (store : TreeStore D) (cache : PageCache) (made more : List Sheet) (retired : List ℕ) (book new_book : Book) (old : State D) → IsKept history store cache made book
+    → record { store = store; made = made; retired = retired; book = book } ≡ old → (sheet : Sheet) → more ≡ made ++ sheet ∷ [] → Takes (Some sheet.page) book new_book → (page : ℕ) → sheet.page ≡ page → (content : Content) → sheet.content ≡ content
+    → let new : State D = record { store = store; made = more; retired = retired; book = new_book } in KeepsWord (store_of history new) → IsMade (store_of history old) (store_of history new) page content
+fresh_done {D = D} history store cache made more retired book new_book old so view_is sheet pushed takes page page_is content content_is =
+    let new : List Sheet → Book → State D = λ m b. record { store = store; made = m; retired = retired; book = b } in
+    subst (λ (m : List Sheet). KeepsWord (store_of history (new m new_book)) → IsMade (store_of history old) (store_of history (new m new_book)) page content) (sym pushed)
+    (subst (λ (b : Book). KeepsWord (store_of history (new (made ++ sheet ∷ []) b)) → IsMade (store_of history old) (store_of history (new (made ++ sheet ∷ []) b)) page content) (sym takes.1)
+    (subst (λ (s : State D). KeepsWord (store_of history (new (made ++ sheet ∷ []) (taken sheet.page book))) → IsMade (store_of history s) (store_of history (new (made ++ sheet ∷ []) (taken sheet.page book))) page content) view_is
+    (subst (λ (n : ℕ). KeepsWord (store_of history (new (made ++ sheet ∷ []) (taken sheet.page book))) → IsMade (store_of history (new made book)) (store_of history (new (made ++ sheet ∷ []) (taken sheet.page book))) n content) page_is
+    (subst (λ (x : Content). KeepsWord (store_of history (new (made ++ sheet ∷ []) (taken sheet.page book))) → IsMade (store_of history (new made book)) (store_of history (new (made ++ sheet ∷ []) (taken sheet.page book))) sheet.page x) content_is
+    (one_made history store cache made retired book so sheet takes.0)))))
+
+pub fresh_kept : {D : Type 0} (history : D → History) (store : TreeStore D) (cache after_cache : PageCache) (made more : List Sheet) (book new_book : Book) → IsKept history store cache made book
+    → (sheet : Sheet) → more ≡ made ++ sheet ∷ [] → Takes (Some sheet.page) book new_book → (page : ℕ) → sheet.page ≡ page → kept after_cache page ≡ None → ((n : ℕ) → n ≢ page → kept after_cache n ≡ kept cache n)
+    → (generation : ℕ) → sheet.generation ≡ generation → generation ≡ min ((durable_root store).generation + 1) (2 ^ 64 - 1) → IsKept history store after_cache more new_book
+fresh_kept history store cache after_cache made more book new_book so sheet pushed takes page page_is this others generation born is =
+    subst (λ (m : List Sheet). IsKept history store after_cache m new_book) (sym pushed)
+    (subst (IsKept history store after_cache (made ++ sheet ∷ [])) (sym takes.1)
+    (one_kept history store cache made [] book so sheet takes.0 after_cache (ap (kept after_cache) page_is ∙ this) (λ n ne. others n (λ same. ne (same ∙ sym page_is))) (omega (arith, born, is)) (omega (arith, born, is)) (omega (arith, born, is))))

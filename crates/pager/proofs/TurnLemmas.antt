@@ -1,0 +1,199 @@
+-- What is known of a pager whose turn began with committed entries.
+use Rattle.std.proofs.Common.{◌≡◌, ◌≢◌, ℕ, ◌+◌, ◌<◌, ◌≤◌, Bool, true, false, List, [], ◌∷◌, length, drop, map, get_or, refl, sym, ◌∙◌, ap, subst, arith, inl, inr}
+use Rattle.std.specs.Prelude.{◌&&◌, is_ok, Result, Ok}
+use Rattle.std.specs.List.{AllByRecursion}
+use Rattle.std.proofs.lemmas.Bool.{cases_lt}
+use Rattle.std.proofs.lemmas.List.{length-set}
+use Rattle.page.specs.Content.{is_of_tree}
+use Rattle.page.specs.Format.{Sheet}
+use Rattle.page.specs.History.{History, Sector, KeepsWord, now, reads}
+use Rattle.page.specs.Crash.{IsDurable}
+use Rattle.page.specs.PageLaws.{IsSheet}
+use Rattle.page.specs.declared.page_fault.PageFault.{PageFault}
+use Rattle.btree.specs.Keys.{Each, Entry, times}
+use Rattle.btree.specs.Store.{Base, Frame, Store, flag}
+use Rattle.btree.proofs.ReachLemmas.{Moves, map_moved}
+use Rattle.freelist.specs.Book.{Book, CanRewind, is_in_use, rewind}
+use Rattle.freelist.specs.Coding.{number_state, number_state-state_number, state_number}
+use Rattle.freelist.specs.declared.states.PageState.{PageState}
+use Rattle.freelist.specs.declared.states.PageState.TheVariants as states
+use Rattle.freelist.specs.declared.turns.Change.{Change}
+use Rattle.freelist.proofs.Rewinding.{below, used_is}
+use Rattle.roots.specs.declared.root.Root.{Root}
+use Rattle.roots.specs.tree.Image.{HoldsMap, OpensAs, content_in, sheet_at, store_of as image_store}
+use Rattle.roots.specs.tree.Store.{IsCommitted, durable_root, is_stopped}
+use Rattle.roots.specs.tree.Turn.{IsTurn as IsRootsTurn, LieBehind, made_or, next_root, numbers_of}
+use Rattle.roots.proofs.tree.KeptPages.{kept_there}
+use Rattle.pager.specs.Commit.{IsTurn}
+use Rattle.pager.specs.Kept.{IsBookFor, takes_of}
+use Rattle.pager.specs.State.{State}
+use Rattle.pager.specs.Turn.{IsBegun}
+use Rattle.pager.specs.View.{base_of, pager_history, sheets_of, store_of}
+use Rattle.pager.specs.Writing.{retired_all, written_of}
+use Rattle.pager.proofs.BookLemmas.{kept_use, one_time, taken_use}
+use Rattle.pager.proofs.ListLemmas.{all_weaker, made_none}
+use Rattle.pager.proofs.MemberLemmas.{all_filter, each_counted, member, more_times, times_reverse}
+use Rattle.pager.proofs.TreeLemmas.{IsOfTree, map_pages}
+
+-- ---- numbers that stand for states
+
+states_back : (pages : List PageState) → map number_state (map state_number pages) ≡ pages
+states_back [] = refl
+states_back (s ∷ pages) = (λ i. number_state-state_number s i ∷ states_back pages i)
+
+same_states : (one other : List PageState) → map state_number one ≡ map state_number other → one ≡ other
+same_states one other same = sym (states_back one) ∙ ap (map number_state) same ∙ states_back other
+
+length_rewind : (made : List Sheet) (pages : List PageState) → length (rewind (takes_of made) pages) ≡ length pages
+length_rewind [] pages = refl
+length_rewind (m ∷ made) pages = length-set (rewind (takes_of made) pages) m.page states.Free ∙ length_rewind made pages
+
+flag_some : (b : Bool) → 1 ≤ flag b → b ≡ true
+flag_some true some = refl
+flag_some false some = absurd (omega (arith, some))
+
+pub flag_most : (b : Bool) → flag b ≤ 1
+flag_most true = omega arith
+flag_most false = omega arith
+
+-- a flag that is one number, by whether the store has stopped
+running_by : (one other : Bool) → flag one ≡ flag other → other ≡ false → one ≡ false
+running_by true true same is = is
+running_by true false same is = absurd (omega (arith, same))
+running_by false other same is = refl
+
+module _ {D : Type 0} (history : D → History) (p start : State D) (frame : Frame (store_of history start) (store_of history p)) (live : List ℕ) (before : List Entry) (begun : IsBegun history start live before)
+    (booked : IsBookFor p.made p.book) where
+  base_same : base_of history p ≡ base_of history start
+  base_same = frame.base
+
+  sectors_same : now (pager_history history p) ≡ now (pager_history history start)
+  sectors_same = ap (λ (b : Base). b.sectors) base_same
+
+  number_same : (i : ℕ) → get_or (base_of history p).numbers i 0 ≡ get_or (base_of history start).numbers i 0
+  number_same i = ap (λ (b : Base). get_or b.numbers i 0) base_same
+
+  root_same : durable_root p.store ≡ durable_root start.store
+  root_same =
+      let one : (durable_root p.store).generation ≡ (durable_root start.store).generation = number_same 1 in
+      let two : (durable_root p.store).tree ≡ (durable_root start.store).tree = number_same 2 in
+      let three : (durable_root p.store).pages ≡ (durable_root start.store).pages = number_same 3 in
+      (λ i. record { generation = one i; tree = two i; pages = three i })
+
+  -- the entries that the turn began with are committed still
+  pub committed_still : IsCommitted history p.store live before
+  committed_still =
+      let then_committed = begun.committed frame.word in
+      record {
+        running = running_by (is_stopped p.store) (is_stopped start.store) (number_same 0) then_committed.running;
+        keeps = record {
+          opens = λ k. subst (λ (s : ℕ → Sector). OpensAs (reads s) (durable_root p.store)) (sym sectors_same) (subst (λ (r : Root). OpensAs (reads (now (pager_history history start))) r) (sym root_same) (then_committed.keeps.opens frame.word));
+          holds = λ k. subst (λ (s : ℕ → Sector). HoldsMap (sheet_at (reads s) (durable_root p.store)) (durable_root p.store) live before) (sym sectors_same)
+              (subst (λ (r : Root). HoldsMap (sheet_at (reads (now (pager_history history start))) r) r live before) (sym root_same) (then_committed.keeps.holds frame.word));
+          durable = λ k j kept. subst (λ (s : ℕ → Sector). IsDurable (s j)) (sym sectors_same) (then_committed.keeps.durable frame.word j kept);
+        };
+      }
+
+  -- what each page was when the turn began
+  pub states_then : rewind (takes_of p.made) p.book.states ≡ start.book.states
+  states_then =
+      ap (λ (turn : List Change). rewind turn p.book.states) (sym booked.turn)
+      ∙ same_states (rewind p.book.turn p.book.states) (rewind start.book.turn start.book.states) (ap (λ (b : Base). drop 4 b.numbers) base_same)
+      ∙ ap (λ (turn : List Change). rewind turn start.book.states) begun.turn
+
+  pub length_then : length start.book.states ≡ length p.book.states
+  length_then = ap length (sym states_then) ∙ length_rewind p.made p.book.states
+
+  can : CanRewind (takes_of p.made) p.book.states
+  can = subst (λ (turn : List Change). CanRewind turn p.book.states) booked.turn booked.sound.undoable
+
+  pub used_now : (n : ℕ) → n < length p.book.states → times n live + times n (numbers_of p.made) ≡ flag (is_in_use p.book.states n)
+  used_now n within =
+      let then_used : times n live ≡ flag (is_in_use start.book.states n) = (begun.in_use frame.word).used n (omega (arith, within, length_then)) in
+      let same : flag (is_in_use (rewind (takes_of p.made) p.book.states) n) ≡ flag (is_in_use start.book.states n) = ap (λ (pages : List PageState). flag (is_in_use pages n)) states_then in
+      omega (arith, then_used, same, taken_use p.made p.book.states can n)
+
+  made_within : (n : ℕ) → 1 ≤ times n (numbers_of p.made) → n < length p.book.states
+  made_within n some =
+      let used : is_in_use p.book.states n ≡ true = flag_some (is_in_use p.book.states n) (omega (arith, some, taken_use p.made p.book.states can n)) in
+      below p.book.states n states.InUse (used_is (get_or p.book.states n states.Retired) used) (λ e. cc)
+
+  made_apart : AllByRecursion (λ (m : Sheet). times m.page live ≡ 0) p.made
+  made_apart = all_weaker (λ (m : Sheet). 1 ≤ times m.page (numbers_of p.made)) (λ (m : Sheet). times m.page live ≡ 0)
+      (λ m some. omega (arith, some, used_now m.page (made_within m.page some), flag_most (is_in_use p.book.states m.page))) p.made (each_counted p.made)
+
+  pub times_once : KeepsWord (pager_history history p) → (n : ℕ) → times n live + times n (numbers_of p.made) ≤ 1
+  times_once k n = elim (cases_lt n (length p.book.states)) [
+    | inl within ↦ omega (arith, used_now n within, flag_most (is_in_use p.book.states n))
+    | inr past ↦ elim (cases_lt 0 (times n (numbers_of p.made))) [
+      | inl some ↦ absurd (omega (arith, past, made_within n (omega (arith, some))))
+      | inr none ↦ omega (arith, none, (committed_still.keeps.holds k).once n)
+    ]
+  ]
+
+  -- ---- the turn as its store sees it
+
+  module _ (root : ℕ) (pages : List ℕ) (after : List Entry) (turn : IsTurn history start p root live pages after) (version : ℕ) where
+    abbrev planned : Book
+    planned = retired_all version p.retired p.book
+
+    abbrev written : List Sheet
+    written = written_of planned p.made
+
+    abbrev test : Sheet → Bool
+    test sheet = is_of_tree sheet.content && is_in_use planned.states sheet.page
+
+    abbrev next : Root
+    next = next_root (durable_root p.store) written root
+
+    abbrev image : ℕ → List ℕ
+    image = reads (now (pager_history history p))
+
+    abbrev after_store : Store
+    after_store = image_store (λ j. made_or written j (sheet_at image next j))
+
+    pub account : (n : ℕ) → times n pages + times n p.retired ≡ times n live + times n (numbers_of p.made)
+    account n = omega (arith, turn.account n, times_reverse n p.retired, times_reverse n (numbers_of p.made))
+
+    live_part : (a b : Bool) → (a && b) ≡ true → a ≡ true
+    live_part true b is = refl
+    live_part false b is = absurd cc
+
+    moved_page : KeepsWord (pager_history history p) → (n : ℕ) → 1 ≤ times n pages → IsOfTree (store_of history p) n → Moves (store_of history p) after_store n
+    moved_page k n reached whole content at =
+        let there : is_ok (sheets_of history p n) ≡ true = live_part (is_ok (sheets_of history p n)) _ at.live in
+        elim (member p.made n) [
+          | inl none ↦
+              let other : sheets_of history p n ≡ sheet_at image (durable_root p.store) n = made_none p.made n (sheet_at image (durable_root p.store) n) none in
+              kept_there image (durable_root p.store) written root n content (all_filter (λ (m : Sheet). m.page ≢ n) test p.made none)
+              (record { number = at.number; live = ap is_ok (sym other) ∙ there; holds = ap content_in (sym other) ∙ at.holds })
+          | inr r ↦
+              let is : sheets_of history p n ≡ Ok r.sheet = r.there (sheet_at image (durable_root p.store) n) in
+              let within = made_within n r.count in
+              let none : times n p.retired ≡ 0 = omega (arith, reached, account n, times_once k n) in
+              let used : is_in_use p.book.states n ≡ true = flag_some (is_in_use p.book.states n) (omega (arith, used_now n within, r.count)) in
+              let stays : is_in_use planned.states r.sheet.page ≡ true = ap (is_in_use planned.states) r.is ∙ kept_use version p.retired n p.book none ∙ used in
+              let fits : is_of_tree r.sheet.content ≡ true = ap (λ (found : Result Sheet PageFault). is_of_tree (content_in found)) (sym is) ∙ whole in
+              let passes : test r.sheet ≡ true = (λ i. fits i && stays i) in
+              let found : made_or written n (sheet_at image next n) ≡ Ok r.sheet = r.passed test passes (sheet_at image next n) in
+              record { number = at.number; live = ap is_ok found; holds = ap content_in found ∙ ap content_in (sym is) ∙ at.holds }
+        ]
+
+    moved_pages : KeepsWord (pager_history history p) → (some : List ℕ) → Each (IsOfTree (store_of history p)) some → ((n : ℕ) → times n some ≤ times n pages) → Each (Moves (store_of history p) after_store) some
+    moved_pages k [] whole less = tt
+    moved_pages k (n ∷ rest) whole less = (
+      moved_page k n (omega (arith, less n, one_time n n rest refl)) whole.0,
+      moved_pages k rest whole.1 (λ m. omega (arith, less m, more_times m n rest)),
+    )
+
+    pub roots_turn : LieBehind 0 written → AllByRecursion (λ (m : Sheet). m.page < 1048576) written → AllByRecursion (IsSheet ((durable_root p.store).generation + 1)) written → KeepsWord (pager_history history p) → IsRootsTurn (pager_history history p) (durable_root p.store) live written root pages after
+    roots_turn lie inside sheets k = record {
+      ascending = lie;
+      inside = inside;
+      sheets = sheets;
+      free = all_filter (λ (m : Sheet). times m.page live ≡ 0) test p.made made_apart;
+      holds = λ _. record {
+        map = map_moved (store_of history p) after_store root pages after (moved_pages k pages (map_pages (store_of history p) root pages after turn.holds) (λ n. omega arith)) turn.holds;
+        once = λ n. omega (arith, account n, times_once k n);
+      };
+    }

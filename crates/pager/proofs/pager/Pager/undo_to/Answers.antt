@@ -1,0 +1,30 @@
+use Rattle.std.proofs.Common.{◌≡◌, ℕ, List, take, sym, subst, ap, ◌∙◌}
+use Rattle.page.specs.Format.{Sheet}
+use Rattle.freelist.specs.Book.{Book, undone}
+use Rattle.pager.specs.Kept.{IsKept}
+use Rattle.pager.specs.State.{State}
+use Rattle.pager.specs.Turn.{LeadsBack}
+use Rattle.pager.proofs.UndoLemmas.{kept_undone, leads_back}
+use Rattle.pager.proofs.pager.Pager.undo_to.Goals as goal
+
+pub invariant_of-self : goal.invariant_of-self
+invariant_of-self g c =
+    let i = c.self.inside in
+    let book : c.undo_to.new.self ≡ undone c.args.mark.made i.book = c.undo_to.ensures ∙ ap (λ (n : ℕ). undone n i.book) c.args.mark.same in
+    subst (λ (m : List Sheet). IsKept g.D.Disk.history i.store i.cache m c.undo_to.new.self) (sym c.truncate.ensures.items)
+    (subst (λ (b : Book). IsKept g.D.Disk.history i.store i.cache (take c.args.mark.made i.made.items) b) (sym book)
+    (kept_undone g.D.Disk.history i.store i.cache i.made.items i.book c.self.invariant c.args.mark.made))
+
+pub returns-clause-begun : goal.returns-clause-begun
+returns-clause-begun g c =
+    let D = g.row.D.Denot in
+    let history = g.D.Disk.history in
+    let i = c.self.inside in
+    let made = c.args.mark.made in
+    let retired = c.args.mark.retired in
+    let book : c.undo_to.new.self ≡ undone made i.book = c.undo_to.ensures ∙ ap (λ (n : ℕ). undone n i.book) c.args.mark.same in
+    let after : List Sheet → List ℕ → Book → State D = λ m r b. record { store = i.store; made = m; retired = r; book = b } in
+    let p : State D = after i.made.items i.retired.items i.book in
+    subst (λ (s : State D). LeadsBack history made retired s (after c.truncate.new.self.items c.truncate-2.new.self.items c.undo_to.new.self)) c.self.view_is
+    (subst (LeadsBack history made retired p) (λ j. after (sym c.truncate.ensures.items j) (sym c.truncate-2.ensures.items j) (sym book j))
+    (leads_back history i.store i.cache i.made.items i.retired.items i.book c.self.invariant made retired))

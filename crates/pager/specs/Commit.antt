@@ -1,0 +1,62 @@
+-- What the commit of a turn does.
+use Rattle.std.specs.Prelude.{◌≡◌, ◌⊎◌, ℕ, ◌+◌, ◌-◌, ◌^◌, true, List, Result, Err, OnOk}
+use Rattle.page.specs.History.{History, KeepsWord}
+use Rattle.page.specs.Crash.{GoesOn, LeavesOnly, LeavesNow}
+use Rattle.btree.specs.Keys.{Entry, times}
+use Rattle.btree.specs.Reach.{HasMap}
+use Rattle.btree.specs.Store.{Frame}
+use Rattle.roots.specs.tree.Image.{StandsFor}
+use Rattle.roots.specs.tree.Store.{HasDeviceCause, IsRunning, durable_root, is_stopped}
+use Rattle.roots.specs.declared.store.CommitFault.{CommitFault}
+use Rattle.roots.specs.declared.store.CommitFault.TheVariants as faults
+use Rattle.pager.specs.State.{State}
+use Rattle.pager.specs.Turn.{IsBegun}
+use Rattle.pager.specs.View.{pager_history, store_of}
+
+-- A turn was committed with this root page, or not.
+pub record Commits {D : Type 0} (history : D → History) (root : ℕ)
+    (result : Result (Unit {0}) CommitFault) (old new : State D) : Type 0 where
+  pub on : GoesOn (pager_history history old) (pager_history history new)
+  pub running : OnOk result (IsRunning old.store × IsRunning new.store)
+  pub version : OnOk result
+      ((durable_root new.store).generation ≡ (durable_root old.store).generation + 1)
+  pub tree : OnOk result ((durable_root new.store).tree ≡ root)
+  -- nothing changed
+  pub memory : result ≡ Err faults.Memory → new ≡ old
+  -- Full comes only where no greater generation is left
+  pub full : result ≡ Err faults.Full
+      → ((durable_root old.store).generation ≡ 2 ^ 64 - 1) × (new ≡ old)
+  pub device : result ≡ Err faults.Device → KeepsWord (pager_history history new)
+      → HasDeviceCause history old.store new.store
+  -- the turn is still there, to be undone
+  pub stops : result ≡ Err faults.Device
+      → (is_stopped new.store ≡ true) × (new ≡ record old { store = new.store })
+
+-- A turn since the pager began, whose tree below the root page reaches these pages and has these entries.
+pub record IsTurn {D : Type 0} (history : D → History) (start now : State D) (root : ℕ)
+    (live : List ℕ) (pages : List ℕ) (entries : List Entry) : Type 0 where
+  pub frame : Frame (store_of history start) (store_of history now)
+  pub holds : HasMap (store_of history now) root pages entries
+  -- what is reached was reached before or made, and isn't retired
+  pub account : let store = store_of history now in
+      (n : ℕ) → times n pages + times n store.retired ≡ times n live + times n store.made
+
+-- A crash at any moment of the call leaves the entries from before, or those of the turn. At Ok it leaves the turn's alone,
+-- and the next turn may begin.
+pub record Moves {D : Type 0} (history : D → History) (pages : List ℕ) (before after : List Entry)
+    (result : Result (Unit {0}) CommitFault) (old new : State D) : Type 0 where
+  pub any_moment : LeavesOnly (pager_history history old) (pager_history history new)
+      (λ image. StandsFor image before ⊎ StandsFor image after)
+  pub acknowledged : OnOk result (LeavesNow (pager_history history new)
+      (λ image. StandsFor image after))
+  pub begun : OnOk result (IsBegun history new pages after)
+
+-- For whatever entries the turn began with, and whatever tree it made of them.
+abbrev pub MovesTurns : {D : Type 0} → (D → History) → ℕ → Result (Unit {0}) CommitFault
+    → State D → State D → Type 0
+MovesTurns {D = D} history root result old new =
+    (start : State D) (live : List ℕ) (before : List Entry) → IsBegun history start live before
+    → (pages : List ℕ) (after : List Entry)
+    → (KeepsWord (pager_history history old)
+    → IsTurn history start old root live pages after)
+    → Moves history pages before after result old new

@@ -1,0 +1,52 @@
+-- What holds of every pager: its cache agrees with its disk, and its turn with its book.
+use Rattle.std.specs.Prelude.{◌≡◌, ℕ, ◌+◌, ◌<◌, ◌≤◌, ◌^◌, true, List, [], length, map, Some, None, Ok}
+use Rattle.std.specs.List.{AllByRecursion}
+use Rattle.page.specs.Cache.{kept}
+use Rattle.page.specs.Format.{Sheet}
+use Rattle.page.specs.History.{History, KeepsWord, now, reads}
+use Rattle.page.specs.declared.page_cache.PageCache.{PageCache}
+use Rattle.freelist.specs.Book.{Book, is_free}
+use Rattle.freelist.specs.Sound.{IsSound}
+use Rattle.freelist.specs.declared.turns.Change.{Change}
+use Rattle.freelist.specs.declared.turns.Change.TheVariants as changes
+use Rattle.roots.specs.declared.tree_store.TreeStore.{TreeStore}
+use Rattle.roots.specs.tree.Image.{sheet_at}
+use Rattle.roots.specs.tree.Store.{disk_history, durable_root}
+use Rattle.roots.specs.tree.Turn.{LieBehind}
+
+-- while the disk keeps its word, each page in the cache is the one on the disk
+abbrev pub Agrees : {D : Type 0} → (D → History) → TreeStore D → PageCache → Type 0
+Agrees history store cache =
+    KeepsWord (disk_history history store) → (n : ℕ) (sheet : Sheet) → kept cache n ≡ Some sheet
+    → sheet_at (reads (now (disk_history history store))) (durable_root store) n ≡ Ok sheet
+
+-- A page that the turn made. It isn't in the cache.
+pub record IsNew (generation : ℕ) (cache : PageCache) (sheet : Sheet) : Type 0 where
+  pub inside : sheet.page < 1048576
+  pub some : 1 ≤ sheet.generation
+  pub small : sheet.generation < 2 ^ 64
+  pub until : sheet.generation ≤ generation + 1
+  pub uncached : kept cache sheet.page ≡ None
+
+-- in the book the turn took these pages, and retired none
+abbrev pub takes_of : List Sheet → List Change
+takes_of made = map (λ sheet. changes.Taken sheet.page) made
+
+-- nothing is pinned, so nothing waits
+pub record IsBookFor (made : List Sheet) (book : Book) : Type 0 where
+  pub sound : IsSound book
+  pub no_pins : book.pins ≡ []
+  pub none_waits : book.waiting ≡ []
+  pub turn : book.turn ≡ takes_of made
+  pub limit : length book.states ≤ 1048576
+  pub count : book.full_takes < 2 ^ 64
+  -- what is free lies behind the pages that the turn made
+  pub behind : (n : ℕ) → is_free book.states n ≡ true
+      → AllByRecursion (λ (sheet : Sheet). sheet.page < n) made
+
+pub record IsKept {D : Type 0} (history : D → History) (store : TreeStore D) (cache : PageCache)
+    (made : List Sheet) (book : Book) : Type 0 where
+  pub cached : Agrees history store cache
+  pub ascending : LieBehind 0 made
+  pub each : AllByRecursion (IsNew (durable_root store).generation cache) made
+  pub booked : IsBookFor made book

@@ -1,0 +1,39 @@
+-- What opening a pager gives.
+use Rattle.std.specs.Prelude.{◌≡◌, ℕ, ◌<◌, List}
+use Rattle.page.specs.History.{History, KeepsWord, IsImage, now, reads}
+use Rattle.page.specs.Crash.{GoesOn, LeavesNow, LeavesOnly}
+use Rattle.btree.specs.Keys.{Entry}
+use Rattle.roots.specs.declared.opening.OpenFault.{OpenFault}
+use Rattle.roots.specs.declared.opening.OpenFault.TheVariants as faults
+use Rattle.roots.specs.tree.Image.{HoldsMap, OpensAs, StandsFor, sheet_at}
+use Rattle.roots.specs.tree.Store.{IsRunning, durable_root}
+use Rattle.pager.specs.State.{State}
+use Rattle.pager.specs.Turn.{IsBegun}
+use Rattle.pager.specs.View.{pager_history}
+
+-- The disk was opened as this pager, by reads and a sync alone.
+pub record IsOpened {D : Type 0} (history : D → History) (disk : D) (pager : State D) : Type 0 where
+  pub running : IsRunning pager.store
+  pub on : GoesOn (history disk) (pager_history history pager)
+  -- its root is the one that the disk's sectors give
+  pub opens : KeepsWord (pager_history history pager)
+      → OpensAs (reads (now (history disk))) (durable_root pager.store)
+  -- a turn may begin with whatever entries this root has
+  pub begun : (live : List ℕ) (entries : List Entry)
+      → (KeepsWord (pager_history history pager) → let image = reads (now (history disk)) in
+      HoldsMap (sheet_at image (durable_root pager.store)) (durable_root pager.store) live entries)
+      → IsBegun history pager live entries
+  pub alone : (entries : List Entry) → StandsFor (reads (now (history disk))) entries
+      → LeavesNow (pager_history history pager) (λ image. StandsFor image entries)
+  -- where reads give one of the images, those during the call and after it are among those from before
+  pub any_moment : IsImage (now (history disk)) (reads (now (history disk)))
+      → LeavesOnly (history disk) (pager_history history pager) (IsImage (now (history disk)))
+
+-- The disk was handed back, after reads and at most one sync.
+pub record IsRefused {D : Type 0} (history : D → History) (disk back : D)
+    (fault : OpenFault) : Type 0 where
+  pub on : GoesOn (history disk) (history back)
+  pub any_moment : IsImage (now (history disk)) (reads (now (history disk)))
+      → LeavesOnly (history disk) (history back) (IsImage (now (history disk)))
+  pub device : fault ≡ faults.Device → KeepsWord (history back)
+      → (history disk).failures < (history back).failures

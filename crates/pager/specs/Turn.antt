@@ -1,0 +1,42 @@
+-- Between two commits of a pager.
+use Rattle.std.specs.Prelude.{◌≡◌, ℕ, ◌<◌, not, List, [], take, length}
+use Rattle.page.specs.History.{History, KeepsWord}
+use Rattle.btree.specs.Keys.{Entry, times}
+use Rattle.btree.specs.Store.{Frame, flag}
+use Rattle.freelist.specs.Book.{Book, is_free, is_in_use, undone}
+use Rattle.roots.specs.tree.Store.{IsCommitted}
+use Rattle.pager.specs.State.{State}
+use Rattle.pager.specs.View.{pager_history, store_of}
+
+-- Below the limit of the book just these pages are in use, and the others from page 1 on are free.
+pub record AreInUse (pages : List ℕ) (book : Book) : Type 0 where
+  pub used : (n : ℕ) → n < length book.states
+      → times n pages ≡ flag (is_in_use book.states n)
+  pub others : (n : ℕ) → 0 < n → n < length book.states
+      → is_free book.states n ≡ not (is_in_use book.states n)
+
+-- No turn runs: nothing was made or retired. While the disk keeps its word, these entries are committed, and in the book just
+-- the pages that their tree reaches are in use.
+pub record IsBegun {D : Type 0} (history : D → History) (p : State D) (live : List ℕ)
+    (entries : List Entry) : Type 0 where
+  pub made : p.made ≡ []
+  pub retired : p.retired ≡ []
+  pub turn : p.book.turn ≡ []
+  pub committed : KeepsWord (pager_history history p) → IsCommitted history p.store live entries
+  pub in_use : KeepsWord (pager_history history p) → AreInUse live p.book
+
+-- Undoing all that was made and retired since a turn began leads back to a pager that begins with the same entries.
+abbrev pub LeadsBack : {D : Type 0} → (D → History) → ℕ → ℕ → State D → State D → Type 0
+LeadsBack {D = D} history made retired old new =
+    (start : State D) (live : List ℕ) (entries : List Entry) → IsBegun history start live entries
+    → (KeepsWord (pager_history history old)
+    → Frame (store_of history start) (store_of history old))
+    → made ≡ 0 → retired ≡ 0 → IsBegun history new live entries
+
+-- the pager without what the turn made and retired, but the first so many
+abbrev pub undone_to : {D : Type 0} → ℕ → ℕ → State D → State D
+undone_to made retired p = record p {
+  made = take made p.made;
+  retired = take retired p.retired;
+  book = undone made p.book;
+}

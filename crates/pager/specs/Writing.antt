@@ -1,0 +1,26 @@
+-- What a commit writes, and what it makes of the book and the cache.
+use Rattle.std.specs.Prelude.{◌≡◌, ◌⊎◌, ℕ, ◌&&◌, List, [], ◌∷◌, Some}
+use Rattle.std.specs.List.{filter}
+use Rattle.page.specs.Cache.{kept}
+use Rattle.page.specs.Content.{is_of_tree}
+use Rattle.page.specs.Format.{Sheet}
+use Rattle.page.specs.declared.page_cache.PageCache.{PageCache}
+use Rattle.freelist.specs.Book.{Book, is_in_use, retired}
+
+-- the book after these pages were retired, one after the other
+abbrev pub retired_all : ℕ → List ℕ → Book → Book
+retired_all version [] book = book
+retired_all version (page ∷ pages) book = retired_all version pages (retired page version book)
+
+-- the pages that are written: those that are in use, as far as a tree may have them
+abbrev pub written_of : Book → List Sheet → List Sheet
+written_of book made = filter (λ sheet. is_of_tree sheet.content && is_in_use book.states sheet.page) made
+
+abbrev pub IsAmong : Sheet → List Sheet → Type 0
+IsAmong sheet [] = ⊥
+IsAmong sheet (other ∷ others) = (sheet ≡ other) ⊎ IsAmong sheet others
+
+-- what is kept was kept before, or is one of these pages
+abbrev pub KeepsAll : List Sheet → PageCache → PageCache → Type 0
+KeepsAll pages before after = (n : ℕ) (found : Sheet) → kept after n ≡ Some found
+    → (kept before n ≡ Some found) ⊎ ((found.page ≡ n) × IsAmong found pages)

@@ -1,0 +1,13 @@
+//! The pages of a database file, as a tree of pages needs them: read through a cache, given out from a book of free pages, and
+//! made durable or taken back as one turn.
+#![tactic(auto)]
+
+mod finding;
+mod mark;
+mod pager;
+mod reading;
+mod taking;
+mod writing;
+
+pub use mark::Mark;
+pub use pager::Pager;

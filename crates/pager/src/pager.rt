@@ -1,0 +1,191 @@
+//! The pages of a database file.
+ghost use Rattle.std.specs.Prelude.{◌≡◌};
+
+use crate::finding::find_page;
+use crate::mark::Mark;
+use crate::reading::read_page;
+use crate::taking::take_page;
+use crate::writing::{keep_all, plan_commit};
+use btree::{Pages, TreeFault};
+use freelist::FreePages;
+use page::{Disk, PageCache, PageContent, SharedPage};
+use roots::{CommitFault, MAX_PAGES, OpenFault, TreeStore};
+use std::alloc::Global;
+use std::marker::Model;
+
+/// The pages of a database file: those of the tree that is committed, read through a cache, and those that the running turn has made
+/// and retired since then.
+#[derive(Drop)]
+pub struct Pager<D: Disk> {
+    alloc: Global,
+    store: TreeStore<D>,
+    cache: PageCache,
+    book: FreePages,
+    made: Vec<SharedPage>,
+    retired: Vec<u32>,
+}
+
+impl<D: Disk> Model for Pager<D> {
+    ghost use Rattle.pager.specs.State.{State};
+
+    ghost Value = { State D };
+
+    ghost use Rattle.pager.specs.Kept.{IsKept};
+
+    ghost view = { λ a. record {
+      store = a.store;
+      made = a.made.items;
+      retired = a.retired.items;
+      book = a.book;
+    } };
+
+    ghost invariant = { λ a. IsKept D.history a.store a.cache a.made.items a.book };
+}
+
+impl<D: Disk> Pager<D> {
+    ghost use Rattle.std.specs.Prelude.{IfOk, IfErr, length};
+    ghost use Rattle.page.specs.History.{KeepsWord};
+    ghost use Rattle.btree.specs.Keys.{Entry};
+    ghost use Rattle.btree.specs.Store.{Frame};
+    ghost use Rattle.roots.specs.tree.Store.{durable_root, is_stopped};
+    ghost use Rattle.pager.specs.Commit.{Commits, MovesTurns};
+    ghost use Rattle.pager.specs.Opening.{IsOpened, IsRefused};
+    ghost use Rattle.pager.specs.State.{State};
+    ghost use Rattle.pager.specs.Turn.{LeadsBack, undone_to};
+    ghost use Rattle.pager.specs.View.{pager_history};
+
+    /// Opens a disk that a crash may have left, as a file of at most so many pages, or those that it has. It reads each page of
+    /// the tree once. An `Err` hands the disk back.
+    pub fn open(alloc: Global, disk: D, limit: u32) -> Result<Pager<D>, (D, OpenFault)>
+        ensures opened { IfOk result (IsOpened D.history disk) }
+        ensures refused { IfErr result (λ e. IsRefused D.history disk e.0 e.1) }
+    {
+        let mut store = match TreeStore::open(disk) {
+            Ok(store) => store,
+            Err(refused) => return Err(refused),
+        };
+        let Ok(cache) = PageCache::new(alloc) else {
+            return Err((store.into_disk(), OpenFault::Memory));
+        };
+        let book = match store.free_pages(alloc, limit.min(MAX_PAGES)) {
+            Ok(book) => book,
+            Err(fault) => return Err((store.into_disk(), fault)),
+        };
+        Ok(Pager {
+            alloc,
+            store,
+            cache,
+            book,
+            made: Vec::new(alloc),
+            retired: Vec::new(alloc),
+        })
+    }
+
+    /// Hands the disk back as it is.
+    pub fn into_disk(self) -> D
+        ensures { D.history result ≡ pager_history D.history self }
+    {
+        self.store.into_disk()
+    }
+
+    /// The root page of the committed tree, or 0 where it is empty.
+    pub fn root(&self) -> u32
+        ensures { result ≡ (durable_root self.now.store).tree }
+    {
+        self.store.root().tree
+    }
+
+    /// The number of the commit that was the last one.
+    pub fn generation(&self) -> u64
+        ensures { result ≡ (durable_root self.now.store).generation }
+    {
+        self.store.root().generation
+    }
+
+    /// Whether a write or a sync has failed. A stopped pager commits nothing any more.
+    pub fn is_stopped(&self) -> bool
+        ensures { result ≡ is_stopped self.now.store }
+    {
+        self.store.is_stopped()
+    }
+
+    /// How far the running turn has come.
+    pub fn mark(&self) -> Mark
+        ensures made { result.made ≡ length self.now.made }
+        ensures retired { result.retired ≡ length self.now.retired }
+    {
+        Mark {
+            book: self.book.mark(),
+            made: self.made.len(),
+            retired: self.retired.len(),
+        }
+    }
+
+    /// Takes back what the turn has made and retired since a mark of it.
+    pub fn undo_to(&mut self, mark: Mark)
+        ensures undone { self.new ≡ undone_to mark.made mark.retired self.old }
+        ensures begun { LeadsBack D.history mark.made mark.retired self.old self.new }
+    {
+        self.book.undo_to(mark.book);
+        self.made.truncate(mark.made);
+        self.retired.truncate(mark.retired);
+    }
+
+    /// Makes the tree below this page the committed one: the pages that the turn made and didn't retire are written, then the
+    /// root. What it retired is free from then on. An `Err` leaves the turn, to be undone. It reads nothing.
+    pub fn commit(&mut self, root: u32) -> Result<(), CommitFault>
+        ensures commits { Commits D.history root result self.old self.new }
+        ensures moves { MovesTurns D.history root result self.old self.new }
+    {
+        let mark = self.book.mark();
+        let version = self.store.root().generation;
+        let Ok(written) = plan_commit(
+            self.alloc,
+            &mut self.book,
+            &self.made,
+            &self.retired,
+            version,
+        ) else {
+            return Err(CommitFault::Memory);
+        };
+        if let Err(fault) = self.store.commit(&written, root) {
+            self.book.undo_to(mark);
+            return Err(fault);
+        }
+        self.book.commit(self.store.root().generation);
+        keep_all(&mut self.cache, &written);
+        self.made.clear();
+        self.retired.clear();
+        Ok(())
+    }
+}
+
+impl<D: Disk> Pages for Pager<D> {
+    ghost use Rattle.pager.specs.View.{store_of};
+
+    ghost store = { λ p. store_of D.history p };
+
+    fn read(&mut self, page: u32) -> Result<SharedPage, TreeFault> {
+        if let Some(shared) = find_page(&self.made, page) {
+            return Ok(shared.share()?);
+        }
+        read_page(self.alloc, &mut self.store, &mut self.cache, page)
+    }
+
+    fn fresh(&mut self, content: PageContent) -> Result<u32, TreeFault> {
+        self.made.reserve(1)?;
+        let generation = self.store.root().generation.saturating_add(1);
+        let shared = take_page(self.alloc, &mut self.book, generation, content)?;
+        let page = shared.image().page;
+        self.cache.remove(page);
+        self.made.push(shared).unwrap();
+        Ok(page)
+    }
+
+    fn retire(&mut self, page: u32) -> Result<(), TreeFault> {
+        match self.retired.push(page) {
+            Ok(()) => Ok(()),
+            Err(_) => Err(TreeFault::Memory),
+        }
+    }
+}
