@@ -1,5 +1,5 @@
 -- What calls of the collections give, and why they refuse.
-use Rattle.std.specs.Prelude.{◌≡◌, ◌⊎◌, ℕ, ◌<◌, ◌≤◌, true, List, length, Result, IfErr, MatchResult}
+use Rattle.std.specs.Prelude.{◌≡◌, ◌⊎◌, ℕ, ◌<◌, ◌≤◌, true, List, [], length, Result, IfErr, OnErr, MatchResult}
 use Rattle.page.specs.History.{History, KeepsWord}
 use Rattle.btree.specs.Keys.{Entry, Edit}
 use Rattle.btree.specs.Store.{Grows, HasNoPage}
@@ -7,7 +7,7 @@ use Rattle.path.specs.declared.refusal.Refusal.{Refusal}
 use Rattle.path.specs.declared.refusal.Refusal.TheVariants as refusals
 use Rattle.index.specs.State.{Collection}
 use Rattle.index.specs.StateEntries.{Leads, Spells}
-use Rattle.index.specs.Documents.{IsState}
+use Rattle.index.specs.Documents.{IsUnindexed}
 use Rattle.collections.specs.declared.collections.Collections.{Collections}
 use Rattle.collections.specs.Standing.{HasState}
 use Rattle.collections.specs.View.{disk_history, is_changed, is_stopped, pages_of}
@@ -59,10 +59,12 @@ HasWriteCause history after old new e =
 pub record Applies {D : Type 0} (history : D → History) (edits : List Edit)
     (result : Result (Unit {0}) Refusal) (old new : Collections D) : Type 0 where
   pub on : GoesFrom history old new
+  pub idle : edits ≡ [] → new ≡ old
+  pub unchanged : OnErr result (is_changed new ≡ is_changed old)
   pub state : (start before after : List Collection) → HasState history old start before
-      → Leads edits before after → IsState after
+      → Leads edits before after → IsUnindexed after
       → MatchResult result (λ _. HasState history new start after)
       (λ _. HasState history new start before)
   pub cause : KeepsWord (disk_history history new) → (start before after : List Collection)
-      → HasState history old start before → Leads edits before after → IsState after
+      → HasState history old start before → Leads edits before after → IsUnindexed after
       → IfErr result (HasWriteCause history after old new)

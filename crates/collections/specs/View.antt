@@ -1,5 +1,5 @@
 -- What the collections of a file are kept in, as their callers see it.
-use Rattle.std.specs.Prelude.{ℕ, Bool}
+use Rattle.std.specs.Prelude.{ℕ, ◌==◌, Bool, not}
 use Rattle.page.specs.History.{History}
 use Rattle.btree.specs.Store.{Store}
 use Rattle.roots.specs.tree.Store as stores
@@ -18,9 +18,9 @@ pages_of history c = pagers.store_of history c.pager
 abbrev pub is_stopped : {D : Type 0} → Collections D → Bool
 is_stopped c = stores.is_stopped c.pager.store
 
--- the turn has changed something
+-- The turn has changed something: its tree isn't the committed one.
 abbrev pub is_changed : {D : Type 0} → Collections D → Bool
-is_changed c = pagers.is_changed c.pager
+is_changed c = not (c.root == (stores.durable_root c.pager.store).tree)
 
 -- the number of the last commit
 abbrev pub generation : {D : Type 0} → Collections D → ℕ

@@ -1,20 +1,14 @@
 //! Turns of a database file.
 
-ghost use Rattle.std.specs.Prelude.{◌≡◌, false, IfErr, IfOk, List};
-ghost use Rattle.btree.specs.EditView.{edit_in};
-ghost use Rattle.collections.specs.Calls.{Applies, GoesFrom};
+ghost use Rattle.std.specs.Prelude.{◌≡◌, [], false, length, IfErr, IfOk};
 ghost use Rattle.collections.specs.Committing.{Commits};
+ghost use Rattle.collections.specs.Marks.{IsMarkOf, ReturnsTo, Undoes};
 ghost use Rattle.collections.specs.Opening.{IsOpened, IsRefused};
-ghost use Rattle.collections.specs.Standing.{HasState};
 ghost use Rattle.collections.specs.View.{disk_history, generation, is_changed, is_stopped};
-ghost use Rattle.index.specs.State.{Collection};
 
 use crate::mark::Mark;
-use btree::TreeFault;
-use index::Edits;
 use page::Disk;
 use pager::Pager;
-use path::Refusal;
 use roots::{CommitFault, OpenFault};
 use std::alloc::Global;
 
@@ -27,5 +21,88 @@ pub struct Collections<D: Disk> {
     /// The root page of the turn's tree, 0 where it is empty.
     pub(crate) root: u32,
     /// Where the turn began.
-    begun: Mark,
+    begun: pager::Mark,
+    ghost nothing_made: { begun.made ≡ 0 },
+    ghost nothing_retired: { begun.retired ≡ 0 },
+}
+
+impl<D: Disk> Collections<D> {
+    /// Opens a disk that a crash may have left, as a file of at most so many pages, or those that it has. It reads each page of
+    /// the tree once. An `Err` hands the disk back.
+    pub fn open(alloc: Global, disk: D, limit: u32) -> Result<Collections<D>, (D, OpenFault)>
+        ensures opened { IfOk result (IsOpened D.history disk) }
+        ensures refused { IfErr result (λ e. IsRefused D.history disk e.0 e.1) }
+    {
+        let pager = match Pager::open(alloc, disk, limit) {
+            Ok(pager) => pager,
+            Err(refused) => return Err(refused),
+        };
+        Ok(Collections {
+            alloc,
+            root: pager.root(),
+            begun: pager.mark(),
+            pager,
+        })
+    }
+
+    /// Hands the disk back as it is.
+    pub fn into_disk(self) -> D
+        ensures { D.history result ≡ disk_history D.history self }
+    {
+        self.pager.into_disk()
+    }
+
+    /// Whether a write or a sync has failed. What has stopped commits nothing any more.
+    pub fn is_stopped(&self) -> bool
+        ensures { result ≡ is_stopped self.now }
+    {
+        self.pager.is_stopped()
+    }
+
+    /// The number of the commit that was the last one.
+    pub fn generation(&self) -> u64
+        ensures { result ≡ generation self.now }
+    {
+        self.pager.generation()
+    }
+
+    /// Whether the turn has changed something.
+    pub fn is_changed(&self) -> bool
+        ensures { result ≡ is_changed self.now }
+    {
+        self.pager.is_changed()
+    }
+
+    /// How far the turn has come.
+    pub fn mark(&self) -> Mark
+        ensures { IsMarkOf result self.now }
+    {
+        Mark {
+            pages: self.pager.mark(),
+            root: self.root,
+        }
+    }
+
+    /// Takes back what the turn has done since a mark of it.
+    pub fn undo_to(&mut self, mark: Mark)
+        ensures { ReturnsTo D.history mark self.old self.new }
+    {
+        self.pager.undo_to(mark.pages);
+        self.root = mark.root;
+    }
+
+    /// Takes back the whole turn.
+    pub fn undo(&mut self)
+        ensures { Undoes D.history self.old self.new }
+    {
+        self.pager.undo_to(self.begun);
+        self.root = self.pager.root();
+    }
+
+    /// Makes the turn durable; the next one begins with what it leaves. An `Err` leaves the turn, to be undone. It reads nothing.
+    pub fn commit(&mut self) -> Result<(), CommitFault>
+        ensures { Commits D.history result self.old self.new }
+    {
+        self.pager.commit(self.root)
+    }
 }

@@ -2,7 +2,9 @@
 //! edits, which a turn makes durable as one commit or takes back.
 #![tactic(auto)]
 
+mod applying;
 mod collections;
+pub mod laws;
 mod mark;
 
 pub use collections::Collections;
