@@ -11,7 +11,7 @@ use Rattle.btree.specs.Keys.{Each, Entry, times}
 use Rattle.btree.specs.Reach.{HasMap}
 use Rattle.btree.specs.Store.{IsAt, Store, flag}
 use Rattle.btree.proofs.ReachLemmas.{Moves, map_moved}
-use Rattle.btree.proofs.StoreLemmas.{frame_itself}
+use Rattle.btree.proofs.StoreLemmas.{grows_itself}
 use Rattle.freelist.specs.Book.{is_free, is_free_state, is_in_use, is_used_state}
 use Rattle.freelist.specs.declared.states.PageState.{PageState}
 use Rattle.freelist.specs.declared.states.PageState.TheVariants as states
@@ -74,7 +74,7 @@ module _ {D : Type 0} (history : D → History) (p : State D) (live : List ℕ) 
   -- a turn in which nothing was done
   pub turn_begins : IsTurn history p p (durable_root p.store).tree live live entries
   turn_begins = record {
-    frame = frame_itself (store_of history p) k;
+    grows = grows_itself (store_of history p);
     holds = begun_map;
     account = λ n.
         let none : times n (reverse p.retired) ≡ 0 = ap (λ (l : List ℕ). times n (reverse l)) begun.retired in

@@ -3,11 +3,13 @@ pub mod BeginLemmas
 pub mod BookLemmas
 pub mod CallLemmas
 pub mod EndLemmas
+pub mod FindLemmas
 pub mod ListLemmas
 pub mod MemberLemmas
 pub mod OpenLemmas
 pub mod ReadLemmas
 pub mod RefusalLemmas
+pub mod ReturnLemmas
 pub mod TakeLemmas
 pub mod TreeLemmas
 pub mod TurnLemmas
