@@ -9,19 +9,19 @@ use Rattle.btree.specs.declared.pages.TreeFault.{TreeFault}
 use Rattle.btree.specs.declared.pages.TreeFault.TheVariants as faults
 use Rattle.btree.proofs.StoreLemmas.{grows_itself}
 use Rattle.path.specs.declared.refusal.Refusal.TheVariants as refusals
-use Rattle.pager.specs.State.{State}
+use Rattle.pager.specs.State.{State as PagerState}
 use Rattle.pager.specs.View.{pager_history, store_of}
 use Rattle.index.specs.Documents.{IsUnindexed}
 use Rattle.index.specs.State.{Collection}
 use Rattle.index.specs.StateEntries.{Leads, Spells}
-use Rattle.collections.specs.declared.collections.Collections.{Collections}
+use Rattle.collections.specs.State.{State}
 use Rattle.collections.specs.Calls.{Applies, GoesFrom, HasWriteCause}
 use Rattle.collections.specs.Applying.{ChangesTree, refusal_of}
 use Rattle.collections.specs.Standing.{HasState, IsTurnOf}
 use Rattle.collections.specs.View.{disk_history, is_changed, is_stopped}
 use Rattle.collections.proofs.StandingLemmas.{state_on, state_stays, stopped_same, tree_same, turn_on}
 
-module _ {D : Type 0} (history : D → History) (edits : List Edit) (old : Collections D) where
+module _ {D : Type 0} (history : D → History) (edits : List Edit) (old : State D) where
   pub applies_stopped : is_stopped old ≡ true → Applies history edits (Err refusals.StorageFailed) old old
   applies_stopped stopped = record {
     on = grows_itself (store_of history old.pager);
@@ -46,10 +46,10 @@ module _ {D : Type 0} (history : D → History) (edits : List Edit) (old : Colle
     cause = λ k start before after has leads state. tt;
   }
 
-  pub applies_done : (pager : State D) (root : ℕ) → (edits ≡ [] → ⊥) → Grows (store_of history old.pager) (store_of history pager) → ChangesTree history edits old.root (Ok root) old.pager pager
+  pub applies_done : (pager : PagerState D) (root : ℕ) → (edits ≡ [] → ⊥) → Grows (store_of history old.pager) (store_of history pager) → ChangesTree history edits old.root (Ok root) old.pager pager
       → Applies history edits (Ok tt) old (record old { pager = pager; root = root })
   applies_done pager root some grows changes =
-      let new : Collections D = record old { pager = pager; root = root } in
+      let new : State D = record old { pager = pager; root = root } in
       record {
         on = grows;
         idle = λ none. absurd (some none);
@@ -67,9 +67,9 @@ module _ {D : Type 0} (history : D → History) (edits : List Edit) (old : Colle
       }
 
   -- the pager after the change, and after what was made was taken back
-  module _ (mid back : State D) (e : TreeFault) (grows : Grows (store_of history old.pager) (store_of history mid)) (changes : ChangesTree history edits old.root (Err e) old.pager mid)
+  module _ (mid back : PagerState D) (e : TreeFault) (grows : Grows (store_of history old.pager) (store_of history mid)) (changes : ChangesTree history edits old.root (Err e) old.pager mid)
       (disk : pager_history history back ≡ pager_history history mid) (takes : (store_of history back).full_takes ≡ (store_of history mid).full_takes) where
-    abbrev new : Collections D
+    abbrev new : State D
     new = record old { pager = back }
 
     cause_of : (after : List Collection) (entries : List Entry) (fault : TreeFault) → fault ≡ e → HasTreeCause (store_of history old.pager) (store_of history mid) fault ⊎ IsTooHigh entries fault → Spells entries after → HasWriteCause history after old new (refusal_of fault)

@@ -5,17 +5,17 @@ use Rattle.page.specs.History.{History, KeepsWord}
 use Rattle.roots.specs.declared.store.CommitFault.{CommitFault}
 use Rattle.roots.specs.tree.Image.{StandsFor}
 use Rattle.pager.specs.Commit.{Commits as CommitsPages, MovesTurns, Moves as MovesPages}
-use Rattle.pager.specs.State.{State}
+use Rattle.pager.specs.State.{State as PagerState}
 use Rattle.index.specs.State.{Collection}
-use Rattle.collections.specs.declared.collections.Collections.{Collections}
+use Rattle.collections.specs.State.{State}
 use Rattle.collections.specs.Committing.{Commits, Moves}
 use Rattle.collections.specs.Holding.{Holds}
 use Rattle.collections.specs.Standing.{HasState, IsTurnOf}
 use Rattle.collections.specs.View.{disk_history, is_stopped}
 use Rattle.collections.proofs.StandingLemmas.{begins, rests_at}
 
-module _ {D : Type 0} (history : D → History) (old : Collections D) (pager : State D) where
-  abbrev new : Collections D
+module _ {D : Type 0} (history : D → History) (old : State D) (pager : PagerState D) where
+  abbrev new : State D
   new = record old { pager = pager }
 
   -- an image of the entries from before, or of those of the turn
@@ -41,7 +41,7 @@ module _ {D : Type 0} (history : D → History) (old : Collections D) (pager : S
     full = λ is. absurd cc;
     stops = λ is. absurd cc;
     device = λ is. absurd cc;
-    idle = λ is. ap (λ (p : State D). record old { pager = p }) (commits.idle is);
+    idle = λ is. ap (λ (p : PagerState D). record old { pager = p }) (commits.idle is);
     moves = λ running start now has. record {
         any_moment = λ k image left. held start now (turn (Ok tt) commits moves running start now has k) image ((moved (Ok tt) commits moves running start now has k).any_moment k image left);
         acknowledged = λ k image is.
@@ -59,11 +59,11 @@ module _ {D : Type 0} (history : D → History) (old : Collections D) (pager : S
     running = tt;
     version = tt;
     rests = tt;
-    memory = λ is. ap (λ (p : State D). record old { pager = p }) (commits.memory is);
-    full = λ is. ((commits.full is).0, ap (λ (p : State D). record old { pager = p }) (commits.full is).1);
+    memory = λ is. ap (λ (p : PagerState D). record old { pager = p }) (commits.memory is);
+    full = λ is. ((commits.full is).0, ap (λ (p : PagerState D). record old { pager = p }) (commits.full is).1);
     stops = λ is. (commits.stops is).0;
     device = λ is k. commits.device is k;
-    idle = λ is. ap (λ (p : State D). record old { pager = p }) (commits.idle is);
+    idle = λ is. ap (λ (p : PagerState D). record old { pager = p }) (commits.idle is);
     moves = λ running start now has. record {
         any_moment = λ k image left. held start now (turn (Err fault) commits moves running start now has k) image ((moved (Err fault) commits moves running start now has k).any_moment k image left);
         acknowledged = tt;

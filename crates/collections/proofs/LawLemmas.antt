@@ -15,7 +15,7 @@ use Rattle.pager.proofs.TurnLemmas.{committed_still}
 use Rattle.index.proofs.OneStateLaws.{spells_one}
 use Rattle.index.specs.State.{Collection}
 use Rattle.index.specs.StateEntries.{Spells}
-use Rattle.collections.specs.declared.collections.Collections.{Collections}
+use Rattle.collections.specs.State.{State}
 use Rattle.collections.specs.Holding.{Holds}
 use Rattle.collections.specs.Laws.{GoesFromItself, GoesFurther, HasOneState, HoldsOne, LeavesStart, RestsAtStart}
 use Rattle.collections.specs.Standing.{IsTurnOf}
@@ -23,7 +23,7 @@ use Rattle.collections.specs.View.{disk_history}
 use Rattle.collections.proofs.StandingLemmas.{is_at, tree_same}
 
 -- what the turn began with is committed still
-still : {D : Type 0} (history : D → History) (c : Collections D) (start now : List Collection) (t : IsTurnOf history c start now) → KeepsWord (disk_history history c) → IsCommitted history c.pager.store t.live t.before
+still : {D : Type 0} (history : D → History) (c : State D) (start now : List Collection) (t : IsTurnOf history c start now) → KeepsWord (disk_history history c) → IsCommitted history c.pager.store t.live t.before
 still history c start now t k = committed_still history c.pager t.began t.turn.grows t.live t.before t.begun k
 
 pub leaves_start : {D : Type 0} (history : D → History) → LeavesStart history

@@ -9,13 +9,13 @@ use Rattle.roots.specs.tree.Store.{durable_root}
 use Rattle.pager.specs.Opening.{IsOpened as IsPagerOpened, IsRefused as IsPagerRefused}
 use Rattle.pager.specs.Turn.{IsBegun}
 use Rattle.index.specs.State.{Collection}
-use Rattle.collections.specs.declared.collections.Collections.{Collections}
+use Rattle.collections.specs.State.{State}
 use Rattle.collections.specs.Holding.{Holds}
 use Rattle.collections.specs.Opening.{IsOpened, IsRefused}
 use Rattle.collections.specs.View.{disk_history}
 use Rattle.collections.proofs.StandingLemmas.{begins, rests_at}
 
-pub opened_so : {D : Type 0} (history : D → History) (disk : D) (c : Collections D) → IsPagerOpened history disk c.pager → c.root ≡ (durable_root c.pager.store).tree → IsOpened history disk c
+pub opened_so : {D : Type 0} (history : D → History) (disk : D) (c : State D) → IsPagerOpened history disk c.pager → c.root ≡ (durable_root c.pager.store).tree → IsOpened history disk c
 opened_so history disk c opened is =
     let image = reads (now (history disk)) in
     record {

@@ -12,14 +12,14 @@ use Rattle.btree.proofs.OnceLemmas.{old_trees_stay}
 use Rattle.btree.proofs.StoreLemmas.{grows_trans}
 use Rattle.roots.specs.tree.Store as stores
 use Rattle.pager.specs.Commit.{IsTurn}
-use Rattle.pager.specs.State.{State}
+use Rattle.pager.specs.State.{State as PagerState}
 use Rattle.pager.specs.Turn.{IsBegun}
 use Rattle.pager.specs.View.{pager_history, store_of}
 use Rattle.pager.proofs.BeginLemmas.{turn_begins}
 use Rattle.index.specs.Documents.{IsUnindexed}
 use Rattle.index.specs.State.{Collection}
 use Rattle.index.specs.StateEntries.{Spells}
-use Rattle.collections.specs.declared.collections.Collections.{Collections}
+use Rattle.collections.specs.State.{State}
 use Rattle.collections.specs.Calls.{GoesFrom}
 use Rattle.collections.specs.Standing.{HasState, IsTurnOf}
 use Rattle.collections.specs.View.{disk_history, generation, is_changed, is_stopped}
@@ -31,7 +31,7 @@ flag_one false true same = absurd (omega (arith, same))
 flag_one false false same = refl
 
 -- What no call but a commit changes.
-module _ {D : Type 0} (history : D → History) (old new : State D) (stays : Stays (store_of history old) (store_of history new)) where
+module _ {D : Type 0} (history : D → History) (old new : PagerState D) (stays : Stays (store_of history old) (store_of history new)) where
   pub stopped_same : stores.is_stopped new.store ≡ stores.is_stopped old.store
   stopped_same = flag_one (stores.is_stopped new.store) (stores.is_stopped old.store) (ap (λ (numbers : List ℕ). get_or numbers 0 0) stays.base)
 
@@ -44,14 +44,14 @@ module _ {D : Type 0} (history : D → History) (old new : State D) (stays : Sta
 -- ---- the tree of now
 
 -- A tree of these collections, made by a turn that began there.
-pub record IsNow {D : Type 0} (history : D → History) (began : State D) (live : List ℕ) (c : Collections D) (now : List Collection) : Type 0 where
+pub record IsNow {D : Type 0} (history : D → History) (began : PagerState D) (live : List ℕ) (c : State D) (now : List Collection) : Type 0 where
   pub pages : List ℕ
   pub after : List Entry
   pub turn : IsTurn history began c.pager c.root live pages after
   pub spells : Spells after now
   pub state : IsUnindexed now
 
-pub turned : {D : Type 0} (history : D → History) (old new : Collections D) (start before after : List Collection) (t : IsTurnOf history old start before) → IsNow history t.began t.live new after → IsTurnOf history new start after
+pub turned : {D : Type 0} (history : D → History) (old new : State D) (start before after : List Collection) (t : IsTurnOf history old start before) → IsNow history t.began t.live new after → IsTurnOf history new start after
 turned history old new start before after t n = record {
   began = t.began;
   live = t.live;
@@ -67,14 +67,14 @@ turned history old new start before after t n = record {
 }
 
 -- What a call makes of the tree, it makes of the state.
-pub state_on : {D : Type 0} (history : D → History) (old new : Collections D) (start before after : List Collection) → GoesFrom history old new
+pub state_on : {D : Type 0} (history : D → History) (old new : State D) (start before after : List Collection) → GoesFrom history old new
     → (KeepsWord (disk_history history new) → (t : IsTurnOf history old start before) → IsNow history t.began t.live new after) → HasState history old start before → HasState history new start after
 state_on history old new start before after goes makes has running k =
     let t : IsTurnOf history old start before = has (sym (stopped_same history old.pager new.pager goes.stays) ∙ running) (goes.frame k).word in
     turned history old new start before after t (makes k t)
 
 -- a turn that made another tree
-pub turn_on : {D : Type 0} (history : D → History) (began old new : State D) (root changed : ℕ) (live pages : List ℕ) (before after : List Entry) → IsTurn history began old root live pages before → Grows (store_of history old) (store_of history new)
+pub turn_on : {D : Type 0} (history : D → History) (began old new : PagerState D) (root changed : ℕ) (live pages : List ℕ) (before after : List Entry) → IsTurn history began old root live pages before → Grows (store_of history old) (store_of history new)
     → KeepsWord (pager_history history new) → (c : IsChanged (store_of history old) (store_of history new) changed after pages) → IsTurn history began new changed live c.after after
 turn_on history began old new root changed live pages before after turn grows k c = record {
   grows = grows_trans (store_of history began) (store_of history old) (store_of history new) turn.grows grows;
@@ -83,7 +83,7 @@ turn_on history began old new root changed live pages before after turn grows k 
 }
 
 -- a tree that stays, where no page was made or retired
-pub tree_stays : {D : Type 0} (history : D → History) (old new : State D) (root : ℕ) (pages : List ℕ) (entries : List Entry) → HasMap (store_of history old) root pages entries → Frame (store_of history old) (store_of history new)
+pub tree_stays : {D : Type 0} (history : D → History) (old new : PagerState D) (root : ℕ) (pages : List ℕ) (entries : List Entry) → HasMap (store_of history old) root pages entries → Frame (store_of history old) (store_of history new)
     → (store_of history new).made ≡ (store_of history old).made → (store_of history new).retired ≡ (store_of history old).retired → IsChanged (store_of history old) (store_of history new) root entries pages
 tree_stays history old new root pages entries map frame made retired = record {
   after = pages;
@@ -92,7 +92,7 @@ tree_stays history old new root pages entries map frame made retired = record {
 }
 
 -- Where nothing was made or retired, nothing changes.
-pub state_stays : {D : Type 0} (history : D → History) (old new : Collections D) (start now : List Collection) → GoesFrom history old new → new.root ≡ old.root
+pub state_stays : {D : Type 0} (history : D → History) (old new : State D) (start now : List Collection) → GoesFrom history old new → new.root ≡ old.root
     → (KeepsWord (disk_history history new) → (store_of history new.pager).made ≡ (store_of history old.pager).made) → (KeepsWord (disk_history history new) → (store_of history new.pager).retired ≡ (store_of history old.pager).retired)
     → HasState history old start now → HasState history new start now
 state_stays history old new start now goes same made retired =
@@ -109,7 +109,7 @@ state_stays history old new start now goes same made retired =
 -- ---- the beginning
 
 -- no turn runs
-pub begins : {D : Type 0} (history : D → History) (c : Collections D) (live : List ℕ) (entries : List Entry) (now : List Collection) → c.root ≡ (stores.durable_root c.pager.store).tree → KeepsWord (disk_history history c)
+pub begins : {D : Type 0} (history : D → History) (c : State D) (live : List ℕ) (entries : List Entry) (now : List Collection) → c.root ≡ (stores.durable_root c.pager.store).tree → KeepsWord (disk_history history c)
     → IsBegun history c.pager live entries → Spells entries now → IsUnindexed now → IsTurnOf history c now now
 begins history c live entries now is k begun spells state = record {
   began = c.pager;

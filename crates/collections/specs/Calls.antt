@@ -8,21 +8,21 @@ use Rattle.path.specs.declared.refusal.Refusal.TheVariants as refusals
 use Rattle.index.specs.State.{Collection}
 use Rattle.index.specs.StateEntries.{Leads, Spells}
 use Rattle.index.specs.Documents.{IsUnindexed}
-use Rattle.collections.specs.declared.collections.Collections.{Collections}
+use Rattle.collections.specs.State.{State}
 use Rattle.collections.specs.Standing.{HasState}
 use Rattle.collections.specs.View.{disk_history, is_changed, is_stopped, pages_of}
 
 -- The turn went on: what its tree reaches stays, whatever the disk.
-abbrev pub GoesFrom : {D : Type 0} → (D → History) → Collections D → Collections D → Type 0
+abbrev pub GoesFrom : {D : Type 0} → (D → History) → State D → State D → Type 0
 GoesFrom history old new = Grows (pages_of history old) (pages_of history new)
 
 -- the device failed in the call or before
-abbrev pub HasFailed : {D : Type 0} → (D → History) → Collections D → Collections D → Type 0
+abbrev pub HasFailed : {D : Type 0} → (D → History) → State D → State D → Type 0
 HasFailed history old new = (is_stopped old ≡ true)
     ⊎ ((disk_history history old).failures < (disk_history history new).failures)
 
 -- Why a call was refused that isn't refused by what it asks for: memory ran out, the device failed, or no page was free.
-abbrev pub HasCause : {D : Type 0} → (D → History) → Collections D → Collections D
+abbrev pub HasCause : {D : Type 0} → (D → History) → State D → State D
     → Refusal → Type 0
 HasCause history old new e = (e ≡ refusals.OutOfMemory)
     ⊎ (((e ≡ refusals.StorageFailed) × HasFailed history old new)
@@ -33,7 +33,7 @@ HasCause history old new e = (e ≡ refusals.OutOfMemory)
 -- A call that reads: nothing of the turn changes, and while the disk keeps its word, the answer is right for the
 -- collections, or the refusal has its cause.
 pub record Reads {D X : Type 0} (history : D → History) (IsRight : List Collection → X → Type 0)
-    (result : Result X Refusal) (old new : Collections D) : Type 0 where
+    (result : Result X Refusal) (old new : State D) : Type 0 where
   pub on : GoesFrom history old new
   pub unchanged : is_changed new ≡ is_changed old
   pub same : (start now : List Collection) → HasState history old start now
@@ -51,13 +51,13 @@ pub record IsTooLarge (collections : List Collection) : Type 0 where
   pub many : 4294967296 ≤ length entries
 
 abbrev pub HasWriteCause : {D : Type 0} → (D → History) → List Collection
-    → Collections D → Collections D → Refusal → Type 0
+    → State D → State D → Refusal → Type 0
 HasWriteCause history after old new e =
     HasCause history old new e ⊎ ((e ≡ refusals.Full) × IsTooLarge after)
 
 -- These edits, which lead from the collections to others, were put into the tree, or nothing of them.
 pub record Applies {D : Type 0} (history : D → History) (edits : List Edit)
-    (result : Result (Unit {0}) Refusal) (old new : Collections D) : Type 0 where
+    (result : Result (Unit {0}) Refusal) (old new : State D) : Type 0 where
   pub on : GoesFrom history old new
   pub idle : edits ≡ [] → new ≡ old
   pub unchanged : OnErr result (is_changed new ≡ is_changed old)

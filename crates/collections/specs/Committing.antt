@@ -5,7 +5,7 @@ use Rattle.page.specs.Crash.{GoesOn, LeavesOnly, LeavesNow}
 use Rattle.roots.specs.declared.store.CommitFault.{CommitFault}
 use Rattle.roots.specs.declared.store.CommitFault.TheVariants as faults
 use Rattle.index.specs.State.{Collection}
-use Rattle.collections.specs.declared.collections.Collections.{Collections}
+use Rattle.collections.specs.State.{State}
 use Rattle.collections.specs.Calls.{HasFailed}
 use Rattle.collections.specs.Holding.{Holds}
 use Rattle.collections.specs.Standing.{HasState}
@@ -14,7 +14,7 @@ use Rattle.collections.specs.View.{disk_history, generation, is_changed, is_stop
 -- Where nothing had failed, a crash at any moment of the call leaves the collections as they were when the turn began, or as
 -- they are now; at Ok as they are now, and the next turn begins with them.
 pub record Moves {D : Type 0} (history : D → History) (start now : List Collection)
-    (result : Result (Unit {0}) CommitFault) (old new : Collections D) : Type 0 where
+    (result : Result (Unit {0}) CommitFault) (old new : State D) : Type 0 where
   pub any_moment : LeavesOnly (disk_history history old) (disk_history history new)
       (λ image. Holds image start ⊎ Holds image now)
   pub acknowledged : OnOk result
@@ -23,7 +23,7 @@ pub record Moves {D : Type 0} (history : D → History) (start now : List Collec
 
 -- The turn was made durable, or not.
 pub record Commits {D : Type 0} (history : D → History)
-    (result : Result (Unit {0}) CommitFault) (old new : Collections D) : Type 0 where
+    (result : Result (Unit {0}) CommitFault) (old new : State D) : Type 0 where
   pub on : GoesOn (disk_history history old) (disk_history history new)
   pub running : OnOk result ((is_stopped old ≡ false) × (is_stopped new ≡ false))
   pub version : OnOk result (generation new ≡ generation old + 1)

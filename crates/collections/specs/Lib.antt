@@ -6,4 +6,5 @@ pub mod Laws
 pub mod Marks
 pub mod Opening
 pub mod Standing
+pub mod State
 pub mod View

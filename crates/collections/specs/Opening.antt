@@ -6,14 +6,14 @@ use Rattle.roots.specs.Root.{root_of}
 use Rattle.roots.specs.declared.opening.OpenFault.{OpenFault}
 use Rattle.roots.specs.declared.opening.OpenFault.TheVariants as faults
 use Rattle.index.specs.State.{Collection}
-use Rattle.collections.specs.declared.collections.Collections.{Collections}
+use Rattle.collections.specs.State.{State}
 use Rattle.collections.specs.Holding.{Holds}
 use Rattle.collections.specs.Standing.{HasState}
 use Rattle.collections.specs.View.{disk_history, is_changed, is_stopped}
 
 -- The disk was opened, by reads and a sync alone.
 pub record IsOpened {D : Type 0} (history : D → History) (disk : D)
-    (c : Collections D) : Type 0 where
+    (c : State D) : Type 0 where
   pub running : is_stopped c ≡ false
   pub rests : is_changed c ≡ false
   pub on : GoesOn (history disk) (disk_history history c)

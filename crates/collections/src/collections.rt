@@ -1,16 +1,13 @@
 //! Turns of a database file.
 
-ghost use Rattle.std.specs.Prelude.{◌≡◌, [], false, length, IfErr, IfOk};
-ghost use Rattle.collections.specs.Committing.{Commits};
-ghost use Rattle.collections.specs.Marks.{IsMarkOf, ReturnsTo, Undoes};
-ghost use Rattle.collections.specs.Opening.{IsOpened, IsRefused};
-ghost use Rattle.collections.specs.View.{disk_history, generation, is_changed, is_stopped};
+ghost use Rattle.std.specs.Prelude.{◌≡◌};
 
 use crate::mark::Mark;
 use page::Disk;
 use pager::Pager;
 use roots::{CommitFault, OpenFault};
 use std::alloc::Global;
+use std::marker::Model;
 
 /// The collections of a database file: a turn begins with those that are committed, changes them by edits of the tree, and is made
 /// durable or taken back as a whole.
@@ -22,11 +19,27 @@ pub struct Collections<D: Disk> {
     pub(crate) root: u32,
     /// Where the turn began.
     begun: pager::Mark,
-    ghost nothing_made: { begun.made ≡ 0 },
-    ghost nothing_retired: { begun.retired ≡ 0 },
+}
+
+impl<D: Disk> Model for Collections<D> {
+    ghost use Rattle.collections.specs.State.{State};
+
+    ghost Value = { State D };
+
+    ghost use Rattle.std.specs.Prelude.{◌≡◌};
+
+    ghost view = { λ a. record { pager = a.pager; root = a.root } };
+
+    ghost invariant = { λ a. (a.begun.made ≡ 0) × (a.begun.retired ≡ 0) };
 }
 
 impl<D: Disk> Collections<D> {
+    ghost use Rattle.std.specs.Prelude.{IfErr, IfOk};
+    ghost use Rattle.collections.specs.Committing.{Commits};
+    ghost use Rattle.collections.specs.Marks.{IsMarkOf, ReturnsTo, Undoes};
+    ghost use Rattle.collections.specs.Opening.{IsOpened, IsRefused};
+    ghost use Rattle.collections.specs.View.{disk_history, generation, is_changed, is_stopped};
+
     /// Opens a disk that a crash may have left, as a file of at most so many pages, or those that it has. It reads each page of
     /// the tree once. An `Err` hands the disk back.
     pub fn open(alloc: Global, disk: D, limit: u32) -> Result<Collections<D>, (D, OpenFault)>
