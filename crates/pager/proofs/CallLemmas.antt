@@ -68,7 +68,7 @@ first_true : (a b : Bool) → (a && b) ≡ true → a ≡ true
 first_true true b is = refl
 first_true false b is = absurd cc
 
-more_cause : (old new : Store) (h0 h1 : History) (fault : TreeFault) → (h0.failures < h1.failures → old.failures < new.failures) → HasReadCause h0 h1 fault → HasCause old new fault
+more_cause : (old new : Store) (h0 h1 : History) (fault : TreeFault) → (h0.failures < h1.failures → old.history.failures < new.history.failures) → HasReadCause h0 h1 fault → HasCause old new fault
 more_cause old new h0 h1 faults.Memory to cause = tt
 more_cause old new h0 h1 faults.Device to cause = to cause
 more_cause old new h0 h1 faults.Full to cause = absurd cause

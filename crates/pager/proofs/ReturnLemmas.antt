@@ -98,7 +98,7 @@ module _ {D : Type 0} (history : D → History) (earlier old : State D) (orderly
     numbers_same : numbers_of (take some old.made) ≡ numbers_of earlier.made
     numbers_same =
         let more = (grows.frame k).made_on in
-        let long : some ≡ length (numbers_of earlier.made) = some_is ∙ sym (length-map (λ (m : Sheet). m.page) earlier.made) in
+        let long : some ≡ length (numbers_of earlier.made) = some_is ∙ sym (length-map earlier.made (λ (m : Sheet). m.page)) in
         sym (take-map (λ (m : Sheet). m.page) some old.made) ∙ ap (λ (n : ℕ). take n (numbers_of old.made)) long
         ∙ front_of (numbers_of earlier.made) (numbers_of old.made) more.0 more.1
 

@@ -19,9 +19,10 @@ pub(crate) fn find_page(made: &[SharedPage], page: u32) -> Option<&SharedPage>
     let mut to = made.len();
     while from < to {
         let mid = from + (to - from) / 2;
-        let found = made[mid].image().page;
+        let shared = &made[mid];
+        let found = shared.image().page;
         if found == page {
-            return Some(&made[mid]);
+            return Some(shared);
         }
         if found < page {
             from = mid + 1;
