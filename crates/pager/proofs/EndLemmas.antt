@@ -64,7 +64,7 @@ module _ {D : Type 0} (history : D → History) (store : TreeStore D) (cache : P
         → KeepsWord (disk_history history new) → MovesMap history (next_root (durable_root store) written root) pages before after result store new
     moved start live before begun pages after turn k2 =
         let k = commits.on.kept k2 in
-        moves before live (committed_still history p start (turn k).grows.stays k live before begun so.booked) after pages
+        moves before live (committed_still history p start (turn k).grows.stays k live before begun) after pages
         (roots_turn history p start (turn k).grows.stays k live before begun so.booked root pages after (turn k) version (written_lie history store cache made retired book so version) (written_inside history store cache made retired book so version)
         (written_sheets history store cache made retired book so version content) k)
 
@@ -97,7 +97,7 @@ module _ {D : Type 0} (history : D → History) (store : TreeStore D) (cache : P
   pub moves_nothing : (root : ℕ) → MovesTurns history root (Err faults.Memory) p p
   moves_nothing root start live before begun pages after turn = record {
     any_moment = λ k image left.
-        let committed_now = committed_still history p start (turn k).grows.stays k live before begun so.booked in
+        let committed_now = committed_still history p start (turn k).grows.stays k live before begun in
         started (disk_history history store) (λ i. StandsFor i before ⊎ StandsFor i after)
         (λ k1 i is. inl (stands_now (disk_history history store) (durable_root store) live before committed_now.keeps k1 i is)) k image left;
     acknowledged = tt;
