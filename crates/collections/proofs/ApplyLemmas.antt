@@ -1,6 +1,7 @@
 -- How putting edits into the tree ends.
-use Rattle.std.proofs.Common.{◌≡◌, ◌⊎◌, ℕ, ◌<◌, ◌≤◌, true, false, List, [], length, refl, sym, ◌∙◌, ap, subst, arith, inl, inr}
+use Rattle.std.proofs.Common.{◌≡◌, ◌⊎◌, ℕ, ◌<◌, ◌≤◌, true, false, List, [], ◌∷◌, length, refl, sym, ◌∙◌, ap, subst, arith, inl, inr}
 use Rattle.std.specs.Prelude.{◌==◌, not, Ok, Err}
+use Rattle.std.proofs.lemmas.Bool.Decides.{nat_tests}
 use Rattle.page.specs.History.{History, KeepsWord}
 use Rattle.btree.specs.Change.{IsChanged, IsTooHigh}
 use Rattle.btree.specs.Keys.{Edit, Entry, change}
@@ -10,6 +11,7 @@ use Rattle.btree.specs.declared.pages.TreeFault.TheVariants as faults
 use Rattle.btree.proofs.StoreLemmas.{grows_itself}
 use Rattle.path.specs.declared.refusal.Refusal.TheVariants as refusals
 use Rattle.pager.specs.State.{State as PagerState}
+use Rattle.pager.specs.Turn.{IsOrderly, Returns, undone_to}
 use Rattle.pager.specs.View.{pager_history, store_of}
 use Rattle.index.specs.Documents.{IsUnindexed}
 use Rattle.index.specs.State.{Collection}
@@ -99,3 +101,20 @@ module _ {D : Type 0} (history : D → History) (edits : List Edit) (old : State
           let t : IsTurnOf history old start before = has running (goes.frame k).word in
           cause_of after (change edits t.after) e refl (changes t.pages t.after t.turn.holds (subst (λ (h : History). KeepsWord h) disk k)) (leads t.after t.spells_now);
     }
+
+  -- what was made and retired was taken back
+  pub applies_undone : (mid back : PagerState D) (e : TreeFault) (made retired : ℕ) → Grows (store_of history old.pager) (store_of history mid) → ChangesTree history edits old.root (Err e) old.pager mid
+      → back ≡ undone_to made retired mid → Returns history made retired mid back → IsOrderly old.pager → made ≡ length old.pager.made → retired ≡ length old.pager.retired → (edits ≡ [] → ⊥) → is_stopped old ≡ false
+      → Applies history edits (Err (refusal_of e)) old (record old { pager = back })
+  applies_undone mid back e made retired grows changes undone returns orderly all_made all_retired some running =
+      let r = returns old.pager orderly grows all_made all_retired in
+      applies_failed mid back e grows changes (ap (λ (p : PagerState D). pager_history history p) undone) (ap (λ (p : PagerState D). (store_of history p).full_takes) undone) some running r.0 (λ k. (r.1 k).made) (λ k. (r.1 k).retired)
+
+-- a list without members
+pub none_of : {X : Type 0} (xs : List X) → (length xs == 0) ≡ true → xs ≡ []
+none_of [] is = refl
+none_of (x ∷ xs) is = let never : (length (x ∷ xs) == 0) ≡ false = grind (arith, nat_tests) in let both : true ≡ false = sym is ∙ never in absurd cc
+
+pub some_of : {X : Type 0} (xs : List X) → (length xs == 0) ≡ false → xs ≡ [] → ⊥
+some_of [] is none = let never : true ≡ false = is in absurd cc
+some_of (x ∷ xs) is none = let never : (x ∷ xs) ≡ [] = none in absurd cc

@@ -1,4 +1,4 @@
-// Edits of the collections' tree.
+//! Edits of the collections' tree.
 ghost use Rattle.std.specs.Prelude.{◌≡◌};
 ghost use Rattle.btree.specs.Store.{Grows};
 ghost use Rattle.collections.specs.Applying.{ChangesTree, refusal_of};

@@ -48,7 +48,7 @@ impl<D: Disk> Collections<D> {
     {
         let pager = match Pager::open(alloc, disk, limit) {
             Ok(pager) => pager,
-            Err(refused) => return Err(refused),
+            Err((disk, fault)) => return Err((disk, fault)),
         };
         Ok(Collections {
             alloc,
@@ -83,7 +83,7 @@ impl<D: Disk> Collections<D> {
     pub fn is_changed(&self) -> bool
         ensures { result ≡ is_changed self.now }
     {
-        self.pager.is_changed()
+        self.root != self.pager.root()
     }
 
     /// How far the turn has come.
