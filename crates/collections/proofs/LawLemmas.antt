@@ -1,10 +1,12 @@
 -- What follows where collections have a state.
-use Rattle.std.proofs.Common.{◌≡◌, ℕ, false, List, refl, sym, ◌∙◌, ap, subst}
+use Rattle.std.proofs.Common.{rules, arith, ◌≡◌, ℕ, false, List, [], inl, refl, sym, ◌∙◌, subst}
+use Rattle.std.specs.Prelude.{replicate, Ok}
 use Rattle.page.specs.History.{History, KeepsWord, now, reads}
 use Rattle.btree.specs.Keys.{Entry}
 use Rattle.btree.specs.Reach.{HasMap}
 use Rattle.btree.proofs.OnceLemmas.{old_trees_stay}
 use Rattle.btree.proofs.StoreLemmas.{grows_itself, grows_trans}
+use Rattle.roots.specs.Root.{no_root, root_of}
 use Rattle.roots.specs.tree.Image.{StandsFor}
 use Rattle.roots.specs.tree.Store.{IsCommitted, durable_root}
 use Rattle.roots.proofs.tree.OneMap.{one_map, one_state}
@@ -13,18 +15,19 @@ use Rattle.pager.specs.View.{store_of}
 use Rattle.pager.proofs.BeginLemmas.{begun_map}
 use Rattle.pager.proofs.TurnLemmas.{committed_still}
 use Rattle.index.proofs.OneStateLaws.{spells_one}
+use Rattle.index.specs.Documents.{IsUnindexed}
 use Rattle.index.specs.State.{Collection}
 use Rattle.index.specs.StateEntries.{Spells}
 use Rattle.collections.specs.State.{State}
 use Rattle.collections.specs.Holding.{Holds}
-use Rattle.collections.specs.Laws.{GoesFromItself, GoesFurther, HasOneState, HoldsOne, LeavesStart, RestsAtStart}
+use Rattle.collections.specs.Laws.{GoesFromItself, GoesFurther, HasOneState, HoldsOne, LeavesStart, RestsAtStart, ZerosHoldNothing}
 use Rattle.collections.specs.Standing.{IsTurnOf}
 use Rattle.collections.specs.View.{disk_history}
 use Rattle.collections.proofs.StandingLemmas.{is_at, tree_same}
 
 -- what the turn began with is committed still
 still : {D : Type 0} (history : D → History) (c : State D) (start now : List Collection) (t : IsTurnOf history c start now) → KeepsWord (disk_history history c) → IsCommitted history c.pager.store t.live t.before
-still history c start now t k = committed_still history c.pager t.began t.turn.grows t.live t.before t.begun k
+still history c start now t k = committed_still history c.pager t.began t.turn.grows.stays k t.live t.before t.begun
 
 pub leaves_start : {D : Type 0} (history : D → History) → LeavesStart history
 leaves_start history c start now running has k image is =
@@ -67,6 +70,23 @@ pub holds_one : HoldsOne
 holds_one image a b one two =
     let same : one.entries ≡ two.entries = one_state image one.entries two.entries one.stands two.stands in
     spells_one one.entries a b one.state.lawful two.state.lawful one.spells (subst (λ (es : List Entry). Spells es b) (sym same) two.spells)
+
+zero_roots : root_of (replicate 512 0) (replicate 512 0) ≡ Ok no_root
+zero_roots = refl
+
+none_unindexed : IsUnindexed []
+none_unindexed = record {
+  lawful = record { apart = search rules; numbers = tt; kept = search rules; few = omega arith };
+  plain = search rules;
+}
+
+pub zeros_hold_nothing : ZerosHoldNothing
+zeros_hold_nothing image even odd = record {
+  entries = [];
+  stands = record { root = no_root; pages = []; opens = (λ i. root_of (even i) (odd i)) ∙ zero_roots; holds = record { map = inl (refl, (refl, refl)); once = λ n. omega arith } };
+  spells = record { rises = search rules; same = λ entry. (λ x. x, λ x. x) };
+  state = none_unindexed;
+}
 
 pub goes_from_itself : {D : Type 0} (history : D → History) → GoesFromItself history
 goes_from_itself history c = grows_itself (store_of history c.pager)

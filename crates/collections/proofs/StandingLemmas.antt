@@ -10,12 +10,14 @@ use Rattle.btree.specs.Reach.{HasMap}
 use Rattle.btree.specs.Store.{Frame, Grows, IsSame, Stays, flag}
 use Rattle.btree.proofs.OnceLemmas.{old_trees_stay}
 use Rattle.btree.proofs.StoreLemmas.{grows_trans}
+use Rattle.roots.specs.declared.root.Root.{Root}
 use Rattle.roots.specs.tree.Store as stores
 use Rattle.pager.specs.Commit.{IsTurn}
 use Rattle.pager.specs.State.{State as PagerState}
 use Rattle.pager.specs.Turn.{IsBegun}
 use Rattle.pager.specs.View.{pager_history, store_of}
 use Rattle.pager.proofs.BeginLemmas.{turn_begins}
+use Rattle.pager.proofs.TurnLemmas.{same_root}
 use Rattle.index.specs.Documents.{IsUnindexed}
 use Rattle.index.specs.State.{Collection}
 use Rattle.index.specs.StateEntries.{Spells}
@@ -35,11 +37,8 @@ module _ {D : Type 0} (history : D → History) (old new : PagerState D) (stays 
   pub stopped_same : stores.is_stopped new.store ≡ stores.is_stopped old.store
   stopped_same = flag_one (stores.is_stopped new.store) (stores.is_stopped old.store) (ap (λ (numbers : List ℕ). get_or numbers 0 0) stays.base)
 
-  pub version_same : (stores.durable_root new.store).generation ≡ (stores.durable_root old.store).generation
-  version_same = ap (λ (numbers : List ℕ). get_or numbers 1 0) stays.base
-
   pub tree_same : (stores.durable_root new.store).tree ≡ (stores.durable_root old.store).tree
-  tree_same = ap (λ (numbers : List ℕ). get_or numbers 2 0) stays.base
+  tree_same = ap (λ (root : Root). root.tree) (same_root new old stays.base)
 
 -- ---- the tree of now
 

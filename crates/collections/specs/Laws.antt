@@ -1,5 +1,5 @@
 -- What follows where collections have a state.
-use Rattle.std.specs.Prelude.{◌≡◌, ℕ, false, List}
+use Rattle.std.specs.Prelude.{◌≡◌, ℕ, false, List, [], replicate}
 use Rattle.page.specs.History.{History, KeepsWord}
 use Rattle.page.specs.Crash.{LeavesNow}
 use Rattle.index.specs.State.{Collection}
@@ -31,6 +31,11 @@ HasOneState {D = D} history = (c : State D) (start now start' now' : List Collec
 -- An image holds one list of collections at most.
 abbrev pub HoldsOne : Type 0
 HoldsOne = (image : ℕ → List ℕ) (a b : List Collection) → Holds image a → Holds image b → a ≡ b
+
+-- An image whose root sectors are zeros holds no collection.
+abbrev pub ZerosHoldNothing : Type 0
+ZerosHoldNothing = (image : ℕ → List ℕ) → image 0 ≡ replicate 512 0
+    → image 1 ≡ replicate 512 0 → Holds image []
 
 -- A turn goes on from where it is, and on from there.
 abbrev pub GoesFromItself : {D : Type 0} → (D → History) → Type 0
