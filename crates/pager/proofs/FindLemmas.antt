@@ -27,8 +27,7 @@ lie_at last (m ∷ ms) zero x lt is lie = (tt, subst (λ (k : ℕ). AllByRecursi
 lie_at last (m ∷ ms) (suc i) x lt is lie =
     let less : i < length ms = omega (arith, lt) in
     let later = lie_at m.page ms i x less is lie.1 in
-    let next : suc i + 1 ≡ suc (i + 1) = omega arith in
-    (
+    let next : suc i + 1 ≡ suc (i + 1) = omega arith in (
       (all_among (λ (s : Sheet). m.page < s.page) ms x (lie_above m.page ms lie.1) (among_at ms i x x is less), later.0),
       subst (λ (k : ℕ). AllByRecursion (λ (s : Sheet). x.page < s.page) (drop k (m ∷ ms))) (sym next) later.1,
     )
