@@ -34,3 +34,8 @@ pub mod ListingLaws
 pub mod FitLaws
 pub mod KeptSteps
 pub mod TellingLaws
+pub mod EditListLaws
+pub mod EditPlaceLemmas
+pub mod DocumentPlaces
+pub mod StateEditLaws
+pub mod BatchLaws
