@@ -245,7 +245,7 @@ module _ (number : ℕ) where
       → documents_at number next.key ds ≡ drop (length entries) (documents_at number key ds)
   behind key [] [] others next h e = absurd cc
   behind key [] (x ∷ entries) others next h e = absurd cc
-  behind key (d ∷ ds) entries others next h e = by (IsAtLeast key (key_at d)) refl e
+  behind key (d ∷ ds) entries others next h e = at_next (IsAtLeast key (key_at d)) refl entries e (λ xs f. behind key ds xs others next (keyed_rest d ds h) f)
     where
       left : List Pairs
       left = documents_at number key ds
@@ -258,11 +258,12 @@ module _ (number : ℕ) where
       above x f = subst (λ (y : Entry). IsUnder (key_at d) y.key) (sym f.is) (first_of (λ p q. IsUnder (key_at p) (key_at q)) d ds f.document h f.there)
 
       at_next : (b : Bool) → IsAtLeast key (key_at d) ≡ b → (xs : List Entry) → map (document_entry number) (keep_if b d left) ≡ xs ++ next ∷ others
+          → ((ys : List Entry) → map (document_entry number) left ≡ ys ++ next ∷ others → documents_at number next.key ds ≡ drop (length ys) left)
           → documents_at number next.key (d ∷ ds) ≡ drop (length xs) (keep_if b d left)
-      at_next false is xs f =
+      at_next false is xs f later =
           let from : IsFrom key ds next = is_from key ds next (subst (λ (ys : List Entry). Among next ys) (sym f) (in_middle next xs others)) in
           let high : IsAtLeast key next.key ≡ true = ap (λ (y : Entry). IsAtLeast key y.key) from.is ∙ from.at_least in
-          skipped (under_next (key_cmp (key_at d) next.key) refl high) ∙ behind key ds xs others next (keyed_rest d ds h) f
+          skipped (under_next (key_cmp (key_at d) next.key) refl high) ∙ later xs f
         where
           under_next : (o : Ordering) → key_cmp (key_at d) next.key ≡ o → IsAtLeast key next.key ≡ true → IsAtLeast next.key (key_at d) ≡ false
           under_next orders.Less o_is high = below_it next.key (key_at d) o_is
@@ -272,20 +273,16 @@ module _ (number : ℕ) where
           under_next orders.Greater o_is high =
               let next_under : IsUnder next.key (key_at d) = nat_list_cmp_total.antisymm next.key (key_at d) ∙ ap ordering_reverse o_is in
               absurd (let g : true ≡ false = sym (at_least_above key next.key (key_at d) high next_under) ∙ is in cc)
-      at_next true is [] f =
+      at_next true is [] f later =
           let here : document_entry number d ≡ next = first_is f in
           let all_above : documents_at number next.key ds ≡ ds = all_from next.key ds (λ x g. ap (λ (y : Entry). IsAtLeast y.key (key_at x)) (sym here) ∙ over (key_at d) (key_at x) (first_of (λ p q. IsUnder (key_at p) (key_at q)) d ds x h g)) in
           let all_left : left ≡ ds = all_from key ds (λ x g. at_least_above key (key_at d) (key_at x) is (first_of (λ p q. IsUnder (key_at p) (key_at q)) d ds x h g)) in
           ap (λ (b : Bool). keep_if b d (documents_at number next.key ds)) (ap (λ (y : Entry). IsAtLeast y.key (key_at d)) (sym here) ∙ not_under_itself (key_at d))
           ∙ ap (λ (es : List Pairs). d ∷ es) (all_above ∙ sym all_left)
-      at_next true is (x ∷ xs) f =
+      at_next true is (x ∷ xs) f later =
           let rest = rest_is f in
           let from : IsFrom key ds next = is_from key ds next (subst (λ (ys : List Entry). Among next ys) (sym rest) (in_middle next xs others)) in
-          skipped (below_it next.key (key_at d) (above next from)) ∙ behind key ds xs others next (keyed_rest d ds h) rest
-
-      by : (b : Bool) → IsAtLeast key (key_at d) ≡ b → map (document_entry number) (keep_if b d left) ≡ entries ++ next ∷ others
-          → documents_at number next.key (d ∷ ds) ≡ drop (length entries) (keep_if b d left)
-      by b is f = at_next b is entries f
+          skipped (below_it next.key (key_at d) (above next from)) ∙ later xs rest
 
   -- the first of a list of entries are those of its first documents
   firsts : (ds : List Pairs) (entries rest : List Entry) → map (document_entry number) ds ≡ entries ++ rest → entries ≡ map (document_entry number) (take (length entries) ds)

@@ -30,10 +30,12 @@ above_at key [] k d h below = absurd (omega (arith, below))
 above_at key (x ∷ es) zero d h below = h.0
 above_at key (x ∷ es) (suc k) d h below = above_at key es k d h.1 (omega (arith, below))
 
-next_above : (es : List OwnEdit) (k : ℕ) (d : OwnEdit) → Rises (edit_keys (edits_in es)) → k + 1 < length es → key_cmp (get_or es k d).key.items (get_or es (k + 1) d).key.items ≡ Less
-next_above [] k d h below = absurd (omega (arith, below))
-next_above (x ∷ es) zero d h below = above_at x.key.items es 0 d h.0 (omega (arith, below))
-next_above (x ∷ es) (suc k) d h below = next_above es k d h.1 (omega (arith, below))
+later_above : (es : List OwnEdit) (j k : ℕ) (d : OwnEdit) → Rises (edit_keys (edits_in es)) → j < k → k < length es → key_cmp (get_or es j d).key.items (get_or es k d).key.items ≡ Less
+later_above [] j k d h lt below = absurd (omega (arith, below))
+later_above (x ∷ es) zero zero d h lt below = absurd (omega (arith, lt))
+later_above (x ∷ es) zero (suc k) d h lt below = above_at x.key.items es k d h.0 (omega (arith, below))
+later_above (x ∷ es) (suc j) zero d h lt below = absurd (omega (arith, lt))
+later_above (x ∷ es) (suc j) (suc k) d h lt below = later_above es j k d h.1 (omega (arith, lt)) (omega (arith, below))
 
 -- ---- where it stands
 
@@ -93,6 +95,6 @@ missing_at key (x ∷ es) (suc i) within before after =
 pub place_told : (es : List OwnEdit) (key : List ℕ) (r : Result ℕ ℕ) → Rises (edit_keys (edits_in es)) → IsSearchInRange r (length es) → IsBinarySearchResult (λ e. key_cmp e.key.items key) es r → IsPlaceAmong key es r
 place_told es key (Ok i) up range found = let at = stands_at key es i up range found in (range, at.0, at.1)
 place_told es key (Err i) up range found =
-    let parts = found (searchable_from_sorted nat_list_cmp_total (λ (e : OwnEdit). e.key.items) es key (λ k d low high. ap is_lt (flipped (get_or es k d).key.items (get_or es (k + 1) d).key.items Less (next_above es k d up high)))) in
+    let parts = found (searchable_from_sorted nat_list_cmp_total (λ (e : OwnEdit). e.key.items) es key (λ k d low high. ap is_lt (flipped (get_or es k d).key.items (get_or es (k + 1) d).key.items Less (later_above es k (k + 1) d up (omega arith) high)))) in
     let at = missing_at key es i range (λ k d low. parts.0 k d (omega arith) low) (λ k d low high. parts.1 k d low high) in
     (range, at.0, at.1)

@@ -39,3 +39,5 @@ pub mod EditPlaceLemmas
 pub mod DocumentPlaces
 pub mod StateEditLaws
 pub mod BatchLaws
+pub mod ReadingLemmas
+pub mod NotingLemmas

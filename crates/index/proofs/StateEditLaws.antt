@@ -235,10 +235,9 @@ puts_with old new number d stored leads a b c first h found numbered =
 
 pub removes_with : (old new : List Edit) (number : ℕ) (id : Tree) → IsKey (value id) → LeadsWith old (removal (key_under number 0 (tree_text id))) new → ChangesDocuments old new number (without_document id)
 removes_with old new number id spellable leads a b c first h found numbered =
-    let step = removes_document b c id h found spellable in
-    (
+    let step = removes_document b c id h found spellable in (
       leads a b (with_documents c (without_document id c.documents) b) first
-      (subst (λ (n : ℕ). Leads (removal (key_under n 0 (tree_text id)) ∷ []) b (with_documents c (without_document id c.documents) b)) numbered step.0),
+          (subst (λ (n : ℕ). Leads (removal (key_under n 0 (tree_text id)) ∷ []) b (with_documents c (without_document id c.documents) b)) numbered step.0),
       step.1,
     )
 

@@ -46,7 +46,7 @@ impl Model for Edits {
 /// Where the edit of a key stands, or would stand.
 fn place_among(edits: &[OwnEdit], key: &[u8]) -> Result<usize, usize>
     requires { Rises (edit_keys (edits_in edits.now)) }
-    ensures { IsPlaceAmong key.now (edits_in edits.now) result }
+    ensures { IsPlaceAmong key.now edits.now result }
 {
     edits.binary_search_by(|edit| edit.key.as_slice().cmp(key))
 }
@@ -63,13 +63,16 @@ fn put_among(edits: &mut Vec<OwnEdit>, edit: OwnEdit) -> Result<(), NoMemory>
             edits[at] = edit;
             Ok(())
         }
-        Err(at) => edits.insert(at, edit),
+        Err(at) => {
+            edits.insert(at, edit)?;
+            Ok(())
+        }
     }
 }
 
 /// An edit as a tree takes it.
 fn tree_edit(edit: &OwnEdit) -> Edit<'_>
-    ensures { edit_in result.entry ≡ edit_of edit.now.key edit.now.value }
+    ensures { edit_in result ≡ edit_of edit.now.key edit.now.value }
 {
     Edit {
         key: edit.key.as_slice(),
@@ -96,7 +99,9 @@ impl Edits {
     pub fn new(alloc: Global) -> Edits
         ensures { result ≡ [] }
     {
-        Edits { edits: Vec::new(alloc) }
+        Edits {
+            edits: Vec::new(alloc),
+        }
     }
 
     /// The allocator that it takes memory from.

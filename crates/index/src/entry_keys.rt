@@ -10,12 +10,7 @@ use std::alloc::Global;
 use value_order::group_text;
 
 /// The key of a text under the numbers of a collection and an index.
-fn key_under(
-    alloc: Global,
-    collection: u32,
-    index: u32,
-    text: &[u8],
-) -> Result<Vec<u8>, NoMemory>
+fn key_under(alloc: Global, collection: u32, index: u32, text: &[u8]) -> Result<Vec<u8>, NoMemory>
     ensures { IfOk result (λ key. key.items ≡ key_under collection index text.now) }
 {
     let mut key = Vec::with_capacity(alloc, text.len().saturating_add(8))?;

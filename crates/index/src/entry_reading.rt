@@ -119,7 +119,8 @@ pub fn namespace_in(alloc: Global, key: &[u8]) -> Result<Option<String>, NoMemor
     if key.len() < NAME_START {
         return Ok(None);
     }
-    let bytes = unescaped(alloc, &key[NAME_START..])?;
+    let (_, text) = key.split_at(NAME_START);
+    let bytes = unescaped(alloc, text)?;
     let Ok(name) = String::from_utf8(bytes) else {
         return Ok(None);
     };
