@@ -1,5 +1,5 @@
 -- How putting edits into the tree ends.
-use Rattle.std.proofs.Common.{◌≡◌, ◌⊎◌, ℕ, ◌<◌, ◌≤◌, true, false, List, [], ◌∷◌, length, refl, sym, ◌∙◌, ap, subst, arith, inl, inr}
+use Rattle.std.proofs.Common.{◌≡◌, ◌⊎◌, ℕ, true, false, List, [], ◌∷◌, length, refl, sym, ◌∙◌, ap, subst, arith, inl, inr}
 use Rattle.std.specs.Prelude.{◌==◌, not, Ok, Err}
 use Rattle.std.proofs.lemmas.Bool.Decides.{nat_tests}
 use Rattle.page.specs.History.{History, KeepsWord}
@@ -13,15 +13,14 @@ use Rattle.path.specs.declared.refusal.Refusal.TheVariants as refusals
 use Rattle.pager.specs.State.{State as PagerState}
 use Rattle.pager.specs.Turn.{IsOrderly, Returns, undone_to}
 use Rattle.pager.specs.View.{pager_history, store_of}
-use Rattle.index.specs.Documents.{IsUnindexed}
 use Rattle.index.specs.State.{Collection}
-use Rattle.index.specs.StateEntries.{Leads, Spells}
+use Rattle.index.specs.StateEntries.{Spells}
 use Rattle.collections.specs.State.{State}
 use Rattle.collections.specs.Calls.{Applies, GoesFrom, HasWriteCause}
 use Rattle.collections.specs.Applying.{ChangesTree, refusal_of}
-use Rattle.collections.specs.Standing.{HasState, IsTurnOf}
-use Rattle.collections.specs.View.{disk_history, is_changed, is_stopped}
-use Rattle.collections.proofs.StandingLemmas.{state_on, state_stays, stopped_same, tree_same, turn_on}
+use Rattle.collections.specs.Standing.{IsTurnOf}
+use Rattle.collections.specs.View.{disk_history, is_stopped}
+use Rattle.collections.proofs.StandingLemmas.{state_on, state_stays, tree_same, turn_on}
 
 module _ {D : Type 0} (history : D → History) (edits : List Edit) (old : State D) where
   pub applies_stopped : is_stopped old ≡ true → Applies history edits (Err refusals.StorageFailed) old old
@@ -39,12 +38,12 @@ module _ {D : Type 0} (history : D → History) (edits : List Edit) (old : State
     idle = λ _. refl;
     unchanged = tt;
     state = λ start before after has leads state. state_on history old old start before after (grows_itself (store_of history old.pager)) (λ k t. record {
-        pages = t.pages;
-        after = t.after;
-        turn = t.turn;
-        spells = subst (λ (es : List Edit). Spells (change es t.after) after) none (leads t.after t.spells_now);
-        state = state;
-      }) has;
+      pages = t.pages;
+      after = t.after;
+      turn = t.turn;
+      spells = subst (λ (es : List Edit). Spells (change es t.after) after) none (leads t.after t.spells_now);
+      state = state;
+    }) has;
     cause = λ k start before after has leads state. tt;
   }
 

@@ -1,5 +1,5 @@
 -- How the commit of a turn ends.
-use Rattle.std.proofs.Common.{◌≡◌, ◌⊎◌, ℕ, ◌+◌, false, List, refl, sym, ◌∙◌, ap, inl, inr}
+use Rattle.std.proofs.Common.{◌≡◌, ◌⊎◌, ℕ, false, List, sym, ap, inl, inr}
 use Rattle.std.specs.Prelude.{Result, Ok, Err}
 use Rattle.page.specs.History.{History, KeepsWord}
 use Rattle.roots.specs.declared.store.CommitFault.{CommitFault}
@@ -8,7 +8,7 @@ use Rattle.pager.specs.Commit.{Commits as CommitsPages, MovesTurns, Moves as Mov
 use Rattle.pager.specs.State.{State as PagerState}
 use Rattle.index.specs.State.{Collection}
 use Rattle.collections.specs.State.{State}
-use Rattle.collections.specs.Committing.{Commits, Moves}
+use Rattle.collections.specs.Committing.{Commits}
 use Rattle.collections.specs.Holding.{Holds}
 use Rattle.collections.specs.Standing.{HasState, IsTurnOf}
 use Rattle.collections.specs.View.{disk_history, is_stopped}
@@ -43,14 +43,14 @@ module _ {D : Type 0} (history : D → History) (old : State D) (pager : PagerSt
     device = λ is. absurd cc;
     idle = λ is. ap (λ (p : PagerState D). record old { pager = p }) (commits.idle is);
     moves = λ running start now has. record {
-        any_moment = λ k image left. held start now (turn (Ok tt) commits moves running start now has k) image ((moved (Ok tt) commits moves running start now has k).any_moment k image left);
-        acknowledged = λ k image is.
-            let t = turn (Ok tt) commits moves running start now has k in
-            record { entries = t.after; stands = (moved (Ok tt) commits moves running start now has k).acknowledged k image is; spells = t.spells_now; state = t.now_state };
-        begun = λ still k.
-            let t = turn (Ok tt) commits moves running start now has k in
-            begins history new t.pages t.after now (sym commits.tree) k (moved (Ok tt) commits moves running start now has k).begun t.spells_now t.now_state;
-      };
+      any_moment = λ k image left. held start now (turn (Ok tt) commits moves running start now has k) image ((moved (Ok tt) commits moves running start now has k).any_moment k image left);
+      acknowledged = λ k image is.
+          let t = turn (Ok tt) commits moves running start now has k in
+          record { entries = t.after; stands = (moved (Ok tt) commits moves running start now has k).acknowledged k image is; spells = t.spells_now; state = t.now_state };
+      begun = λ still k.
+          let t = turn (Ok tt) commits moves running start now has k in
+          begins history new t.pages t.after now (sym commits.tree) k (moved (Ok tt) commits moves running start now has k).begun t.spells_now t.now_state;
+    };
   }
 
   pub not_committed : (fault : CommitFault) → CommitsPages history old.root (Err fault) old.pager pager → MovesTurns history old.root (Err fault) old.pager pager → Commits history (Err fault) old new
@@ -65,10 +65,10 @@ module _ {D : Type 0} (history : D → History) (old : State D) (pager : PagerSt
     device = λ is k. commits.device is k;
     idle = λ is. ap (λ (p : PagerState D). record old { pager = p }) (commits.idle is);
     moves = λ running start now has. record {
-        any_moment = λ k image left. held start now (turn (Err fault) commits moves running start now has k) image ((moved (Err fault) commits moves running start now has k).any_moment k image left);
-        acknowledged = tt;
-        begun = tt;
-      };
+      any_moment = λ k image left. held start now (turn (Err fault) commits moves running start now has k) image ((moved (Err fault) commits moves running start now has k).any_moment k image left);
+      acknowledged = tt;
+      begun = tt;
+    };
   }
 
   pub commits_so : (result : Result (Unit {0}) CommitFault) → CommitsPages history old.root result old.pager pager → MovesTurns history old.root result old.pager pager → Commits history result old new

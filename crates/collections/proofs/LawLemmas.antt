@@ -1,5 +1,5 @@
 -- What follows where collections have a state.
-use Rattle.std.proofs.Common.{rules, arith, ◌≡◌, ℕ, false, List, [], inl, refl, sym, ◌∙◌, subst}
+use Rattle.std.proofs.Common.{rules, arith, ◌≡◌, ℕ, List, [], inl, refl, sym, ◌∙◌, subst}
 use Rattle.std.specs.Prelude.{replicate, Ok}
 use Rattle.page.specs.History.{History, KeepsWord, now, reads}
 use Rattle.btree.specs.Keys.{Entry}
@@ -19,7 +19,6 @@ use Rattle.index.specs.Documents.{IsUnindexed}
 use Rattle.index.specs.State.{Collection}
 use Rattle.index.specs.StateEntries.{Spells}
 use Rattle.collections.specs.State.{State}
-use Rattle.collections.specs.Holding.{Holds}
 use Rattle.collections.specs.Laws.{GoesFromItself, GoesFurther, HasOneState, HoldsOne, LeavesStart, RestsAtStart, ZerosHoldNothing}
 use Rattle.collections.specs.Standing.{IsTurnOf}
 use Rattle.collections.specs.View.{disk_history}
@@ -60,8 +59,7 @@ has_one_state history c start now' start' now'' running k one two =
     let others = (still history c start' now'' u k).keeps in
     let stands : StandsFor image t.before = record { root = durable_root c.pager.store; pages = t.live; opens = keeps.opens k; holds = keeps.holds k } in
     let stands' : StandsFor image u.before = record { root = durable_root c.pager.store; pages = u.live; opens = others.opens k; holds = others.holds k } in
-    let before : t.before ≡ u.before = one_state image t.before u.before stands stands' in
-    (
+    let before : t.before ≡ u.before = one_state image t.before u.before stands stands' in (
       spells_one t.before start start' t.start_state.lawful u.start_state.lawful t.spells_start (subst (λ (es : List Entry). Spells es start') (sym before) u.spells_start),
       spells_one t.after now' now'' t.now_state.lawful u.now_state.lawful t.spells_now (subst (λ (es : List Entry). Spells es now'') (sym entries) u.spells_now),
     )

@@ -1,8 +1,7 @@
 -- Turns that are taken back.
-use Rattle.std.proofs.Common.{◌≡◌, ℕ, false, List, [], length, take, refl, sym, ◌∙◌, ap, subst}
+use Rattle.std.proofs.Common.{◌≡◌, ℕ, List, sym, ◌∙◌, ap, subst}
 use Rattle.std.specs.Prelude.{◌==◌, not}
 use Rattle.page.specs.History.{History, KeepsWord}
-use Rattle.btree.specs.Store.{Grows}
 use Rattle.roots.specs.tree.Store as stores
 use Rattle.pager.specs.State.{State as PagerState}
 use Rattle.pager.specs.Turn.{IsBegun, LeadsBack, Returns, undone_to}
@@ -11,9 +10,9 @@ use Rattle.index.specs.State.{Collection}
 use Rattle.collections.specs.State.{State}
 use Rattle.collections.specs.declared.mark.Mark.{Mark}
 use Rattle.collections.specs.Calls.{GoesFrom}
-use Rattle.collections.specs.Marks.{IsBackAt, IsMarkOf, IsUntouched, ReturnsTo, Undoes}
+use Rattle.collections.specs.Marks.{IsBackAt, IsUntouched, ReturnsTo, Undoes}
 use Rattle.collections.specs.Standing.{HasState, IsTurnOf}
-use Rattle.collections.specs.View.{disk_history, is_changed, is_stopped}
+use Rattle.collections.specs.View.{disk_history}
 use Rattle.collections.proofs.StandingLemmas.{begins, rests_at, state_stays, tree_same}
 
 -- back to a mark

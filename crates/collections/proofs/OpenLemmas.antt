@@ -1,18 +1,16 @@
 -- What opening gives.
-use Rattle.std.proofs.Common.{◌≡◌, ℕ, List, sym, ◌∙◌, subst}
+use Rattle.std.proofs.Common.{◌≡◌, sym, ◌∙◌, subst}
 use Rattle.std.specs.Prelude.{Ok}
-use Rattle.page.specs.History.{History, KeepsWord, now, reads}
+use Rattle.page.specs.History.{History, now, reads}
 use Rattle.roots.specs.declared.opening.OpenFault.{OpenFault}
 use Rattle.roots.specs.declared.root.Root.{Root}
 use Rattle.roots.specs.tree.Image.{HoldsMap, sheet_at}
 use Rattle.roots.specs.tree.Store.{durable_root}
 use Rattle.pager.specs.Opening.{IsOpened as IsPagerOpened, IsRefused as IsPagerRefused}
 use Rattle.pager.specs.Turn.{IsBegun}
-use Rattle.index.specs.State.{Collection}
 use Rattle.collections.specs.State.{State}
 use Rattle.collections.specs.Holding.{Holds}
 use Rattle.collections.specs.Opening.{IsOpened, IsRefused}
-use Rattle.collections.specs.View.{disk_history}
 use Rattle.collections.proofs.StandingLemmas.{begins, rests_at}
 
 pub opened_so : {D : Type 0} (history : D → History) (disk : D) (c : State D) → IsPagerOpened history disk c.pager → c.root ≡ (durable_root c.pager.store).tree → IsOpened history disk c

@@ -7,7 +7,7 @@ use Rattle.page.specs.History.{History, KeepsWord}
 use Rattle.btree.specs.Change.{IsChanged}
 use Rattle.btree.specs.Keys.{Entry, times}
 use Rattle.btree.specs.Reach.{HasMap}
-use Rattle.btree.specs.Store.{Frame, Grows, IsSame, Stays, flag}
+use Rattle.btree.specs.Store.{Frame, Grows, Stays, flag}
 use Rattle.btree.proofs.OnceLemmas.{old_trees_stay}
 use Rattle.btree.proofs.StoreLemmas.{grows_trans}
 use Rattle.roots.specs.declared.root.Root.{Root}
@@ -24,7 +24,7 @@ use Rattle.index.specs.StateEntries.{Spells}
 use Rattle.collections.specs.State.{State}
 use Rattle.collections.specs.Calls.{GoesFrom}
 use Rattle.collections.specs.Standing.{HasState, IsTurnOf}
-use Rattle.collections.specs.View.{disk_history, generation, is_changed, is_stopped}
+use Rattle.collections.specs.View.{disk_history}
 
 flag_one : (a b : Bool) → flag a ≡ flag b → a ≡ b
 flag_one true true same = refl
@@ -96,14 +96,14 @@ pub state_stays : {D : Type 0} (history : D → History) (old new : State D) (st
     → HasState history old start now → HasState history new start now
 state_stays history old new start now goes same made retired =
     state_on history old new start now now goes (λ k t.
-      let c = tree_stays history old.pager new.pager old.root t.pages t.after t.turn.holds (goes.frame k) (made k) (retired k) in
-      record {
-        pages = c.after;
-        after = t.after;
-        turn = subst (λ (root : ℕ). IsTurn history t.began new.pager root t.live c.after t.after) (sym same) (turn_on history t.began old.pager new.pager old.root old.root t.live t.pages t.after t.after t.turn goes k c);
-        spells = t.spells_now;
-        state = t.now_state;
-      })
+    let c = tree_stays history old.pager new.pager old.root t.pages t.after t.turn.holds (goes.frame k) (made k) (retired k) in
+    record {
+      pages = c.after;
+      after = t.after;
+      turn = subst (λ (root : ℕ). IsTurn history t.began new.pager root t.live c.after t.after) (sym same) (turn_on history t.began old.pager new.pager old.root old.root t.live t.pages t.after t.after t.turn goes k c);
+      spells = t.spells_now;
+      state = t.now_state;
+    })
 
 -- ---- the beginning
 

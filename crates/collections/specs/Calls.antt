@@ -1,5 +1,5 @@
 -- What calls of the collections give, and why they refuse.
-use Rattle.std.specs.Prelude.{◌≡◌, ◌⊎◌, ℕ, ◌<◌, ◌≤◌, true, List, [], length, Result, IfErr, OnErr, MatchResult}
+use Rattle.std.specs.Prelude.{◌≡◌, ◌⊎◌, ◌<◌, ◌≤◌, true, List, [], length, Result, IfErr, OnErr, MatchResult}
 use Rattle.page.specs.History.{History, KeepsWord}
 use Rattle.btree.specs.Keys.{Entry, Edit}
 use Rattle.btree.specs.Store.{Grows, HasNoPage}

@@ -1,5 +1,5 @@
 -- Marks of a turn, and what taking back gives.
-use Rattle.std.specs.Prelude.{◌≡◌, ℕ, false, List, length}
+use Rattle.std.specs.Prelude.{◌≡◌, false, List, length}
 use Rattle.page.specs.History.{History}
 use Rattle.pager.specs.Turn.{IsOrderly}
 use Rattle.index.specs.State.{Collection}

@@ -1,4 +1,4 @@
-use Rattle.std.proofs.Common.{rules, subst, sym, ◌∙◌, Ok, Err}
+use Rattle.std.proofs.Common.{rules, subst, sym, Ok, Err}
 use Rattle.path.specs.declared.refusal.Refusal.{Refusal}
 use Rattle.collections.specs.Calls.{Applies}
 use Rattle.collections.specs.State.{State}
