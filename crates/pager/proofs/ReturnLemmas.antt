@@ -1,15 +1,13 @@
 -- A turn that is undone to an earlier moment of it.
-use Rattle.std.proofs.Common.{◌≡◌, ◌≢◌, ℕ, ◌+◌, ◌<◌, ◌≤◌, Bool, true, false, List, [], ◌∷◌, ◌++◌, length, map, take, drop, set, get_or, refl, sym, ◌∙◌, ap, subst, arith, inl, inr}
+use Rattle.std.proofs.Common.{◌≡◌, ◌≢◌, ℕ, ◌+◌, ◌<◌, Bool, true, false, List, [], ◌∷◌, ◌++◌, length, map, take, drop, set, get_or, refl, sym, ◌∙◌, ap, subst, arith, inl, inr}
 use Rattle.std.specs.Prelude.{◌==◌, ◌&&◌, nat_lt, not, if◌then◌else◌, reverse, is_ok, Result, Ok}
 use Rattle.std.specs.List.{AllByRecursion}
-use Rattle.std.proofs.lemmas.Bool.{cases_Bool}
 use Rattle.std.proofs.lemmas.List.{length-map, reverse-append, reverse-reverse, take-append-drop, take-map}
 use Rattle.std.proofs.Math.Seq.{take-append_seam}
-use Rattle.page.specs.Content.{Content}
 use Rattle.page.specs.Format.{Sheet}
 use Rattle.page.specs.History.{History, KeepsWord, now, reads}
 use Rattle.page.specs.declared.page_fault.PageFault.{PageFault}
-use Rattle.btree.specs.Store.{Grows, IsAt, IsSame, Stays, flag}
+use Rattle.btree.specs.Store.{Grows, IsAt, IsSame, Stays}
 use Rattle.btree.proofs.StoreLemmas.{grows_same}
 use Rattle.freelist.specs.Book.{Book, CanRewind, is_free, is_free_state, is_in_use, rewind, undone}
 use Rattle.freelist.specs.declared.states.PageState.{PageState}

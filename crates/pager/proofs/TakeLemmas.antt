@@ -28,7 +28,7 @@ use Rattle.freelist.proofs.SoundBooks.{stays_sound}
 use Rattle.freelist.proofs.Undoing.{undoing_leads_back}
 use Rattle.roots.specs.declared.tree_store.TreeStore.{TreeStore}
 use Rattle.roots.specs.tree.Image.{content_in, sheet_at}
-use Rattle.roots.specs.tree.Store.{disk_history, durable_root, is_stopped}
+use Rattle.roots.specs.tree.Store.{durable_root, is_stopped}
 use Rattle.roots.specs.tree.Turn.{numbers_of}
 use Rattle.pager.specs.Calls.{Refuses}
 use Rattle.pager.specs.Kept.{Agrees, IsKept, IsNew}
@@ -236,29 +236,20 @@ module _ {D : Type 0} (history : D → History) (store : TreeStore D) (made : Li
     full_takes = more;
   }
 
-  pub refused_stays : (fault : TreeFault) → Refuses fault book new_book → Stays (store_of history start) (store_of history stop)
-  refused_stays fault refuses = record {
-    base = (λ i. base_with store (rewind (turn_same fault refuses i) (states_same fault refuses i)));
-    reads = reads_nothing (pager_history history start);
-  }
-    where
-      turn_same : (fault : TreeFault) → Refuses fault book new_book → new_book.turn ≡ book.turn
-      turn_same faults.Memory is = ap (λ (b : Book). b.turn) is
-      turn_same faults.Full (none, is) = ap (λ (b : Book). b.turn) is
-      turn_same faults.Device is = absurd is
-      turn_same faults.Kind is = absurd is
-      turn_same faults.Number is = absurd is
-      turn_same faults.Order is = absurd is
-      turn_same faults.Length is = absurd is
+  -- the turn, and what each page is
+  refused_same : (fault : TreeFault) → Refuses fault book new_book → (new_book.states ≡ book.states) × (new_book.turn ≡ book.turn)
+  refused_same faults.Memory is = (ap (λ (b : Book). b.states) is, ap (λ (b : Book). b.turn) is)
+  refused_same faults.Full (none, is) = (ap (λ (b : Book). b.states) is, ap (λ (b : Book). b.turn) is)
+  refused_same faults.Device is = absurd is
+  refused_same faults.Kind is = absurd is
+  refused_same faults.Number is = absurd is
+  refused_same faults.Order is = absurd is
+  refused_same faults.Length is = absurd is
 
-      states_same : (fault : TreeFault) → Refuses fault book new_book → new_book.states ≡ book.states
-      states_same faults.Memory is = ap (λ (b : Book). b.states) is
-      states_same faults.Full (none, is) = ap (λ (b : Book). b.states) is
-      states_same faults.Device is = absurd is
-      states_same faults.Kind is = absurd is
-      states_same faults.Number is = absurd is
-      states_same faults.Order is = absurd is
-      states_same faults.Length is = absurd is
+  pub refused_stays : (fault : TreeFault) → Refuses fault book new_book → Stays (store_of history start) (store_of history stop)
+  refused_stays fault refuses =
+      let same = refused_same fault refuses in
+      record { base = (λ i. base_with store (rewind (same.1 i) (same.0 i))); reads = reads_nothing (pager_history history start) }
 
   counted_full : new_book.full_takes ≡ min (book.full_takes + 1) (2 ^ 64 - 1) → HasNoPage (store_of history start) (store_of history stop)
   counted_full is = elim (cases_lt book.full_takes (2 ^ 64 - 1)) [

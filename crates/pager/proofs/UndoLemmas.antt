@@ -5,7 +5,7 @@ use Rattle.std.specs.List.{AllByRecursion}
 use Rattle.std.proofs.lemmas.Bool.{cases_eq}
 use Rattle.std.proofs.lemmas.List.{get_or-set_other, length-set}
 use Rattle.page.specs.Format.{Sheet}
-use Rattle.page.specs.History.{History, KeepsWord}
+use Rattle.page.specs.History.{History}
 use Rattle.page.specs.declared.page_cache.PageCache.{PageCache}
 use Rattle.btree.specs.Keys.{Entry}
 use Rattle.btree.specs.Store.{Grows, flag}
@@ -21,7 +21,7 @@ use Rattle.roots.specs.tree.Turn.{LieBehind}
 use Rattle.pager.specs.Kept.{IsKept, IsNew, takes_of}
 use Rattle.pager.specs.State.{State}
 use Rattle.pager.specs.Turn.{IsBegun, LeadsBack, undone_to}
-use Rattle.pager.specs.View.{pager_history, store_of}
+use Rattle.pager.specs.View.{store_of}
 use Rattle.pager.specs.Writing.{IsAmong}
 use Rattle.pager.proofs.BookLemmas.{others_of}
 use Rattle.pager.proofs.ListLemmas.{all_take, lie_take}

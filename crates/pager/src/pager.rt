@@ -44,9 +44,6 @@ impl<D: Disk> Model for Pager<D> {
 
 impl<D: Disk> Pager<D> {
     ghost use Rattle.std.specs.Prelude.{IfOk, IfErr, length};
-    ghost use Rattle.page.specs.History.{KeepsWord};
-    ghost use Rattle.btree.specs.Keys.{Entry};
-    ghost use Rattle.btree.specs.Store.{Grows};
     ghost use Rattle.roots.specs.tree.Store.{durable_root, is_stopped};
     ghost use Rattle.pager.specs.Commit.{Commits, MovesTurns};
     ghost use Rattle.pager.specs.Opening.{IsOpened, IsRefused};

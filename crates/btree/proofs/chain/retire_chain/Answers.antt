@@ -1,4 +1,4 @@
-use Rattle.std.proofs.Common.{◌∙◌, sym, ap, rules}
+use Rattle.std.proofs.Common.{◌∙◌, sym, ap}
 use Rattle.page.specs.Format.{Sheet}
 use Rattle.btree.specs.View.{content_in}
 use Rattle.btree.proofs.StoreLemmas.{answer_failed, cause_later, grows_failed, grows_itself, grows_retired, grows_same, grows_trans}

@@ -1,4 +1,4 @@
-use Rattle.std.proofs.Common.{◌∙◌, ◌++◌, zero, Ok, ap, sym, subst, arith, append-nil, length, map, rules}
+use Rattle.std.proofs.Common.{◌∙◌, ◌++◌, zero, Ok, ap, sym, subst, arith, append-nil, length, map}
 use Rattle.std.specs.Option.{option_map}
 use Rattle.page.specs.Content.{Item}
 use Rattle.btree.specs.Keys.{IsPast, IsWithin, entry_of}
