@@ -1,78 +1,27 @@
 -- What stands from a key on, and what is known of what is found.
-use Rattle.std.proofs.Common.{◌≡◌, ℕ, zero, suc, ◌+◌, ◌<◌, ◌≤◌, ◌^◌, Bool, true, false, not, ◌&&◌, List, [], ◌∷◌, ◌++◌, length, get_or, map, take, drop, Option, Some, inl, inr, refl, sym, ap, subst, ◌∙◌, arith}
-use Rattle.std.specs.Prelude.{All, codes, if◌then◌else◌}
+use Rattle.std.proofs.Common.{◌≡◌, ℕ, suc, Bool, true, false, not, ◌&&◌, List, [], ◌∷◌, ◌++◌, length, get_or, map, take, drop, Option, Some, inl, inr, refl, sym, ap, subst, ◌∙◌, arith}
+use Rattle.std.specs.Prelude.{All}
 use Rattle.std.specs.Int.{w32, to_be_bytes}
-use Rattle.std.specs.Str.{bytes_eq}
 use Rattle.std.specs.List.{AllPairs}
-use Rattle.std.specs.Ordering.{nat_cmp, is_lt, ordering_reverse, ordering_then}
-use Rattle.std.specs.Cmp.Lexicographic.{slice_cmp, nat_list_cmp_total}
+use Rattle.std.specs.Ordering.{is_lt, ordering_reverse, ordering_then}
+use Rattle.std.specs.Cmp.Lexicographic.{nat_list_cmp_total}
 use Rattle.std.specs.declared.cmp.Ordering.{Ordering}
 use Rattle.std.specs.declared.cmp.Ordering.TheVariants as orders
 use Rattle.std.proofs.lemmas.Cmp.{nat_cmp_total, tied_itself}
 use Rattle.std.proofs.lemmas.Map.Lookups.{exact_bytes}
-use Rattle.std.proofs.lemmas.Slice.Eq.{bytes_eq-Decides}
-use Rattle.bson.specs.Tree.{Tree, Pairs}
-use Rattle.bson.specs.Lookup.{lookup}
-use Rattle.bson.specs.Spelling.{pairs_bytes}
-use Rattle.bson.specs.SizingLaws.{frame_of-length}
-use Rattle.value_order.specs.Order.{value, compare}
+use Rattle.bson.specs.Tree.{Pairs}
+use Rattle.value_order.specs.Order.{value}
 use Rattle.value_order.specs.KeyText.{tree_text}
 use Rattle.value_order.specs.declared.texts.Direction.TheVariants as directions
 use Rattle.value_order.proofs.KeyLaws.{texts_order}
-use Rattle.btree.specs.Keys.{Entry, Each, IsNotUnder, IsUnder, keep_if, key_cmp, is_within, window}
-use Rattle.index.specs.Batches.{documents_at, FoundCollection, FoundDocument, FindsPut, FieldIsKey, ListsDocumentsFrom, AllDocuments, GoesOnBehind}
-use Rattle.index.specs.Documents.{IsUnindexed}
+use Rattle.btree.specs.Keys.{Entry, IsNotUnder, IsUnder, keep_if, key_cmp, is_within, window}
+use Rattle.index.specs.Batches.{documents_at, ListsDocumentsFrom, AllDocuments, GoesOnBehind}
 use Rattle.index.specs.LawfulState.{IsStorable, IsRising}
-use Rattle.index.specs.State.{Collection, by_order, key_of, find_collection, put_collection}
+use Rattle.index.specs.State.{key_of}
 use Rattle.index.specs.StateEntries.{key_under, document_entry}
-use Rattle.index.specs.StateReads.{SpellsLawful, find_document}
 use Rattle.index.proofs.EntryLemmas.{id_is_key}
-use Rattle.index.proofs.HomeLemmas.{kept_of}
 use Rattle.index.proofs.ListingLaws.{lists_documents}
-use Rattle.index.proofs.MemberLemmas.{Among, of_all, first_of}
-use Rattle.index.proofs.PlaceLemmas.{found_in, found_name}
-use Rattle.index.proofs.ReadLaws.{document_some}
-use Rattle.index.proofs.SpellableLaws.{Fits, IfFound, field_fits}
-
--- ---- what is found
-
-pub found_collection : FoundCollection
-found_collection cs name c h found =
-    let there = found_in cs name c found in
-    (kept_of cs c h.lawful there, of_all (λ d. d.indexes ≡ []) cs c h.plain there, sym (found_name cs name c found))
-
-pub found_document : FoundDocument
-found_document ds id d all found =
-    let at = document_some ds id d found in (of_all IsStorable ds d all at.0, at.1)
-
-pub finds_put : FindsPut
-finds_put c [] = ap (λ (b : Bool). if b then Some c else find_collection [] c.name) ((bytes_eq-Decides c.name c.name).1 refl)
-finds_put c (d ∷ cs) = by (slice_cmp nat_cmp c.name d.name) refl (finds_put c cs)
-  where
-    here : (rest : List Collection) → find_collection (c ∷ rest) c.name ≡ Some c
-    here rest = ap (λ (b : Bool). if b then Some c else find_collection rest c.name) ((bytes_eq-Decides c.name c.name).1 refl)
-
-    other : slice_cmp nat_cmp c.name d.name ≡ orders.Greater → (b : Bool) → bytes_eq c.name d.name ≡ b → bytes_eq c.name d.name ≡ false
-    other more true same =
-        let tied : slice_cmp nat_cmp c.name d.name ≡ orders.Greater → ⊥ = λ m. not_itself d.name (subst (λ (n : List ℕ). slice_cmp nat_cmp n d.name ≡ orders.Greater) ((bytes_eq-Decides c.name d.name).0 same) m) in
-        absurd (tied more)
-      where
-        not_itself : (n : List ℕ) → slice_cmp nat_cmp n n ≡ orders.Greater → ⊥
-        not_itself n m =
-            let turned : slice_cmp nat_cmp n n ≡ orders.Less = nat_list_cmp_total.antisymm n n ∙ ap ordering_reverse m in
-            let e : orders.Less ≡ orders.Greater = sym turned ∙ m in cc
-    other more false e = e
-
-    by : (o : Ordering) → slice_cmp nat_cmp c.name d.name ≡ o → find_collection (put_collection c cs) c.name ≡ Some c
-        → find_collection (by_order o (c ∷ d ∷ cs) (c ∷ cs) (d ∷ put_collection c cs)) c.name ≡ Some c
-    by orders.Less is later = here (d ∷ cs)
-    by orders.Equal is later = here cs
-    by orders.Greater is later = ap (λ (b : Bool). if b then Some d else find_collection (put_collection c cs) c.name) (other is (bytes_eq c.name d.name) refl) ∙ later
-
-pub field_is_key : FieldIsKey
-field_is_key ps name t lawful short found =
-    let there : IfFound 1048576 (lookup ps name) = field_fits 1048576 ps name lawful.lawful (omega (arith, short, frame_of-length (pairs_bytes ps))) in
-    let fits : Fits 1048576 t = subst (IfFound 1048576) found there in (fits.lawful, fits.size)
+use Rattle.index.proofs.MemberLemmas.{Among, first_of}
 
 -- ---- from a key on
 

@@ -38,6 +38,7 @@ pub mod EditListLaws
 pub mod EditPlaceLemmas
 pub mod DocumentPlaces
 pub mod StateEditLaws
+pub mod FoundLawLemmas
 pub mod BatchLaws
 pub mod ReadingLemmas
 pub mod NotingLemmas

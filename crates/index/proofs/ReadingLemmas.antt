@@ -1,5 +1,5 @@
 -- What is read of an entry's key and value.
-use Rattle.std.proofs.Common.{◌≡◌, ◌≢◌, ℕ, zero, suc, List, [], ◌∷◌, drop, length, Option, Some, Result, Ok, Err, Bool, true, false, not, refl, ap, sym, subst, ◌∙◌, arith}
+use Rattle.std.proofs.Common.{◌≡◌, ℕ, zero, suc, List, [], ◌∷◌, drop, length, Option, Some, Result, Ok, Err, Bool, true, false, not, refl, ap, sym, subst, ◌∙◌, arith}
 use Rattle.std.specs.Prelude.{◌==◌, unwrap_or}
 use Rattle.std.specs.Str.{bytes_eq}
 use Rattle.std.proofs.lemmas.Bool.Decides.{nat_tests}
@@ -7,7 +7,6 @@ use Rattle.std.proofs.lemmas.Slice.Eq.{bytes_eq-Decides}
 use Rattle.bson.specs.Tree.{Pairs}
 use Rattle.bson.specs.Spelling.{frame_of, pairs_bytes, Spells as SpellsDocument}
 use Rattle.bson.specs.declared.fault.BsonFault.{BsonFault}
-use Rattle.bson.specs.declared.fault.BsonFault.TheVariants as faults
 use Rattle.value_order.specs.KeyText.{escaped_text, tree_text}
 use Rattle.index.specs.Definition.{Definition}
 use Rattle.index.specs.Escaping.{unescaped}

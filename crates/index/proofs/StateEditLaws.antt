@@ -7,9 +7,6 @@ use Rattle.std.specs.Ordering.{nat_cmp, is_eq, ordering_reverse}
 use Rattle.std.specs.Cmp.Lexicographic.{slice_cmp, nat_list_cmp_total}
 use Rattle.std.specs.declared.cmp.Ordering.{Ordering}
 use Rattle.std.specs.declared.cmp.Ordering.TheVariants as orders
-use Rattle.std.proofs.lemmas.Cmp.{tied_itself}
-use Rattle.std.proofs.lemmas.Map.Lookups.{exact_bytes}
-use Rattle.std.proofs.lemmas.Slice.Eq.{bytes_eq-Decides}
 use Rattle.bson.specs.Tree.{Tree, Pairs}
 use Rattle.bson.specs.Spelling.{frame_of, pairs_bytes}
 use Rattle.value_order.specs.Laws.{IsKey}
@@ -27,7 +24,7 @@ use Rattle.index.specs.LawfulState.{IsStorable, IsKept, IsLawfulState, AreNamedA
 use Rattle.index.specs.State.{Collection, by_order, words, key_of, empty_collection, find_collection, uses, put_collection, without_collection}
 use Rattle.index.specs.StateEntries.{key_under, catalogue_entry, document_entry, document_entries, collection_entries, Spells, put_of, removal_of, puts, removals, Leads}
 use Rattle.index.specs.StateLaws.{MayBecome, Remakes, own_entries}
-use Rattle.index.specs.StateReads.{SpellsLawful, find_document}
+use Rattle.index.specs.StateReads.{find_document}
 use Rattle.index.proofs.CollectionSteps.{makes_collection, drops_collection}
 use Rattle.index.proofs.DocumentPlaces.{IsBetween, IsInstead, IsTaken, IsAbsent, placed, taken}
 use Rattle.index.proofs.DocumentSteps.{inserts_document, deletes_document}

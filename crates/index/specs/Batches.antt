@@ -1,53 +1,12 @@
--- What stands in a map from a key on, and what is known of what is found: laws that a reader of batches needs.
-use Rattle.std.specs.Prelude.{◌≡◌, ◌≤◌, ℕ, not, List, [], ◌∷◌, ◌++◌, length, map, take, drop, Some, All}
+-- What stands in a map from a key on, as a reader of batches finds it.
+use Rattle.std.specs.Prelude.{◌≡◌, ℕ, not, List, [], ◌∷◌, ◌++◌, length, map, take, drop, Some, All}
 use Rattle.std.specs.Ordering.{is_lt}
-use Rattle.std.specs.declared.cmp.Ordering.TheVariants.{Equal}
-use Rattle.bson.specs.Tree.{Tree, Pairs}
-use Rattle.bson.specs.Lawful.{IsDocument}
-use Rattle.bson.specs.Limits.{message_limit}
-use Rattle.bson.specs.Lookup.{lookup}
-use Rattle.bson.specs.Spelling.{frame_of, pairs_bytes}
-use Rattle.value_order.specs.Laws.{IsKey}
-use Rattle.value_order.specs.Order.{value, compare}
+use Rattle.bson.specs.Tree.{Pairs}
 use Rattle.btree.specs.Keys.{Entry, IsNotUnder, keep_if, key_cmp, window}
-use Rattle.index.specs.Documents.{IsUnindexed}
-use Rattle.index.specs.State.{Collection, key_of, find_collection, put_collection}
+use Rattle.index.specs.State.{Collection, find_collection}
 use Rattle.index.specs.StateEntries.{key_under, document_entry}
-use Rattle.index.specs.StateReads.{SpellsLawful, find_document}
-use Rattle.index.specs.LawfulState.{IsStorable, IsRising, IsKept}
-
--- ---- what is found
-
--- A collection that is found is within the limits and has no index, and it has the name.
-abbrev pub FoundCollection : Type 0
-FoundCollection =
-    (cs : List Collection) (name : List ℕ) (c : Collection) → IsUnindexed cs → find_collection cs name ≡ Some c
-    → IsKept c × (c.indexes ≡ []) × (c.name ≡ name)
-
--- A document that is found may be stored, and the order calls its `_id` equal.
-abbrev pub FoundDocument : Type 0
-FoundDocument =
-    (ds : List Pairs) (id : Tree) (d : Pairs) → All IsStorable ds → find_document ds id ≡ Some d
-    → IsStorable d × (compare id (key_of d) ≡ Equal)
-
--- What was put is found.
-abbrev pub FindsPut : Type 0
-FindsPut =
-    (c : Collection) (cs : List Collection) → find_collection (put_collection c cs) c.name ≡ Some c
-
--- ---- keys
-
--- The `_id` of a stored document is a key.
-abbrev pub StoredIsKey : Type 0
-StoredIsKey = (d : Pairs) → IsStorable d → IsKey (value (key_of d))
-
--- So is a field of a document that a message has room for.
-abbrev pub FieldIsKey : Type 0
-FieldIsKey =
-    (ps : Pairs) (name : List ℕ) (t : Tree) → IsDocument ps → length (frame_of (pairs_bytes ps)) ≤ message_limit
-    → lookup ps name ≡ Some t → IsKey (value t)
-
--- ---- batches
+use Rattle.index.specs.StateReads.{SpellsLawful}
+use Rattle.index.specs.LawfulState.{IsStorable, IsRising}
 
 -- the documents whose entries are not below a key
 abbrev pub documents_at : ℕ → List ℕ → List Pairs → List Pairs

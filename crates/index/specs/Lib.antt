@@ -20,5 +20,6 @@ pub mod EditList
 pub mod EditCode
 pub mod EditPlace
 pub mod Documents
+pub mod FoundLaws
 pub mod Batches
 pub mod Escaping

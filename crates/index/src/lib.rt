@@ -13,6 +13,7 @@ mod edits;
 mod entry_keys;
 mod entry_reading;
 mod entry_values;
+pub mod found_laws;
 mod keys;
 pub mod laws;
 mod state_edits;

@@ -1,5 +1,5 @@
 use Rattle.std.proofs.Common.{◌≡◌, ℕ, List, Some, false, sym, ap, subst, ◌∙◌}
-use Rattle.std.specs.Prelude.{IsUtf8, string_bytes}
+use Rattle.std.specs.Prelude.{IsUtf8}
 use Rattle.value_order.specs.KeyText.{tree_text}
 use Rattle.index.specs.Escaping.{unescaped}
 use Rattle.index.specs.State.{words}
