@@ -64,7 +64,7 @@ module _ {D : Type 0} (history : D → History) (store : TreeStore D) (cache : P
         → KeepsWord (disk_history history new) → MovesMap history (next_root (durable_root store) written root) pages before after result store new
     moved start live before begun pages after turn k2 =
         let k = commits.on.kept k2 in
-        moves before live (committed_still history p start (turn k).grows.stays k live before begun so.booked) after pages
+        moves before live (committed_still history p start (turn k).grows.stays k live before begun) after pages
         (roots_turn history p start (turn k).grows.stays k live before begun so.booked root pages after (turn k) version (written_lie history store cache made retired book so version) (written_inside history store cache made retired book so version)
         (written_sheets history store cache made retired book so version content) k)
 
@@ -97,7 +97,7 @@ module _ {D : Type 0} (history : D → History) (store : TreeStore D) (cache : P
   pub moves_nothing : (root : ℕ) → MovesTurns history root (Err faults.Memory) p p
   moves_nothing root start live before begun pages after turn = record {
     any_moment = λ k image left.
-        let committed_now = committed_still history p start (turn k).grows.stays k live before begun so.booked in
+        let committed_now = committed_still history p start (turn k).grows.stays k live before begun in
         started (disk_history history store) (λ i. StandsFor i before ⊎ StandsFor i after)
         (λ k1 i is. inl (stands_now (disk_history history store) (durable_root store) live before committed_now.keeps k1 i is)) k image left;
     acknowledged = tt;
@@ -110,10 +110,13 @@ module _ {D : Type 0} (history : D → History) (store : TreeStore D) (cache : P
     running = tt;
     version = tt;
     tree = tt;
+    made = tt;
+    retired = tt;
     memory = λ is. absurd (commits.no_memory is);
     full = λ is. ((commits.full is).0, (λ i. record { store = (commits.full is).1 i; made = made; retired = retired; book = book }));
     device = commits.device;
     stops = λ is. (commits.stops is, refl);
+    idle = λ is i. record { store = commits.idle is i; made = made; retired = retired; book = book };
   }
 
 -- what isn't a fault is done

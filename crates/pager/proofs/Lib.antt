@@ -1,4 +1,5 @@
 pub mod AfterLemmas
+pub mod BeginLemmas
 pub mod BookLemmas
 pub mod CallLemmas
 pub mod EndLemmas
@@ -7,6 +8,7 @@ pub mod ListLemmas
 pub mod MemberLemmas
 pub mod OpenLemmas
 pub mod ReadLemmas
+pub mod RefusalLemmas
 pub mod ReturnLemmas
 pub mod TakeLemmas
 pub mod TreeLemmas

@@ -16,15 +16,14 @@ use Rattle.freelist.specs.Book.{Book, is_in_use, is_used_state, opened, with_use
 use Rattle.freelist.specs.declared.states.PageState.{PageState}
 use Rattle.freelist.specs.declared.states.PageState.TheVariants as states
 use Rattle.freelist.proofs.SoundBooks.{opens_sound}
-use Rattle.roots.specs.declared.opening.OpenFault.{OpenFault}
 use Rattle.roots.specs.declared.root.Root.{Root}
 use Rattle.roots.specs.declared.tree_store.TreeStore.{TreeStore}
 use Rattle.roots.specs.tree.Image.{HoldsMap, OpensAs, sheet_at}
-use Rattle.roots.specs.tree.Opening.{IsOpened as IsStoreOpened, IsRefused as IsStoreRefused}
+use Rattle.roots.specs.tree.Opening.{IsOpened as IsStoreOpened}
 use Rattle.roots.specs.tree.Store.{IsCommitted, disk_history, durable_root}
 use Rattle.roots.specs.tree.Walk.{FindsFree}
 use Rattle.pager.specs.Kept.{IsBookFor, IsKept}
-use Rattle.pager.specs.Opening.{IsOpened, IsRefused}
+use Rattle.pager.specs.Opening.{IsOpened}
 use Rattle.pager.specs.Turn.{IsBegun}
 use Rattle.pager.proofs.BookLemmas.{no_time, one_time, others_of}
 
@@ -108,6 +107,8 @@ module _ {D : Type 0} (history : D → History) (disk : D) (mid new : TreeStore 
       let h2 = disk_history history new in
       subst (IsOpened history disk) (λ i. record { store = new; made = sym none i; retired = sym empty i; book = book }) (record {
         running = finds.stopped ∙ first.running;
+        made = refl;
+        retired = refl;
         on = goes_further h0 h1 h2 first.on only.on;
         opens = λ k. subst (OpensAs (reads (now h0))) (sym finds.root) (first.opens (only.on.kept k));
         begun = begins;
@@ -116,11 +117,3 @@ module _ {D : Type 0} (history : D → History) (disk : D) (mid new : TreeStore 
             leaves_further h0 h1 h2 (IsImage (now h0)) only.on (first.any_moment readable)
             (λ k image left. leaves_now h0 h1 (IsImage (now h0)) first.on (first.any_moment readable) (only.on.kept k) image (reads_moments h1 h2 only k image left));
       })
-
--- a disk whose roots weren't read
-pub refused_so : {D : Type 0} (history : D → History) (disk back : D) (fault : OpenFault) → IsStoreRefused history disk back fault → IsRefused history disk back fault
-refused_so history disk back fault refused = record {
-  on = refused.untouched.on;
-  any_moment = λ readable. reads_moments (history disk) (history back) refused.untouched;
-  device = refused.device;
-}

@@ -74,8 +74,7 @@ same_root p start same =
 pub same_beginning : {D : Type 0} (p start : State D) → base_of p ≡ base_of start → rewind p.book.turn p.book.states ≡ rewind start.book.turn start.book.states
 same_beginning p start same = same_states (rewind p.book.turn p.book.states) (rewind start.book.turn start.book.states) (ap (drop 4) same)
 
-module _ {D : Type 0} (history : D → History) (p start : State D) (stays : Stays (store_of history start) (store_of history p)) (word : KeepsWord (pager_history history p)) (live : List ℕ) (before : List Entry) (begun : IsBegun history start live before)
-    (booked : IsBookFor p.made p.book) where
+module _ {D : Type 0} (history : D → History) (p start : State D) (stays : Stays (store_of history start) (store_of history p)) (word : KeepsWord (pager_history history p)) (live : List ℕ) (before : List Entry) (begun : IsBegun history start live before) where
   sectors_same : now (pager_history history p) ≡ now (pager_history history start)
   sectors_same = stays.reads.same word
 
@@ -99,6 +98,8 @@ module _ {D : Type 0} (history : D → History) (p start : State D) (stays : Sta
         };
       }
 
+module _ {D : Type 0} (history : D → History) (p start : State D) (stays : Stays (store_of history start) (store_of history p)) (word : KeepsWord (pager_history history p)) (live : List ℕ) (before : List Entry) (begun : IsBegun history start live before)
+    (booked : IsBookFor p.made p.book) where
   -- what each page was when the turn began
   pub states_then : rewind (takes_of p.made) p.book.states ≡ start.book.states
   states_then =
@@ -114,7 +115,7 @@ module _ {D : Type 0} (history : D → History) (p start : State D) (stays : Sta
 
   pub used_now : (n : ℕ) → n < length p.book.states → times n live + times n (numbers_of p.made) ≡ flag (is_in_use p.book.states n)
   used_now n within =
-      let then_used : times n live ≡ flag (is_in_use start.book.states n) = (begun.in_use word_then).used n (omega (arith, within, length_then)) in
+      let then_used : times n live ≡ flag (is_in_use start.book.states n) = (begun.in_use (stays.reads.on.kept word)).used n (omega (arith, within, length_then)) in
       let same : flag (is_in_use (rewind (takes_of p.made) p.book.states) n) ≡ flag (is_in_use start.book.states n) = ap (λ (pages : List PageState). flag (is_in_use pages n)) states_then in
       omega (arith, then_used, same, taken_use p.made p.book.states can n)
 
@@ -132,7 +133,7 @@ module _ {D : Type 0} (history : D → History) (p start : State D) (stays : Sta
     | inl within ↦ omega (arith, used_now n within, flag_most (is_in_use p.book.states n))
     | inr past ↦ elim (cases_lt 0 (times n (numbers_of p.made))) [
       | inl some ↦ absurd (omega (arith, past, made_within n (omega (arith, some))))
-      | inr none ↦ omega (arith, none, (committed_still.keeps.holds k).once n)
+      | inr none ↦ omega (arith, none, ((committed_still history p start stays word live before begun).keeps.holds k).once n)
     ]
   ]
 

@@ -1,5 +1,5 @@
 -- What the commit of a turn does.
-use Rattle.std.specs.Prelude.{◌≡◌, ◌⊎◌, ℕ, ◌+◌, ◌-◌, ◌^◌, true, List, Result, Err, OnOk}
+use Rattle.std.specs.Prelude.{◌≡◌, ◌⊎◌, ℕ, ◌+◌, ◌-◌, ◌^◌, true, List, [], Result, Err, OnOk}
 use Rattle.page.specs.History.{History, KeepsWord}
 use Rattle.page.specs.Crash.{GoesOn, LeavesOnly, LeavesNow}
 use Rattle.btree.specs.Keys.{Entry, times}
@@ -21,6 +21,9 @@ pub record Commits {D : Type 0} (history : D → History) (root : ℕ)
   pub version : OnOk result
       ((durable_root new.store).generation ≡ (durable_root old.store).generation + 1)
   pub tree : OnOk result ((durable_root new.store).tree ≡ root)
+  -- no turn runs
+  pub made : OnOk result (new.made ≡ [])
+  pub retired : OnOk result (new.retired ≡ [])
   -- nothing changed
   pub memory : result ≡ Err faults.Memory → new ≡ old
   -- Full comes only where no greater generation is left
@@ -31,6 +34,7 @@ pub record Commits {D : Type 0} (history : D → History) (root : ℕ)
   -- the turn is still there, to be undone
   pub stops : result ≡ Err faults.Device
       → (is_stopped new.store ≡ true) × (new ≡ record old { store = new.store })
+  pub idle : is_stopped old.store ≡ true → new ≡ old
 
 -- A turn since the pager began, whose tree below the root page reaches these pages and has these entries.
 pub record IsTurn {D : Type 0} (history : D → History) (start now : State D) (root : ℕ)

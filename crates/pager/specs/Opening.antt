@@ -1,8 +1,9 @@
 -- What opening a pager gives.
-use Rattle.std.specs.Prelude.{◌≡◌, ℕ, ◌<◌, List}
+use Rattle.std.specs.Prelude.{◌≡◌, ◌≢◌, ℕ, ◌<◌, List, [], Err}
 use Rattle.page.specs.History.{History, KeepsWord, IsImage, now, reads}
 use Rattle.page.specs.Crash.{GoesOn, LeavesNow, LeavesOnly}
 use Rattle.btree.specs.Keys.{Entry}
+use Rattle.roots.specs.Root.{root_of}
 use Rattle.roots.specs.declared.opening.OpenFault.{OpenFault}
 use Rattle.roots.specs.declared.opening.OpenFault.TheVariants as faults
 use Rattle.roots.specs.tree.Image.{HoldsMap, OpensAs, StandsFor, sheet_at}
@@ -14,6 +15,8 @@ use Rattle.pager.specs.View.{pager_history}
 -- The disk was opened as this pager, by reads and a sync alone.
 pub record IsOpened {D : Type 0} (history : D → History) (disk : D) (pager : State D) : Type 0 where
   pub running : IsRunning pager.store
+  pub made : pager.made ≡ []
+  pub retired : pager.retired ≡ []
   pub on : GoesOn (history disk) (pager_history history pager)
   -- its root is the one that the disk's sectors give
   pub opens : KeepsWord (pager_history history pager)
@@ -35,5 +38,15 @@ pub record IsRefused {D : Type 0} (history : D → History) (disk back : D)
   pub on : GoesOn (history disk) (history back)
   pub any_moment : IsImage (now (history disk)) (reads (now (history disk)))
       → LeavesOnly (history disk) (history back) (IsImage (now (history disk)))
+  -- a fault of the bytes comes only where they stand for no entries
+  pub damaged : fault ≢ faults.Device → fault ≢ faults.Memory → KeepsWord (history back)
+      → (entries : List Entry) → StandsFor (reads (now (history disk))) entries → ⊥
+  -- that they are no database's, or a newer format's, is what the two root sectors say
+  pub foreign : fault ≡ faults.NotADatabase → KeepsWord (history back)
+      → root_of (reads (now (history disk)) 0) (reads (now (history disk)) 1)
+      ≡ Err faults.NotADatabase
+  pub later : fault ≡ faults.NewerFormat → KeepsWord (history back)
+      → root_of (reads (now (history disk)) 0) (reads (now (history disk)) 1)
+      ≡ Err faults.NewerFormat
   pub device : fault ≡ faults.Device → KeepsWord (history back)
       → (history disk).failures < (history back).failures

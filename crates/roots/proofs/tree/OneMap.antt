@@ -1,5 +1,5 @@
 -- A page heads one tree at most.
-use Rattle.std.proofs.Common.{◌≡◌, ℕ, zero, suc, ◌<◌, List, [], ◌∷◌, ◌++◌, length, map, take, drop, true, false, inl, inr, refl, sym, ◌∙◌, ap, subst, arith}
+use Rattle.std.proofs.Common.{◌≡◌, ℕ, zero, suc, ◌<◌, List, [], ◌∷◌, ◌++◌, length, map, take, drop, inl, inr, refl, sym, ◌∙◌, ap, subst, arith}
 use Rattle.std.specs.Prelude.{Result, Ok}
 use Rattle.std.proofs.lemmas.List.{take-append-drop}
 use Rattle.page.specs.Content.{Content, Item, Arm, chain}
@@ -22,9 +22,9 @@ record Same (links links' value value' : List ℕ) : Type 0 where
   pub links_are : links ≡ links'
   pub value_is : value ≡ value'
 
-module _ (s : Store) (none : s.live 0 ≡ false) where
+module _ (s : Store) where
   no_zero : (content : Content) → IsAt s 0 content → ⊥
-  no_zero content at = let no_way : true ≡ false = sym at.live ∙ none in absurd cc
+  no_zero content at = omega (arith, at.number)
 
   one_chain : (links links' value value' : List ℕ) → next_of links ≡ next_of links' → HasLinks s links value → HasLinks s links' value' → Same links links' value value'
   one_chain [] [] value value' e h g = record { links_are = refl; value_is = h ∙ sym g }
@@ -110,4 +110,4 @@ pub one_state : (image : ℕ → List ℕ) (a b : List Entry) → StandsFor imag
 one_state image a b one two =
     let root : two.root ≡ one.root = root_alone two.root one.root _ two.opens one.opens in
     let holds : HoldsMap (sheet_at image one.root) one.root two.pages b = subst (λ (r : Root). HoldsMap (sheet_at image r) r two.pages b) root two.holds in
-    (one_map (store_of (sheet_at image one.root)) refl one.root.tree one.pages two.pages a b one.holds.map holds.map).entries_are
+    (one_map (store_of (sheet_at image one.root)) one.root.tree one.pages two.pages a b one.holds.map holds.map).entries_are

@@ -1,0 +1,14 @@
+use Rattle.std.proofs.Common.{subst}
+use Rattle.collections.specs.Marks.{Undoes}
+use Rattle.collections.specs.State.{State}
+use Rattle.collections.proofs.MarkLemmas.{undoes_so}
+use Rattle.collections.proofs.collections.Collections.undo.Goals as goal
+
+pub returns : goal.returns
+returns g c =
+    let D = g.row.D.Denot in
+    let history = g.D.Disk.history in
+    let i = c.self.inside in
+    let root = c.root-self-inside.result in
+    subst (λ (s : State D). Undoes history s (record { pager = c.undo_to.new.self; root = root })) c.self.view_is
+    (undoes_so history (record { pager = i.pager; root = i.root }) c.undo_to.new.self root i.begun.made i.begun.retired c.undo_to.ensures.undone c.undo_to.ensures.begun c.self.invariant.0 c.self.invariant.1 c.root-self-inside.ensures)

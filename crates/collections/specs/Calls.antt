@@ -1,0 +1,70 @@
+-- What calls of the collections give, and why they refuse.
+use Rattle.std.specs.Prelude.{◌≡◌, ◌⊎◌, ◌<◌, ◌≤◌, true, List, [], length, Result, IfErr, OnErr, MatchResult}
+use Rattle.page.specs.History.{History, KeepsWord}
+use Rattle.btree.specs.Keys.{Entry, Edit}
+use Rattle.btree.specs.Store.{Grows, HasNoPage}
+use Rattle.path.specs.declared.refusal.Refusal.{Refusal}
+use Rattle.path.specs.declared.refusal.Refusal.TheVariants as refusals
+use Rattle.index.specs.State.{Collection}
+use Rattle.index.specs.StateEntries.{Leads, Spells}
+use Rattle.index.specs.Documents.{IsUnindexed}
+use Rattle.collections.specs.State.{State}
+use Rattle.collections.specs.Standing.{HasState}
+use Rattle.collections.specs.View.{disk_history, is_changed, is_stopped, pages_of}
+
+-- The turn went on: what its tree reaches stays, whatever the disk.
+abbrev pub GoesFrom : {D : Type 0} → (D → History) → State D → State D → Type 0
+GoesFrom history old new = Grows (pages_of history old) (pages_of history new)
+
+-- the device failed in the call or before
+abbrev pub HasFailed : {D : Type 0} → (D → History) → State D → State D → Type 0
+HasFailed history old new = (is_stopped old ≡ true)
+    ⊎ ((disk_history history old).failures < (disk_history history new).failures)
+
+-- Why a call was refused that isn't refused by what it asks for: memory ran out, the device failed, or no page was free.
+abbrev pub HasCause : {D : Type 0} → (D → History) → State D → State D
+    → Refusal → Type 0
+HasCause history old new e = (e ≡ refusals.OutOfMemory)
+    ⊎ (((e ≡ refusals.StorageFailed) × HasFailed history old new)
+    ⊎ ((e ≡ refusals.Full) × HasNoPage (pages_of history old) (pages_of history new)))
+
+-- ---- reading
+
+-- A call that reads: nothing of the turn changes, and while the disk keeps its word, the answer is right for the
+-- collections, or the refusal has its cause.
+pub record Reads {D X : Type 0} (history : D → History) (IsRight : List Collection → X → Type 0)
+    (result : Result X Refusal) (old new : State D) : Type 0 where
+  pub on : GoesFrom history old new
+  pub unchanged : is_changed new ≡ is_changed old
+  pub same : (start now : List Collection) → HasState history old start now
+      → HasState history new start now
+  pub answers : KeepsWord (disk_history history new) → (start now : List Collection)
+      → HasState history old start now
+      → MatchResult result (IsRight now) (HasCause history old new)
+
+-- ---- writing
+
+-- a tree of these would have more than 32 levels
+pub record IsTooLarge (collections : List Collection) : Type 0 where
+  pub entries : List Entry
+  pub spells : Spells entries collections
+  pub many : 4294967296 ≤ length entries
+
+abbrev pub HasWriteCause : {D : Type 0} → (D → History) → List Collection
+    → State D → State D → Refusal → Type 0
+HasWriteCause history after old new e =
+    HasCause history old new e ⊎ ((e ≡ refusals.Full) × IsTooLarge after)
+
+-- These edits, which lead from the collections to others, were put into the tree, or nothing of them.
+pub record Applies {D : Type 0} (history : D → History) (edits : List Edit)
+    (result : Result (Unit {0}) Refusal) (old new : State D) : Type 0 where
+  pub on : GoesFrom history old new
+  pub idle : edits ≡ [] → new ≡ old
+  pub unchanged : OnErr result (is_changed new ≡ is_changed old)
+  pub state : (start before after : List Collection) → HasState history old start before
+      → Leads edits before after → IsUnindexed after
+      → MatchResult result (λ _. HasState history new start after)
+      (λ _. HasState history new start before)
+  pub cause : KeepsWord (disk_history history new) → (start before after : List Collection)
+      → HasState history old start before → Leads edits before after → IsUnindexed after
+      → IfErr result (HasWriteCause history after old new)

@@ -1,0 +1,40 @@
+-- What the commit of a turn gives.
+use Rattle.std.specs.Prelude.{◌≡◌, ◌⊎◌, ◌+◌, ◌-◌, ◌^◌, false, true, List, Result, Err, OnOk}
+use Rattle.page.specs.History.{History, KeepsWord}
+use Rattle.page.specs.Crash.{GoesOn, LeavesOnly, LeavesNow}
+use Rattle.roots.specs.declared.store.CommitFault.{CommitFault}
+use Rattle.roots.specs.declared.store.CommitFault.TheVariants as faults
+use Rattle.index.specs.State.{Collection}
+use Rattle.collections.specs.State.{State}
+use Rattle.collections.specs.Calls.{HasFailed}
+use Rattle.collections.specs.Holding.{Holds}
+use Rattle.collections.specs.Standing.{HasState}
+use Rattle.collections.specs.View.{disk_history, generation, is_changed, is_stopped}
+
+-- Where nothing had failed, a crash at any moment of the call leaves the collections as they were when the turn began, or as
+-- they are now; at Ok as they are now, and the next turn begins with them.
+pub record Moves {D : Type 0} (history : D → History) (start now : List Collection)
+    (result : Result (Unit {0}) CommitFault) (old new : State D) : Type 0 where
+  pub any_moment : LeavesOnly (disk_history history old) (disk_history history new)
+      (λ image. Holds image start ⊎ Holds image now)
+  pub acknowledged : OnOk result
+      (LeavesNow (disk_history history new) (λ image. Holds image now))
+  pub begun : OnOk result (HasState history new now now)
+
+-- The turn was made durable, or not.
+pub record Commits {D : Type 0} (history : D → History)
+    (result : Result (Unit {0}) CommitFault) (old new : State D) : Type 0 where
+  pub on : GoesOn (disk_history history old) (disk_history history new)
+  pub running : OnOk result ((is_stopped old ≡ false) × (is_stopped new ≡ false))
+  pub version : OnOk result (generation new ≡ generation old + 1)
+  pub rests : OnOk result (is_changed new ≡ false)
+  -- the turn is still there, to be undone
+  pub memory : result ≡ Err faults.Memory → new ≡ old
+  -- Full comes only where no greater generation is left
+  pub full : result ≡ Err faults.Full → (generation old ≡ 2 ^ 64 - 1) × (new ≡ old)
+  pub stops : result ≡ Err faults.Device → is_stopped new ≡ true
+  pub device : result ≡ Err faults.Device → KeepsWord (disk_history history new)
+      → HasFailed history old new
+  pub idle : is_stopped old ≡ true → new ≡ old
+  pub moves : is_stopped old ≡ false → (start now : List Collection)
+      → HasState history old start now → Moves history start now result old new

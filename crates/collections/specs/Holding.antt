@@ -1,0 +1,14 @@
+-- Which collections an image of a disk holds.
+use Rattle.std.specs.Prelude.{ℕ, List}
+use Rattle.btree.specs.Keys.{Entry}
+use Rattle.roots.specs.tree.Image.{StandsFor}
+use Rattle.index.specs.State.{Collection}
+use Rattle.index.specs.StateEntries.{Spells}
+use Rattle.index.specs.Documents.{IsUnindexed}
+
+-- The entries of the tree that the image's root names spell these collections, which are lawful.
+pub record Holds (image : ℕ → List ℕ) (collections : List Collection) : Type 0 where
+  pub entries : List Entry
+  pub stands : StandsFor image entries
+  pub spells : Spells entries collections
+  pub state : IsUnindexed collections

@@ -1,0 +1,46 @@
+-- What follows where collections have a state.
+use Rattle.std.specs.Prelude.{◌≡◌, ℕ, false, List, [], replicate}
+use Rattle.page.specs.History.{History, KeepsWord}
+use Rattle.page.specs.Crash.{LeavesNow}
+use Rattle.index.specs.State.{Collection}
+use Rattle.collections.specs.State.{State}
+use Rattle.collections.specs.Calls.{GoesFrom}
+use Rattle.collections.specs.Holding.{Holds}
+use Rattle.collections.specs.Standing.{HasState}
+use Rattle.collections.specs.View.{disk_history, is_changed, is_stopped}
+
+-- Until the commit, a crash leaves the collections as the turn began.
+abbrev pub LeavesStart : {D : Type 0} → (D → History) → Type 0
+LeavesStart {D = D} history = (c : State D) (start now : List Collection)
+    → is_stopped c ≡ false → HasState history c start now
+    → LeavesNow (disk_history history c) (λ image. Holds image start)
+
+-- A turn that has changed nothing stands for what it began with.
+abbrev pub RestsAtStart : {D : Type 0} → (D → History) → Type 0
+RestsAtStart {D = D} history = (c : State D) (start now : List Collection)
+    → is_stopped c ≡ false → KeepsWord (disk_history history c)
+    → HasState history c start now → is_changed c ≡ false → now ≡ start
+
+-- There is one state at most.
+abbrev pub HasOneState : {D : Type 0} → (D → History) → Type 0
+HasOneState {D = D} history = (c : State D) (start now start' now' : List Collection)
+    → is_stopped c ≡ false → KeepsWord (disk_history history c)
+    → HasState history c start now → HasState history c start' now'
+    → (start ≡ start') × (now ≡ now')
+
+-- An image holds one list of collections at most.
+abbrev pub HoldsOne : Type 0
+HoldsOne = (image : ℕ → List ℕ) (a b : List Collection) → Holds image a → Holds image b → a ≡ b
+
+-- An image whose root sectors are zeros holds no collection.
+abbrev pub ZerosHoldNothing : Type 0
+ZerosHoldNothing = (image : ℕ → List ℕ) → image 0 ≡ replicate 512 0
+    → image 1 ≡ replicate 512 0 → Holds image []
+
+-- A turn goes on from where it is, and on from there.
+abbrev pub GoesFromItself : {D : Type 0} → (D → History) → Type 0
+GoesFromItself {D = D} history = (c : State D) → GoesFrom history c c
+
+abbrev pub GoesFurther : {D : Type 0} → (D → History) → Type 0
+GoesFurther {D = D} history = (a b c : State D)
+    → GoesFrom history a b → GoesFrom history b c → GoesFrom history a c

@@ -1,0 +1,10 @@
+pub mod Applying
+pub mod Calls
+pub mod Committing
+pub mod Holding
+pub mod Laws
+pub mod Marks
+pub mod Opening
+pub mod Standing
+pub mod State
+pub mod View

@@ -1,0 +1,47 @@
+-- What opening a disk gives.
+use Rattle.std.specs.Prelude.{◌≡◌, ◌≢◌, ◌<◌, false, List, Err}
+use Rattle.page.specs.History.{History, KeepsWord, IsImage, now, reads}
+use Rattle.page.specs.Crash.{GoesOn, LeavesNow, LeavesOnly}
+use Rattle.roots.specs.Root.{root_of}
+use Rattle.roots.specs.declared.opening.OpenFault.{OpenFault}
+use Rattle.roots.specs.declared.opening.OpenFault.TheVariants as faults
+use Rattle.index.specs.State.{Collection}
+use Rattle.collections.specs.State.{State}
+use Rattle.collections.specs.Holding.{Holds}
+use Rattle.collections.specs.Standing.{HasState}
+use Rattle.collections.specs.View.{disk_history, is_changed, is_stopped}
+
+-- The disk was opened, by reads and a sync alone.
+pub record IsOpened {D : Type 0} (history : D → History) (disk : D)
+    (c : State D) : Type 0 where
+  pub running : is_stopped c ≡ false
+  pub rests : is_changed c ≡ false
+  pub on : GoesOn (history disk) (disk_history history c)
+  -- a turn begins with what was read
+  pub begun : (collections : List Collection)
+      → (KeepsWord (disk_history history c) → Holds (reads (now (history disk))) collections)
+      → HasState history c collections collections
+  -- and from then on every image holds that alone
+  pub alone : (collections : List Collection) → Holds (reads (now (history disk))) collections
+      → LeavesNow (disk_history history c) (λ image. Holds image collections)
+  -- where reads give one of the images, those during the call and after it are among those from before
+  pub any_moment : IsImage (now (history disk)) (reads (now (history disk)))
+      → LeavesOnly (history disk) (disk_history history c) (IsImage (now (history disk)))
+
+-- The disk was handed back with this fault.
+pub record IsRefused {D : Type 0} (history : D → History) (disk back : D)
+    (fault : OpenFault) : Type 0 where
+  pub on : GoesOn (history disk) (history back)
+  pub any_moment : IsImage (now (history disk)) (reads (now (history disk)))
+      → LeavesOnly (history disk) (history back) (IsImage (now (history disk)))
+  -- a fault of the bytes comes only where they hold no collections
+  pub damaged : fault ≢ faults.Device → fault ≢ faults.Memory → KeepsWord (history back)
+      → (collections : List Collection) → Holds (reads (now (history disk))) collections → ⊥
+  pub foreign : fault ≡ faults.NotADatabase → KeepsWord (history back)
+      → root_of (reads (now (history disk)) 0) (reads (now (history disk)) 1)
+      ≡ Err faults.NotADatabase
+  pub later : fault ≡ faults.NewerFormat → KeepsWord (history back)
+      → root_of (reads (now (history disk)) 0) (reads (now (history disk)) 1)
+      ≡ Err faults.NewerFormat
+  pub device : fault ≡ faults.Device → KeepsWord (history back)
+      → (history disk).failures < (history back).failures

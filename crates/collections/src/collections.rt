@@ -1,0 +1,121 @@
+//! Turns of a database file.
+
+ghost use Rattle.std.specs.Prelude.{◌≡◌};
+
+use crate::mark::Mark;
+use page::Disk;
+use pager::Pager;
+use roots::{CommitFault, OpenFault};
+use std::alloc::Global;
+use std::marker::Model;
+
+/// The collections of a database file: a turn begins with those that are committed, changes them by edits of the tree, and is made
+/// durable or taken back as a whole.
+#[derive(Drop)]
+pub struct Collections<D: Disk> {
+    pub(crate) alloc: Global,
+    pub(crate) pager: Pager<D>,
+    /// The root page of the turn's tree, 0 where it is empty.
+    pub(crate) root: u32,
+    /// Where the turn began.
+    begun: pager::Mark,
+}
+
+impl<D: Disk> Model for Collections<D> {
+    ghost use Rattle.collections.specs.State.{State};
+
+    ghost Value = { State D };
+
+    ghost use Rattle.std.specs.Prelude.{◌≡◌};
+
+    ghost view = { λ a. record { pager = a.pager; root = a.root } };
+
+    ghost invariant = { λ a. (a.begun.made ≡ 0) × (a.begun.retired ≡ 0) };
+}
+
+impl<D: Disk> Collections<D> {
+    ghost use Rattle.std.specs.Prelude.{IfErr, IfOk};
+    ghost use Rattle.collections.specs.Committing.{Commits};
+    ghost use Rattle.collections.specs.Marks.{IsMarkOf, ReturnsTo, Undoes};
+    ghost use Rattle.collections.specs.Opening.{IsOpened, IsRefused};
+    ghost use Rattle.collections.specs.View.{disk_history, generation, is_changed, is_stopped};
+
+    /// Opens a disk that a crash may have left, as a file of at most so many pages, or those that it has. It reads each page of
+    /// the tree once. An `Err` hands the disk back.
+    pub fn open(alloc: Global, disk: D, limit: u32) -> Result<Collections<D>, (D, OpenFault)>
+        ensures opened { IfOk result (IsOpened D.history disk) }
+        ensures refused { IfErr result (λ e. IsRefused D.history disk e.0 e.1) }
+    {
+        let pager = match Pager::open(alloc, disk, limit) {
+            Ok(pager) => pager,
+            Err((disk, fault)) => return Err((disk, fault)),
+        };
+        Ok(Collections {
+            alloc,
+            root: pager.root(),
+            begun: pager.mark(),
+            pager,
+        })
+    }
+
+    /// Hands the disk back as it is.
+    pub fn into_disk(self) -> D
+        ensures { D.history result ≡ disk_history D.history self }
+    {
+        self.pager.into_disk()
+    }
+
+    /// Whether a write or a sync has failed. What has stopped commits nothing any more.
+    pub fn is_stopped(&self) -> bool
+        ensures { result ≡ is_stopped self.now }
+    {
+        self.pager.is_stopped()
+    }
+
+    /// The number of the commit that was the last one.
+    pub fn generation(&self) -> u64
+        ensures { result ≡ generation self.now }
+    {
+        self.pager.generation()
+    }
+
+    /// Whether the turn has changed something.
+    pub fn is_changed(&self) -> bool
+        ensures { result ≡ is_changed self.now }
+    {
+        self.root != self.pager.root()
+    }
+
+    /// How far the turn has come.
+    pub fn mark(&self) -> Mark
+        ensures { IsMarkOf result self.now }
+    {
+        Mark {
+            pages: self.pager.mark(),
+            root: self.root,
+        }
+    }
+
+    /// Takes back what the turn has done since a mark of it.
+    pub fn undo_to(&mut self, mark: Mark)
+        ensures { ReturnsTo D.history mark self.old self.new }
+    {
+        self.pager.undo_to(mark.pages);
+        self.root = mark.root;
+    }
+
+    /// Takes back the whole turn.
+    pub fn undo(&mut self)
+        ensures { Undoes D.history self.old self.new }
+    {
+        self.pager.undo_to(self.begun);
+        self.root = self.pager.root();
+    }
+
+    /// Makes the turn durable; the next one begins with what it leaves. An `Err` leaves the turn, to be undone. It reads nothing.
+    pub fn commit(&mut self) -> Result<(), CommitFault>
+        ensures { Commits D.history result self.old self.new }
+    {
+        self.pager.commit(self.root)
+    }
+}

@@ -1,0 +1,11 @@
+//! The collections of a database file, kept in a tree of copied pages: their documents are read page by page, and changed by lists of
+//! edits, which a turn makes durable as one commit or takes back.
+#![tactic(auto)]
+
+mod applying;
+mod collections;
+pub mod laws;
+mod mark;
+
+pub use collections::Collections;
+pub use mark::Mark;
