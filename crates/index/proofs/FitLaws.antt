@@ -31,6 +31,11 @@ escaped_size [] = omega arith
 escaped_size (zero ∷ bs) = omega (arith, escaped_size bs)
 escaped_size (suc b ∷ bs) = omega (arith, escaped_size bs)
 
+pub escaped_long : (bs : List ℕ) → length bs + 2 ≤ length (escaped_text bs)
+escaped_long [] = omega arith
+escaped_long (zero ∷ bs) = omega (arith, escaped_long bs)
+escaped_long (suc b ∷ bs) = omega (arith, escaped_long bs)
+
 pub key_size : (collection index : ℕ) (text : List ℕ) → length (key_under collection index text) ≡ 8 + length text
 key_size c i text = omega (arith, length-append (to_be_bytes w32 c) (to_be_bytes w32 i ++ text), length-append (to_be_bytes w32 i) text)
 

@@ -42,3 +42,4 @@ pub mod FoundLawLemmas
 pub mod BatchLaws
 pub mod ReadingLemmas
 pub mod NotingLemmas
+pub mod ShortKeys

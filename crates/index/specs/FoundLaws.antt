@@ -2,10 +2,11 @@
 use Rattle.std.specs.Prelude.{◌≡◌, ◌≤◌, ℕ, List, [], length, Some, All}
 use Rattle.std.specs.declared.cmp.Ordering.TheVariants.{Equal}
 use Rattle.bson.specs.Tree.{Tree, Pairs}
-use Rattle.bson.specs.Lawful.{IsDocument}
+use Rattle.bson.specs.Lawful.{IsDocument, IsTree}
 use Rattle.bson.specs.Limits.{message_limit}
 use Rattle.bson.specs.Lookup.{lookup}
 use Rattle.bson.specs.Spelling.{frame_of, pairs_bytes}
+use Rattle.value_order.specs.KeyText.{tree_text}
 use Rattle.value_order.specs.Laws.{IsKey}
 use Rattle.value_order.specs.Order.{value, compare}
 use Rattle.index.specs.Documents.{IsUnindexed}
@@ -52,3 +53,7 @@ abbrev pub FieldIsKey : Type 0
 FieldIsKey =
     (ps : Pairs) (name : List ℕ) (t : Tree) → IsDocument ps → length (frame_of (pairs_bytes ps)) ≤ message_limit
     → lookup ps name ≡ Some t → IsKey (value t)
+
+-- So is a value with a short key text, as those of all stored `_id`s are.
+abbrev pub ShortIsKey : Type 0
+ShortIsKey = (t : Tree) → IsTree t → length (tree_text t) ≤ 500 → IsKey (value t)

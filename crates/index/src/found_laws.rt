@@ -1,6 +1,6 @@
 //! Laws of what is found in a state, as contracts.
 
-ghost use Rattle.index.specs.FoundLaws.{FieldIsKey, FindsPut, FoundCollection, FoundDocument, PutTwice, StoredIsKey, WithoutPut};
+ghost use Rattle.index.specs.FoundLaws.{FieldIsKey, FindsPut, FoundCollection, FoundDocument, PutTwice, ShortIsKey, StoredIsKey, WithoutPut};
 
 /// A collection that is found is within the limits and has no index.
 pub fn found_collection()
@@ -35,4 +35,9 @@ pub fn stored_is_key()
 /// A field of a document that a message has room for is a key.
 pub fn field_is_key()
     ensures { FieldIsKey }
+{}
+
+/// A value with a short key text is a key.
+pub fn short_is_key()
+    ensures { ShortIsKey }
 {}

@@ -1,7 +1,8 @@
 //! Secondary indexes apart from where they are kept: what defines one, which keys a document has in it, and what its
-//! entries are.
+//! entries are. And the entries that collections and documents are kept as, written and read.
 //!
 //! `definition` has what an index is, `arrays` which of its paths meet an array, `keys` the encoded keys of a document.
+//! `edits` has edits of the tree, `state_edits` those of documents and collections, `entry_reading` the way back.
 #![tactic(auto)]
 
 mod arrays;

@@ -1,6 +1,6 @@
 //! Edits in a form that tests make and compare.
 
-ghost use Rattle.std.specs.Prelude.{◌≡◌, ◌≤◌, IfSome, length};
+ghost use Rattle.std.specs.Prelude.{◌≡◌, IfOk, IfSome};
 ghost use Rattle.value_order.specs.KeyText.{tree_text};
 ghost use Rattle.index.specs.LawfulState.{IsStorable};
 ghost use Rattle.index.specs.State.{key_of};
