@@ -6,7 +6,7 @@ use Rattle.btree.specs.Laws.{OldTreesStay, PagesStayOnce}
 use Rattle.btree.specs.Reach.{HasMap}
 use Rattle.btree.specs.Store.{Store, flag}
 use Rattle.btree.specs.Tree.{Body, HasLinks, Shows, pages_of}
-use Rattle.btree.proofs.ListLemmas.{each_append}
+use Rattle.btree.proofs.ListLemmas.{each_append, times_append}
 use Rattle.btree.proofs.StoreLemmas.{shows_kept}
 
 pub old_trees_stay : OldTreesStay
@@ -53,8 +53,11 @@ none_there s n (page ∷ pages) h dead =
 pub pages_stay_once : PagesStayOnce
 pages_stay_once old new root before after entries g map once turned n = go (old.live n) refl (new.live n) refl
   where
+    less : times n old.retired ≤ times n new.retired
+    less = omega (arith, ap (times n) g.retired_on.1, times_append n g.retired_on.0 old.retired)
+
     go : (was : Bool) → was ≡ old.live n → (is : Bool) → is ≡ new.live n → times n after ≤ 1
-    go true was true is = omega (arith, turned n, g.made n, g.retired n, once n, ap flag was, ap flag is)
-    go true was false is = omega (arith, turned n, g.made n, g.retired n, once n, ap flag was, ap flag is)
-    go false was true is = omega (arith, turned n, g.made n, g.retired n, none_there old n before (map_live old root before entries map) (sym was), ap flag was, ap flag is)
-    go false was false is = omega (arith, turned n, g.made n, g.retired n, none_there old n before (map_live old root before entries map) (sym was), ap flag was, ap flag is)
+    go true was true is = omega (arith, turned n, g.made n, less, once n, ap flag was, ap flag is)
+    go true was false is = omega (arith, turned n, g.made n, less, once n, ap flag was, ap flag is)
+    go false was true is = omega (arith, turned n, g.made n, less, none_there old n before (map_live old root before entries map) (sym was), ap flag was, ap flag is)
+    go false was false is = omega (arith, turned n, g.made n, less, none_there old n before (map_live old root before entries map) (sym was), ap flag was, ap flag is)

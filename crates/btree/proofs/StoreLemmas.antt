@@ -1,61 +1,92 @@
 -- What is live stays: a part of a tree in a store is one in every later store.
-use Rattle.std.proofs.Common.{◌≡◌, ℕ, zero, suc, ◌+◌, List, [], ◌∷◌, drop, Option, Result, Ok, Err, refl, subst, sym, ap, ◌∙◌, arith, inl, inr}
+use Rattle.std.proofs.Common.{◌≡◌, ℕ, zero, suc, ◌+◌, List, [], ◌∷◌, ◌++◌, drop, append_assoc, Option, Result, Ok, Err, refl, subst, sym, ap, ◌∙◌, arith, inl, inr}
 use Rattle.std.specs.Result.{IfErr, IsErrAnd}
 use Rattle.page.specs.Content.{Content}
+use Rattle.page.proofs.Moments.{reads_further, reads_nothing}
 use Rattle.btree.specs.Keys.{times}
-use Rattle.btree.specs.Store.{Store, Frame, Grows, HasCause, HasFailed, IsMade, IsRetired, IsSame, KeepsWord, flag}
+use Rattle.btree.specs.Store.{Store, Frame, Grows, HasCause, HasFailed, IsMade, IsRetired, IsSame, KeepsWord, Stays, flag}
 use Rattle.btree.specs.Tree.{Body, Shows, HasLinks}
 use Rattle.btree.specs.Calls.{IsAnswer, IsPart}
 use Rattle.btree.specs.declared.pages.TreeFault.{TreeFault}
 use Rattle.btree.specs.declared.pages.TreeFault.TheVariants as faults
 use Rattle.btree.proofs.ListLemmas.{each_map}
 
+-- ---- what no call changes
+
+pub stays_itself : (s : Store) → Stays s s
+stays_itself s = record { base = refl; reads = reads_nothing s.history }
+
+pub stays_trans : (a b c : Store) → Stays a b → Stays b c → Stays a c
+stays_trans a b c h g = record { base = g.base ∙ h.base; reads = reads_further a.history b.history c.history h.reads g.reads }
+
+-- ---- nothing made, nothing retired
+
+pub same_itself : (s : Store) → KeepsWord s → IsSame s s
+same_itself s k = record { word = k; page = refl; live = refl; made = refl; retired = refl; failures = omega arith; full_takes = omega arith }
+
+pub same_trans : (a b c : Store) → IsSame a b → IsSame b c → IsSame a c
+same_trans a b c h g =
+    record {
+      word = h.word;
+      page = g.page ∙ h.page;
+      live = g.live ∙ h.live;
+      made = g.made ∙ h.made;
+      retired = g.retired ∙ h.retired;
+      failures = omega (arith, h.failures, g.failures);
+      full_takes = omega (arith, h.full_takes, g.full_takes);
+    }
+
+-- ---- the frame
+
 pub frame_same : (old new : Store) → IsSame old new → Frame old new
 frame_same old new h =
     record {
       word = h.word;
-      base = h.base;
       kept = λ n content a. record { number = a.number; live = ap (λ f. f n) h.live ∙ a.live; holds = ap (λ f. f n) h.page ∙ a.holds };
       made = λ n. ap (λ xs. times n xs + flag (old.live n)) h.made ∙ ap (λ f. times n old.made + flag (f n)) (sym h.live);
-      retired = λ n. omega (arith, ap (times n) h.retired);
+      made_on = ([], h.made);
+      retired_on = ([], h.retired);
       failures = h.failures;
       full_takes = h.full_takes;
     }
+
+-- more, and more again
+on_further : (a b c : List ℕ) → (more : List ℕ) × (b ≡ more ++ a) → (more : List ℕ) × (c ≡ more ++ b) → (more : List ℕ) × (c ≡ more ++ a)
+on_further a b c (first, b_is) (later, c_is) = (later ++ first, c_is ∙ ap (λ xs. later ++ xs) b_is ∙ sym (append_assoc later first a))
 
 pub frame_trans : (a b c : Store) → Frame a b → Frame b c → Frame a c
 frame_trans a b c h g =
     record {
       word = h.word;
-      base = g.base ∙ h.base;
       kept = λ n content at. g.kept n content (h.kept n content at);
       made = λ n. omega (arith, h.made n, g.made n);
-      retired = λ n. omega (arith, h.retired n, g.retired n);
+      made_on = on_further a.made b.made c.made h.made_on g.made_on;
+      retired_on = on_further a.retired b.retired c.retired h.retired_on g.retired_on;
       failures = omega (arith, h.failures, g.failures);
       full_takes = omega (arith, h.full_takes, g.full_takes);
     }
 
 pub frame_itself : (s : Store) → KeepsWord s → Frame s s
-frame_itself s k =
-    record { word = k; base = refl; kept = λ n content a. a; made = λ n. omega arith; retired = λ n. omega arith; failures = omega arith; full_takes = omega arith }
+frame_itself s k = frame_same s s (same_itself s k)
 
-pub grows_same : (old new : Store) → (KeepsWord new → IsSame old new) → Grows old new
-grows_same old new h = λ k. frame_same old new (h k)
+pub grows_same : (old new : Store) → Stays old new → (KeepsWord new → IsSame old new) → Grows old new
+grows_same old new stays h = record { stays = stays; frame = λ k. frame_same old new (h k) }
 
 pub grows_trans : (a b c : Store) → Grows a b → Grows b c → Grows a c
-grows_trans a b c h g = λ k. frame_trans a b c (h (g k).word) (g k)
+grows_trans a b c h g = record { stays = stays_trans a b c h.stays g.stays; frame = λ k. frame_trans a b c (h.frame (g.frame k).word) (g.frame k) }
 
 pub grows_itself : (s : Store) → Grows s s
-grows_itself s = λ k. frame_itself s k
+grows_itself s = record { stays = stays_itself s; frame = frame_itself s }
 
 -- what the pages promise
-pub grows_made : (old new : Store) (n : ℕ) (content : Content) → (KeepsWord new → IsMade old new n content) → Grows old new
-grows_made old new n content h = λ k. (h k).frame
+pub grows_made : (old new : Store) (n : ℕ) (content : Content) → Stays old new → (KeepsWord new → IsMade old new n content) → Grows old new
+grows_made old new n content stays h = record { stays = stays; frame = λ k. (h k).frame }
 
-pub grows_retired : (old new : Store) (n : ℕ) → (KeepsWord new → IsRetired old new n) → Grows old new
-grows_retired old new n h = λ k. (h k).frame
+pub grows_retired : (old new : Store) (n : ℕ) → Stays old new → (KeepsWord new → IsRetired old new n) → Grows old new
+grows_retired old new n stays h = record { stays = stays; frame = λ k. (h k).frame }
 
-pub grows_failed : (old new : Store) (e : TreeFault) → (KeepsWord new → HasFailed old new e) → Grows old new
-grows_failed old new e h = λ k. frame_same old new (h k).same
+pub grows_failed : (old new : Store) (e : TreeFault) → Stays old new → (KeepsWord new → HasFailed old new e) → Grows old new
+grows_failed old new e stays h = record { stays = stays; frame = λ k. frame_same old new (h k).same }
 
 pub links_kept : (old new : Store) → Frame old new → (pages bytes : List ℕ) → HasLinks old pages bytes → HasLinks new pages bytes
 links_kept old new g [] bytes h = h

@@ -1,5 +1,5 @@
 -- What the program's edits are.
-use Rattle.std.specs.Prelude.{◌^◌, ◌<◌, ◌≤◌, ℕ, List, Option, length}
+use Rattle.std.specs.Prelude.{◌^◌, ◌<◌, ◌≤◌, length}
 use Rattle.std.specs.Option.{option_map, ForSome}
 use Rattle.btree.specs.declared.editing.Edit.{Edit}
 use Rattle.btree.specs.Keys.{Edit as MapEdit}
@@ -8,8 +8,5 @@ abbrev pub edit_in : Edit → MapEdit
 edit_in e = record { key = e.key.now; value = option_map (λ b. b.now) e.value }
 
 -- a key that finds room in a cell beside the longest value there, and a value that a cell can tell the length of
-abbrev pub IsRoomy : List ℕ → Option (List ℕ) → Type 0
-IsRoomy key value = (length key ≤ 1024) × ForSome value (λ bytes. length bytes < 2 ^ 32)
-
 abbrev pub HasRoom : Edit → Type 0
 HasRoom e = (length e.key.now ≤ 1024) × ForSome e.value (λ b. length b.now < 2 ^ 32)

@@ -1,31 +1,41 @@
 -- Pages by their numbers, as the calls of a tree see them.
-use Rattle.std.specs.Prelude.{◌≡◌, ℕ, ◌+◌, ◌<◌, ◌≤◌, Bool, true, IsTrue, ◌⊎◌, List, ◌∷◌, if◌then◌else◌}
+use Rattle.std.specs.Prelude.{◌≡◌, ℕ, ◌+◌, ◌<◌, ◌≤◌, Bool, true, IsTrue, ◌⊎◌, List, [], ◌∷◌, ◌++◌, if◌then◌else◌}
 use Rattle.page.specs.Content.{Content}
-use Rattle.page.specs.History.{Sector}
+use Rattle.page.specs.Crash.{ReadsOnly}
+use Rattle.page.specs.History.{History}
 use Rattle.btree.specs.declared.pages.TreeFault.{TreeFault}
 use Rattle.btree.specs.declared.pages.TreeFault.TheVariants as faults
 use Rattle.btree.specs.Keys.{times}
 
--- What no call of the pages changes: what the device holds, and numbers that say what it was when a turn began.
-pub record Base : Type 0 where
-  pub sectors : ℕ → Sector
-  pub numbers : List ℕ
-
--- What no call changes; the content of each page; the pages that may not be given out, as something still reaches them; the pages that
--- calls have given out and retired so far; how often the device has failed, and how often no page was free, as far as a
--- u64 counts. What is said of a call holds while the device keeps its word after it.
+-- Each moment of the device that keeps the pages; numbers that say what was there when a turn began; the content of each page; the
+-- pages that may not be given out, as something still reaches them; the pages that calls have given out and retired so far, the
+-- last one first; how often no page was free, as far as a u64 counts.
 pub record Store : Type 0 where
-  pub keeps_word : Bool
-  pub base : Base
+  pub history : History
+  pub base : List ℕ
   pub page : ℕ → Content
   pub live : ℕ → Bool
   pub made : List ℕ
   pub retired : List ℕ
-  pub failures : ℕ
   pub full_takes : ℕ
 
+-- that of pages which no device keeps
+abbrev pub no_device : History
+no_device = record {
+  keeps_word = true;
+  clock = 0;
+  moment = λ t k. record { read = []; synced = []; pending = [] };
+  failures = 0;
+}
+
+-- What is said of a call holds while the device keeps its word after it.
 abbrev pub KeepsWord : Store → Type 0
-KeepsWord s = IsTrue s.keeps_word
+KeepsWord s = IsTrue s.history.keeps_word
+
+-- What no call changes, whether the device keeps its word or not: the device is only read, and the numbers of the beginning stay.
+pub record Stays (old new : Store) : Type 0 where
+  pub base : new.base ≡ old.base
+  pub reads : ReadsOnly old.history new.history
 
 -- a live page with this content, which is never page 0
 pub record IsAt (s : Store) (n : ℕ) (content : Content) : Type 0 where
@@ -39,15 +49,17 @@ flag b = if b then 1 else 0
 -- THE FRAME: what is live stays, with its content; each page that became live was made once.
 pub record Frame (old new : Store) : Type 0 where
   pub word : KeepsWord old
-  pub base : new.base ≡ old.base
   pub kept : (n : ℕ) (content : Content) → IsAt old n content → IsAt new n content
   pub made : (n : ℕ) → times n new.made + flag (old.live n) ≡ times n old.made + flag (new.live n)
-  pub retired : (n : ℕ) → times n old.retired ≤ times n new.retired
-  pub failures : old.failures ≤ new.failures
+  -- what is made and retired comes in front of what was
+  pub made_on : (more : List ℕ) × (new.made ≡ more ++ old.made)
+  pub retired_on : (more : List ℕ) × (new.retired ≡ more ++ old.retired)
+  pub failures : old.history.failures ≤ new.history.failures
   pub full_takes : old.full_takes ≤ new.full_takes
 
-abbrev pub Grows : Store → Store → Type 0
-Grows old new = KeepsWord new → Frame old new
+pub record Grows (old new : Store) : Type 0 where
+  pub stays : Stays old new
+  pub frame : KeepsWord new → Frame old new
 
 -- A page was asked for and none was free: their count grew, or is the greatest that a u64 can tell.
 abbrev pub HasNoPage : Store → Store → Type 0
@@ -57,7 +69,7 @@ HasNoPage old new = (old.full_takes < new.full_takes) ⊎ (new.full_takes ≡ 18
 -- are no tree.
 abbrev pub HasCause : Store → Store → TreeFault → Type 0
 HasCause old new faults.Memory = Unit {0}
-HasCause old new faults.Device = old.failures < new.failures
+HasCause old new faults.Device = old.history.failures < new.history.failures
 HasCause old new faults.Full = HasNoPage old new
 HasCause old new faults.Kind = ⊥
 HasCause old new faults.Number = ⊥
@@ -67,12 +79,11 @@ HasCause old new faults.Length = ⊥
 -- Nothing has changed but how often the device has failed and no page was free.
 pub record IsSame (old new : Store) : Type 0 where
   pub word : KeepsWord old
-  pub base : new.base ≡ old.base
   pub page : new.page ≡ old.page
   pub live : new.live ≡ old.live
   pub made : new.made ≡ old.made
   pub retired : new.retired ≡ old.retired
-  pub failures : old.failures ≤ new.failures
+  pub failures : old.history.failures ≤ new.history.failures
   pub full_takes : old.full_takes ≤ new.full_takes
 
 -- nothing has changed, and the fault has its cause

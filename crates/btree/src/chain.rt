@@ -1,7 +1,7 @@
 // Values that lie in chains of pages.
 ghost use Rattle.std.specs.Prelude.{◌≡◌, ◌*◌, ◌+◌, ◌<◌, ◌≤◌, ℕ, List, length};
 ghost use Rattle.btree.specs.Keys.{Pair};
-ghost use Rattle.btree.specs.Store.{Store, Grows};
+ghost use Rattle.btree.specs.Store.{Grows, IsSame, KeepsWord, Store};
 ghost use Rattle.btree.specs.Tree.{HasLinks, HasChain, next_of, place_of};
 ghost use Rattle.btree.specs.View.{place_in};
 ghost use Rattle.btree.specs.Calls.{Reads, Retires, WritesChain};
@@ -21,6 +21,8 @@ fn chain_bytes<P: Pages>(
     len: u32,
 ) -> Result<Vec<u8>, TreeFault>
     ensures grows { Grows (P.store pages.old) (P.store pages.new) }
+    ensures same { KeepsWord (P.store pages.new)
+        → IsSame (P.store pages.old) (P.store pages.new) }
     ensures reads { (links value : List ℕ) → HasLinks (P.store pages.old) links value
         → next_of links ≡ first
         → length value ≡ len
@@ -54,6 +56,8 @@ pub(crate) fn value_bytes<P: Pages>(
     stored: Stored<'_>,
 ) -> Result<Vec<u8>, TreeFault>
     ensures grows { Grows (P.store pages.old) (P.store pages.new) }
+    ensures same { KeepsWord (P.store pages.new)
+        → IsSame (P.store pages.old) (P.store pages.new) }
     ensures reads { (x : Pair) → place_in stored.entry ≡ place_of x.links x.value
         → HasChain (P.store pages.old) x
         → Reads (λ v. v.items) (P.store pages.old) (P.store pages.new) x.value result }

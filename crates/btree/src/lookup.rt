@@ -2,7 +2,7 @@
 ghost use Rattle.std.specs.Prelude.{◌≡◌, None, Ok, ℕ, zero, List, map};
 ghost use Rattle.std.specs.Option.{option_map};
 ghost use Rattle.btree.specs.Keys.{IsBetween, Pair, Rises, entry_of, find};
-ghost use Rattle.btree.specs.Store.{Store, Grows};
+ghost use Rattle.btree.specs.Store.{Grows, IsSame, KeepsWord, Store};
 ghost use Rattle.btree.specs.Tree.{Body, IsTree, Shows, entries_of, item_of, pair_keys};
 ghost use Rattle.btree.specs.View.{item_in};
 ghost use Rattle.btree.specs.Calls.{IsPart, IsPlaceOf, Looks};
@@ -39,6 +39,8 @@ fn value_in_leaf<P: Pages>(
     key: &[u8],
 ) -> Result<Option<Vec<u8>>, TreeFault>
     ensures grows { Grows (P.store pages.old) (P.store pages.new) }
+    ensures same { KeepsWord (P.store pages.new)
+        → IsSame (P.store pages.old) (P.store pages.new) }
     ensures looks { (pairs : List Pair) → leaf.now ≡ map item_of pairs → Rises (pair_keys pairs)
         → Shows (P.store pages.old) zero pairs
         → Looks (λ v. v.items) (P.store pages.old) (P.store pages.new) key.now
@@ -62,6 +64,8 @@ pub(crate) fn get_below<P: Pages>(
     key: &[u8],
 ) -> Result<Option<Vec<u8>>, TreeFault>
     ensures grows { Grows (P.store pages.old) (P.store pages.new) }
+    ensures same { KeepsWord (P.store pages.new)
+        → IsSame (P.store pages.old) (P.store pages.new) }
     ensures looks { (d : ℕ) (body : Body d)
         → IsPart (P.store pages.old) page level d low.now (option_map (λ b. b.now) high.entry) body
         → IsBetween low.now (option_map (λ b. b.now) high.entry) key.now
@@ -105,6 +109,8 @@ pub fn get<P: Pages>(
     key: &[u8],
 ) -> Result<Option<Vec<u8>>, TreeFault>
     ensures grows { Grows (P.store pages.old) (P.store pages.new) }
+    ensures same { KeepsWord (P.store pages.new)
+        → IsSame (P.store pages.old) (P.store pages.new) }
     ensures empty { root ≡ 0 → result ≡ Ok None }
     ensures looks { (d : ℕ) (body : Body d) → IsTree (P.store pages.old) root d body
         → Looks (λ v. v.items) (P.store pages.old) (P.store pages.new) key.now

@@ -1,6 +1,6 @@
 // The pages of a tree.
 ghost use Rattle.std.specs.Prelude.{◌≡◌, IfErr, IfOk, MatchResult};
-ghost use Rattle.btree.specs.Store.{HasCause, HasFailed, IsAt, IsMade, IsRetired, IsSame, KeepsWord, Store};
+ghost use Rattle.btree.specs.Store.{HasCause, HasFailed, IsAt, IsMade, IsRetired, IsSame, KeepsWord, Stays, Store};
 ghost use Rattle.page.specs.Content.{Content};
 ghost use Rattle.page.specs.Format.{IsFit};
 ghost use Rattle.btree.specs.View.{content_in};
@@ -45,6 +45,7 @@ pub trait Pages {
 
     /// The page of this number. Device where the device failed; one of the other faults where it is no page.
     fn read(&mut self, page: u32) -> Result<SharedPage, TreeFault>
+        ensures stays { Stays (store self.old) (store self.new) }
         ensures same { KeepsWord (store self.new) → IsSame (store self.old) (store self.new) }
         ensures value { KeepsWord (store self.new)
             → IfOk result (λ shared. (store self.old).page page ≡ shared.content) }
@@ -55,13 +56,15 @@ pub trait Pages {
     /// Writes a page that nothing reaches. Full where no page is free.
     fn fresh(&mut self, content: PageContent) -> Result<u32, TreeFault>
         requires { IsFit (content_in content) }
-        ensures { KeepsWord (store self.new) → MatchResult result
+        ensures stays { Stays (store self.old) (store self.new) }
+        ensures makes { KeepsWord (store self.new) → MatchResult result
             (λ page. IsMade (store self.old) (store self.new) page (content_in content))
             (HasFailed (store self.old) (store self.new)) };
 
     /// Notes that the page isn't reached by what will be written.
     fn retire(&mut self, page: u32) -> Result<(), TreeFault>
-        ensures { KeepsWord (store self.new) → MatchResult result
+        ensures stays { Stays (store self.old) (store self.new) }
+        ensures retires { KeepsWord (store self.new) → MatchResult result
             (λ done. IsRetired (store self.old) (store self.new) page)
             (HasFailed (store self.old) (store self.new)) };
 }

@@ -1,8 +1,8 @@
 // A change of a whole tree, which gives a new root.
-ghost use Rattle.std.specs.Prelude.{◌≡◌, ◌≤◌, ◌<◌, ◌+◌, ◌∷◌, [], ℕ, List, Option, None, Some, length, map, IfNone, IfOk, IfSome};
+ghost use Rattle.std.specs.Prelude.{◌≡◌, ◌≤◌, ◌<◌, ◌+◌, ◌^◌, ◌∷◌, [], ℕ, List, Option, None, length, map, IfNone, IfOk, IfSome};
 ghost use Rattle.btree.specs.Calls.{IsPart, Yields};
 ghost use Rattle.btree.specs.Change.{Changes, edit_keys, put, removal};
-ghost use Rattle.btree.specs.EditView.{HasRoom, IsRoomy, edit_in};
+ghost use Rattle.btree.specs.EditView.{HasRoom, edit_in};
 ghost use Rattle.btree.specs.Keys.{Each, Entry, Rises, change};
 ghost use Rattle.btree.specs.Loose.{IsChild, Stub, child};
 ghost use Rattle.btree.specs.LooseView.{stub_in};
@@ -163,7 +163,8 @@ pub fn insert<P: Pages>(
     key: &[u8],
     value: &[u8],
 ) -> Result<u32, TreeFault>
-    requires { IsRoomy key.now (Some value.now) }
+    requires key { length key.now ≤ 1024 }
+    requires value { length value.now < 2 ^ 32 }
     ensures grows { Grows (P.store pages.old) (P.store pages.new) }
     ensures changes { (before : List ℕ) (entries : List Entry)
         → HasMap (P.store pages.old) root before entries
@@ -181,7 +182,7 @@ pub fn remove<P: Pages>(
     root: u32,
     key: &[u8],
 ) -> Result<u32, TreeFault>
-    requires { IsRoomy key.now None }
+    requires { length key.now ≤ 1024 }
     ensures grows { Grows (P.store pages.old) (P.store pages.new) }
     ensures changes { (before : List ℕ) (entries : List Entry)
         → HasMap (P.store pages.old) root before entries

@@ -2,7 +2,7 @@
 ghost use Rattle.std.specs.Prelude.{◌≡◌, ◌++◌, ◌∷◌, [], Ok, ℕ, zero, List, map, IfErr, IfOk, MatchResult, true, false};
 ghost use Rattle.std.specs.Option.{option_map};
 ghost use Rattle.btree.specs.Keys.{Pair, Rises, entry_of, Entry as MapEntry};
-ghost use Rattle.btree.specs.Store.{Grows, HasCause, KeepsWord, Store};
+ghost use Rattle.btree.specs.Store.{Grows, HasCause, IsSame, KeepsWord, Store};
 ghost use Rattle.btree.specs.Tree.{Body, HasChain, IsTree, Shows, entries_of, item_of, pair_keys};
 ghost use Rattle.btree.specs.View.{item_in};
 ghost use Rattle.btree.specs.Calls.{IsPart, Yields};
@@ -44,6 +44,8 @@ pub struct Batch {
 // A cell as an entry of its own.
 fn entry_at<P: Pages>(alloc: Global, pages: &mut P, cell: Cell<'_>) -> Result<Entry, TreeFault>
     ensures grows { Grows (P.store pages.old) (P.store pages.new) }
+    ensures same { KeepsWord (P.store pages.new)
+        → IsSame (P.store pages.old) (P.store pages.new) }
     ensures reads { (x : Pair) → item_in cell.entry ≡ item_of x → HasChain (P.store pages.old) x
         → Yields (P.store pages.old) (P.store pages.new) (λ e. entry_in e ≡ entry_of x) result }
 {
@@ -61,6 +63,8 @@ fn hand_out<P: Pages>(
     cell: Cell<'_>,
 ) -> Result<bool, TreeFault>
     ensures grows { Grows (P.store pages.old) (P.store pages.new) }
+    ensures same { KeepsWord (P.store pages.new)
+        → IsSame (P.store pages.old) (P.store pages.new) }
     ensures failed { (x : Pair) → item_in cell.entry ≡ item_of x → HasChain (P.store pages.old) x
         → KeepsWord (P.store pages.new)
         → IfErr result (HasCause (P.store pages.old) (P.store pages.new)) }
@@ -94,6 +98,8 @@ fn scan_leaf<P: Pages>(
     batch: &mut Batch,
 ) -> Result<(), TreeFault>
     ensures grows { Grows (P.store pages.old) (P.store pages.new) }
+    ensures same { KeepsWord (P.store pages.new)
+        → IsSame (P.store pages.old) (P.store pages.new) }
     ensures scans { (pairs : List Pair) (all : List MapEntry) → leaf.now ≡ map item_of pairs
         → Rises (pair_keys pairs) → Shows (P.store pages.old) zero pairs
         → Holds range.entry.limit all batch.old
@@ -125,6 +131,8 @@ fn scan_below<P: Pages>(
     batch: &mut Batch,
 ) -> Result<(), TreeFault>
     ensures grows { Grows (P.store pages.old) (P.store pages.new) }
+    ensures same { KeepsWord (P.store pages.new)
+        → IsSame (P.store pages.old) (P.store pages.new) }
     ensures scans { (d : ℕ) (body : Body d) (all : List MapEntry)
         → IsPart (P.store pages.old) page level d low.now
         (option_map (λ b. b.now) high.entry) body → Holds range.entry.limit all batch.old
@@ -171,6 +179,8 @@ pub fn scan<P: Pages>(
     range: Range<'_>,
 ) -> Result<Batch, TreeFault>
     ensures grows { Grows (P.store pages.old) (P.store pages.new) }
+    ensures same { KeepsWord (P.store pages.new)
+        → IsSame (P.store pages.old) (P.store pages.new) }
     ensures empty { root ≡ 0 → IfOk result (λ batch. Holds range.entry.limit [] batch) }
     ensures scans { (d : ℕ) (body : Body d) → IsTree (P.store pages.old) root d body
         → Yields (P.store pages.old) (P.store pages.new)

@@ -1,8 +1,8 @@
 -- What pages in memory stand for.
-use Rattle.std.specs.Prelude.{true, [], length, nat_lt, slice_index_or}
+use Rattle.std.specs.Prelude.{[], length, nat_lt, slice_index_or}
 use Rattle.page.specs.Content.{free_list}
 use Rattle.page.specs.Format.{Sheet}
-use Rattle.btree.specs.Store.{Store}
+use Rattle.btree.specs.Store.{Store, no_device}
 use Rattle.btree_tests.specs.declared.memory.ReadPages.{ReadPages}
 
 abbrev pub no_page : Sheet
@@ -10,12 +10,11 @@ no_page = record { page = 0; generation = 0; content = free_list 0 [] }
 
 abbrev pub store_of : ReadPages → Store
 store_of s = record {
-  keeps_word = true;
-  base = record { sectors = λ k. record { read = []; synced = []; pending = [] }; numbers = [] };
+  history = no_device;
+  base = [];
   page = λ n. (slice_index_or s.images.items n no_page).content;
   live = λ n. nat_lt n (length s.images.items);
   made = [];
   retired = [];
-  failures = 0;
   full_takes = s.full_takes;
 }

@@ -1,5 +1,5 @@
 -- What a read of a pager gives, and what it leaves.
-use Rattle.std.proofs.Common.{◌≡◌, ◌≢◌, ℕ, ◌+◌, ◌<◌, ◌≤◌, Bool, true, false, List, refl, sym, ◌∙◌, ap, subst, Option, Some, None}
+use Rattle.std.proofs.Common.{◌≡◌, ◌≢◌, ℕ, ◌+◌, ◌<◌, ◌≤◌, Bool, true, false, List, ◌∷◌, ◌++◌, map, refl, sym, ◌∙◌, ap, subst, Option, Some, None}
 use Rattle.std.specs.Prelude.{◌&&◌, is_ok, not, Result, Ok, Err, IfOk, IfErr}
 use Rattle.std.specs.List.{AllByRecursion}
 use Rattle.page.specs.Cache.{kept}
@@ -7,10 +7,11 @@ use Rattle.page.specs.Content.{Content}
 use Rattle.page.specs.Format.{Sheet}
 use Rattle.page.specs.History.{History}
 use Rattle.page.specs.declared.page_cache.PageCache.{PageCache}
-use Rattle.btree.specs.Store.{HasCause, IsAt, KeepsWord, Store}
+use Rattle.btree.specs.Store.{HasCause, IsAt, KeepsWord, Stays, Store, flag}
 use Rattle.btree.specs.declared.pages.TreeFault.{TreeFault}
 use Rattle.btree.specs.declared.pages.TreeFault.TheVariants as faults
-use Rattle.freelist.specs.Book.{Book, is_free}
+use Rattle.freelist.specs.Book.{Book, is_free, rewind}
+use Rattle.freelist.specs.Coding.{state_number}
 use Rattle.roots.specs.declared.root.Root.{Root}
 use Rattle.roots.specs.declared.tree_store.TreeStore.{TreeStore}
 use Rattle.roots.specs.tree.Image.{content_in}
@@ -19,7 +20,7 @@ use Rattle.roots.proofs.tree.WalkLemmas.{IsFound, found_at}
 use Rattle.pager.specs.Calls.{HasReadCause, ReadsPage}
 use Rattle.pager.specs.Kept.{IsKept, IsNew}
 use Rattle.pager.specs.State.{State}
-use Rattle.pager.specs.View.{sheets_of, store_of}
+use Rattle.pager.specs.View.{root_numbers, sheets_of, store_of}
 use Rattle.pager.proofs.ListLemmas.{all_both, made_none}
 use Rattle.pager.proofs.ReadLemmas.{sheet_in}
 
@@ -53,11 +54,21 @@ read_value {D = D} history store new cache after made retired book page result o
     go (Ok shared) is = ap content_in (made_none made page (sheet_in history store page) ne ∙ is)
     go (Err fault) is = tt
 
+pub read_stays : {D : Type 0} (history : D → History) (store new : TreeStore D) (cache after : PageCache) (made : List Sheet) (retired : List ℕ) (book : Book) (page : ℕ) (result : Result Sheet TreeFault) (old : State D)
+    → record { store = store; made = made; retired = retired; book = book } ≡ old → ReadsPage history page result store new cache after
+    → Stays (store_of history old) (store_of history (record { store = new; made = made; retired = retired; book = book }))
+read_stays {D = D} history store new cache after made retired book page result old view_is read =
+    let last : State D = record { store = new; made = made; retired = retired; book = book } in
+    subst (λ (p : State D). Stays (store_of history p) (store_of history last)) view_is (record {
+      base = (λ i. flag (read.only.stopped i) ∷ root_numbers (read.only.root i) ++ map state_number (rewind book.turn book.states));
+      reads = read.only.reads;
+    })
+
 first_true : (a b : Bool) → (a && b) ≡ true → a ≡ true
 first_true true b is = refl
 first_true false b is = absurd cc
 
-more_cause : (old new : Store) (h0 h1 : History) (fault : TreeFault) → (h0.failures < h1.failures → old.failures < new.failures) → HasReadCause h0 h1 fault → HasCause old new fault
+more_cause : (old new : Store) (h0 h1 : History) (fault : TreeFault) → (h0.failures < h1.failures → old.history.failures < new.history.failures) → HasReadCause h0 h1 fault → HasCause old new fault
 more_cause old new h0 h1 faults.Memory to cause = tt
 more_cause old new h0 h1 faults.Device to cause = to cause
 more_cause old new h0 h1 faults.Full to cause = absurd cause

@@ -38,7 +38,7 @@ module _ {D : Type 0} (history : D → History) (store : TreeStore D) (cache : P
   abbrev written : List Sheet
   written = written_of planned made
 
-  module _ (root : ℕ) (start : State D) (live : List ℕ) (before : List Entry) (begun : IsBegun history start live before) (pages : List ℕ) (after : List Entry) (turn : IsTurn history start p root live pages after) where
+  module _ (root : ℕ) (start : State D) (live : List ℕ) (before : List Entry) (begun : IsBegun history start live before) (pages : List ℕ) (after : List Entry) (turn : IsTurn history start p root live pages after) (k : KeepsWord (disk_history history store)) where
     -- in the book the pages of the new tree are in use
     in_use_after : (last : ℕ) → AreInUse pages (committed last planned)
     in_use_after last =
@@ -48,8 +48,8 @@ module _ {D : Type 0} (history : D → History) (store : TreeStore D) (cache : P
         record {
           used = λ n within.
               let low : n < length book.states = omega (arith, within, committed_length last planned sound pins waiting, all_length version retired book) in
-              let count = account history p start turn.frame live before begun so.booked root pages after turn version n in
-              let now_used = used_now history p start turn.frame live before begun so.booked n low in
+              let count = account history p start turn.grows.stays k live before begun so.booked root pages after turn version n in
+              let now_used = used_now history p start turn.grows.stays k live before begun so.booked n low in
               let same : flag (is_in_use (committed last planned).states n) ≡ flag (is_in_use planned.states n) = ap flag (committed_use last planned sound pins waiting n) in
               elim (cases_lt 0 (times n retired)) [
                 | inl some ↦ omega (arith, some, count, now_used, flag_most (is_in_use book.states n), same, ap flag (lost_use version retired n book some))
@@ -64,8 +64,8 @@ module _ {D : Type 0} (history : D → History) (store : TreeStore D) (cache : P
         → KeepsWord (disk_history history new) → MovesMap history (next_root (durable_root store) written root) pages before after result store new
     moved start live before begun pages after turn k2 =
         let k = commits.on.kept k2 in
-        moves before live (committed_still history p start (turn k).frame live before begun so.booked) after pages
-        (roots_turn history p start (turn k).frame live before begun so.booked root pages after (turn k) version (written_lie history store cache made retired book so version) (written_inside history store cache made retired book so version)
+        moves before live (committed_still history p start (turn k).grows.stays k live before begun so.booked) after pages
+        (roots_turn history p start (turn k).grows.stays k live before begun so.booked root pages after (turn k) version (written_lie history store cache made retired book so version) (written_inside history store cache made retired book so version)
         (written_sheets history store cache made retired book so version content) k)
 
   pub moves_done : (root : ℕ) (new : TreeStore D) → CommitsRoot history root (Ok tt) store new → MovesMaps history written root (Ok tt) store new → AllByRecursion (λ (m : Sheet). IsContent m.content) written → (last : ℕ)
@@ -80,7 +80,7 @@ module _ {D : Type 0} (history : D → History) (store : TreeStore D) (cache : P
           retired = refl;
           turn = refl;
           committed = λ k2. (all k2).committed;
-          in_use = λ k2. in_use_after root start live before begun pages after (turn (commits.on.kept k2)) last;
+          in_use = λ k2. in_use_after root start live before begun pages after (turn (commits.on.kept k2)) (commits.on.kept k2) last;
         };
       }
 
@@ -97,7 +97,7 @@ module _ {D : Type 0} (history : D → History) (store : TreeStore D) (cache : P
   pub moves_nothing : (root : ℕ) → MovesTurns history root (Err faults.Memory) p p
   moves_nothing root start live before begun pages after turn = record {
     any_moment = λ k image left.
-        let committed_now = committed_still history p start (turn k).frame live before begun so.booked in
+        let committed_now = committed_still history p start (turn k).grows.stays k live before begun so.booked in
         started (disk_history history store) (λ i. StandsFor i before ⊎ StandsFor i after)
         (λ k1 i is. inl (stands_now (disk_history history store) (durable_root store) live before committed_now.keeps k1 i is)) k image left;
     acknowledged = tt;

@@ -2,10 +2,12 @@ pub mod AfterLemmas
 pub mod BookLemmas
 pub mod CallLemmas
 pub mod EndLemmas
+pub mod FindLemmas
 pub mod ListLemmas
 pub mod MemberLemmas
 pub mod OpenLemmas
 pub mod ReadLemmas
+pub mod ReturnLemmas
 pub mod TakeLemmas
 pub mod TreeLemmas
 pub mod TurnLemmas

@@ -10,8 +10,9 @@ use Rattle.page.specs.Content.{Content}
 use Rattle.page.specs.Format.{Sheet}
 use Rattle.page.specs.History.{History, now, reads}
 use Rattle.page.specs.declared.page_cache.PageCache.{PageCache}
+use Rattle.page.proofs.Moments.{reads_nothing}
 use Rattle.btree.specs.Keys.{times}
-use Rattle.btree.specs.Store.{Base, HasFailed, HasNoPage, IsAt, IsMade, IsSame, KeepsWord, flag}
+use Rattle.btree.specs.Store.{HasFailed, HasNoPage, IsAt, IsMade, IsSame, KeepsWord, Stays, flag}
 use Rattle.btree.specs.declared.pages.TreeFault.{TreeFault}
 use Rattle.btree.specs.declared.pages.TreeFault.TheVariants as faults
 use Rattle.freelist.specs.Book.{Book, Takes, is_free, is_free_state, least_free, rewind, taken, undone}
@@ -27,19 +28,16 @@ use Rattle.freelist.proofs.SoundBooks.{stays_sound}
 use Rattle.freelist.proofs.Undoing.{undoing_leads_back}
 use Rattle.roots.specs.declared.tree_store.TreeStore.{TreeStore}
 use Rattle.roots.specs.tree.Image.{content_in, sheet_at}
-use Rattle.roots.specs.tree.Store.{disk_history, durable_root, is_stopped}
+use Rattle.roots.specs.tree.Store.{durable_root, is_stopped}
 use Rattle.roots.specs.tree.Turn.{numbers_of}
 use Rattle.pager.specs.Calls.{Refuses}
 use Rattle.pager.specs.Kept.{Agrees, IsKept, IsNew}
 use Rattle.pager.specs.State.{State}
-use Rattle.pager.specs.View.{base_of, pager_history, root_numbers, sheets_of, store_of}
+use Rattle.pager.specs.View.{pager_history, root_numbers, sheets_of, store_of}
 use Rattle.pager.proofs.ListLemmas.{all_both, all_more, lie_more, made_last, made_others}
 
-abbrev base_with : {D : Type 0} → (D → History) → TreeStore D → List PageState → Base
-base_with history store pages = record {
-  sectors = now (disk_history history store);
-  numbers = flag (is_stopped store) ∷ root_numbers (durable_root store) ++ map state_number pages;
-}
+abbrev pub base_with : {D : Type 0} → TreeStore D → List PageState → List ℕ
+base_with store pages = flag (is_stopped store) ∷ root_numbers (durable_root store) ++ map state_number pages
 
 -- a take that is taken back
 pub taken_back : (b mid new : Book) (page mark : ℕ) → Takes (Some page) b mid → mark ≡ length b.turn → new ≡ undone mark mid → new ≡ b
@@ -150,17 +148,17 @@ module _ {D : Type 0} (history : D → History) (store : TreeStore D) (cache : P
       rewind-append book.turn (changes.Taken sheet.page ∷ []) (set book.states sheet.page states.InUse)
       ∙ ap (rewind book.turn) (put_back book.states sheet.page states.Free states.InUse (free_state book sheet.page least))
 
-  same_base : base_of history afterwards ≡ base_of history before
-  same_base = (λ i. base_with history store (same_states i))
+  pub one_stays : Stays (store_of history before) (store_of history afterwards)
+  one_stays = record { base = (λ i. base_with store (same_states i)); reads = reads_nothing (pager_history history before) }
 
   pub one_made : KeepsWord (store_of history afterwards) → IsMade (store_of history before) (store_of history afterwards) sheet.page sheet.content
   one_made word = record {
     frame = record {
       word = word;
-      base = same_base;
       kept = still_at;
       made = counted;
-      retired = λ n. omega arith;
+      made_on = (sheet.page ∷ [], newest);
+      retired_on = ([], refl);
       failures = omega arith;
       full_takes = omega arith;
     };
@@ -230,7 +228,6 @@ module _ {D : Type 0} (history : D → History) (store : TreeStore D) (made : Li
   same_pages : new_book.states ≡ book.states → new_book.turn ≡ book.turn → book.full_takes ≤ new_book.full_takes → KeepsWord (store_of history stop) → IsSame (store_of history start) (store_of history stop)
   same_pages is turn more word = record {
     word = word;
-    base = (λ i. base_with history store (rewind (turn i) (is i)));
     page = refl;
     live = λ i n. is_ok (sheets_of history start n) && not (is_free (is i) n);
     made = refl;
@@ -238,6 +235,21 @@ module _ {D : Type 0} (history : D → History) (store : TreeStore D) (made : Li
     failures = omega arith;
     full_takes = more;
   }
+
+  -- the turn, and what each page is
+  refused_same : (fault : TreeFault) → Refuses fault book new_book → (new_book.states ≡ book.states) × (new_book.turn ≡ book.turn)
+  refused_same faults.Memory is = (ap (λ (b : Book). b.states) is, ap (λ (b : Book). b.turn) is)
+  refused_same faults.Full (none, is) = (ap (λ (b : Book). b.states) is, ap (λ (b : Book). b.turn) is)
+  refused_same faults.Device is = absurd is
+  refused_same faults.Kind is = absurd is
+  refused_same faults.Number is = absurd is
+  refused_same faults.Order is = absurd is
+  refused_same faults.Length is = absurd is
+
+  pub refused_stays : (fault : TreeFault) → Refuses fault book new_book → Stays (store_of history start) (store_of history stop)
+  refused_stays fault refuses =
+      let same = refused_same fault refuses in
+      record { base = (λ i. base_with store (rewind (same.1 i) (same.0 i))); reads = reads_nothing (pager_history history start) }
 
   counted_full : new_book.full_takes ≡ min (book.full_takes + 1) (2 ^ 64 - 1) → HasNoPage (store_of history start) (store_of history stop)
   counted_full is = elim (cases_lt book.full_takes (2 ^ 64 - 1)) [
@@ -314,3 +326,21 @@ fresh_kept history store cache after_cache made more book new_book so sheet push
     subst (λ (m : List Sheet). IsKept history store after_cache m new_book) (sym pushed)
     (subst (IsKept history store after_cache (made ++ sheet ∷ [])) (sym takes.1)
     (one_kept history store cache made [] book so sheet takes.0 after_cache (ap (kept after_cache) page_is ∙ this) (λ n ne. others n (λ same. ne (same ∙ sym page_is))) (omega (arith, born, is)) (omega (arith, born, is)) (omega (arith, born, is))))
+
+pub fresh_stays_refused : {D : Type 0} (history : D → History) (store : TreeStore D) (made more : List Sheet) (retired : List ℕ) (book new_book : Book) (old : State D) → book.full_takes < 2 ^ 64
+    → record { store = store; made = made; retired = retired; book = book } ≡ old → more ≡ made → (fault : TreeFault) → Refuses fault book new_book
+    → Stays (store_of history old) (store_of history (record { store = store; made = more; retired = retired; book = new_book }))
+fresh_stays_refused {D = D} history store made more retired book new_book old count view_is same fault refuses =
+    let after : List Sheet → State D = λ m. record { store = store; made = m; retired = retired; book = new_book } in
+    subst (λ (m : List Sheet). Stays (store_of history old) (store_of history (after m))) (sym same)
+    (subst (λ (s : State D). Stays (store_of history s) (store_of history (after made))) view_is (refused_stays history store made retired book new_book count fault refuses))
+
+pub fresh_stays : {D : Type 0} (history : D → History) (store : TreeStore D) (cache : PageCache) (made more : List Sheet) (retired : List ℕ) (book new_book : Book) (old : State D) → IsKept history store cache made book
+    → record { store = store; made = made; retired = retired; book = book } ≡ old → (sheet : Sheet) → more ≡ made ++ sheet ∷ [] → Takes (Some sheet.page) book new_book
+    → Stays (store_of history old) (store_of history (record { store = store; made = more; retired = retired; book = new_book }))
+fresh_stays {D = D} history store cache made more retired book new_book old so view_is sheet pushed takes =
+    let after : List Sheet → Book → State D = λ m b. record { store = store; made = m; retired = retired; book = b } in
+    subst (λ (m : List Sheet). Stays (store_of history old) (store_of history (after m new_book))) (sym pushed)
+    (subst (λ (b : Book). Stays (store_of history old) (store_of history (after (made ++ sheet ∷ []) b))) (sym takes.1)
+    (subst (λ (s : State D). Stays (store_of history s) (store_of history (after (made ++ sheet ∷ []) (taken sheet.page book)))) view_is
+    (one_stays history store cache made retired book so sheet takes.0)))

@@ -11,7 +11,7 @@ use Rattle.page.specs.Crash.{IsDurable}
 use Rattle.page.specs.PageLaws.{IsSheet}
 use Rattle.page.specs.declared.page_fault.PageFault.{PageFault}
 use Rattle.btree.specs.Keys.{Each, Entry, times}
-use Rattle.btree.specs.Store.{Base, Frame, Store, flag}
+use Rattle.btree.specs.Store.{Stays, Store, flag}
 use Rattle.btree.proofs.ReachLemmas.{Moves, map_moved}
 use Rattle.freelist.specs.Book.{Book, CanRewind, is_in_use, rewind}
 use Rattle.freelist.specs.Coding.{number_state, number_state-state_number, state_number}
@@ -48,7 +48,7 @@ length_rewind : (made : List Sheet) (pages : List PageState) → length (rewind 
 length_rewind [] pages = refl
 length_rewind (m ∷ made) pages = length-set (rewind (takes_of made) pages) m.page states.Free ∙ length_rewind made pages
 
-flag_some : (b : Bool) → 1 ≤ flag b → b ≡ true
+pub flag_some : (b : Bool) → 1 ≤ flag b → b ≡ true
 flag_some true some = refl
 flag_some false some = absurd (omega (arith, some))
 
@@ -62,35 +62,40 @@ running_by true true same is = is
 running_by true false same is = absurd (omega (arith, same))
 running_by false other same is = refl
 
-module _ {D : Type 0} (history : D → History) (p start : State D) (frame : Frame (store_of history start) (store_of history p)) (live : List ℕ) (before : List Entry) (begun : IsBegun history start live before)
+-- ---- what the numbers of a turn's beginning say
+
+pub same_root : {D : Type 0} (p start : State D) → base_of p ≡ base_of start → durable_root p.store ≡ durable_root start.store
+same_root p start same =
+    let one : (durable_root p.store).generation ≡ (durable_root start.store).generation = ap (λ (numbers : List ℕ). get_or numbers 1 0) same in
+    let two : (durable_root p.store).tree ≡ (durable_root start.store).tree = ap (λ (numbers : List ℕ). get_or numbers 2 0) same in
+    let three : (durable_root p.store).pages ≡ (durable_root start.store).pages = ap (λ (numbers : List ℕ). get_or numbers 3 0) same in
+    (λ i. record { generation = one i; tree = two i; pages = three i })
+
+pub same_beginning : {D : Type 0} (p start : State D) → base_of p ≡ base_of start → rewind p.book.turn p.book.states ≡ rewind start.book.turn start.book.states
+same_beginning p start same = same_states (rewind p.book.turn p.book.states) (rewind start.book.turn start.book.states) (ap (drop 4) same)
+
+module _ {D : Type 0} (history : D → History) (p start : State D) (stays : Stays (store_of history start) (store_of history p)) (word : KeepsWord (pager_history history p)) (live : List ℕ) (before : List Entry) (begun : IsBegun history start live before)
     (booked : IsBookFor p.made p.book) where
-  base_same : base_of history p ≡ base_of history start
-  base_same = frame.base
-
   sectors_same : now (pager_history history p) ≡ now (pager_history history start)
-  sectors_same = ap (λ (b : Base). b.sectors) base_same
+  sectors_same = stays.reads.same word
 
-  number_same : (i : ℕ) → get_or (base_of history p).numbers i 0 ≡ get_or (base_of history start).numbers i 0
-  number_same i = ap (λ (b : Base). get_or b.numbers i 0) base_same
+  word_then : KeepsWord (pager_history history start)
+  word_then = stays.reads.on.kept word
 
   root_same : durable_root p.store ≡ durable_root start.store
-  root_same =
-      let one : (durable_root p.store).generation ≡ (durable_root start.store).generation = number_same 1 in
-      let two : (durable_root p.store).tree ≡ (durable_root start.store).tree = number_same 2 in
-      let three : (durable_root p.store).pages ≡ (durable_root start.store).pages = number_same 3 in
-      (λ i. record { generation = one i; tree = two i; pages = three i })
+  root_same = same_root p start stays.base
 
   -- the entries that the turn began with are committed still
   pub committed_still : IsCommitted history p.store live before
   committed_still =
-      let then_committed = begun.committed frame.word in
+      let then_committed = begun.committed word_then in
       record {
-        running = running_by (is_stopped p.store) (is_stopped start.store) (number_same 0) then_committed.running;
+        running = running_by (is_stopped p.store) (is_stopped start.store) (ap (λ (numbers : List ℕ). get_or numbers 0 0) stays.base) then_committed.running;
         keeps = record {
-          opens = λ k. subst (λ (s : ℕ → Sector). OpensAs (reads s) (durable_root p.store)) (sym sectors_same) (subst (λ (r : Root). OpensAs (reads (now (pager_history history start))) r) (sym root_same) (then_committed.keeps.opens frame.word));
+          opens = λ k. subst (λ (s : ℕ → Sector). OpensAs (reads s) (durable_root p.store)) (sym sectors_same) (subst (λ (r : Root). OpensAs (reads (now (pager_history history start))) r) (sym root_same) (then_committed.keeps.opens word_then));
           holds = λ k. subst (λ (s : ℕ → Sector). HoldsMap (sheet_at (reads s) (durable_root p.store)) (durable_root p.store) live before) (sym sectors_same)
-              (subst (λ (r : Root). HoldsMap (sheet_at (reads (now (pager_history history start))) r) r live before) (sym root_same) (then_committed.keeps.holds frame.word));
-          durable = λ k j kept. subst (λ (s : ℕ → Sector). IsDurable (s j)) (sym sectors_same) (then_committed.keeps.durable frame.word j kept);
+              (subst (λ (r : Root). HoldsMap (sheet_at (reads (now (pager_history history start))) r) r live before) (sym root_same) (then_committed.keeps.holds word_then));
+          durable = λ k j kept. subst (λ (s : ℕ → Sector). IsDurable (s j)) (sym sectors_same) (then_committed.keeps.durable word_then j kept);
         };
       }
 
@@ -98,7 +103,7 @@ module _ {D : Type 0} (history : D → History) (p start : State D) (frame : Fra
   pub states_then : rewind (takes_of p.made) p.book.states ≡ start.book.states
   states_then =
       ap (λ (turn : List Change). rewind turn p.book.states) (sym booked.turn)
-      ∙ same_states (rewind p.book.turn p.book.states) (rewind start.book.turn start.book.states) (ap (λ (b : Base). drop 4 b.numbers) base_same)
+      ∙ same_beginning p start stays.base
       ∙ ap (λ (turn : List Change). rewind turn start.book.states) begun.turn
 
   pub length_then : length start.book.states ≡ length p.book.states
@@ -109,7 +114,7 @@ module _ {D : Type 0} (history : D → History) (p start : State D) (frame : Fra
 
   pub used_now : (n : ℕ) → n < length p.book.states → times n live + times n (numbers_of p.made) ≡ flag (is_in_use p.book.states n)
   used_now n within =
-      let then_used : times n live ≡ flag (is_in_use start.book.states n) = (begun.in_use frame.word).used n (omega (arith, within, length_then)) in
+      let then_used : times n live ≡ flag (is_in_use start.book.states n) = (begun.in_use word_then).used n (omega (arith, within, length_then)) in
       let same : flag (is_in_use (rewind (takes_of p.made) p.book.states) n) ≡ flag (is_in_use start.book.states n) = ap (λ (pages : List PageState). flag (is_in_use pages n)) states_then in
       omega (arith, then_used, same, taken_use p.made p.book.states can n)
 

@@ -5,10 +5,10 @@ use Rattle.std.specs.List.{AllByRecursion}
 use Rattle.std.proofs.lemmas.Bool.{cases_eq}
 use Rattle.std.proofs.lemmas.List.{get_or-set_other, length-set}
 use Rattle.page.specs.Format.{Sheet}
-use Rattle.page.specs.History.{History, KeepsWord}
+use Rattle.page.specs.History.{History}
 use Rattle.page.specs.declared.page_cache.PageCache.{PageCache}
 use Rattle.btree.specs.Keys.{Entry}
-use Rattle.btree.specs.Store.{Frame, flag}
+use Rattle.btree.specs.Store.{Grows, flag}
 use Rattle.freelist.specs.Book.{Book, is_free, is_free_state, is_in_use, rewind, undone}
 use Rattle.freelist.specs.declared.states.PageState.{PageState}
 use Rattle.freelist.specs.declared.states.PageState.TheVariants as states
@@ -21,13 +21,13 @@ use Rattle.roots.specs.tree.Turn.{LieBehind}
 use Rattle.pager.specs.Kept.{IsKept, IsNew, takes_of}
 use Rattle.pager.specs.State.{State}
 use Rattle.pager.specs.Turn.{IsBegun, LeadsBack, undone_to}
-use Rattle.pager.specs.View.{pager_history, store_of}
+use Rattle.pager.specs.View.{store_of}
 use Rattle.pager.specs.Writing.{IsAmong}
 use Rattle.pager.proofs.BookLemmas.{others_of}
 use Rattle.pager.proofs.ListLemmas.{all_take, lie_take}
 use Rattle.pager.proofs.TurnLemmas.{committed_still, states_then}
 
-take_takes : (n : ℕ) (made : List Sheet) → take n (takes_of made) ≡ takes_of (take n made)
+pub take_takes : (n : ℕ) (made : List Sheet) → take n (takes_of made) ≡ takes_of (take n made)
 take_takes zero made = refl
 take_takes (suc n) [] = refl
 take_takes (suc n) (m ∷ ms) = ap (λ (l : List Change). changes.Taken m.page ∷ l) (take_takes n ms)
@@ -60,7 +60,7 @@ freed_by (m ∷ made) pages n free = elim (cases_eq n m.page) [
       ]
 ]
 
-behind_among : (last : ℕ) (made : List Sheet) (x : Sheet) → LieBehind last made → IsAmong x made → last < x.page
+pub behind_among : (last : ℕ) (made : List Sheet) (x : Sheet) → LieBehind last made → IsAmong x made → last < x.page
 behind_among last [] x lie among = absurd among
 behind_among last (m ∷ ms) x lie (inl is) = omega (arith, lie.0, ap (λ (s : Sheet). s.page) is)
 behind_among last (m ∷ ms) x lie (inr later) = omega (arith, lie.0, behind_among m.page ms x lie.1 later)
@@ -107,24 +107,24 @@ module _ {D : Type 0} (history : D → History) (store : TreeStore D) (cache : P
 -- back to where the turn began
 pub begun_again : {D : Type 0} (history : D → History) (store : TreeStore D) (cache : PageCache) (made : List Sheet) (retired : List ℕ) (book : Book) (so : IsKept history store cache made book)
     (start : State D) (live : List ℕ) (entries : List Entry) → IsBegun history start live entries → let p : State D = record { store = store; made = made; retired = retired; book = book } in
-    (KeepsWord (pager_history history p) → Frame (store_of history start) (store_of history p)) → IsBegun history (undone_to 0 0 p) live entries
-begun_again {D = D} history store cache made retired book so start live entries begun frame =
+    Grows (store_of history start) (store_of history p) → IsBegun history (undone_to 0 0 p) live entries
+begun_again {D = D} history store cache made retired book so start live entries begun grows =
     let p : State D = record { store = store; made = made; retired = retired; book = book } in
     record {
       made = refl;
       retired = refl;
       turn = refl;
-      committed = λ k. committed_still history p start (frame k) live entries begun so.booked;
+      committed = λ k. committed_still history p start grows.stays k live entries begun so.booked;
       in_use = λ k. record {
         used = λ n within.
-            let same : (undone 0 book).states ≡ start.book.states = ap (λ (turn : List Change). rewind turn book.states) so.booked.turn ∙ states_then history p start (frame k) live entries begun so.booked in
-            (begun.in_use (frame k).word).used n (omega (arith, within, ap length same)) ∙ ap (λ (pages : List PageState). flag (is_in_use pages n)) (sym same);
+            let same : (undone 0 book).states ≡ start.book.states = ap (λ (turn : List Change). rewind turn book.states) so.booked.turn ∙ states_then history p start grows.stays k live entries begun so.booked in
+            (begun.in_use (grows.stays.reads.on.kept k)).used n (omega (arith, within, ap length same)) ∙ ap (λ (pages : List PageState). flag (is_in_use pages n)) (sym same);
         others = others_of [] (undone 0 book) (kept_undone history store cache made book so 0).booked;
       };
     }
 
 pub leads_back : {D : Type 0} (history : D → History) (store : TreeStore D) (cache : PageCache) (made : List Sheet) (retired : List ℕ) (book : Book) → IsKept history store cache made book → (some few : ℕ)
     → let p : State D = record { store = store; made = made; retired = retired; book = book } in LeadsBack history some few p (undone_to some few p)
-leads_back {D = D} history store cache made retired book so some few start live entries begun frame none empty =
+leads_back {D = D} history store cache made retired book so some few start live entries begun grows none empty =
     let p : State D = record { store = store; made = made; retired = retired; book = book } in
-    subst (λ (s : State D). IsBegun history s live entries) (λ i. undone_to (sym none i) (sym empty i) p) (begun_again history store cache made retired book so start live entries begun frame)
+    subst (λ (s : State D). IsBegun history s live entries) (λ i. undone_to (sym none i) (sym empty i) p) (begun_again history store cache made retired book so start live entries begun grows)

@@ -4,7 +4,7 @@ use Rattle.page.specs.History.{History, KeepsWord}
 use Rattle.page.specs.Crash.{GoesOn, LeavesOnly, LeavesNow}
 use Rattle.btree.specs.Keys.{Entry, times}
 use Rattle.btree.specs.Reach.{HasMap}
-use Rattle.btree.specs.Store.{Frame}
+use Rattle.btree.specs.Store.{Grows}
 use Rattle.roots.specs.tree.Image.{StandsFor}
 use Rattle.roots.specs.tree.Store.{HasDeviceCause, IsRunning, durable_root, is_stopped}
 use Rattle.roots.specs.declared.store.CommitFault.{CommitFault}
@@ -35,7 +35,7 @@ pub record Commits {D : Type 0} (history : D → History) (root : ℕ)
 -- A turn since the pager began, whose tree below the root page reaches these pages and has these entries.
 pub record IsTurn {D : Type 0} (history : D → History) (start now : State D) (root : ℕ)
     (live : List ℕ) (pages : List ℕ) (entries : List Entry) : Type 0 where
-  pub frame : Frame (store_of history start) (store_of history now)
+  pub grows : Grows (store_of history start) (store_of history now)
   pub holds : HasMap (store_of history now) root pages entries
   -- what is reached was reached before or made, and isn't retired
   pub account : let store = store_of history now in

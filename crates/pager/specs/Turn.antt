@@ -1,10 +1,12 @@
 -- Between two commits of a pager.
-use Rattle.std.specs.Prelude.{◌≡◌, ℕ, ◌<◌, not, List, [], take, length}
+use Rattle.std.specs.Prelude.{◌≡◌, ℕ, ◌<◌, Bool, ◌||◌, nat_lt, not, List, [], take, length}
 use Rattle.page.specs.History.{History, KeepsWord}
 use Rattle.btree.specs.Keys.{Entry, times}
-use Rattle.btree.specs.Store.{Frame, flag}
+use Rattle.btree.specs.Store.{Grows, IsSame, flag}
 use Rattle.freelist.specs.Book.{Book, is_free, is_in_use, undone}
 use Rattle.roots.specs.tree.Store.{IsCommitted}
+use Rattle.roots.specs.tree.Turn.{LieBehind}
+use Rattle.pager.specs.Kept.{IsBookFor}
 use Rattle.pager.specs.State.{State}
 use Rattle.pager.specs.View.{pager_history, store_of}
 
@@ -29,9 +31,27 @@ pub record IsBegun {D : Type 0} (history : D → History) (p : State D) (live : 
 abbrev pub LeadsBack : {D : Type 0} → (D → History) → ℕ → ℕ → State D → State D → Type 0
 LeadsBack {D = D} history made retired old new =
     (start : State D) (live : List ℕ) (entries : List Entry) → IsBegun history start live entries
-    → (KeepsWord (pager_history history old)
-    → Frame (store_of history start) (store_of history old))
+    → Grows (store_of history start) (store_of history old)
     → made ≡ 0 → retired ≡ 0 → IsBegun history new live entries
+
+-- the turn has made or retired a page
+abbrev pub is_changed : {D : Type 0} → State D → Bool
+is_changed p = nat_lt 0 (length p.made) || nat_lt 0 (length p.retired)
+
+-- What holds of any pager: the pages of its turn ascend, and the book has just the turn's takes.
+pub record IsOrderly {D : Type 0} (p : State D) : Type 0 where
+  pub ascending : LieBehind 0 p.made
+  pub booked : IsBookFor p.made p.book
+
+-- Undoing what was made and retired since a moment of the turn leads back to the pages as they were then.
+abbrev pub Returns : {D : Type 0} → (D → History) → ℕ → ℕ → State D → State D → Type 0
+Returns {D = D} history made retired old new =
+    (earlier : State D) → IsOrderly earlier
+    → Grows (store_of history earlier) (store_of history old)
+    → made ≡ length earlier.made → retired ≡ length earlier.retired
+    → Grows (store_of history earlier) (store_of history new)
+    × (KeepsWord (pager_history history new)
+    → IsSame (store_of history earlier) (store_of history new))
 
 -- the pager without what the turn made and retired, but the first so many
 abbrev pub undone_to : {D : Type 0} → ℕ → ℕ → State D → State D

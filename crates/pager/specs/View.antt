@@ -5,7 +5,7 @@ use Rattle.page.specs.Format.{Sheet}
 use Rattle.page.specs.declared.page_fault.PageFault.{PageFault}
 use Rattle.freelist.specs.Book.{is_free, rewind}
 use Rattle.freelist.specs.Coding.{state_number}
-use Rattle.btree.specs.Store.{Base, Store, flag}
+use Rattle.btree.specs.Store.{Store, flag}
 use Rattle.roots.specs.declared.root.Root.{Root}
 use Rattle.roots.specs.tree.Image.{content_in, sheet_at}
 use Rattle.roots.specs.tree.Store.{disk_history, durable_root, is_stopped}
@@ -24,24 +24,20 @@ sheets_of history p n =
 abbrev pub root_numbers : Root → List ℕ
 root_numbers root = root.generation ∷ root.tree ∷ root.pages ∷ []
 
--- What no call but a commit changes: what the disk holds, the root that is committed, whether the store has stopped, and
--- what each page was when the turn began.
-abbrev pub base_of : {D : Type 0} → (D → History) → State D → Base
-base_of history p = record {
-  sectors = now (pager_history history p);
-  numbers = flag (is_stopped p.store) ∷ root_numbers (durable_root p.store)
-      ++ map state_number (rewind p.book.turn p.book.states);
-}
+-- What no call but a commit changes: whether the store has stopped, the root that is committed, and what each page was when
+-- the turn began.
+abbrev pub base_of : {D : Type 0} → State D → List ℕ
+base_of p = flag (is_stopped p.store) ∷ root_numbers (durable_root p.store)
+    ++ map state_number (rewind p.book.turn p.book.states)
 
 -- A page is live where it is one and isn't free. What the turn made and retired comes newest first.
 abbrev pub store_of : {D : Type 0} → (D → History) → State D → Store
 store_of history p = record {
-  keeps_word = (pager_history history p).keeps_word;
-  base = base_of history p;
+  history = pager_history history p;
+  base = base_of p;
   page = λ n. content_in (sheets_of history p n);
   live = λ n. is_ok (sheets_of history p n) && not (is_free p.book.states n);
   made = reverse (numbers_of p.made);
   retired = reverse p.retired;
-  failures = (pager_history history p).failures;
   full_takes = p.book.full_takes;
 }

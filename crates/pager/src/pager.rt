@@ -44,14 +44,11 @@ impl<D: Disk> Model for Pager<D> {
 
 impl<D: Disk> Pager<D> {
     ghost use Rattle.std.specs.Prelude.{IfOk, IfErr, length};
-    ghost use Rattle.page.specs.History.{KeepsWord};
-    ghost use Rattle.btree.specs.Keys.{Entry};
-    ghost use Rattle.btree.specs.Store.{Frame};
     ghost use Rattle.roots.specs.tree.Store.{durable_root, is_stopped};
     ghost use Rattle.pager.specs.Commit.{Commits, MovesTurns};
     ghost use Rattle.pager.specs.Opening.{IsOpened, IsRefused};
     ghost use Rattle.pager.specs.State.{State};
-    ghost use Rattle.pager.specs.Turn.{LeadsBack, undone_to};
+    ghost use Rattle.pager.specs.Turn.{IsOrderly, LeadsBack, Returns, is_changed, undone_to};
     ghost use Rattle.pager.specs.View.{pager_history};
 
     /// Opens a disk that a crash may have left, as a file of at most so many pages, or those that it has. It reads each page of
@@ -109,8 +106,16 @@ impl<D: Disk> Pager<D> {
         self.store.is_stopped()
     }
 
+    /// Whether the running turn has made or retired a page.
+    pub fn is_changed(&self) -> bool
+        ensures { result ≡ is_changed self.now }
+    {
+        !self.made.is_empty() || !self.retired.is_empty()
+    }
+
     /// How far the running turn has come.
     pub fn mark(&self) -> Mark
+        ensures orderly { IsOrderly self.now }
         ensures made { result.made ≡ length self.now.made }
         ensures retired { result.retired ≡ length self.now.retired }
     {
@@ -125,6 +130,7 @@ impl<D: Disk> Pager<D> {
     pub fn undo_to(&mut self, mark: Mark)
         ensures undone { self.new ≡ undone_to mark.made mark.retired self.old }
         ensures begun { LeadsBack D.history mark.made mark.retired self.old self.new }
+        ensures returns { Returns D.history mark.made mark.retired self.old self.new }
     {
         self.book.undo_to(mark.book);
         self.made.truncate(mark.made);

@@ -1,12 +1,12 @@
 -- What an image of the disk stands for: the entries of the tree whose root page its root names.
-use Rattle.std.specs.Prelude.{◌≡◌, ◌⊎◌, ℕ, ◌<◌, ◌&&◌, nat_lt, if◌then◌else◌, List, [], ◌∷◌, true, Result, Ok, Err, is_ok}
+use Rattle.std.specs.Prelude.{◌≡◌, ◌⊎◌, ℕ, ◌<◌, ◌&&◌, nat_lt, if◌then◌else◌, List, [], ◌∷◌, Result, Ok, Err, is_ok}
 use Rattle.page.specs.Content.{Content, chain}
 use Rattle.page.specs.Format.{Sheet, sheet_in}
 use Rattle.page.specs.Page.{page_at, IsSectorOf}
 use Rattle.page.specs.declared.page_fault.PageFault.{PageFault}
 use Rattle.page.specs.declared.page_fault.PageFault.TheVariants as faults
 use Rattle.btree.specs.Keys.{Entry}
-use Rattle.btree.specs.Store.{Store}
+use Rattle.btree.specs.Store.{Store, no_device}
 use Rattle.btree.specs.Reach.{HasMap, AreOnce}
 use Rattle.roots.specs.Root.{root_of}
 use Rattle.roots.specs.declared.root.Root.{Root}
@@ -24,13 +24,12 @@ content_in (Err fault) = chain 0 []
 -- pages as the definitions of a tree see them: what can be read is there
 abbrev pub store_of : (ℕ → Result Sheet PageFault) → Store
 store_of sheets = record {
-  keeps_word = true;
-  base = record { sectors = λ k. record { read = []; synced = []; pending = [] }; numbers = [] };
+  history = no_device;
+  base = [];
   page = λ n. content_in (sheets n);
   live = λ n. is_ok (sheets n);
   made = [];
   retired = [];
-  failures = 0;
   full_takes = 0;
 }
 

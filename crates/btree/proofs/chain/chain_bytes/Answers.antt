@@ -1,7 +1,7 @@
 use Rattle.std.proofs.Common.{vec_len, rules, ◌≡◌, ◌∙◌, sym, ap, subst, arith, length, ◌-◌, ◌++◌}
 use Rattle.page.specs.Format.{Sheet}
 use Rattle.btree.specs.View.{content_in}
-use Rattle.btree.proofs.StoreLemmas.{answer_failed, cause_later, grows_same, grows_trans}
+use Rattle.btree.proofs.StoreLemmas.{answer_failed, cause_later, grows_same, grows_trans, same_trans}
 use Rattle.btree.proofs.ChainLemmas.{IsRead, next_page, part_long, read_on, ends}
 use Rattle.btree.proofs.chain.chain_bytes.Goals as goal
 
@@ -11,7 +11,7 @@ returns-in_err-shared-clause-reads g c =
     let word = (c.in_err-shared.ensures.same k).word in
     let n = next_page (g.P.Pages.store c.loop-left.pages) value _ _ _ c.loop-left-test.true (c.loop-left.invariant.chained links value has next long word) in
     answer_failed (g.P.Pages.store c.args.pages.now) (g.P.Pages.store c.read.new.self) _ _ _ c.from_residual.ensures.1
-    (cause_later (g.P.Pages.store c.args.pages.now) (g.P.Pages.store c.loop-left.pages) (g.P.Pages.store c.read.new.self) _ (c.loop-left.invariant.grows word) (c.in_err-shared.ensures.cause k _ n.at))
+    (cause_later (g.P.Pages.store c.args.pages.now) (g.P.Pages.store c.loop-left.pages) (g.P.Pages.store c.read.new.self) _ (c.loop-left.invariant.grows.frame word) (c.in_err-shared.ensures.cause k _ n.at))
 
 pub returns-then-len-min-clause-reads : goal.returns-then-len-min-clause-reads
 returns-then-len-min-clause-reads g c =
@@ -25,12 +25,13 @@ returns-then-len-min-clause-reads g c =
 pub loop-left-preserved : goal.loop-left-preserved
 loop-left-preserved g c =
     let long_is : vec_len c.in-Chain.part ≡ length c.in-Chain.part.items = search rules in
-    let step = grows_same (g.P.Pages.store c.loop-left.pages) (g.P.Pages.store c.read.new.self) c.in_ok-shared.ensures.same in
+    let step = grows_same (g.P.Pages.store c.loop-left.pages) (g.P.Pages.store c.read.new.self) c.in_ok-shared.ensures.stays c.in_ok-shared.ensures.same in
     record {
       grows = grows_trans _ _ _ c.loop-left.invariant.grows step;
+      same = λ k. let now = c.in_ok-shared.ensures.same k in same_trans _ _ _ (c.loop-left.invariant.same now.word) now;
       chained = λ links value has next long k.
           subst (λ bs. IsRead (g.P.Pages.store c.read.new.self) value bs (c.loop-left.left - c.len-left.result) c.in-Chain.next) (ap (λ zs. c.loop-left.bytes.items ++ zs) (sym c.deref.ensures.value) ∙ sym c.in_ok-extend_from_slice.ensures.items)
-          (read_on (g.P.Pages.store c.loop-left.pages) (g.P.Pages.store c.read.new.self) value _ _ _ _ _ c.in-Chain.part.items (step k) c.loop-left-test.true (c.loop-left.invariant.chained links value has next long (step k).word)
+          (read_on (g.P.Pages.store c.loop-left.pages) (g.P.Pages.store c.read.new.self) value _ _ _ _ _ c.in-Chain.part.items (step.frame k) c.loop-left-test.true (c.loop-left.invariant.chained links value has next long (step.frame k).word)
           (c.in_ok-shared.ensures.value k ∙ ap (λ (s : Sheet). s.content) (sym c.image.ensures) ∙ ap content_in c.in-Chain.is) (ap (λ n. c.loop-left.left - n) (c.len-left.ensures ∙ long_is)));
     }
 

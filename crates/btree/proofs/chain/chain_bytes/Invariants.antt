@@ -1,5 +1,5 @@
 use Rattle.std.proofs.Common.{◌≡◌, ℕ, List, length}
-use Rattle.btree.specs.Store.{Grows, KeepsWord}
+use Rattle.btree.specs.Store.{Grows, IsSame, KeepsWord}
 use Rattle.btree.specs.Tree.{HasLinks, next_of}
 use Rattle.btree.proofs.ChainLemmas.{IsRead}
 use Rattle.btree.proofs.chain.chain_bytes.Given as goal
@@ -7,6 +7,7 @@ use Rattle.btree.proofs.chain.chain_bytes.Given as goal
 abbrev pub invariant-loop-left : goal.invariant-loop-left
 invariant-loop-left g l = record {
   grows : Grows (g.P.Pages.store l.initial.pages) (g.P.Pages.store l.pages);
+  same : KeepsWord (g.P.Pages.store l.pages) → IsSame (g.P.Pages.store l.initial.pages) (g.P.Pages.store l.pages);
   chained : (links value : List ℕ) → HasLinks (g.P.Pages.store l.initial.pages) links value → next_of links ≡ l.fn.first → length value ≡ l.fn.len
       → KeepsWord (g.P.Pages.store l.pages)
       → IsRead (g.P.Pages.store l.pages) value l.bytes.items l.left l.page;

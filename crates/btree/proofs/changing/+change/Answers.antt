@@ -25,7 +25,7 @@ change_below-returns-in_err-shared-clause-turns g t c =
 pub change_below-returns-in-Leaf-clause-turns : goal.change_below-returns-in-Leaf-clause-turns
 change_below-returns-in-Leaf-clause-turns g t c =
     λ base d high body rank at shown whole sound little rise between word.
-    let gone = c.in_ok-retire.ensures (c.change_leaf.ensures.grows word).word in
+    let gone = c.in_ok-retire.ensures.retires (c.change_leaf.ensures.grows.frame word).word in
     let same = c.in_ok-shared.ensures.same gone.frame.word in
     let grown = frame_trans (g.P.Pages.store c.args.pages.now) (g.P.Pages.store c.read.new.self) (g.P.Pages.store c.retire.new.self) (frame_same _ _ same) gone.frame in
     at_leaf (λ d body. c.args.rank ≡ base + d → Shows (g.P.Pages.store c.retire.new.self) d body → IsSound d c.args.low.now high body
@@ -37,12 +37,12 @@ change_below-returns-in-Leaf-clause-turns g t c =
     d body (sym (ap content_in c.in-Leaf.is) ∙ ap (λ (s : Sheet). s.content) c.image.ensures ∙ sym (c.in_ok-shared.ensures.value gone.frame.word) ∙ at.holds) rank (shows_kept _ _ grown d body shown) sound
 
 pub change_below-returns-clause-grows : goal.change_below-returns-clause-grows
-change_below-returns-clause-grows g t c = grows_trans _ _ _ (grows_trans (g.P.Pages.store c.args.pages.now) (g.P.Pages.store c.read.new.self) (g.P.Pages.store c.retire.new.self) (grows_same (g.P.Pages.store c.args.pages.now) (g.P.Pages.store c.read.new.self) c.in_ok-shared.ensures.same) (grows_retired (g.P.Pages.store c.read.new.self) (g.P.Pages.store c.retire.new.self) _ c.in_ok-retire.ensures)) c.change_children.ensures.grows
+change_below-returns-clause-grows g t c = grows_trans _ _ _ (grows_trans (g.P.Pages.store c.args.pages.now) (g.P.Pages.store c.read.new.self) (g.P.Pages.store c.retire.new.self) (grows_same (g.P.Pages.store c.args.pages.now) (g.P.Pages.store c.read.new.self) c.in_ok-shared.ensures.stays c.in_ok-shared.ensures.same) (grows_retired (g.P.Pages.store c.read.new.self) (g.P.Pages.store c.retire.new.self) _ c.in_ok-retire.ensures.stays c.in_ok-retire.ensures.retires)) c.change_children.ensures.grows
 
 pub change_below-returns-clause-turns : goal.change_below-returns-clause-turns
 change_below-returns-clause-turns g t c =
     λ base d high body rank at shown whole sound little rise between word.
-    let gone = c.in_ok-retire.ensures (c.change_children.ensures.grows word).word in
+    let gone = c.in_ok-retire.ensures.retires (c.change_children.ensures.grows.frame word).word in
     let same = c.in_ok-shared.ensures.same gone.frame.word in
     let grown = frame_trans (g.P.Pages.store c.args.pages.now) (g.P.Pages.store c.read.new.self) (g.P.Pages.store c.retire.new.self) (frame_same _ _ same) gone.frame in
     let e = sym (ap content_in c.in-Branch.is) ∙ ap (λ (s : Sheet). s.content) c.image.ensures ∙ sym (c.in_ok-shared.ensures.value gone.frame.word) ∙ at.holds in
@@ -72,8 +72,8 @@ change_children-returns-in_err-below-clause-turns g t c =
 pub change_children-returns-in_err-front-clause-turns : goal.change_children-returns-in_err-front-clause-turns
 change_children-returns-in_err-front-clause-turns g t c =
     λ base low high entries reached h deep begin rise between word.
-    let g2 = c.in_err-front.ensures.grows word in
-    let g1 = c.in_ok-below.ensures.grows g2.word in
+    let g2 = c.in_err-front.ensures.grows.frame word in
+    let g1 = c.in_ok-below.ensures.grows.frame g2.word in
     let p = prepare (g.P.Pages.store c.args.pages.now) c.args.loose c.in_ok-left.field-0.left c.in_ok-left.field-0.right c.in_ok-left.field-0.unit c.deref.result.now c.as_slice-key.result.now c.in-Some.page c.child_place-at.result c.args.edits.now _ _ _
     c.in_ok-left.ensures.parts c.as_slice-key.ensures.value c.in-Some.ensures c.edits_at.ensures.parts c.edits_at.ensures.before c.edits_at.ensures.behind c.deref.ensures.value c.in_ok-left.ensures.left c.child_place-at.ensures.next (omega arith)
     base low high entries reached h deep rise between in
@@ -91,9 +91,9 @@ change_children-returns-in_err-back-clause-grows g t c = grows_trans _ _ _ (grow
 pub change_children-returns-in_err-back-clause-turns : goal.change_children-returns-in_err-back-clause-turns
 change_children-returns-in_err-back-clause-turns g t c =
     λ base low high entries reached h deep begin rise between word.
-    let g3 = c.in_err-back.ensures.grows word in
-    let g2 = c.in_ok-front.ensures.grows g3.word in
-    let g1 = c.in_ok-below.ensures.grows g2.word in
+    let g3 = c.in_err-back.ensures.grows.frame word in
+    let g2 = c.in_ok-front.ensures.grows.frame g3.word in
+    let g1 = c.in_ok-below.ensures.grows.frame g2.word in
     let p = prepare (g.P.Pages.store c.args.pages.now) c.args.loose c.in_ok-left.field-0.left c.in_ok-left.field-0.right c.in_ok-left.field-0.unit c.deref.result.now c.as_slice-key.result.now c.in-Some.page c.child_place-at.result c.args.edits.now _ _ _
     c.in_ok-left.ensures.parts c.as_slice-key.ensures.value c.in-Some.ensures c.edits_at.ensures.parts c.edits_at.ensures.before c.edits_at.ensures.behind c.deref.ensures.value c.in_ok-left.ensures.left c.child_place-at.ensures.next (omega arith)
     base low high entries reached h deep rise between in
@@ -111,10 +111,10 @@ change_children-returns-clause-grows g t c = grows_trans _ _ _ (grows_trans _ _ 
 pub change_children-returns-clause-turns : goal.change_children-returns-clause-turns
 change_children-returns-clause-turns g t c =
     λ base low high entries reached h deep begin rise between word.
-    let g4 = c.meet.ensures.grows word in
-    let g3 = c.in_ok-back.ensures.grows g4.word in
-    let g2 = c.in_ok-front.ensures.grows g3.word in
-    let g1 = c.in_ok-below.ensures.grows g2.word in
+    let g4 = c.meet.ensures.grows.frame word in
+    let g3 = c.in_ok-back.ensures.grows.frame g4.word in
+    let g2 = c.in_ok-front.ensures.grows.frame g3.word in
+    let g1 = c.in_ok-below.ensures.grows.frame g2.word in
     let p = prepare (g.P.Pages.store c.args.pages.now) c.args.loose c.in_ok-left.field-0.left c.in_ok-left.field-0.right c.in_ok-left.field-0.unit c.deref.result.now c.as_slice-key.result.now c.in-Some.page c.child_place-at.result c.args.edits.now _ _ _
     c.in_ok-left.ensures.parts c.as_slice-key.ensures.value c.in-Some.ensures c.edits_at.ensures.parts c.edits_at.ensures.before c.edits_at.ensures.behind c.deref.ensures.value c.in_ok-left.ensures.left c.child_place-at.ensures.next (omega arith)
     base low high entries reached h deep rise between in
@@ -133,3 +133,9 @@ change_children-returns-clause-turns g t c =
     p _ _ _ c.meet.result g1 g2 g3 u1 u2 u3
     (c.meet.ensures.turns base low c.as_slice-key.result.now high (change (map edit_in c.edits_at.result.0.now) (entries_of (suc p.off.d) p.off.twigs)) (change (map edit_in c.edits_at.result.1.now) (entries_of p.off.d p.off.body) ++ p.two.back_entries) u2.after u3.after
     (held_later _ _ base low _ _ _ _ g3 u2.held) u3.held p.off.between.0 p.within word))
+
+pub change_below-returns-in-Leaf-clause-grows : goal.change_below-returns-in-Leaf-clause-grows
+change_below-returns-in-Leaf-clause-grows g t c = grows_trans _ _ _ (grows_trans (g.P.Pages.store c.args.pages.now) (g.P.Pages.store c.read.new.self) (g.P.Pages.store c.retire.new.self) (grows_same (g.P.Pages.store c.args.pages.now) (g.P.Pages.store c.read.new.self) c.in_ok-shared.ensures.stays c.in_ok-shared.ensures.same) (grows_retired (g.P.Pages.store c.read.new.self) (g.P.Pages.store c.retire.new.self) _ c.in_ok-retire.ensures.stays c.in_ok-retire.ensures.retires)) c.change_leaf.ensures.grows
+
+pub change_children-returns-in_err-front-clause-grows : goal.change_children-returns-in_err-front-clause-grows
+change_children-returns-in_err-front-clause-grows g t c = grows_trans _ _ _ c.in_ok-below.ensures.grows c.in_err-front.ensures.grows

@@ -11,7 +11,7 @@ pub returns-in-None-clause-edits : goal.returns-in-None-clause-edits
 returns-in-None-clause-edits g c =
     λ pairs e rise shown k.
     subst (λ (v : _). IsEdited (g.P.Pages.store c.args.pages.now) (g.P.Pages.store c.take_out.new.pages) (record { key = c.args.edit.key.now; value = v } ∷ []) pairs (map item_in c.take_out.new.cells.items)) (ap (option_map (λ b. b.now)) (sym c.in-None.is))
-    (removed_key (g.P.Pages.store c.args.pages.now) (g.P.Pages.store c.take_out.new.pages) c.args.edit.key.now pairs _ _ (c.in_ok-at.ensures.grows k) (c.in_ok-at.ensures.takes pairs e rise shown k) rise shown)
+    (removed_key (g.P.Pages.store c.args.pages.now) (g.P.Pages.store c.take_out.new.pages) c.args.edit.key.now pairs _ _ (c.in_ok-at.ensures.grows.frame k) (c.in_ok-at.ensures.takes pairs e rise shown k) rise shown)
 
 pub returns-in-Some-clause-grows : goal.returns-in-Some-clause-grows
 returns-in-Some-clause-grows g c = grows_trans _ _ _ c.in_ok-at.ensures.grows c.put_in.ensures.grows
@@ -19,6 +19,6 @@ returns-in-Some-clause-grows g c = grows_trans _ _ _ c.in_ok-at.ensures.grows c.
 pub returns-in-Some-clause-edits : goal.returns-in-Some-clause-edits
 returns-in-Some-clause-edits g c =
     λ pairs e rise shown k.
-    let g2 = c.put_in.ensures.grows k in
+    let g2 = c.put_in.ensures.grows.frame k in
     edits_done (g.P.Pages.store c.args.pages.now) (g.P.Pages.store c.take_out.new.pages) (g.P.Pages.store c.put_in.new.pages) (edit_in c.args.edit) c.in-Some.value.now pairs _ _ _ c.put_in.result (ap (option_map (λ b. b.now)) c.in-Some.is)
-    (c.in_ok-at.ensures.grows g2.word) g2 (c.in_ok-at.ensures.takes pairs e rise shown g2.word) (c.put_in.ensures.puts k) rise shown
+    (c.in_ok-at.ensures.grows.frame g2.word) g2 (c.in_ok-at.ensures.takes pairs e rise shown g2.word) (c.put_in.ensures.puts k) rise shown

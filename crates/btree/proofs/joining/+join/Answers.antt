@@ -2,7 +2,7 @@ use Rattle.std.proofs.Common.{◌≡◌, ◌<◌, ◌++◌, arith, length, rules
 use Rattle.btree.specs.LooseView.{stub_in}
 use Rattle.btree.specs.Turn.{sheaf_in}
 use Rattle.btree.proofs.ListLemmas.{long_map}
-use Rattle.btree.proofs.StoreLemmas.{cause_later, frame_trans}
+use Rattle.btree.proofs.StoreLemmas.{cause_later, frame_trans, grows_trans}
 use Rattle.btree.proofs.HeldLemmas.{concat_turns, glue_held, held_later, turns_failed}
 use Rattle.btree.proofs.JoinLemmas.{left_gone, ready_joined, right_gone, turned_left, turned_right, up_to_trans}
 use Rattle.btree.proofs.joining.+join.Goals as goal
@@ -36,8 +36,8 @@ returns-in_err-front-clause-turns g t c =
 pub returns-in_err-below-clause-turns : goal.returns-in_err-below-clause-turns
 returns-in_err-below-clause-turns g t c =
     λ base low mid high first last lp rp h1 h2 over upto k.
-    let v = (c.in_err-below.ensures.grows k).word in
-    let g1 = c.in_ok-front.ensures.grows v in
+    let v = (c.in_err-below.ensures.grows.frame k).word in
+    let g1 = c.in_ok-front.ensures.grows.frame v in
     let some : 0 < length c.args.left.units.items = search rules in
     let more : 0 < length c.args.right.units.items = search rules in
     let p = c.in_ok-front.ensures.parts base low _ first lp h1 (omega (arith, h2.rank_is (omega (arith, long_map stub_in c.args.right.units.items)))) some v in
@@ -48,9 +48,9 @@ returns-in_err-below-clause-turns g t c =
 pub returns-then-left-right-2-clause-turns : goal.returns-then-left-right-2-clause-turns
 returns-then-left-right-2-clause-turns g t c =
     λ base low mid high first last lp rp h1 h2 over upto k.
-    let g3 = c.raise_behind.ensures.grows k in
-    let g2 = c.in_ok-below.ensures.grows g3.word in
-    let g1 = c.in_ok-front.ensures.grows g2.word in
+    let g3 = c.raise_behind.ensures.grows.frame k in
+    let g2 = c.in_ok-below.ensures.grows.frame g3.word in
+    let g1 = c.in_ok-front.ensures.grows.frame g2.word in
     let some : 0 < length c.args.left.units.items = search rules in
     let more : 0 < length c.args.right.units.items = search rules in
     let p = c.in_ok-front.ensures.parts base low _ first lp h1 (omega (arith, h2.rank_is (omega (arith, long_map stub_in c.args.right.units.items)))) some g2.word in
@@ -72,8 +72,8 @@ returns-in_err-first-clause-turns g t c =
 pub returns-in_err-below-2-clause-turns : goal.returns-in_err-below-2-clause-turns
 returns-in_err-below-2-clause-turns g t c =
     λ base low mid high first last lp rp h1 h2 over upto k.
-    let v = (c.in_err-below-2.ensures.grows k).word in
-    let g1 = c.in_ok-first.ensures.grows v in
+    let v = (c.in_err-below-2.ensures.grows.frame k).word in
+    let g1 = c.in_ok-first.ensures.grows.frame v in
     let some : 0 < length c.args.left.units.items = search rules in
     let more : 0 < length c.args.right.units.items = search rules in
     let p = c.in_ok-first.ensures.parts base mid high last rp h2 (omega (arith, h1.rank_is (omega (arith, long_map stub_in c.args.left.units.items)))) more upto v in
@@ -84,9 +84,9 @@ returns-in_err-below-2-clause-turns g t c =
 pub returns-clause-turns : goal.returns-clause-turns
 returns-clause-turns g t c =
     λ base low mid high first last lp rp h1 h2 over upto k.
-    let g3 = c.raise_before.ensures.grows k in
-    let g2 = c.in_ok-below-2.ensures.grows g3.word in
-    let g1 = c.in_ok-first.ensures.grows g2.word in
+    let g3 = c.raise_before.ensures.grows.frame k in
+    let g2 = c.in_ok-below-2.ensures.grows.frame g3.word in
+    let g1 = c.in_ok-first.ensures.grows.frame g2.word in
     let some : 0 < length c.args.left.units.items = search rules in
     let more : 0 < length c.args.right.units.items = search rules in
     let p = c.in_ok-first.ensures.parts base mid high last rp h2 (omega (arith, h1.rank_is (omega (arith, long_map stub_in c.args.left.units.items)))) more upto g2.word in
@@ -96,3 +96,15 @@ returns-clause-turns g t c =
     g1 g2 p.0 u
     (c.raise_before.ensures.turns base low p.0.between high (first ++ p.0.front_entries) p.0.back_entries u.after p.0.back_pages u.held (ready_joined base _ _ p.1 j.0 j.1)
     (λ s more reached sh grown h same. p.0.glue low over s more reached sh (frame_trans _ _ s g2 grown) h same) k)
+
+pub returns-in_err-below-clause-grows : goal.returns-in_err-below-clause-grows
+returns-in_err-below-clause-grows g t c = grows_trans _ _ _ c.in_ok-front.ensures.grows c.in_err-below.ensures.grows
+
+pub returns-then-left-right-2-clause-grows : goal.returns-then-left-right-2-clause-grows
+returns-then-left-right-2-clause-grows g t c = grows_trans _ _ _ (grows_trans _ _ _ c.in_ok-front.ensures.grows c.in_ok-below.ensures.grows) c.raise_behind.ensures.grows
+
+pub returns-in_err-below-2-clause-grows : goal.returns-in_err-below-2-clause-grows
+returns-in_err-below-2-clause-grows g t c = grows_trans _ _ _ c.in_ok-first.ensures.grows c.in_err-below-2.ensures.grows
+
+pub returns-clause-grows : goal.returns-clause-grows
+returns-clause-grows g t c = grows_trans _ _ _ (grows_trans _ _ _ c.in_ok-first.ensures.grows c.in_ok-below-2.ensures.grows) c.raise_before.ensures.grows

@@ -17,5 +17,5 @@ returns-clause-turns g c =
     λ base low between high first last pages_below back_pages h ready glue k.
     let t = c.in_ok-above.ensures.turns base low between first pages_below h ready k in
     concat_turns (g.P.Pages.store c.args.pages.now) (g.P.Pages.store c.raise.new.pages) base low high (first ++ last) (pages_below ++ back_pages) (t.after ++ back_pages) (sheaf_in c.in_ok-above.above) (sheaf_in c.args.back) c.concat.result
-    (glue (g.P.Pages.store c.raise.new.pages) first t.after (sheaf_in c.in_ok-above.above) (c.in_ok-above.ensures.grows k) t.held (omega (arith, c.requires.next, c.in_ok-above.ensures.rank)))
+    (glue (g.P.Pages.store c.raise.new.pages) first t.after (sheaf_in c.in_ok-above.above) (c.in_ok-above.ensures.grows.frame k) t.held (omega (arith, c.requires.next, c.in_ok-above.ensures.rank)))
     (λ n. omega (arith, t.turned n, times_append n pages_below back_pages, times_append n t.after back_pages)) c.concat.ensures.rank c.concat.ensures.ok c.concat.ensures.err

@@ -17,5 +17,5 @@ returns-clause-turns g c =
     λ base low mid high first last front_pages pages_below h1 h2 ready over upto k.
     let t = c.in_ok-above.ensures.turns base mid high last pages_below h2 ready k in
     concat_turns (g.P.Pages.store c.args.pages.now) (g.P.Pages.store c.raise.new.pages) base low high (first ++ last) (front_pages ++ pages_below) (front_pages ++ t.after) (sheaf_in c.args.front) (sheaf_in c.in_ok-above.above) c.concat.result
-    (glue_held (g.P.Pages.store c.raise.new.pages) base low mid high first last front_pages t.after _ _ (held_later _ _ base low _ first front_pages _ (c.in_ok-above.ensures.grows k) h1) t.held (omega (arith, c.requires.next, c.in_ok-above.ensures.rank)) over upto)
+    (glue_held (g.P.Pages.store c.raise.new.pages) base low mid high first last front_pages t.after _ _ (held_later _ _ base low _ first front_pages _ (c.in_ok-above.ensures.grows.frame k) h1) t.held (omega (arith, c.requires.next, c.in_ok-above.ensures.rank)) over upto)
     (λ n. omega (arith, t.turned n, times_append n front_pages pages_below, times_append n front_pages t.after)) c.concat.ensures.rank c.concat.ensures.ok c.concat.ensures.err

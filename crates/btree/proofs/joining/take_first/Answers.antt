@@ -25,4 +25,4 @@ returns-clause-parts g c =
     let o = first_off (g.P.Pages.store c.args.pages.now) base low high entries reached (sheaf_in c.args.loose) _ _ c.in-Some.page h
     (first_units c.args.loose.units.items c.remove-unit.new.self.items c.remove-unit.result c.deref.result.now some c.remove-unit.ensures.value c.remove-unit.ensures.items c.deref.ensures.value) deep (omega (arith, long_map stub_in c.args.loose.units.items, some)) c.in-Some.ensures in
     took_first (g.P.Pages.store c.args.pages.now) (g.P.Pages.store c.open_page.new.pages) base low high entries reached c.args.loose.rank c.in-Some.page _ (sheaf_in c.in_ok-opened.opened) _
-    (c.in_ok-opened.ensures.grows k) (omega (arith, c.requires)) (λ base d high body r a s w so l. c.in_ok-opened.ensures.opens base d high body r a s w so l k) _ upto o
+    (c.in_ok-opened.ensures.grows.frame k) (omega (arith, c.requires)) (λ base d high body r a s w so l. c.in_ok-opened.ensures.opens base d high body r a s w so l k) _ upto o

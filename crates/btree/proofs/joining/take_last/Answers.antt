@@ -25,4 +25,4 @@ returns-clause-parts g c =
     let o = last_off (g.P.Pages.store c.args.pages.now) base low high entries reached (sheaf_in c.args.loose) _ _ c.in-Some-page_below.page h
     (last_units c.args.loose.units.items c.pop.new.self.items c.in-Some.unit c.deref.result.now c.in-Some.ensures.items c.deref.ensures.value) deep (omega (arith, long_map stub_in c.args.loose.units.items, some)) c.in-Some-page_below.ensures in
     took_last (g.P.Pages.store c.args.pages.now) (g.P.Pages.store c.open_page.new.pages) base low high entries reached c.args.loose.rank c.in-Some-page_below.page _ (sheaf_in c.in_ok-opened.opened) _
-    (c.in_ok-opened.ensures.grows k) (omega (arith, c.requires)) (λ base d high body r a s w so l. c.in_ok-opened.ensures.opens base d high body r a s w so l k) _ o
+    (c.in_ok-opened.ensures.grows.frame k) (omega (arith, c.requires)) (λ base d high body r a s w so l. c.in_ok-opened.ensures.opens base d high body r a s w so l k) _ o

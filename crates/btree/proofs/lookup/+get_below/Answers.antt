@@ -2,7 +2,7 @@ use Rattle.std.proofs.Common.{◌≡◌, ◌∙◌, ap, sym, length, inr, rules}
 use Rattle.btree.specs.View.{content_in}
 use Rattle.page.specs.Content.{Arm}
 use Rattle.page.specs.Format.{Sheet}
-use Rattle.btree.proofs.StoreLemmas.{answer_failed, grows_same}
+use Rattle.btree.proofs.StoreLemmas.{answer_failed, frame_same}
 use Rattle.btree.proofs.GetLemmas.{not_between, in_leaf, too_deep, in_child, bounds_are}
 use Rattle.btree.proofs.lookup.+get_below.Goals as goal
 
@@ -19,8 +19,8 @@ returns-then-not-lies_between-clause-looks g t c =
 pub returns-in-Leaf-clause-looks : goal.returns-in-Leaf-clause-looks
 returns-in-Leaf-clause-looks g t c =
     λ d body part within k.
-    let w = (c.value_in_leaf.ensures.grows k).word in
-    in_leaf (g.P.Pages.store c.args.pages.now) c.args.page c.args.level _ _ (λ v. v.items) (g.P.Pages.store c.read.new.self) (g.P.Pages.store c.value_in_leaf.new.pages) _ _ _ (grows_same (g.P.Pages.store c.args.pages.now) (g.P.Pages.store c.read.new.self) c.in_ok-shared.ensures.same w)
+    let w = (c.value_in_leaf.ensures.grows.frame k).word in
+    in_leaf (g.P.Pages.store c.args.pages.now) c.args.page c.args.level _ _ (λ v. v.items) (g.P.Pages.store c.read.new.self) (g.P.Pages.store c.value_in_leaf.new.pages) _ _ _ (frame_same (g.P.Pages.store c.args.pages.now) (g.P.Pages.store c.read.new.self) (c.in_ok-shared.ensures.same w))
     (c.in_ok-shared.ensures.value w ∙ ap (λ (s : Sheet). s.content) (sym c.image-2.ensures) ∙ ap content_in c.in-Leaf.is) (λ pairs e rise shown. c.value_in_leaf.ensures.looks pairs e rise shown k) d body part
 
 pub returns-then-len-eq0-clause-looks : goal.returns-then-len-eq0-clause-looks
@@ -32,8 +32,8 @@ returns-then-len-eq0-clause-looks g t c =
 pub returns-clause-looks : goal.returns-clause-looks
 returns-clause-looks g t c =
     λ d body part within k.
-    let w = (c.get_below.ensures.grows k).word in
+    let w = (c.get_below.ensures.grows.frame k).word in
     in_child (g.P.Pages.store c.args.pages.now) c.args.page c.args.level _ _ (λ v. v.items) (g.P.Pages.store c.read.new.self) (g.P.Pages.store c.get_below.new.pages) _ _ _ _ _ _ _
-    (c.in_ok-shared.ensures.value w ∙ ap (λ (s : Sheet). s.content) (sym c.image-2.ensures) ∙ ap content_in c.in-Branch.is) (grows_same (g.P.Pages.store c.args.pages.now) (g.P.Pages.store c.read.new.self) c.in_ok-shared.ensures.same w) c.child_of_key-at.ensures
+    (c.in_ok-shared.ensures.value w ∙ ap (λ (s : Sheet). s.content) (sym c.image-2.ensures) ∙ ap content_in c.in-Branch.is) (frame_same (g.P.Pages.store c.args.pages.now) (g.P.Pages.store c.read.new.self) (c.in_ok-shared.ensures.same w)) c.child_of_key-at.ensures
     (bounds_are _ _ _ _ _ _ c.low_bound-from.ensures.first c.low_bound-from.ensures.later c.high_bound-to.ensures.last c.high_bound-to.ensures.inner)
     (λ e. sym (ap (λ (a : Arm). a.child) (c.branch_child.ensures e))) (λ d body part within. c.get_below.ensures.looks d body part within k) d body part within

@@ -16,11 +16,11 @@ loop-rest-init g c = record {
 
 pub returns-in_err-unit-clause-writes : goal.returns-in_err-unit-clause-writes
 returns-in_err-unit-clause-writes g c = λ d low high body e enough may small spread shown k.
-    let step = c.in_err-unit.ensures.grows k in
+    let step = c.in_err-unit.ensures.grows.frame k in
     writes_failed _ (g.P.Pages.store c.args.pages.now) (g.P.Pages.store c.write_part.new.pages) d low high body c.from_residual.result _ c.from_residual.ensures.1
     (partly_failed (g.P.Pages.store c.args.pages.now) (g.P.Pages.store c.loop-rest.pages) (g.P.Pages.store c.write_part.new.pages) d low high body _ c.loop-rest.rest.now _ c.part_len-at.result c.args.fills
     (c.loop-rest.invariant.partly d low high body e enough may small spread shown step.word) may c.part_len-at.ensures.part c.part_len-at.ensures.some c.part_len-at.ensures.within
-    c.split_at.ensures.front step _ (λ b is enough go. c.in_err-unit.ensures.writes d b is enough go k) (c.loop-rest.invariant.grows step.word))
+    c.split_at.ensures.front step _ (λ b is enough go. c.in_err-unit.ensures.writes d b is enough go k) (c.loop-rest.invariant.grows.frame step.word))
 
 pub loop-rest-preserved : goal.loop-rest-preserved
 loop-rest-preserved g c = record {
@@ -28,10 +28,16 @@ loop-rest-preserved g c = record {
   some = λ lt. omega (arith, c.in_ok-push_unit.ensures.long);
   partly = λ d low high body e enough may small spread shown k.
       partly_step (g.P.Pages.store c.args.pages.now) (g.P.Pages.store c.loop-rest.pages) (g.P.Pages.store c.write_part.new.pages) d low high body _ c.loop-rest.rest.now _ c.part_len-at.result c.args.fills
-      (c.loop-rest.invariant.partly d low high body e enough may small spread shown (c.in_ok-unit.ensures.grows k).word) may c.part_len-at.ensures.part c.part_len-at.ensures.some c.part_len-at.ensures.within
-      c.split_at.ensures.front (c.in_ok-unit.ensures.grows k) _ _ c.in_ok-unit.unit c.split_at.ensures.back (λ b is enough go. c.in_ok-unit.ensures.writes d b is enough go k) c.in_ok-push_unit.ensures.ok;
+      (c.loop-rest.invariant.partly d low high body e enough may small spread shown (c.in_ok-unit.ensures.grows.frame k).word) may c.part_len-at.ensures.part c.part_len-at.ensures.some c.part_len-at.ensures.within
+      c.split_at.ensures.front (c.in_ok-unit.ensures.grows.frame k) _ _ c.in_ok-unit.unit c.split_at.ensures.back (λ b is enough go. c.in_ok-unit.ensures.writes d b is enough go k) c.in_ok-push_unit.ensures.ok;
 }
 
 pub returns-clause-writes : goal.returns-clause-writes
 returns-clause-writes g c = λ d low high body e enough may small spread shown k.
     partly_done (g.P.Pages.store c.args.pages.now) (g.P.Pages.store c.loop-rest.pages) d low high body _ _ (c.loop-rest.invariant.partly d low high body e enough may small spread shown k) (let none : length c.loop-rest.rest.now ≡ 0 = search rules in omega (arith, long_map stub_in c.loop-rest.rest.now))
+
+pub returns-in_err-unit-clause-grows : goal.returns-in_err-unit-clause-grows
+returns-in_err-unit-clause-grows g c = grows_trans _ _ _ c.loop-rest.invariant.grows c.in_err-unit.ensures.grows
+
+pub returns-in_err-push_unit-clause-grows : goal.returns-in_err-push_unit-clause-grows
+returns-in_err-push_unit-clause-grows g c = grows_trans _ _ _ c.loop-rest.invariant.grows c.in_ok-unit.ensures.grows

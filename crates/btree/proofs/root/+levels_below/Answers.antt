@@ -9,7 +9,7 @@ use Rattle.btree.proofs.root.+levels_below.Goals as goal
 pub returns-in_err-below-clause-levels : goal.returns-in_err-below-clause-levels
 returns-in_err-below-clause-levels g t c =
     λ d low high body part k.
-    let word = (c.levels_below.ensures.grows k).word in
+    let word = (c.levels_below.ensures.grows.frame k).word in
     let before = g.P.Pages.store c.args.pages.now in
     let mid = g.P.Pages.store c.read.new.self in
     let frame = frame_same before mid (c.in_ok-shared.ensures.same word) in
@@ -21,7 +21,7 @@ returns-in_err-below-clause-levels g t c =
 pub returns-then-below-clause-levels : goal.returns-then-below-clause-levels
 returns-then-below-clause-levels g t c =
     λ d low high body part k.
-    let word = (c.levels_below.ensures.grows k).word in
+    let word = (c.levels_below.ensures.grows.frame k).word in
     let before = g.P.Pages.store c.args.pages.now in
     let mid = g.P.Pages.store c.read.new.self in
     let frame = frame_same before mid (c.in_ok-shared.ensures.same word) in
@@ -33,7 +33,7 @@ returns-then-below-clause-levels g t c =
 pub returns-clause-levels : goal.returns-clause-levels
 returns-clause-levels g t c =
     λ d low high body part k.
-    let word = (c.levels_below.ensures.grows k).word in
+    let word = (c.levels_below.ensures.grows.frame k).word in
     let before = g.P.Pages.store c.args.pages.now in
     let mid = g.P.Pages.store c.read.new.self in
     let frame = frame_same before mid (c.in_ok-shared.ensures.same word) in

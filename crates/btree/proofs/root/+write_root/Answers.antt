@@ -5,6 +5,7 @@ use Rattle.btree.proofs.HeldLemmas.{no_stubs}
 use Rattle.btree.proofs.ListLemmas.{long_map}
 use Rattle.btree.proofs.RaiseLemmas.{head_of}
 use Rattle.btree.proofs.RootLemmas.{change_failed, change_on, changed_head, changed_none, head_of_one, itself, many_stubs, ready_top, too_high}
+use Rattle.btree.proofs.StoreLemmas.{grows_trans}
 use Rattle.btree.proofs.root.+write_root.Goals as goal
 
 pub returns-then-is_empty-clause-roots : goal.returns-then-is_empty-clause-roots
@@ -49,7 +50,10 @@ returns-clause-roots g t c =
     λ entries reached h k.
     let some : 0 < length c.args.top.units.items = search rules in
     let long : 0 < length (map stub_in c.args.top.units.items) = omega (arith, long_map stub_in c.args.top.units.items) in
-    let word = (c.write_root.ensures.grows k).word in
+    let word = (c.write_root.ensures.grows.frame k).word in
     let u = c.in_ok-above.ensures.turns 0 _ _ entries reached h (ready_top (g.P.Pages.store c.args.pages.now) entries reached (sheaf_in c.args.top) h long c.in_default.ensures.none) word in
-    change_on (g.P.Pages.store c.args.pages.now) (g.P.Pages.store c.raise.new.pages) (g.P.Pages.store c.write_root.new.pages) entries reached u.after c.write_root.result (c.in_ok-above.ensures.grows word) u.turned
+    change_on (g.P.Pages.store c.args.pages.now) (g.P.Pages.store c.raise.new.pages) (g.P.Pages.store c.write_root.new.pages) entries reached u.after c.write_root.result (c.in_ok-above.ensures.grows.frame word) u.turned
     (c.write_root.ensures.roots entries u.after u.held k)
+
+pub returns-clause-grows : goal.returns-clause-grows
+returns-clause-grows g t c = grows_trans _ _ _ c.in_ok-above.ensures.grows c.write_root.ensures.grows

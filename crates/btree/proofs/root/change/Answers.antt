@@ -2,6 +2,7 @@ use Rattle.std.proofs.Common.{◌≡◌, map}
 use Rattle.btree.specs.EditView.{edit_in}
 use Rattle.btree.specs.Keys.{change}
 use Rattle.btree.proofs.RootLemmas.{change_failed, change_on}
+use Rattle.btree.proofs.StoreLemmas.{grows_trans}
 use Rattle.btree.proofs.root.change.Goals as goal
 
 pub returns-in_err-top-clause-changes : goal.returns-in_err-top-clause-changes
@@ -11,7 +12,10 @@ returns-in_err-top-clause-changes g c =
 pub returns-clause-changes : goal.returns-clause-changes
 returns-clause-changes g c =
     λ before entries there rise k.
-    let word = (c.write_root.ensures.grows k).word in
+    let word = (c.write_root.ensures.grows.frame k).word in
     let u = c.in_ok-top.ensures.turns before entries there rise word in
-    change_on (g.P.Pages.store c.args.pages.now) (g.P.Pages.store c.change_root.new.pages) (g.P.Pages.store c.write_root.new.pages) (change (map edit_in c.args.edits.now) entries) before u.after c.write_root.result (c.in_ok-top.ensures.grows word) u.turned
+    change_on (g.P.Pages.store c.args.pages.now) (g.P.Pages.store c.change_root.new.pages) (g.P.Pages.store c.write_root.new.pages) (change (map edit_in c.args.edits.now) entries) before u.after c.write_root.result (c.in_ok-top.ensures.grows.frame word) u.turned
     (c.write_root.ensures.roots (change (map edit_in c.args.edits.now) entries) u.after u.held k)
+
+pub returns-clause-grows : goal.returns-clause-grows
+returns-clause-grows g c = grows_trans _ _ _ c.in_ok-top.ensures.grows c.write_root.ensures.grows

@@ -10,11 +10,11 @@ returns-clause-turns g c =
     λ before entries there rise k. elim there [
       | inl none ↦ absurd (c.if-root-eq0.false none.0)
       | inr t ↦
-          let word = (c.change_below.ensures.grows k).word in
+          let word = (c.change_below.ensures.grows.frame k).word in
           let old = g.P.Pages.store c.args.pages.now in
           let mid = g.P.Pages.store c.levels_below.new.pages in
           let part = root_part old c.args.root t.d t.body t.tree in
-          let kept = part_kept old mid (c.in_ok-below.ensures.grows word) c.args.root 0 t.d [] None t.body part in
+          let kept = part_kept old mid (c.in_ok-below.ensures.grows.frame word) c.args.root 0 t.d [] None t.body part in
           turned_behind old mid (g.P.Pages.store c.change_below.new.pages) (map edit_in c.args.edits.now) entries _ before _ c.change_below.result (c.in_ok-below.ensures.same word) t.entries_are t.pages_are
           (c.change_below.ensures.turns 0 t.d None t.body (omega (arith, c.in_ok-below.ensures.levels t.d [] None t.body part word)) kept.at kept.shown kept.whole kept.sound (omega arith) rise (all_between _) k)
     ]

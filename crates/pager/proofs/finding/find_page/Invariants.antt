@@ -1,8 +1,9 @@
-use Rattle.std.proofs.Common.{◌≢◌, take}
-use Rattle.std.specs.List.{AllByRecursion}
-use Rattle.page.specs.Format.{Sheet}
+use Rattle.std.proofs.Common.{◌-◌}
+use Rattle.pager.proofs.FindLemmas.{IsBetween}
 use Rattle.pager.proofs.finding.find_page.Given as goal
 
--- none of those so far
-abbrev pub invariant-loop-shared : goal.invariant-loop-shared
-invariant-loop-shared l = AllByRecursion (λ (sheet : Sheet). sheet.page ≢ l.page) (take l.shared-index l.made)
+abbrev pub invariant-loop-from : goal.invariant-loop-from
+invariant-loop-from l = IsBetween l.made l.page l.from l.to
+
+abbrev pub decreases-loop-from : goal.decreases-loop-from
+decreases-loop-from l = l.to - l.from

@@ -3,7 +3,8 @@ use Rattle.page.specs.Format.{Sheet}
 use Rattle.freelist.specs.Book.{Book, undone}
 use Rattle.pager.specs.Kept.{IsKept}
 use Rattle.pager.specs.State.{State}
-use Rattle.pager.specs.Turn.{LeadsBack}
+use Rattle.pager.specs.Turn.{LeadsBack, Returns}
+use Rattle.pager.proofs.ReturnLemmas.{returns_back}
 use Rattle.pager.proofs.UndoLemmas.{kept_undone, leads_back}
 use Rattle.pager.proofs.pager.Pager.undo_to.Goals as goal
 
@@ -28,3 +29,17 @@ returns-clause-begun g c =
     subst (λ (s : State D). LeadsBack history made retired s (after c.truncate.new.self.items c.truncate-2.new.self.items c.undo_to.new.self)) c.self.view_is
     (subst (LeadsBack history made retired p) (λ j. after (sym c.truncate.ensures.items j) (sym c.truncate-2.ensures.items j) (sym book j))
     (leads_back history i.store i.cache i.made.items i.retired.items i.book c.self.invariant made retired))
+
+pub returns-clause-returns : goal.returns-clause-returns
+returns-clause-returns g c =
+    let D = g.row.D.Denot in
+    let history = g.D.Disk.history in
+    let i = c.self.inside in
+    let made = c.args.mark.made in
+    let retired = c.args.mark.retired in
+    let book : c.undo_to.new.self ≡ undone made i.book = c.undo_to.ensures ∙ ap (λ (n : ℕ). undone n i.book) c.args.mark.same in
+    let after : List Sheet → List ℕ → Book → State D = λ m r b. record { store = i.store; made = m; retired = r; book = b } in
+    let p : State D = after i.made.items i.retired.items i.book in
+    subst (λ (s : State D). Returns history made retired s (after c.truncate.new.self.items c.truncate-2.new.self.items c.undo_to.new.self)) c.self.view_is
+    (subst (Returns history made retired p) (λ j. after (sym c.truncate.ensures.items j) (sym c.truncate-2.ensures.items j) (sym book j))
+    (returns_back history p c.self.invariant.booked made retired))

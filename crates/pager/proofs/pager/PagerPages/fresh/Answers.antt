@@ -2,11 +2,11 @@ use Rattle.std.proofs.Common.{rules, sym, ap}
 use Rattle.page.specs.Format.{Sheet}
 use Rattle.btree.specs.View.{content_in}
 use Rattle.pager.proofs.ListLemmas.{pushed_on}
-use Rattle.pager.proofs.TakeLemmas.{fresh_done, fresh_kept, fresh_refused}
+use Rattle.pager.proofs.TakeLemmas.{fresh_done, fresh_kept, fresh_refused, fresh_stays, fresh_stays_refused}
 use Rattle.pager.proofs.pager.PagerPages.fresh.Goals as goal
 
-pub returns-in_err-shared : goal.returns-in_err-shared
-returns-in_err-shared g c =
+pub returns-in_err-shared-clause-makes : goal.returns-in_err-shared-clause-makes
+returns-in_err-shared-clause-makes g c =
     fresh_refused g.D.Disk.history c.self.inside.store c.self.inside.made.items c.reserve.new.self.items c.self.inside.retired.items c.self.inside.book c.take_page.new.book c.args.self.now
     c.self.invariant.booked.count c.self.view_is c.reserve.ensures.items c.in_err-shared.field-0.0 c.in_err-shared.ensures.refused (content_in c.args.content) c.from_residual-in_err-shared.result (search rules)
 
@@ -18,9 +18,21 @@ invariant_of-self-2 g c =
     c.in_ok-shared.ensures.taken c.image.result.now.page (ap (λ (m : Sheet). m.page) (sym c.image.ensures)) c.remove.ensures.this c.remove.ensures.others
     c.saturating_add-generation.result c.in_ok-shared.ensures.generation (search rules)
 
-pub returns : goal.returns
-returns g c =
+pub returns-clause-makes : goal.returns-clause-makes
+returns-clause-makes g c =
     fresh_done g.D.Disk.history c.self.inside.store c.self.inside.cache c.self.inside.made.items c.push.new.self.items c.self.inside.retired.items c.self.inside.book c.take_page.new.book c.args.self.now
     c.self.invariant c.self.view_is c.in_ok-shared.shared
     (pushed_on c.push.new.self.items c.reserve.new.self.items c.self.inside.made.items c.in_ok-shared.shared c.push.result c.unwrap.result c.push.ensures.items c.unwrap.ensures c.reserve.ensures.items)
     c.in_ok-shared.ensures.taken c.image.result.now.page (ap (λ (m : Sheet). m.page) (sym c.image.ensures)) (content_in c.args.content) c.in_ok-shared.ensures.content
+
+pub returns-in_err-shared-clause-stays : goal.returns-in_err-shared-clause-stays
+returns-in_err-shared-clause-stays g c =
+    fresh_stays_refused g.D.Disk.history c.self.inside.store c.self.inside.made.items c.reserve.new.self.items c.self.inside.retired.items c.self.inside.book c.take_page.new.book c.args.self.now
+    c.self.invariant.booked.count c.self.view_is c.reserve.ensures.items c.in_err-shared.field-0.0 c.in_err-shared.ensures.refused
+
+pub returns-clause-stays : goal.returns-clause-stays
+returns-clause-stays g c =
+    fresh_stays g.D.Disk.history c.self.inside.store c.self.inside.cache c.self.inside.made.items c.push.new.self.items c.self.inside.retired.items c.self.inside.book c.take_page.new.book c.args.self.now
+    c.self.invariant c.self.view_is c.in_ok-shared.shared
+    (pushed_on c.push.new.self.items c.reserve.new.self.items c.self.inside.made.items c.in_ok-shared.shared c.push.result c.unwrap.result c.push.ensures.items c.unwrap.ensures c.reserve.ensures.items)
+    c.in_ok-shared.ensures.taken
