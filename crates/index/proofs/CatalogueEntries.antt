@@ -173,7 +173,7 @@ value_size n ds few h =
     let all : length (items_bytes 0 (definition_items ds)) ≤ 20960 = omega (arith, items_size 0 ds (omega (arith, few)) h, few) in
     omega (arith, frame_of-length (pairs_bytes (catalogue_value n ds)), b, int_size n, a, array_size (definition_items ds), all, none_size)
 
-value_spells : (n : ℕ) (ds : List Definition) → n ≤ 1000 → length ds ≤ 16 → AllByRecursion IsDefinition ds → SpellsDocument (frame_of (pairs_bytes (catalogue_value n ds))) (catalogue_value n ds)
+pub value_spells : (n : ℕ) (ds : List Definition) → n ≤ 1000 → length ds ≤ 16 → AllByRecursion IsDefinition ds → SpellsDocument (frame_of (pairs_bytes (catalogue_value n ds))) (catalogue_value n ds)
 value_spells n ds most few h = record { lawful = value_lawful n ds most h; spelled = refl; size = omega (arith, value_size n ds few h) }
 
 -- ---- what it tells

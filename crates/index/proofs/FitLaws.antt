@@ -26,12 +26,12 @@ use Rattle.index.proofs.SetLemmas.{set_among}
 use Rattle.index.proofs.CatalogueEntries.{value_size}
 use Rattle.index.proofs.OneStateLaws.{lawful_indexes}
 
-escaped_size : (bs : List ℕ) → length (escaped_text bs) ≤ 2 * length bs + 2
+pub escaped_size : (bs : List ℕ) → length (escaped_text bs) ≤ 2 * length bs + 2
 escaped_size [] = omega arith
 escaped_size (zero ∷ bs) = omega (arith, escaped_size bs)
 escaped_size (suc b ∷ bs) = omega (arith, escaped_size bs)
 
-key_size : (collection index : ℕ) (text : List ℕ) → length (key_under collection index text) ≡ 8 + length text
+pub key_size : (collection index : ℕ) (text : List ℕ) → length (key_under collection index text) ≡ 8 + length text
 key_size c i text = omega (arith, length-append (to_be_bytes w32 c) (to_be_bytes w32 i ++ text), length-append (to_be_bytes w32 i) text)
 
 -- ---- encoded keys

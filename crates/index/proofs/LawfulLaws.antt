@@ -36,7 +36,7 @@ pairs_of R x xs h g (suc i) (suc j) d lt below = g i j d (omega (arith, lt)) (om
 
 -- ---- names
 
-put_in : (new : Collection) (cs : List Collection) (x : Collection) → AreNamedApart cs → Among x (put_collection new cs) → (x ≡ new) ⊎ Among x cs
+pub put_in : (new : Collection) (cs : List Collection) (x : Collection) → AreNamedApart cs → Among x (put_collection new cs) → (x ≡ new) ⊎ Among x cs
 put_in new cs x apart h = elim (put_among new cs x apart h) [ inl e ↦ inl e | inr g ↦ inr (without_in cs new.name x g) ]
 
 put_apart : (new : Collection) (cs : List Collection) → AreNamedApart cs → AreNamedApart (put_collection new cs)

@@ -34,3 +34,11 @@ pub mod ListingLaws
 pub mod FitLaws
 pub mod KeptSteps
 pub mod TellingLaws
+pub mod EditListLaws
+pub mod EditPlaceLemmas
+pub mod DocumentPlaces
+pub mod StateEditLaws
+pub mod FoundLawLemmas
+pub mod BatchLaws
+pub mod ReadingLemmas
+pub mod NotingLemmas

@@ -90,7 +90,7 @@ none_without (c ∷ cs) name e = by (bytes_eq name c.name) e (none_without cs na
     by false is later = ap (λ (ds : List Collection). c ∷ ds) (later is)
 
 -- the others have other names
-below_without : (cs : List Collection) (name : List ℕ) → ((x : Collection) → Among x cs → slice_cmp nat_cmp name x.name ≡ orders.Less) → without_collection name cs ≡ cs
+pub below_without : (cs : List Collection) (name : List ℕ) → ((x : Collection) → Among x cs → slice_cmp nat_cmp name x.name ≡ orders.Less) → without_collection name cs ≡ cs
 below_without [] name h = refl
 below_without (c ∷ cs) name h =
     ap (λ (b : Bool). if b then cs else c ∷ without_collection name cs) (differs name c.name (h c (inl refl)))

@@ -113,7 +113,7 @@ tie Less e = absurd cc
 tie Equal e = refl
 tie Greater e = absurd cc
 
-document_some : (ds : List Pairs) (id : Tree) (d : Pairs) → find_document ds id ≡ Some d → Among d ds × (compare id (key_of d) ≡ Equal)
+pub document_some : (ds : List Pairs) (id : Tree) (d : Pairs) → find_document ds id ≡ Some d → Among d ds × (compare id (key_of d) ≡ Equal)
 document_some [] id d e = absurd cc
 document_some (x ∷ ds) id d e = by (is_eq (compare id (key_of x))) refl e (document_some ds id d)
   where

@@ -16,3 +16,10 @@ pub mod StateLaws
 pub mod KeptLaws
 pub mod StateRows
 pub mod StateReads
+pub mod EditList
+pub mod EditCode
+pub mod EditPlace
+pub mod Documents
+pub mod FoundLaws
+pub mod Batches
+pub mod Escaping

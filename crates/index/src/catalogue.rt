@@ -16,7 +16,7 @@ use std::alloc::{AllocError, Global};
 use value_order::Direction;
 
 /// Adds a field that isn't there yet.
-fn put(document: &mut Document, name: &str, value: Value) -> Result<(), NoMemory>
+pub(crate) fn put(document: &mut Document, name: &str, value: Value) -> Result<(), NoMemory>
     requires name { list_any (λ b. b == 0) name.now ≡ false }
     requires new { lookup document.old name.now ≡ None }
     requires flat { levels (tree value) ≤ 99 }

@@ -5,16 +5,26 @@
 #![tactic(auto)]
 
 mod arrays;
+pub mod batch_laws;
 mod catalogue;
 mod changes;
 mod definition;
+mod edits;
+mod entry_keys;
+mod entry_reading;
+mod entry_values;
+pub mod found_laws;
 mod keys;
 pub mod laws;
+mod state_edits;
 pub mod state_laws;
 mod texts;
 
 pub use changes::{KeyChanges, entry_key};
 pub use definition::{IndexField, IndexSpec};
+pub use edits::Edits;
+pub use entry_keys::{catalogue_key, document_key, first_key};
+pub use entry_reading::{catalogue_number, document_in, namespace_in};
 pub use keys::keys_in_all;
 
 /// The most bytes of the texts of a key's values together.

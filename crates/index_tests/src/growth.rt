@@ -43,3 +43,39 @@ fn growths(rt: HostRuntime) {
         Err(fault) => assert_eq!(rt; fault, Fault::Memory),
     }
 }
+
+/// How many edits are noted, and how many names, numbers and documents are read of their keys and values.
+fn edited(alloc: Global) -> Result<(usize, [u32; 3]), Fault> {
+    let mut edits = Edits::new(alloc);
+    edits.put_collection("t.c", 2)?;
+    edits.remove_collection("t.d")?;
+    edits.remove_document(2, &[0x20])?;
+    edits.remove_document(2, &[0x10])?;
+    let all = edits.tree_edits(alloc)?;
+    let mut read = [0u32; 3];
+    for edit in &all {
+        if let Some(_) = namespace_in(alloc, edit.key)? {
+            read[0] = read[0].saturating_add(1);
+        }
+        if let Some(value) = edit.value {
+            if let Some(2) = catalogue_number(alloc, value)? {
+                read[1] = read[1].saturating_add(1);
+            }
+            if let Some(_) = document_in(alloc, value)? {
+                read[2] = read[2].saturating_add(1);
+            }
+        }
+    }
+    Ok((edits.len(), read))
+}
+
+#[test]
+fn growths_of_edits(rt: HostRuntime) {
+    match edited(rt.alloc()) {
+        Ok((count, read)) => {
+            assert_eq!(rt; count, 4);
+            assert_eq!(rt; read, [2, 1, 1]);
+        }
+        Err(fault) => assert_eq!(rt; fault, Fault::Memory),
+    }
+}

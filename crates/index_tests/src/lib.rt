@@ -6,8 +6,16 @@ mod building;
 #[cfg(test)]
 mod catalogue;
 #[cfg(test)]
+mod editing;
+#[cfg(test)]
+mod edits;
+#[cfg(test)]
 mod growth;
 #[cfg(test)]
 mod keys;
 #[cfg(test)]
 mod limits;
+#[cfg(test)]
+mod random;
+#[cfg(test)]
+mod reading;

@@ -1,0 +1,35 @@
+-- A list of edits of the map, in ascending order of their keys and one at each.
+use Rattle.std.specs.Prelude.{◌≤◌, ℕ, List, [], ◌∷◌, length, map, Option}
+use Rattle.std.specs.Option.{option_map, ForSome}
+use Rattle.std.specs.Global.{Vec}
+use Rattle.btree.specs.Change.{edit_keys}
+use Rattle.btree.specs.Keys.{Each, Edit, Rises, key_cmp}
+use Rattle.index.specs.State.{Collection, by_order}
+use Rattle.index.specs.StateEntries.{Leads}
+use Rattle.index.specs.declared.edits.OwnEdit.{OwnEdit}
+
+-- what a vector of bytes puts at a key, or none where the key is removed
+abbrev pub edit_of : Vec ℕ → Option (Vec ℕ) → Edit
+edit_of key value = record { key = key.items; value = option_map (λ v. v.items) value }
+
+abbrev pub edits_in : List OwnEdit → List Edit
+edits_in edits = map (λ e. edit_of e.key e.value) edits
+
+-- at its place by its key, or in place of the one at its key
+abbrev pub with_edit : Edit → List Edit → List Edit
+with_edit e [] = e ∷ []
+with_edit e (f ∷ fs) =
+    by_order (key_cmp e.key f.key) (e ∷ f ∷ fs) (e ∷ fs) (f ∷ with_edit e fs)
+
+-- short enough for the tree, as the entries of a lawful state are
+abbrev pub IsShortEdit : Edit → Type 0
+IsShortEdit e = (length e.key ≤ 1024) × ForSome e.value (λ bytes. length bytes ≤ 65535)
+
+pub record IsEditList (edits : List Edit) : Type 0 where
+  pub rises : Rises (edit_keys edits)
+  pub short : Each IsShortEdit edits
+
+-- Wherever the old edits lead, and the one leads on from there, the new edits lead.
+abbrev pub LeadsWith : List Edit → Edit → List Edit → Type 0
+LeadsWith old e new =
+    (a b c : List Collection) → Leads old a b → Leads (e ∷ []) b c → Leads new a c

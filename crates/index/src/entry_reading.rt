@@ -1,0 +1,132 @@
+//! Collections and documents from the entries that they are kept as.
+
+ghost use Rattle.std.specs.Prelude.{◌≡◌, ◌≤◌, ℕ, List, [], Some, false, IfOk, IfSome, IsUtf8, option_map, string_bytes};
+ghost use Rattle.bson.specs.Spelling.{Spells, frame_of, pairs_bytes};
+ghost use Rattle.bson.specs.Tree.{Pairs};
+ghost use Rattle.value_order.specs.KeyText.{tree_text};
+ghost use Rattle.index.specs.Escaping.{unescaped};
+ghost use Rattle.index.specs.LawfulState.{IsKept, IsStorable};
+ghost use Rattle.index.specs.State.{Collection, words};
+ghost use Rattle.index.specs.StateEntries.{catalogue_value, key_under};
+ghost use Rattle.index.specs.StateReads.{catalogue_bytes};
+
+use crate::entry_keys::catalogue_key;
+use crate::entry_values::catalogue_bytes;
+use bson::{BsonFault, Document, NoMemory, Value, decode};
+use std::alloc::{AllocError, Global};
+
+/// The document that bytes spell, all of them.
+fn spelled_document(alloc: Global, bytes: &[u8]) -> Result<Option<Document>, NoMemory>
+    ensures reads { IfOk result (λ found. (d : Pairs) → Spells bytes.now d → found ≡ Some d) }
+    ensures only { IfOk result (λ found. IfSome found (λ d. Spells bytes.now d)) }
+{
+    match decode(alloc, bytes) {
+        Ok((document, len)) => {
+            if len != bytes.len() {
+                return Ok(None);
+            }
+            Ok(Some(document))
+        }
+        Err(fault) => match fault {
+            BsonFault::Memory => Err(AllocError),
+            _ => Ok(None),
+        },
+    }
+}
+
+/// The document of an entry's value.
+pub fn document_in(alloc: Global, value: &[u8]) -> Result<Option<Document>, NoMemory>
+    ensures reads { IfOk result (λ found. (d : Pairs) → IsStorable d
+        → value.now ≡ frame_of (pairs_bytes d) → found ≡ Some d) }
+    ensures only { IfOk result (λ found. IfSome found (λ d. Spells value.now d)) }
+{
+    spelled_document(alloc, value)
+}
+
+/// The last number that a collection may have.
+const LAST_NUMBER: i32 = 1000;
+
+/// The number that a document of the catalogue tells.
+fn number_told(document: &Document) -> Option<u32>
+    ensures some { IfSome result (λ number. (1 ≤ number) × (number ≤ 1000)) }
+    ensures number { (number : ℕ) → 1 ≤ number → number ≤ 1000
+        → document.now ≡ catalogue_value number [] → result ≡ Some number }
+{
+    match document.get("n") {
+        Some(Value::Int32(number)) => {
+            if *number < 1 || LAST_NUMBER < *number {
+                return None;
+            }
+            Some(*number as u32)
+        }
+        _ => None,
+    }
+}
+
+/// The number of the collection of which the catalogue says this, where it has no index.
+pub fn catalogue_number(alloc: Global, value: &[u8]) -> Result<Option<u32>, NoMemory>
+    ensures reads { IfOk result (λ found. (c : Collection) → IsKept c → c.indexes ≡ []
+        → value.now ≡ catalogue_bytes c → found ≡ Some c.number) }
+    ensures only { IfOk result (λ found. IfSome found (λ number. (1 ≤ number) × (number ≤ 1000)
+        × (value.now ≡ frame_of (pairs_bytes (catalogue_value number []))))) }
+{
+    let Some(document) = spelled_document(alloc, value)? else {
+        return Ok(None);
+    };
+    let Some(number) = number_told(&document) else {
+        return Ok(None);
+    };
+    let bytes = catalogue_bytes(alloc, number)?;
+    if bytes.as_slice() != value {
+        return Ok(None);
+    }
+    Ok(Some(number))
+}
+
+/// The string that was escaped so.
+fn unescaped(alloc: Global, text: &[u8]) -> Result<Vec<u8>, NoMemory>
+    ensures { IfOk result (λ name. name.items ≡ unescaped false text.now) }
+{
+    let mut name = Vec::with_capacity(alloc, text.len())?;
+    let mut zero = false;
+    'text: for byte in text {
+        if zero {
+            if *byte != 0xff {
+                break;
+            }
+            name.push(0)?;
+            zero = false;
+        } else if *byte == 0 {
+            zero = true;
+        } else {
+            name.push(*byte)?;
+        }
+    }
+    Ok(name)
+}
+
+/// The bytes before a name in its key in the catalogue: two numbers, and the class of strings.
+const NAME_START: usize = 9;
+
+/// The namespace whose key in the catalogue this is.
+pub fn namespace_in(alloc: Global, key: &[u8]) -> Result<Option<String>, NoMemory>
+    ensures reads { IfOk result (λ found. (name : List ℕ) → IsUtf8 name
+        → key.now ≡ key_under 0 0 (tree_text (words name))
+        → option_map (λ s. string_bytes s) found ≡ Some name) }
+    ensures only { IfOk result (λ found. IfSome found (λ s. key.now
+        ≡ key_under 0 0 (tree_text (words (string_bytes s))))) }
+{
+    if key.len() < NAME_START {
+        return Ok(None);
+    }
+    let (_, text) = key.split_at(NAME_START);
+    let bytes = unescaped(alloc, text)?;
+    let Ok(name) = String::from_utf8(bytes) else {
+        return Ok(None);
+    };
+    let spelled = catalogue_key(alloc, name.as_str())?;
+    if spelled.as_slice() != key {
+        return Ok(None);
+    }
+    Ok(Some(name))
+}
