@@ -30,9 +30,10 @@ use Rattle.update.specs.Upserts.{base_of}
 use Rattle.update.specs.UpdateLaws.{keeps_id, gives_stored}
 use Rattle.commands.specs.OutcomeLaws.{step_of, passed}
 use Rattle.commands.specs.Update.{UpdateStatement, IsRead}
-use Rattle.engine.specs.World.{Collection}
+use Rattle.index.specs.State.{Collection}
 use Rattle.engine.specs.Documents.{key_of, key_checked}
-use Rattle.engine.specs.Lawful.{IsStored, IsHeld, IsRising}
+use Rattle.engine.specs.Lawful.{IsStored, IsHeld}
+use Rattle.index.specs.LawfulState.{IsRising}
 use Rattle.engine.specs.Progress.{with_document_at}
 use Rattle.engine.specs.Update.{spelled, upsert_document}
 use Rattle.engine.specs.Updating.{IsChange}

@@ -13,8 +13,10 @@ use Rattle.outcome.specs.Outcome.{◌>>=◌, unless}
 use Rattle.path.specs.declared.refusal.Refusal.{Refusal}
 use Rattle.path.specs.declared.refusal.Refusal.TheVariants as refusals
 use Rattle.commands.specs.OutcomeLaws.{passed}
-use Rattle.engine.specs.World.{World, Collection, find_collection, uses, documents_of, documents_or_none, with_documents, put_collection, without_collection}
-use Rattle.engine.specs.Lawful.{AreNamedApart, AreNumberedApart, IsKept, IsLawfulState}
+use Rattle.engine.specs.World.{World, documents_of, documents_or_none, with_documents}
+use Rattle.index.specs.State.{Collection, find_collection, uses, put_collection, without_collection}
+use Rattle.engine.specs.Lawful.{IsKept, IsLawfulState}
+use Rattle.index.specs.LawfulState.{AreNamedApart, AreNumberedApart}
 use Rattle.engine.specs.Places.{IsThere, collection_at, no_collection}
 use Rattle.engine.specs.Progress.{Stands, is_full}
 use Rattle.engine.specs.Create.{created, run_create}

@@ -23,7 +23,8 @@ use Rattle.commands.specs.DropCollection.{DropCollection}
 use Rattle.commands.specs.ListCollections.{ListCollections}
 use Rattle.commands.specs.Command.{Command, ping, hello, insert, find, get_more, kill_cursors, count, delete, update, aggregate, create, drop as drop_of, list_collections, command_of}
 use Rattle.aggregate.specs.Pipeline.{run as after_pipeline}
-use Rattle.engine.specs.World.{World, Collection, Cursor, documents_of, with_documents, put_collection, at_rest, untouched, without_cursors}
+use Rattle.engine.specs.World.{World, Cursor, documents_of, with_documents, at_rest, untouched, without_cursors}
+use Rattle.index.specs.State.{Collection, put_collection}
 use Rattle.engine.specs.Documents.{insert_all}
 use Rattle.engine.specs.Refusals.{int, words}
 use Rattle.engine.specs.Progress.{is_full}

@@ -15,9 +15,11 @@ use Rattle.filter.specs.Matches.{matches}
 use Rattle.bson.specs.Lawful.{IsDocument}
 use Rattle.value_order.specs.Order.{compare}
 use Rattle.std.specs.declared.cmp.Ordering.TheVariants as orders
-use Rattle.engine.specs.World.{Collection, find_collection, documents_or_none, documents_of}
+use Rattle.engine.specs.World.{documents_or_none, documents_of}
+use Rattle.index.specs.State.{Collection, find_collection}
 use Rattle.engine.specs.Documents.{key_of}
-use Rattle.engine.specs.Lawful.{IsStored, IsHeld, AreNamedApart, IsKept, IsLawfulState}
+use Rattle.engine.specs.Lawful.{IsStored, IsHeld, IsKept, IsLawfulState}
+use Rattle.index.specs.LawfulState.{AreNamedApart}
 use Rattle.engine.proofs.Ordered.{missing, found, replaced}
 use Rattle.engine.proofs.Located.{Gap, There, located}
 use Rattle.engine.proofs.Rewinding.{apart_set}

@@ -11,7 +11,8 @@ use Rattle.roots.proofs.OpenSteps.{holds_by}
 use Rattle.roots.specs.Store as stores
 use Rattle.roots.specs.declared.store.CommitFault.{CommitFault}
 use Rattle.roots.specs.declared.store.CommitFault.TheVariants as faults
-use Rattle.engine.specs.World.{World, Collection, Cursor, CursorTable, at_rest, are_untouched, after_commit, after_undo}
+use Rattle.engine.specs.World.{World, Cursor, CursorTable, at_rest, are_untouched, after_commit, after_undo}
+use Rattle.index.specs.State.{Collection}
 use Rattle.engine.proofs.CursorSteps.{rested_untouched, untouched_untouched}
 use Rattle.std.proofs.lemmas.List.Elements.{All-filter, All-map}
 use Rattle.engine.specs.Lawful.{IsWithin, IsReadable, IsLawfulState, AreLawfulCursors}

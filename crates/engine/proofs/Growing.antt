@@ -7,7 +7,8 @@ use Rattle.std.specs.declared.cmp.Ordering.{Ordering}
 use Rattle.std.specs.declared.cmp.Ordering.TheVariants as orders
 use Rattle.bson.specs.Tree.{Tree, Pairs}
 use Rattle.value_order.specs.Order.{compare}
-use Rattle.engine.specs.World.{Collection, by_order, find_collection, documents_of, documents_or_none, with_documents, put_collection}
+use Rattle.engine.specs.World.{documents_of, documents_or_none, with_documents}
+use Rattle.index.specs.State.{Collection, by_order, find_collection, put_collection}
 use Rattle.outcome.specs.Outcome.{◌>>=◌, or_refused}
 use Rattle.engine.specs.Documents.{key_of, place, checked, insert_one, insert_all}
 use Rattle.update.specs.Stored.{id_first}

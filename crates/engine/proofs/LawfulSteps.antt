@@ -17,7 +17,8 @@ use Rattle.bson.specs.Spelling.{items_bytes}
 use Rattle.bson.specs.declared.fault.BsonFault.{BsonFault}
 use Rattle.value_order.specs.Order.{compare}
 use Rattle.value_order.specs.TotalLaws.{compare_total}
-use Rattle.engine.specs.World.{World, Collection, Cursor, find_collection, uses, unused, number_or, with_documents, documents_or_none, indexes_or_none, documents_of, put_collection}
+use Rattle.engine.specs.World.{World, Cursor, unused, number_or, with_documents, documents_or_none, indexes_or_none, documents_of}
+use Rattle.index.specs.State.{Collection, find_collection, uses, put_collection}
 use Rattle.outcome.specs.Outcome.{◌>>=◌, unless, or_refused}
 use Rattle.engine.specs.Documents.{key_of, place, checked, insert_one, insert_all}
 use Rattle.update.specs.Stored.{id_first}
@@ -42,7 +43,8 @@ use Rattle.engine.proofs.Creating.{dropped_lawful}
 use Rattle.engine.proofs.Listing.{go_into_one}
 use Rattle.engine.specs.Refusals.{int, total, words, ok_reply}
 use Rattle.commands.specs.Command.{Command, ping, insert as insert_of, find as find_of, count as count_of_all, delete, update, aggregate, create as create_of, drop as drop_of, list_collections, command_of, IsBounded, get_more, kill_cursors, hello}
-use Rattle.engine.specs.Lawful.{IsStored, IsWithin, IsRising, AreNamedApart, AreNumberedApart, IsKept, IsLawfulState, IsLawful, AreLawfulCursors}
+use Rattle.engine.specs.Lawful.{IsStored, IsWithin, IsKept, IsLawfulState, IsLawful, AreLawfulCursors}
+use Rattle.index.specs.LawfulState.{IsRising, AreNamedApart, AreNumberedApart}
 use Rattle.engine.specs.Places.{collection_at, no_collection}
 use Rattle.engine.specs.Progress.{is_full, with_document}
 use Rattle.engine.specs.Cursors.{items_of_documents, batch_of, cursor_reply, number_after, batch_reply, is_refused, new_cursor, open_cursor, first_batch, is_cursor, no_cursor, cursor_at}

@@ -14,9 +14,11 @@ use Rattle.outcome.specs.Outcome.{◌>>=◌}
 use Rattle.update.specs.Applying.{apply}
 use Rattle.commands.specs.OutcomeLaws.{step_of}
 use Rattle.commands.specs.Update.{UpdateStatement, IsRead}
-use Rattle.engine.specs.World.{Collection, find_collection, documents_or_none, documents_of}
+use Rattle.engine.specs.World.{documents_or_none, documents_of}
+use Rattle.index.specs.State.{Collection, find_collection}
 use Rattle.engine.specs.Documents.{key_of}
-use Rattle.engine.specs.Lawful.{IsStored, IsRising, IsKept, IsLawfulState}
+use Rattle.engine.specs.Lawful.{IsStored, IsKept, IsLawfulState}
+use Rattle.index.specs.LawfulState.{IsRising}
 use Rattle.engine.specs.Places.{collection_at, no_collection}
 use Rattle.engine.specs.Update.{Changed, passed_over, changed_to, update_from, changed_in}
 use Rattle.engine.proofs.Applied.{kept_key, kept_stored}

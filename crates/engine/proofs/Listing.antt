@@ -15,7 +15,8 @@ use Rattle.bson.specs.Tree.{Pairs, pair, no_pairs}
 use Rattle.bson.specs.SizingLaws.{frame_of-length, pairs_bytes-none, pairs_size-pair}
 use Rattle.bson.specs.Spelling.{frame_of, pairs_bytes}
 use Rattle.path.specs.declared.refusal.Refusal.{Refusal}
-use Rattle.engine.specs.World.{World, Collection}
+use Rattle.engine.specs.World.{World}
+use Rattle.index.specs.State.{Collection}
 use Rattle.engine.specs.Lawful.{IsWithin, IsKept, IsLawfulState}
 use Rattle.engine.specs.View.{with_ok}
 use Rattle.engine.specs.Cursors.{item_size, batch_len, batch_of, cursor_reply, number_after, batch_reply}

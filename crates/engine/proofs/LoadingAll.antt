@@ -19,10 +19,11 @@ use Rattle.bson.specs.Spelling.{frame_of, pairs_bytes}
 use Rattle.value_order.specs.KeyText.{tree_text}
 use Rattle.value_order.specs.Order.{compare}
 use Rattle.roots.specs.Entries.{Entry}
-use Rattle.engine.specs.World.{Collection, uses, find_collection, put_collection, by_order}
+use Rattle.index.specs.State.{Collection, uses, find_collection, put_collection, by_order}
 use Rattle.engine.specs.Documents.{key_of, checked, place}
 use Rattle.update.specs.Stored.{pairs_fault, id_first}
-use Rattle.engine.specs.Lawful.{IsStored, IsRising, IsReadable, IsKept, IsLawfulState, AreNamedApart, AreNumberedApart}
+use Rattle.engine.specs.Lawful.{IsStored, IsReadable, IsKept, IsLawfulState}
+use Rattle.index.specs.LawfulState.{IsRising, AreNamedApart, AreNumberedApart}
 use Rattle.engine.specs.Places.{IsGap, by_key, no_collection}
 use Rattle.engine.specs.Progress.{with_document}
 use Rattle.engine.specs.Stored.{catalogue_entry, document_entry, documents_numbered, documents_to, database_entries}

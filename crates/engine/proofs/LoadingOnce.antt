@@ -8,7 +8,7 @@ use Rattle.bson.specs.Spelling.{frame_of, pairs_bytes}
 use Rattle.bson.proofs.TreeLaws.{one_spelling}
 use Rattle.value_order.specs.KeyText.{tree_text}
 use Rattle.roots.specs.Entries.{Entry}
-use Rattle.engine.specs.World.{Collection, put_collection}
+use Rattle.index.specs.State.{Collection, put_collection}
 use Rattle.engine.specs.Documents.{key_of}
 use Rattle.engine.specs.Refusals.{words}
 use Rattle.engine.specs.Places.{collection_at}

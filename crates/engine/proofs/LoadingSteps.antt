@@ -10,7 +10,7 @@ use Rattle.bson.specs.Lawful.{IsName, IsDocument}
 use Rattle.bson.specs.Spelling.{Spells, frame_of, pairs_bytes as document_bytes}
 use Rattle.roots.specs.Entries.{Entry, IsFit, entry_bytes, entries_bytes}
 use Rattle.roots.specs.EntryLaws.{one_entry}
-use Rattle.engine.specs.World.{Collection, empty_collection}
+use Rattle.index.specs.State.{Collection, empty_collection}
 use Rattle.engine.specs.Lawful.{IsStored, IsKept, IsLawfulState}
 use Rattle.engine.specs.Places.{no_collection}
 use Rattle.engine.specs.Progress.{Progress}

@@ -4,7 +4,7 @@ use Rattle.std.proofs.lemmas.List.{append-nil, drop_all}
 use Rattle.roots.specs.Entries.{Entry}
 use Rattle.std.specs.Prelude.{◌==◌, Result, Ok, Err, OnOk}
 use Rattle.std.proofs.lemmas.Bool.Decides.{nat_tests}
-use Rattle.engine.specs.World.{Collection}
+use Rattle.index.specs.State.{Collection}
 use Rattle.engine.specs.Stored.{catalogue_entry, document_entry, documents_numbered, documents_to, database_entries}
 use Rattle.engine.proofs.Steps.{drop_step}
 

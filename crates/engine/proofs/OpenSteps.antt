@@ -12,7 +12,8 @@ use Rattle.roots.specs.declared.store.Store.{Store}
 use Rattle.roots.specs.declared.opening.OpenFault.{OpenFault}
 use Rattle.roots.specs.declared.opening.OpenFault.TheVariants as faults
 use Rattle.roots.proofs.OpenSteps.{one_state}
-use Rattle.engine.specs.World.{Collection, CursorTable}
+use Rattle.engine.specs.World.{CursorTable}
+use Rattle.index.specs.State.{Collection}
 use Rattle.engine.specs.Lawful.{IsReadable, IsLawfulState, AreLawfulCursors}
 use Rattle.engine.specs.Progress.{has_any, Progress, turn_start_of}
 use Rattle.engine.specs.Stored.{database_entries}

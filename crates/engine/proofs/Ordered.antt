@@ -19,7 +19,7 @@ use Rattle.std.proofs.lemmas.Map.Text.{is_eq-slice_cmp}
 use Rattle.bson.specs.Tree.{Tree, Pairs}
 use Rattle.value_order.specs.Order.{compare}
 use Rattle.value_order.specs.TotalLaws.{compare_total}
-use Rattle.engine.specs.World.{Collection, by_order, find_collection, put_collection, without_collection}
+use Rattle.index.specs.State.{Collection, by_order, find_collection, put_collection, without_collection}
 use Rattle.engine.specs.Documents.{key_of, place}
 use Rattle.engine.specs.Places.{IsGap, IsPlace, by_key, by_name, no_collection, IsNamedAt}
 

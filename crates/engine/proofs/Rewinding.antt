@@ -12,8 +12,10 @@ use Rattle.std.proofs.lemmas.List.Edits.{length-insert, length-remove, get_or-in
 use Rattle.std.proofs.lemmas.List.Quantifiers.{all_pairs_remove}
 use Rattle.std.proofs.lemmas.Cmp.{nat_list_cmp_total}
 use Rattle.bson.specs.Tree.{Tree, Pairs, no_pairs}
-use Rattle.engine.specs.World.{Collection, empty_collection, or_empty, unused, with_documents}
-use Rattle.engine.specs.Lawful.{IsHeld, AreNamedApart}
+use Rattle.engine.specs.World.{or_empty, unused, with_documents}
+use Rattle.index.specs.State.{Collection, empty_collection}
+use Rattle.engine.specs.Lawful.{IsHeld}
+use Rattle.index.specs.LawfulState.{AreNamedApart}
 use Rattle.engine.specs.Places.{IsGap, IsMissing, by_name, collection_at, no_collection}
 use Rattle.engine.specs.Documents.{checked, place, insert_one}
 use Rattle.update.specs.Stored.{id_first}

@@ -23,11 +23,12 @@ use Rattle.value_order.specs.declared.texts.Direction.TheVariants as directions
 use Rattle.value_order.proofs.KeyLaws.{texts_order}
 use Rattle.value_order.proofs.NumberLaws.{SortsAs-bytes}
 use Rattle.roots.specs.Entries.{Entry, IsFit, IsBelow, Ascend, AreAscending}
-use Rattle.engine.specs.World.{Collection}
+use Rattle.index.specs.State.{Collection}
 use Rattle.engine.specs.Documents.{key_of}
 use Rattle.update.specs.Stored.{id_name}
 use Rattle.engine.specs.Refusals.{words}
-use Rattle.engine.specs.Lawful.{IsStored, IsRising, IsReadable, IsKept, IsLawfulState}
+use Rattle.engine.specs.Lawful.{IsStored, IsReadable, IsKept, IsLawfulState}
+use Rattle.index.specs.LawfulState.{IsRising}
 use Rattle.engine.specs.Stored.{key_under, catalogue_entry, document_entry, documents_numbered, documents_to, database_entries}
 use Rattle.engine.proofs.PairSizes.{entry_size, name_size, key_size}
 use Rattle.engine.proofs.SpelledSizes.{length-words}

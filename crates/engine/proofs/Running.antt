@@ -17,7 +17,8 @@ use Rattle.engine.specs.Update.{Updated, update_reply, run_update}
 use Rattle.engine.specs.Updating.{RunsAll}
 use Rattle.engine.specs.View.{world_of, with_ok, Runs}
 use Rattle.engine.specs.Delete.{after_deletions, deleted_in, run_delete}
-use Rattle.engine.specs.World.{World, Collection, Cursor, CursorTable, find_collection, documents_of, with_documents, put_collection}
+use Rattle.engine.specs.World.{World, Cursor, CursorTable, documents_of, with_documents}
+use Rattle.index.specs.State.{Collection, find_collection, put_collection}
 use Rattle.outcome.specs.Outcome.{◌>>=◌, unless, or_refused}
 use Rattle.std.specs.List.{filter, position}
 use Rattle.engine.specs.Documents.{insert_all}

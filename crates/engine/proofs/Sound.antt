@@ -7,7 +7,8 @@ use Rattle.page.specs.History.{History, KeepsWord}
 use Rattle.page.specs.Crash.{LeavesNow}
 use Rattle.roots.specs.Store as stores
 use Rattle.roots.specs.declared.store.Store.{Store}
-use Rattle.engine.specs.World.{World, Collection, Cursor, forget, after_undo}
+use Rattle.engine.specs.World.{World, Cursor, forget, after_undo}
+use Rattle.index.specs.State.{Collection}
 use Rattle.engine.specs.Lawful.{IsWithin, IsReadable, IsLawfulState, IsLawful}
 use Rattle.engine.specs.Stored.{database_entries}
 use Rattle.engine.specs.Step.{read_and_run, answered, ForMemory, RefusedBeside}

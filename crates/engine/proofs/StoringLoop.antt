@@ -2,7 +2,8 @@
 use Rattle.std.proofs.Common.{◌≡◌, ℕ, ◌+◌, ◌<◌, ◌≤◌, true, List, [], ◌∷◌, length, drop, get_or, set, map, Bor, Result, Ok, Err, refl, sym, ap, ◌∙◌, arith}
 use Rattle.std.proofs.lemmas.List.{set-set, set-get_or, length-set, drop_all}
 use Rattle.bson.specs.Tree.{Pairs}
-use Rattle.engine.specs.World.{Collection, documents_of, with_documents, put_collection}
+use Rattle.engine.specs.World.{documents_of, with_documents}
+use Rattle.index.specs.State.{Collection, put_collection}
 use Rattle.outcome.specs.Outcome.{◌>>=◌, unless, or_refused}
 use Rattle.engine.specs.Documents.{key_of, checked, place, insert_one, insert_all}
 use Rattle.update.specs.Stored.{id_first}

@@ -12,7 +12,8 @@ use Rattle.path.specs.declared.refusal.Refusal.TheVariants as refusals
 use Rattle.update.specs.Update.{Update as Change}
 use Rattle.update.specs.Applying.{apply}
 use Rattle.commands.specs.Update.{UpdateStatement}
-use Rattle.engine.specs.World.{Collection, documents_of, documents_or_none, find_collection}
+use Rattle.engine.specs.World.{documents_of, documents_or_none}
+use Rattle.index.specs.State.{Collection, find_collection}
 use Rattle.engine.specs.Places.{collection_at, no_collection, IsThere, IsMissing}
 use Rattle.engine.specs.Progress.{Progress, Extends, with_document_at}
 use Rattle.engine.specs.Update.{counted, spelled, Changed, passed_over, changed_to, update_from, changed_in, Updated, updated_to, upsert, run_statement, run_statements}

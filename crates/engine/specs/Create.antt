@@ -5,7 +5,8 @@ use Rattle.outcome.specs.Outcome.{◌>>=◌, unless}
 use Rattle.path.specs.declared.refusal.Refusal.{Refusal}
 use Rattle.path.specs.declared.refusal.Refusal.TheVariants as refusals
 use Rattle.commands.specs.Create.{Create}
-use Rattle.engine.specs.World.{World, Collection, find_collection, with_documents, put_collection}
+use Rattle.engine.specs.World.{World, with_documents}
+use Rattle.index.specs.State.{Collection, find_collection, put_collection}
 
 -- the collections with an empty one more
 abbrev pub created : List Collection → List ℕ → Result (List Collection) Refusal

@@ -3,7 +3,8 @@
 use Rattle.std.specs.Prelude.{◌≡◌, ◌⊎◌, ℕ, true, List, [], ◌∷◌, Result}
 use Rattle.bson.specs.Tree.{Pairs}
 use Rattle.bson.specs.declared.fault.BsonFault.{BsonFault}
-use Rattle.engine.specs.World.{World, Collection, Cursor, are_untouched, after_undo}
+use Rattle.engine.specs.World.{World, Cursor, are_untouched, after_undo}
+use Rattle.index.specs.State.{Collection}
 use Rattle.engine.specs.Step.{step}
 
 -- a cursor is one of these, with the documents that it has

@@ -5,7 +5,8 @@ use Rattle.bson.specs.Tree.{Pairs, no_pairs, pair}
 use Rattle.filter.specs.Matches.{matches}
 use Rattle.path.specs.declared.refusal.Refusal.{Refusal}
 use Rattle.commands.specs.Delete.{Deletion, Delete}
-use Rattle.engine.specs.World.{World, Collection, find_collection, documents_of, put_collection}
+use Rattle.engine.specs.World.{World, documents_of}
+use Rattle.index.specs.State.{Collection, find_collection, put_collection}
 use Rattle.engine.specs.Refusals.{total}
 
 -- the list without the element of an index

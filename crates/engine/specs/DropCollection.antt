@@ -5,7 +5,8 @@ use Rattle.outcome.specs.Outcome.{◌>>=◌, unless}
 use Rattle.path.specs.declared.refusal.Refusal.{Refusal}
 use Rattle.path.specs.declared.refusal.Refusal.TheVariants as refusals
 use Rattle.commands.specs.DropCollection.{DropCollection}
-use Rattle.engine.specs.World.{World, Collection, find_collection, without_collection}
+use Rattle.engine.specs.World.{World}
+use Rattle.index.specs.State.{Collection, find_collection, without_collection}
 use Rattle.engine.specs.Refusals.{int, words}
 
 -- the collections without the one of this name

@@ -5,7 +5,7 @@ use Rattle.page.specs.Crash.{LeavesNow}
 use Rattle.roots.specs.Image as images
 use Rattle.roots.specs.Store as stores
 use Rattle.roots.specs.declared.store.Store.{Store}
-use Rattle.engine.specs.World.{Collection}
+use Rattle.index.specs.State.{Collection}
 use Rattle.engine.specs.Lawful.{IsReadable, IsLawfulState, AreLawfulCursors}
 use Rattle.engine.specs.Stored.{database_entries}
 use Rattle.engine.specs.Progress.{is_changed}

@@ -5,7 +5,8 @@ use Rattle.outcome.specs.Outcome.{◌>>=◌, unless}
 use Rattle.path.specs.declared.refusal.Refusal.{Refusal}
 use Rattle.path.specs.declared.refusal.Refusal.TheVariants as refusals
 use Rattle.commands.specs.Insert.{Insert}
-use Rattle.engine.specs.World.{World, find_collection, documents_of, with_documents, put_collection}
+use Rattle.engine.specs.World.{World, documents_of, with_documents}
+use Rattle.index.specs.State.{find_collection, put_collection}
 use Rattle.engine.specs.Documents.{insert_all}
 use Rattle.engine.specs.Refusals.{int}
 

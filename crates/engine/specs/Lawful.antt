@@ -11,7 +11,11 @@ use Rattle.bson.specs.Tree.{Pairs}
 use Rattle.bson.specs.TreeCode.{coded_pairs}
 use Rattle.bson.specs.Lawful.{pairs_levels, IsDocument}
 use Rattle.bson.specs.Spelling.{frame_of, pairs_bytes}
-use Rattle.engine.specs.World.{World, Index, Collection, Cursor, CursorTable, uses}
+use Rattle.index.specs.Definition.{Definition}
+use Rattle.index.specs.DefinitionCode.{definition_code}
+use Rattle.index.specs.State.{Collection, uses}
+use Rattle.index.specs.LawfulState.{IsRising, AreNamedApart, AreNumberedApart}
+use Rattle.engine.specs.World.{World, Cursor, CursorTable}
 use Rattle.engine.specs.Documents.{key_of}
 use Rattle.update.specs.Stored.{pairs_fault, id_first, id_of}
 
@@ -29,10 +33,6 @@ pub record IsWithin (ps : Pairs) : Type 0 where
   pub size : length (frame_of (pairs_bytes ps)) ≤ 65535
   pub depth : suc (pairs_levels ps) ≤ 90
 
--- documents in rising order of `_id`, each once
-abbrev pub IsRising : List Pairs → Type 0
-IsRising ds = AllPairs (λ d e. compare (key_of d) (key_of e) ≡ orders.Less) ds
-
 pub record IsCollection (c : Collection) : Type 0 where
   pub rising : IsRising c.documents
   pub stored : All IsStored c.documents
@@ -48,21 +48,12 @@ pub record IsHeld (c : Collection) : Type 0 where
   pub lawful : IsCollection c
   pub readable : IsReadable c
 
--- collections in rising order of their namespaces, each once
-abbrev pub AreNamedApart : List Collection → Type 0
-AreNamedApart cs = AllPairs (λ c d. slice_cmp nat_cmp c.name d.name ≡ orders.Less) cs
-
 -- a collection within the limits
 pub record IsKept (c : Collection) : Type 0 where
   pub lawful : IsCollection c
   pub short : length c.name ≤ 255
   pub least : 1 ≤ c.number
   pub most : c.number ≤ 1000
-
--- no two collections have one number
-abbrev pub AreNumberedApart : List Collection → Type 0
-AreNumberedApart [] = Unit {0}
-AreNumberedApart (c ∷ cs) = (uses cs c.number ≡ false) × AreNumberedApart cs
 
 -- What is kept of the collections: they are in order and within the limits.
 pub record IsLawfulState (collections : List Collection) : Type 0 where
@@ -85,27 +76,11 @@ pub record IsLawful (world : World) : Type 0 where
   pub collections : IsLawfulState world.collections
   pub cursors : AreLawfulCursors world.cursors
 
-abbrev IndexParts : Type 0
-IndexParts = (ℕ × List ℕ) × (List (List (List ℕ) × Bool) × (Bool × Bool))
-
-abbrev index_code : Coded Index
-index_code = code_by IndexParts
-    (coded× (coded× coded_ℕ (coded_list coded_ℕ)) (coded×
-    (coded_list (coded× (coded_list (coded_list coded_ℕ)) coded_bool)) (coded× coded_bool coded_bool)))
-    (λ i. ((i.number, i.name), (i.fields, (i.unique, i.multi))))
-    (λ p. record {
-      number = p.0.0;
-      name = p.0.1;
-      fields = p.1.0;
-      unique = p.1.1.0;
-      multi = p.1.1.1;
-    }) (λ _. refl)
-
 -- a collection is told apart by its namespace, its number, its documents and its indexes
 abbrev pub collection_code : Coded Collection
-collection_code = code_by ((List ℕ × ℕ) × (List Pairs × List Index))
+collection_code = code_by ((List ℕ × ℕ) × (List Pairs × List Definition))
     (coded× (coded× (coded_list coded_ℕ) coded_ℕ)
-    (coded× (coded_list coded_pairs) (coded_list index_code)))
+    (coded× (coded_list coded_pairs) (coded_list definition_code)))
     (λ c. ((c.name, c.number), (c.documents, c.indexes)))
     (λ p. record { name = p.0.0; number = p.0.1; documents = p.1.0; indexes = p.1.1 }) (λ _. refl)
 

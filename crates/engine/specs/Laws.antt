@@ -2,7 +2,8 @@
 use Rattle.std.specs.Prelude.{◌≡◌, ℕ, List, [], replicate, Result, Ok, Err}
 use Rattle.bson.specs.Tree.{Pairs}
 use Rattle.bson.specs.declared.fault.BsonFault.{BsonFault}
-use Rattle.engine.specs.World.{World, Collection, new_world}
+use Rattle.engine.specs.World.{World, new_world}
+use Rattle.index.specs.State.{Collection}
 use Rattle.engine.specs.Lawful.{IsLawful}
 use Rattle.engine.specs.Durable.{Holds}
 use Rattle.path.specs.declared.refusal.Refusal.{Refusal}

@@ -4,7 +4,8 @@ use Rattle.std.specs.List.{starts_with}
 use Rattle.bson.specs.Tree.{Pairs, no_pairs, pair}
 use Rattle.path.specs.declared.refusal.Refusal.{Refusal}
 use Rattle.commands.specs.ListCollections.{ListCollections}
-use Rattle.engine.specs.World.{World, Collection}
+use Rattle.engine.specs.World.{World}
+use Rattle.index.specs.State.{Collection}
 use Rattle.engine.specs.Cursors.{cursor_reply}
 use Rattle.engine.specs.Refusals.{words}
 

@@ -6,7 +6,7 @@ use Rattle.bson.specs.Lawful.{IsDocument}
 use Rattle.roots.specs.Entries.{Entry}
 use Rattle.roots.specs.declared.opening.OpenFault.{OpenFault}
 use Rattle.roots.specs.declared.opening.OpenFault.TheVariants as faults
-use Rattle.engine.specs.World.{Collection, empty_collection, uses, find_collection, put_collection}
+use Rattle.index.specs.State.{Collection, empty_collection, uses, find_collection, put_collection}
 use Rattle.engine.specs.Lawful.{IsStored, IsKept, IsLawfulState}
 use Rattle.engine.specs.Places.{collection_at}
 use Rattle.engine.specs.Progress.{Progress, with_document}

@@ -5,7 +5,7 @@ use Rattle.page.specs.Crash.{GoesOn, LeavesOnly, LeavesNow, OnlySyncs}
 use Rattle.roots.specs.Root.{root_of}
 use Rattle.roots.specs.declared.opening.OpenFault.{OpenFault}
 use Rattle.roots.specs.declared.opening.OpenFault.TheVariants as faults
-use Rattle.engine.specs.World.{Collection}
+use Rattle.index.specs.State.{Collection}
 use Rattle.engine.specs.View.{world, turn_start}
 use Rattle.engine.specs.Durable.{Holds, disk_history, has_changes, IsRunning, IsSound}
 use Rattle.engine.specs.declared.engine.Engine.{Engine}

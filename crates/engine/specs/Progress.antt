@@ -4,12 +4,14 @@ use Rattle.std.proofs.Common.{inl, inr}
 use Rattle.std.specs.Coded.{Coded, code_by, coded×, coded⊎, coded_ℕ, coded_list}
 use Rattle.bson.specs.Tree.{Pairs}
 use Rattle.bson.specs.TreeCode.{coded_pairs}
-use Rattle.engine.specs.World.{Collection, find_collection, documents_of, with_documents, put_collection}
+use Rattle.engine.specs.World.{documents_of, with_documents}
+use Rattle.index.specs.State.{Collection, find_collection, put_collection}
 use Rattle.outcome.specs.Outcome.{◌>>=◌, unless, or_refused}
 use Rattle.engine.specs.Documents.{key_of, place, insert_one, insert_all}
 use Rattle.commands.specs.Delete.{Deletion}
 use Rattle.engine.specs.Delete.{after_deletions, deleted_in}
-use Rattle.engine.specs.Lawful.{IsHeld, AreNamedApart, collection_code}
+use Rattle.engine.specs.Lawful.{IsHeld, collection_code}
+use Rattle.index.specs.LawfulState.{AreNamedApart}
 use Rattle.engine.specs.Places.{IsGap, by_name, collection_at}
 use Rattle.path.specs.declared.refusal.Refusal.{Refusal}
 use Rattle.path.specs.declared.refusal.Refusal.TheVariants as refusals

@@ -11,7 +11,8 @@ use Rattle.outcome.specs.Outcome.{◌>>=◌, unless, or_refused}
 use Rattle.path.specs.declared.refusal.Refusal.{Refusal}
 use Rattle.path.specs.declared.refusal.Refusal.TheVariants as refusals
 use Rattle.commands.specs.Update.{UpdateStatement, Update}
-use Rattle.engine.specs.World.{World, Collection, find_collection, documents_of, with_documents, put_collection}
+use Rattle.engine.specs.World.{World, documents_of, with_documents}
+use Rattle.index.specs.State.{Collection, find_collection, put_collection}
 use Rattle.engine.specs.Documents.{key_of, key_checked, place}
 use Rattle.engine.specs.Refusals.{int, total, ok_reply}
 

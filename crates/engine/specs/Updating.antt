@@ -8,7 +8,8 @@ use Rattle.path.specs.declared.refusal.Refusal.{Refusal}
 use Rattle.update.specs.Update.{Update as Change}
 use Rattle.update.specs.Applying.{apply}
 use Rattle.commands.specs.Update.{UpdateStatement}
-use Rattle.engine.specs.World.{Collection, documents_of}
+use Rattle.engine.specs.World.{documents_of}
+use Rattle.index.specs.State.{Collection}
 use Rattle.engine.specs.Refusals.{ok_reply}
 use Rattle.engine.specs.Documents.{key_of}
 use Rattle.engine.specs.Lawful.{IsStored}

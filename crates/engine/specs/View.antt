@@ -3,7 +3,8 @@ use Rattle.std.specs.Prelude.{◌≡◌, ◌≤◌, ℕ, List, length, map, code
 use Rattle.bson.specs.Tree.{Pairs}
 use Rattle.bson.specs.Spelling.{frame_of, pairs_bytes}
 use Rattle.filter.specs.Projection.{Projection, project}
-use Rattle.engine.specs.World.{World, Collection, CursorTable}
+use Rattle.engine.specs.World.{World, CursorTable}
+use Rattle.index.specs.State.{Collection}
 use Rattle.engine.specs.Refusals.{refusal_reply, ok_reply}
 use Rattle.outcome.specs.Outcome.{Fails}
 use Rattle.engine.specs.Progress.{Progress, turn_start_of}

@@ -7,23 +7,8 @@ use Rattle.std.specs.Cmp.Lexicographic.{slice_cmp}
 use Rattle.std.specs.declared.cmp.Ordering.{Ordering}
 use Rattle.std.specs.declared.cmp.Ordering.TheVariants as orders
 use Rattle.bson.specs.Tree.{Pairs}
-
--- An index: the number that its entries are kept under, its name, its paths and whether each is descending, whether a key may
--- stand in one document alone, and whether a document has had an array on one of the paths.
-pub record Index : Type 0 where
-  pub number : ℕ
-  pub name : List ℕ
-  pub fields : List (List (List ℕ) × Bool)
-  pub unique : Bool
-  pub multi : Bool
-
--- a namespace, the number that its pairs are kept under, its documents in rising order of `_id`, and its indexes in the
--- order of making, of which none can be made yet
-pub record Collection : Type 0 where
-  pub name : List ℕ
-  pub number : ℕ
-  pub documents : List Pairs
-  pub indexes : List Index
+use Rattle.index.specs.Definition.{Definition}
+use Rattle.index.specs.State.{Collection, find_collection, uses}
 
 -- Documents that a connection has not been given yet. A cursor is touched where the running turn opened or advanced it.
 pub record Cursor : Type 0 where
@@ -48,14 +33,6 @@ pub record CursorTable : Type 0 where
 abbrev pub new_world : World
 new_world = record { collections = []; cursors = []; next = 1 }
 
-abbrev pub find_collection : List Collection → List ℕ → Option Collection
-find_collection [] name = None
-find_collection (c ∷ cs) name = if bytes_eq name c.name then Some c else find_collection cs name
-
--- a collection has this number
-abbrev pub uses : List Collection → ℕ → Bool
-uses cs n = list_any (λ c. c.number == n) cs
-
 -- the first of the numbers from n on, of which there are so many and one more, that no collection has
 abbrev pub unused_from : ℕ → ℕ → List Collection → ℕ
 unused_from zero n cs = n
@@ -74,13 +51,9 @@ abbrev pub documents_or_none : Option Collection → List Pairs
 documents_or_none None = []
 documents_or_none (Some c) = c.documents
 
-abbrev pub indexes_or_none : Option Collection → List Index
+abbrev pub indexes_or_none : Option Collection → List Definition
 indexes_or_none None = []
 indexes_or_none (Some c) = c.indexes
-
-abbrev pub empty_collection : List ℕ → ℕ → Collection
-empty_collection name number =
-    record { name = name; number = number; documents = []; indexes = [] }
 
 -- the collection of a name: the one that was found, or an empty one under this number
 abbrev pub or_empty : List ℕ → ℕ → Option Collection → Collection
@@ -100,24 +73,6 @@ with_documents collections name stored =
 
 abbrev pub documents_of : List Collection → List ℕ → List Pairs
 documents_of collections name = documents_or_none (find_collection collections name)
-
-abbrev pub by_order : {X : Type 0} → Ordering → X → X → X → X
-by_order orders.Less less equal greater = less
-by_order orders.Equal less equal greater = equal
-by_order orders.Greater less equal greater = greater
-
--- the collection in place of the one of its name, or in its order among the others
-abbrev pub put_collection : Collection → List Collection → List Collection
-put_collection new [] = new ∷ []
-put_collection new (c ∷ cs) =
-    by_order (slice_cmp nat_cmp new.name c.name)
-    (new ∷ c ∷ cs) (new ∷ cs) (c ∷ put_collection new cs)
-
--- the collections without the one of this name
-abbrev pub without_collection : List ℕ → List Collection → List Collection
-without_collection name [] = []
-without_collection name (c ∷ cs) =
-    if bytes_eq name c.name then cs else c ∷ without_collection name cs
 
 -- ---- cursors
 

@@ -2,7 +2,7 @@
 
 ghost use Rattle.std.specs.Prelude.{◌≡◌, ◌<◌, IfOk, OnOk, OnErr, All, IsUtf8, length, insert, remove, slice_index_or};
 ghost use Rattle.bson.specs.Lawful.{IsDocument};
-ghost use Rattle.engine.specs.World.{empty_collection};
+ghost use Rattle.index.specs.State.{empty_collection};
 ghost use Rattle.engine.specs.Documents.{key_of};
 ghost use Rattle.engine.specs.Lawful.{IsStored, IsHeld};
 ghost use Rattle.bson.specs.Tree.{no_pairs};
@@ -25,10 +25,10 @@ pub(crate) struct Collection {
 
 impl Model for Collection {
     ghost use Rattle.std.specs.Prelude.{string_bytes, []};
-    ghost use Rattle.engine.specs.World as worlds;
+    ghost use Rattle.index.specs.State as states;
     ghost use Rattle.engine.specs.Lawful.{IsHeld, collection_code};
 
-    ghost Value = { worlds.Collection };
+    ghost Value = { states.Collection };
 
     ghost coded = { collection_code };
 

@@ -4,7 +4,8 @@
 //! it was, and undoing takes no memory.
 
 ghost use Rattle.std.specs.Prelude.{◌≡◌, ◌≢◌, ◌<◌, ◌≤◌, ◌+◌, true, false, [], length, slice_set, All, OnOk, OnErr, IfOk, IfErr, IfSome, IfNone, None, vec_capacity};
-ghost use Rattle.engine.specs.World.{documents_of, find_collection, uses, unused};
+ghost use Rattle.engine.specs.World.{documents_of, unused};
+ghost use Rattle.index.specs.State.{find_collection, uses};
 ghost use Rattle.engine.specs.Loading.{place_numbered, IsAdded};
 ghost use Rattle.engine.specs.Lawful.{IsStored, IsHeld};
 ghost use Rattle.engine.specs.Stored.{documents_numbered};

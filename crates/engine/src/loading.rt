@@ -8,7 +8,7 @@ ghost use Rattle.value_order.specs.KeyText.{tree_text};
 ghost use Rattle.std.specs.List.{AllByRecursion};
 ghost use Rattle.roots.specs.Entries.{Entry, IsFit, entries_bytes};
 ghost use Rattle.roots.specs.EntryView.{entries_of};
-ghost use Rattle.engine.specs.World.{Collection};
+ghost use Rattle.index.specs.State.{Collection};
 ghost use Rattle.engine.specs.Lawful.{IsReadable, IsLawfulState};
 ghost use Rattle.engine.specs.Refusals.{words};
 ghost use Rattle.engine.specs.Stored.{key_under, catalogue_value, database_entries};

@@ -1,7 +1,7 @@
 -- An image holds one list of collections at most.
 use Rattle.std.proofs.Common.{◌≡◌, ℕ, List}
 use Rattle.roots.proofs.OpenSteps.{one_state}
-use Rattle.engine.specs.World.{Collection}
+use Rattle.index.specs.State.{Collection}
 use Rattle.engine.specs.Stored.{database_entries}
 use Rattle.engine.specs.Durable.{Holds}
 use Rattle.engine.proofs.Ending.{stands_for}

@@ -8,7 +8,7 @@ use Rattle.page.specs.History.{History, KeepsWord}
 use Rattle.page.specs.Crash.{GoesOn, LeavesNow}
 use Rattle.page.proofs.Moments.{goes_nowhere, goes_further, leaves_now}
 use Rattle.roots.specs.Store.{limit_of}
-use Rattle.engine.specs.World.{Collection}
+use Rattle.index.specs.State.{Collection}
 use Rattle.engine.specs.Durable.{Holds}
 use Rattle.engine.specs.Step.{ForMemory}
 use Rattle.server.specs.ServerState.{ServerState, fed, ended}

@@ -5,7 +5,8 @@ use Rattle.page.specs.History.{History}
 use Rattle.page.specs.Crash.{GoesOn, LeavesOnly, LeavesNow}
 use Rattle.page.proofs.Moments.{goes_nowhere, started, leaves_weaker}
 use Rattle.roots.specs.Store.{limit_of, version_of, full_takes_of}
-use Rattle.engine.specs.World.{Collection, World, after_commit, forget}
+use Rattle.engine.specs.World.{World, after_commit, forget}
+use Rattle.index.specs.State.{Collection}
 use Rattle.op_msg.specs.declared.fault.FrameFault.{FrameFault}
 use Rattle.server.specs.Turn.{forget_all}
 use Rattle.engine.specs.Durable.{Holds}

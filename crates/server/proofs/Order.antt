@@ -4,7 +4,7 @@ use Rattle.std.specs.Prelude.{nat_le, true, false, Bool}
 use Rattle.std.proofs.lemmas.Bool.Decides.{nat_tests}
 use Rattle.page.specs.History.{History, Sector, KeepsWord, IsImage}
 use Rattle.page.specs.Crash.{GoesOn, LeavesOnly}
-use Rattle.engine.specs.World.{Collection}
+use Rattle.index.specs.State.{Collection}
 use Rattle.engine.specs.Durable.{Holds}
 use Rattle.server.specs.Moment.{TurnEnd, last_collections, LeavesBetween, HoldsEither, LeavesInOrder}
 

@@ -4,7 +4,8 @@ use Rattle.page.specs.History.{History}
 use Rattle.page.specs.Crash.{GoesOn, LeavesOnly}
 use Rattle.roots.specs.Store as stores
 use Rattle.roots.specs.declared.store.Store.{Store}
-use Rattle.engine.specs.World.{World, Collection}
+use Rattle.engine.specs.World.{World}
+use Rattle.index.specs.State.{Collection}
 use Rattle.engine.specs.Durable as engines
 use Rattle.engine.specs.Step.{ForMemory}
 use Rattle.path.specs.declared.refusal.Refusal.TheVariants as refusals

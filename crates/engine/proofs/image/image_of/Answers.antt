@@ -4,7 +4,7 @@ use Rattle.std.specs.Prelude.{All}
 use Rattle.bson.specs.Tree.{Pairs}
 use Rattle.roots.specs.Entries.{Entry}
 use Rattle.roots.specs.EntryView.{entries_of}
-use Rattle.engine.specs.World.{Collection}
+use Rattle.index.specs.State.{Collection}
 use Rattle.engine.specs.Lawful.{IsReadable}
 use Rattle.engine.specs.Stored.{catalogue_entry, document_entry, documents_numbered, documents_to}
 use Rattle.engine.proofs.Loops.{whole_database, numbers_one}

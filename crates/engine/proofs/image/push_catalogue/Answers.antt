@@ -2,7 +2,7 @@ use Rattle.std.proofs.Common.{◌≡◌, ℕ, ◌+◌, ◌<◌, length, get_or, 
 use Rattle.std.proofs.lemmas.List.{get_or_default}
 use Rattle.std.proofs.lemmas.Bool.{cases_lt}
 use Rattle.roots.specs.EntryView.{entries_of}
-use Rattle.engine.specs.World.{Collection}
+use Rattle.index.specs.State.{Collection}
 use Rattle.engine.specs.Lawful.{IsReadable}
 use Rattle.engine.specs.Stored.{catalogue_entry}
 use Rattle.engine.proofs.Loops.{added_one}

@@ -1,6 +1,6 @@
 use Rattle.std.proofs.Common.{ℕ, ◌<◌, length, get_or}
 use Rattle.roots.specs.EntryView.{entries_of}
-use Rattle.engine.specs.World.{Collection}
+use Rattle.index.specs.State.{Collection}
 use Rattle.engine.specs.Lawful.{IsReadable}
 use Rattle.engine.specs.Stored.{catalogue_entry}
 use Rattle.engine.proofs.Loops.{AreAdded}

@@ -1,7 +1,7 @@
 use Rattle.std.proofs.Common.{◌≡◌, ℕ, List, set, Some, Ok, sym, ap, subst, ◌∙◌}
 use Rattle.bson.specs.Spelling.{Spells}
 use Rattle.roots.specs.Entries.{Entry}
-use Rattle.engine.specs.World.{Collection}
+use Rattle.index.specs.State.{Collection}
 use Rattle.engine.specs.Lawful.{IsLawfulState}
 use Rattle.engine.specs.Places.{collection_at}
 use Rattle.engine.specs.Progress.{Progress, with_document}

@@ -2,7 +2,7 @@ use Rattle.std.proofs.Common.{◌≡◌, ℕ, List, length, Option, Some, None, 
 use Rattle.std.specs.Prelude.{IfSome, IfNone}
 use Rattle.bson.specs.Spelling.{Spells}
 use Rattle.roots.specs.Entries.{Entry}
-use Rattle.engine.specs.World.{Collection, put_collection, find_collection, uses}
+use Rattle.index.specs.State.{Collection, put_collection, find_collection, uses}
 use Rattle.engine.specs.Stored.{catalogue_value}
 use Rattle.engine.specs.Loading.{AddsEntry, IsAdded}
 use Rattle.engine.proofs.LoadingSteps.{entry_spells, loading_added, bare}

@@ -1,6 +1,6 @@
 use Rattle.std.proofs.Common.{◌≡◌, List, [], refl, subst, sym}
 use Rattle.roots.specs.Entries.{Entry}
-use Rattle.engine.specs.World.{Collection}
+use Rattle.index.specs.State.{Collection}
 use Rattle.engine.specs.Progress.{Progress}
 use Rattle.engine.specs.Loading.{IsLoading}
 use Rattle.engine.proofs.LoadingSteps.{Left, left_one, left_none, left_all, none_lawful}

@@ -1,7 +1,7 @@
 use Rattle.std.proofs.Common.{◌≡◌, List, [], length}
 use Rattle.std.specs.List.{AllByRecursion}
 use Rattle.roots.specs.Entries.{Entry, IsFit, entries_bytes}
-use Rattle.engine.specs.World.{Collection}
+use Rattle.index.specs.State.{Collection}
 use Rattle.engine.specs.Loading.{Loads, IsLoading}
 use Rattle.engine.proofs.LoadingSteps.{Left}
 use Rattle.engine.proofs.loading.load_pairs.Given as goal

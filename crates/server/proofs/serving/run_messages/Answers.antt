@@ -4,7 +4,8 @@ use Rattle.std.specs.Prelude.{Result, Err, Vec}
 use Rattle.std.specs.Global.{Global}
 use Rattle.roots.specs.declared.store.CommitFault.{CommitFault}
 use Rattle.engine.specs.View.{world, turn_start}
-use Rattle.engine.specs.World.{Collection, World, after_undo}
+use Rattle.engine.specs.World.{World, after_undo}
+use Rattle.index.specs.State.{Collection}
 use Rattle.page.specs.History.{History}
 use Rattle.op_msg.specs.Request.{respelled}
 use Rattle.engine.specs.Step.{ForMemory}

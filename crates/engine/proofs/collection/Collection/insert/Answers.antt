@@ -2,7 +2,7 @@ use Rattle.std.proofs.Common.{List, sym, subst, ap, refl}
 use Rattle.bson.specs.Tree.{Pairs}
 use Rattle.bson.specs.Lawful.{IsDocument}
 use Rattle.value_order.specs.TotalLaws.{compare_total}
-use Rattle.engine.specs.World.{Collection}
+use Rattle.index.specs.State.{Collection}
 use Rattle.engine.specs.Documents.{key_of}
 use Rattle.engine.specs.Lawful.{IsStored}
 use Rattle.engine.specs.Places.{IsGap, by_key}

@@ -1,6 +1,6 @@
 use Rattle.std.proofs.Common.{◌≡◌, ℕ, List, [], sym, ap, subst, ◌∙◌, insert, arith}
 use Rattle.std.proofs.lemmas.List.Edits.{length-insert}
-use Rattle.engine.specs.World.{Collection}
+use Rattle.index.specs.State.{Collection}
 use Rattle.engine.specs.Places.{IsGap, IsMissing, by_name}
 use Rattle.engine.specs.Progress.{Progress, CanRewind}
 use Rattle.engine.specs.declared.collections.UndoEntry.{UndoEntry}

@@ -2,7 +2,7 @@ use Rattle.std.proofs.Common.{rules, ◌≡◌, ◌<◌, ℕ, List, ◌∷◌, [
 use Rattle.std.specs.Prelude.{vec_capacity}
 use Rattle.std.proofs.lemmas.List.{length-set}
 use Rattle.bson.specs.Tree.{Pairs, no_pairs}
-use Rattle.engine.specs.World.{Collection}
+use Rattle.index.specs.State.{Collection}
 use Rattle.engine.specs.Lawful.{IsHeld}
 use Rattle.engine.specs.Places.{collection_at}
 use Rattle.engine.specs.Progress.{Progress, IsProgress, Extends, with_document_at}

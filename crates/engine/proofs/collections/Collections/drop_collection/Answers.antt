@@ -1,7 +1,7 @@
 use Rattle.std.proofs.Common.{rules, ◌≡◌, ◌≤◌, Ok, ℕ, List, ◌∷◌, [], ◌++◌, length, sym, ap, subst, ◌∙◌, remove, arith}
 use Rattle.std.specs.Prelude.{vec_capacity}
 use Rattle.std.proofs.lemmas.List.Edits.{length-remove}
-use Rattle.engine.specs.World.{Collection}
+use Rattle.index.specs.State.{Collection}
 use Rattle.engine.specs.Places.{IsThere, collection_at}
 use Rattle.engine.specs.Progress.{Progress, IsProgress, Extends, turn_start_of}
 use Rattle.engine.specs.DropCollection.{dropped}

@@ -1,7 +1,8 @@
 use Rattle.std.proofs.Common.{rules, ◌≡◌, ◌<◌, ℕ, List, ◌∷◌, [], ◌++◌, length, sym, ap, subst, ◌∙◌, insert, arith}
 use Rattle.std.specs.Prelude.{vec_capacity}
 use Rattle.std.proofs.lemmas.List.Edits.{length-insert}
-use Rattle.engine.specs.World.{Collection, empty_collection, unused}
+use Rattle.engine.specs.World.{unused}
+use Rattle.index.specs.State.{Collection, empty_collection}
 use Rattle.engine.specs.Places.{IsGap, IsMissing, by_name}
 use Rattle.engine.specs.Progress.{Progress, IsProgress, Extends, Stands}
 use Rattle.engine.specs.declared.collections.UndoEntry.TheVariants as entries

@@ -1,8 +1,8 @@
 use Rattle.std.proofs.Common.{rules, ◌≡◌, List, sym, ap, subst, ◌∙◌}
 use Rattle.std.specs.List.Sorted.{IsBinarySearchResult}
 use Rattle.std.proofs.lemmas.Fn.{always_returns_same}
-use Rattle.engine.specs.World.{Collection}
-use Rattle.engine.specs.Lawful.{AreNamedApart}
+use Rattle.index.specs.State.{Collection}
+use Rattle.index.specs.LawfulState.{AreNamedApart}
 use Rattle.engine.specs.Places.{IsNamedAt, by_name}
 use Rattle.engine.specs.Progress.{Progress}
 use Rattle.engine.proofs.Ordered.{named_at}

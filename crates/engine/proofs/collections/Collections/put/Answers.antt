@@ -2,7 +2,7 @@ use Rattle.std.proofs.Common.{rules, ◌≡◌, ◌<◌, ◌≤◌, List, ◌∷
 use Rattle.std.specs.Prelude.{vec_capacity}
 use Rattle.std.proofs.lemmas.List.{length-set}
 use Rattle.bson.specs.Tree.{Pairs}
-use Rattle.engine.specs.World.{Collection}
+use Rattle.index.specs.State.{Collection}
 use Rattle.engine.specs.Places.{collection_at}
 use Rattle.engine.specs.Progress.{Progress, IsProgress, Extends}
 use Rattle.engine.specs.declared.collections.UndoEntry.TheVariants as entries

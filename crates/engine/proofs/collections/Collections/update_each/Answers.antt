@@ -6,7 +6,7 @@ use Rattle.commands.specs.Update.{UpdateStatement}
 use Rattle.outcome.specs.Outcome.{◌>>=◌, unless}
 use Rattle.path.specs.declared.refusal.Refusal.{Refusal}
 use Rattle.path.specs.declared.refusal.Refusal.TheVariants as refusals
-use Rattle.engine.specs.World.{Collection}
+use Rattle.index.specs.State.{Collection}
 use Rattle.engine.specs.Refusals.{ok_reply}
 use Rattle.engine.specs.Update.{Updated, run_statements, judged, run_all, spelled, update_reply}
 use Rattle.engine.specs.Updating.{updated_of}

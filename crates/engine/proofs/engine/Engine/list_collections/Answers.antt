@@ -2,7 +2,7 @@ use Rattle.std.proofs.Common.{◌≡◌, ℕ, List, length, map, sym, ap, subst,
 use Rattle.std.specs.Prelude.{All}
 use Rattle.std.proofs.lemmas.List.{map-id}
 use Rattle.bson.specs.Tree.{Pairs}
-use Rattle.engine.specs.World.{Collection}
+use Rattle.index.specs.State.{Collection}
 use Rattle.engine.specs.Cursors.{batch_of}
 use Rattle.engine.specs.Lawful.{IsWithin}
 use Rattle.engine.specs.ListCollections.{names_in, listed}
