@@ -9,12 +9,12 @@ use Rattle.btree.specs.declared.pages.TreeFault.{TreeFault}
 use Rattle.btree.specs.LooseView.{stub_in}
 use Rattle.btree.specs.Keys.{Each}
 use Rattle.btree.specs.Loose.{IsChild, IsStub, Stub, arm_stub, item_stub, stub_size, stubs_size, under_key}
-use Rattle.btree.specs.Few.{AreFewPages, IsFew, IsFullPart, IsOnePage}
+use Rattle.btree.specs.Few.{AreFewJoined, AreFewOff, AreFewPages, IsFew, IsFullPart, IsLittle, IsOnePage, Leaves, LeavesFew, MakesUpTo}
 use Rattle.btree.specs.Store.{IsMade, Store}
-use Rattle.btree.specs.Turn.{sheaf_in}
+use Rattle.btree.specs.Turn.{Sheaf, sheaf_in}
 use Rattle.page.specs.Content.{Content}
 use Rattle.btree.proofs.CuttingLemmas.{each_at, each_drop, size_all, size_next, size_split}
-use Rattle.btree.proofs.ListLemmas.{each_append, long_append, long_map}
+use Rattle.btree.proofs.ListLemmas.{each_append, each_back, each_front, long_append, long_map}
 use Rattle.btree.proofs.LooseLemmas.{map_behind, map_take}
 use Rattle.btree.proofs.PartLemmas.{first_here}
 
@@ -163,3 +163,79 @@ pub few_of_branch : (r : Result (Vec Unit Global) TreeFault) (low : List ℕ) (a
     → IfOk r (λ units. Each IsStub (map stub_in units.items) × (stubs_size (map stub_in units.items) ≤ 5440))
 few_of_branch (Ok units) low arms e h little = branch_few low arms (map stub_in units.items) e h little
 few_of_branch (Err f) low arms e h little = tt
+
+-- ---- what is joined
+
+pub few_parts : (old new : Store) (bytes : ℕ) (above : List Stub) → AreFewPages old new bytes above → bytes ≤ 10880 → (length above ≤ 4) × (stubs_size above ≤ 5440)
+few_parts old new bytes above f le =
+    let few : length above ≤ 4 = omega (arith, f.few) in
+    (few, omega (arith, size_many above f.small))
+
+pub few_concat : (old new : Store) (rank bytes pages : ℕ) (a b : Sheaf) (r : Result Loose TreeFault) → a.rank ≡ rank → IfOk r (λ l. l.rank ≡ a.rank) → IfOk r (λ l. map stub_in l.units.items ≡ a.stubs ++ b.stubs)
+    → Each IsStub a.stubs → Each IsStub b.stubs → stubs_size a.stubs + stubs_size b.stubs ≤ bytes → MakesUpTo old new pages → IfOk r (λ l. IsFew old new rank bytes pages (sheaf_in l))
+few_concat old new rank bytes pages a b (Err e) at same both ha hb le made = tt
+few_concat old new rank bytes pages a b (Ok l) at same both ha hb le made =
+    record {
+      rank_is = same ∙ at;
+      small = subst (Each IsStub) (sym both) (each_append IsStub a.stubs b.stubs ha hb);
+      size = omega (arith, ap stubs_size both, both_size a.stubs b.stubs);
+      made = made;
+    }
+
+-- one of the ends
+abbrev pub IsOff : List Stub → List Stub → Stub → Type 0
+IsOff all others s = Each IsStub others × (stubs_size others ≤ stubs_size all) × (6 + length s.key ≤ 1360)
+
+pub off_last : (all front : List Stub) (s : Stub) → all ≡ front ++ s ∷ [] → Each IsStub all → IsOff all front s
+off_last all front s e h =
+    let parts = subst (Each IsStub) e h in
+    let one : stub_size s ≤ 1360 = (each_back IsStub front (s ∷ []) parts).0.size in
+    (each_front IsStub front (s ∷ []) parts, omega (arith, ap stubs_size e, both_size front (s ∷ [])), omega arith)
+
+pub off_first : (all back : List Stub) (s : Stub) → all ≡ s ∷ back → Each IsStub all → IsOff all back s
+off_first all back s e h =
+    let parts = subst (Each IsStub) e h in
+    let one : stub_size s ≤ 1360 = parts.0.size in
+    (parts.1, omega (arith, ap stubs_size e), omega arith)
+
+pub few_on : (old mid new : Store) (rank rank' bytes bytes' pages pages' more : ℕ) (r : Result Loose TreeFault) → MakesUpTo old mid more → IfOk r (λ l. IsFew mid new rank bytes pages (sheaf_in l)) → rank ≡ rank' → bytes ≤ bytes'
+    → more + pages ≤ pages' → IfOk r (λ l. IsFew old new rank' bytes' pages' (sheaf_in l))
+few_on old mid new rank rank' bytes bytes' pages pages' more (Err e) m f same wide le = tt
+few_on old mid new rank rank' bytes bytes' pages pages' more (Ok l) m f same wide le = record { rank_is = f.rank_is ∙ same; small = f.small; size = omega (arith, f.size); made = omega (arith, m, f.made) }
+
+pub few_left_gone : (s : Store) (bytes : ℕ) (left right : Sheaf) → length left.stubs ≡ 0 → Each IsStub right.stubs → AreFewJoined s s bytes left right right
+few_left_gone s bytes left right none h =
+    record {
+      level = λ e. record { rank_is = sym e; small = h; size = omega arith; made = omega arith };
+      behind = λ e some le. absurd (omega arith);
+      before = λ e some le. record { rank_is = refl; small = h; size = omega arith; made = omega arith };
+    }
+
+pub few_right_gone : (s : Store) (bytes : ℕ) (left right : Sheaf) → length right.stubs ≡ 0 → Each IsStub left.stubs → AreFewJoined s s bytes left right left
+few_right_gone s bytes left right none h =
+    record {
+      level = λ e. record { rank_is = refl; small = h; size = omega arith; made = omega arith };
+      behind = λ e some le. record { rank_is = refl; small = h; size = omega arith; made = omega arith };
+      before = λ e some le. absurd (omega arith);
+    }
+
+module _ (old new : Store) (bytes : ℕ) (left right : Sheaf) where
+  pub few_level : (r : Result Loose TreeFault) → left.rank ≡ right.rank → IfOk r (λ l. IsFew old new left.rank (stubs_size left.stubs + stubs_size right.stubs) 0 (sheaf_in l)) → IfOk r (λ l. AreFewJoined old new bytes left right (sheaf_in l))
+  few_level (Err e) at f = tt
+  few_level (Ok l) at f = record { level = λ e. f; behind = λ e some le. absurd (omega arith); before = λ e some le. absurd (omega arith) }
+
+  pub few_behind : (r : Result Loose TreeFault) → right.rank < left.rank → (left.rank ≡ right.rank + 1 → stubs_size right.stubs ≤ bytes → IfOk r (λ l. IsFew old new left.rank (stubs_size left.stubs + 5440) 4 (sheaf_in l)))
+      → IfOk r (λ l. AreFewJoined old new bytes left right (sheaf_in l))
+  few_behind (Err e) at f = tt
+  few_behind (Ok l) at f = record { level = λ e. absurd (omega arith); behind = λ e some le. f e le; before = λ e some le. absurd (omega arith) }
+
+  pub few_before : (r : Result Loose TreeFault) → left.rank < right.rank → (left.rank + 1 ≡ right.rank → stubs_size left.stubs ≤ bytes → IfOk r (λ l. IsFew old new right.rank (stubs_size right.stubs + 5440) 4 (sheaf_in l)))
+      → IfOk r (λ l. AreFewJoined old new bytes left right (sheaf_in l))
+  few_before (Err e) at f = tt
+  few_before (Ok l) at f = record { level = λ e. absurd (omega arith); behind = λ e some le. absurd (omega arith); before = λ e some le. f e le }
+
+-- what is less than a page of its own
+pub few_wider : (old new : Store) (left right : Sheaf) (r : Result Loose TreeFault) → (left.rank ≡ right.rank + 1 → stubs_size right.stubs ≤ 1360) → (left.rank + 1 ≡ right.rank → stubs_size left.stubs ≤ 1360)
+    → IfOk r (λ l. AreFewJoined old new 1360 left right (sheaf_in l)) → IfOk r (λ l. AreFewJoined old new 10880 left right (sheaf_in l))
+few_wider old new left right (Err e) a b f = tt
+few_wider old new left right (Ok l) a b f = record { level = f.level; behind = λ e some le. f.behind e some (a e); before = λ e some le. f.before e some (b e) }
