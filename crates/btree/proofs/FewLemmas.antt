@@ -1,15 +1,21 @@
 -- How many pages cells and children take.
-use Rattle.std.proofs.Common.{◌≡◌, ℕ, zero, suc, ◌+◌, ◌-◌, ◌*◌, ◌/◌, ◌<◌, ◌≤◌, ◌⊎◌, List, [], ◌∷◌, ◌++◌, length, map, take, drop, get_or, Vec, Global, Result, Ok, Err, refl, sym, ap, ◌∙◌, subst, arith, inl, inr}
-use Rattle.std.specs.List.{AllByRecursion}
+use Rattle.std.proofs.Common.{◌≡◌, ℕ, zero, suc, ◌+◌, ◌-◌, ◌*◌, ◌/◌, ◌<◌, ◌≤◌, ◌⊎◌, List, [], ◌∷◌, ◌++◌, length, map, take, drop, get_or, Vec, Global, Result, Ok, Err, refl, sym, ap, ◌∙◌, subst, arith, if◌then◌else◌, inl, inr}
+use Rattle.std.specs.List.{AllByRecursion, insert, remove}
+use Rattle.std.proofs.lemmas.Bool.{lt-leb}
+use Rattle.std.proofs.lemmas.List.{length-drop}
 use Rattle.std.specs.Result.{IfOk}
 use Rattle.page.specs.Content.{Arm, IsArm, IsBranch, IsItem, IsLeaf, Item, arm_size, arms_size, item_size, total}
 use Rattle.btree.specs.declared.loose.Loose.{Loose}
 use Rattle.btree.specs.declared.loose.Unit.{Unit}
 use Rattle.btree.specs.declared.pages.TreeFault.{TreeFault}
+use Rattle.page.specs.declared.cells.Cell.{Cell}
 use Rattle.btree.specs.LooseView.{stub_in}
-use Rattle.btree.specs.Keys.{Each}
+use Rattle.btree.specs.View.{item_in}
+use Rattle.btree.specs.Calls.{IsChained}
+use Rattle.btree.specs.Tree.{HasLinks}
+use Rattle.btree.specs.Keys.{Each, sum_of}
 use Rattle.btree.specs.Loose.{IsChild, IsStub, Stub, arm_stub, item_stub, stub_size, stubs_size, under_key}
-use Rattle.btree.specs.Few.{AreFewJoined, AreFewOff, AreFewPages, IsFew, IsFullPart, IsLittle, IsOnePage, Leaves, LeavesFew, MakesUpTo}
+use Rattle.btree.specs.Few.{AreFewJoined, AreFewOff, AreFewPages, IsFew, IsFullPart, IsLittle, IsOnePage, MakesUpTo, chain_pages}
 use Rattle.btree.specs.Store.{IsMade, Store}
 use Rattle.btree.specs.Turn.{Sheaf, sheaf_in}
 use Rattle.page.specs.Content.{Content}
@@ -239,3 +245,39 @@ pub few_wider : (old new : Store) (left right : Sheaf) (r : Result Loose TreeFau
     → IfOk r (λ l. AreFewJoined old new 1360 left right (sheaf_in l)) → IfOk r (λ l. AreFewJoined old new 10880 left right (sheaf_in l))
 few_wider old new left right (Err e) a b f = tt
 few_wider old new left right (Ok l) a b f = record { level = f.level; behind = λ e some le. f.behind e some (a e); before = λ e some le. f.before e some (b e) }
+
+-- ---- edits of cells
+
+pub removed_size : (cells : List Cell) (i : ℕ) → total item_size (map item_in (remove cells i)) ≤ total item_size (map item_in cells)
+removed_size [] zero = omega arith
+removed_size [] (suc i) = omega arith
+removed_size (x ∷ xs) zero = omega arith
+removed_size (x ∷ xs) (suc i) = omega (arith, removed_size xs i)
+
+pub inserted_size : (cells : List Cell) (i : ℕ) (c : Cell) → total item_size (map item_in (insert cells i c)) ≤ total item_size (map item_in cells) + item_size (item_in c)
+inserted_size [] zero c = omega arith
+inserted_size [] (suc i) c = omega arith
+inserted_size (x ∷ xs) zero c = omega arith
+inserted_size (x ∷ xs) (suc i) c = omega (arith, inserted_size xs i c)
+
+links_many : (s : Store) (links bytes : List ℕ) → HasLinks s links bytes → 4076 * length links ≤ length bytes + 4075
+links_many s [] bytes h = omega arith
+links_many s (page ∷ pages) bytes h = omega (arith, links_many s pages (drop 4076 bytes) h.2, length-drop 4076 bytes, h.0)
+
+pub chain_few : (old new : Store) (value : List ℕ) (page : ℕ) → 330 < length value → IsChained old new value page → MakesUpTo old new (chain_pages value)
+chain_few old new value page long c =
+    let many = links_many new c.links value c.has in
+    let no = lt-leb (length value) 330 long in
+    subst (λ b. length new.made ≤ length old.made + (if b then 0 else (length value + 4075) / 4076)) (sym no) (omega (arith, c.count, many))
+
+pub costs_on : {X : Type 0} (old mid new : Store) (a b pages : ℕ) (r : Result X TreeFault) → MakesUpTo old mid a → IfOk r (λ done. MakesUpTo mid new b) → a + b ≤ pages → IfOk r (λ done. MakesUpTo old new pages)
+costs_on old mid new a b pages (Err e) m f le = tt
+costs_on old mid new a b pages (Ok x) m f le = omega (arith, m, f)
+
+pub grown_on : {X : Type 0} (before between after : ℕ) (r : Result X TreeFault) → between ≤ before → IfOk r (λ done. after ≤ between + 1360) → IfOk r (λ done. after ≤ before + 1360)
+grown_on before between after (Err e) le f = tt
+grown_on before between after (Ok x) le f = omega (arith, f)
+
+pub sum_more : {X : Type 0} (f : X → ℕ) (xs : List X) (x : X) → sum_of f (xs ++ x ∷ []) ≡ sum_of f xs + f x
+sum_more f [] x = omega arith
+sum_more f (y ∷ ys) x = omega (arith, sum_more f ys x)

@@ -1,10 +1,9 @@
 -- How many pages a change makes, at most.
 use Rattle.std.specs.Prelude.{◌≡◌, ℕ, suc, ◌+◌, ◌*◌, ◌/◌, ◌<◌, ◌≤◌, ◌⊎◌, leb, List, length, take, Option, Some, None, Result, IfOk, if◌then◌else◌}
 use Rattle.std.proofs.Common.{inl, inr}
-use Rattle.page.specs.Content.{Item, item_size, total}
 use Rattle.btree.specs.declared.loose.Loose.{Loose}
 use Rattle.btree.specs.declared.pages.TreeFault.{TreeFault}
-use Rattle.btree.specs.Keys.{Each, Edit, Entry, sum_of}
+use Rattle.btree.specs.Keys.{Each, Edit, Entry}
 use Rattle.btree.specs.Loose.{IsChild, IsStub, Stub, stub_size, stubs_size}
 use Rattle.btree.specs.Reach.{HasMap}
 use Rattle.btree.specs.Store.{KeepsWord, Store}
@@ -37,11 +36,6 @@ put_pages (Some value) = chain_pages value
 
 abbrev pub edit_pages : Edit → ℕ
 edit_pages e = put_pages e.value
-
--- each edit puts in one cell at most, and makes its chain
-pub record AreFewCells (old new : Store) (edits : List Edit) (before after : List Item) : Type 0 where
-  pub size : total item_size after ≤ total item_size before + 1360 * length edits
-  pub made : MakesUpTo old new (sum_of edit_pages edits)
 
 -- ---- what stands in no page
 

@@ -1,7 +1,11 @@
-use Rattle.std.proofs.Common.{map, subst, sym}
+use Rattle.std.proofs.Common.{ap, arith, get_or, map, subst, sym, take}
 use Rattle.btree.specs.View.{item_in}
+use Rattle.btree.specs.EditView.{edit_in}
+use Rattle.btree.specs.Few.{edit_pages}
+use Rattle.btree.specs.Keys.{sum_of}
 use Rattle.btree.specs.Calls.{IsEdited}
 use Rattle.btree.proofs.EditLemmas.{edited_on, edits_more}
+use Rattle.btree.proofs.FewLemmas.{sum_more}
 use Rattle.btree.proofs.StoreLemmas.{answer_failed, cause_later, grows_trans}
 use Rattle.btree.proofs.editing.edit_cells.Goals as goal
 
@@ -22,6 +26,11 @@ loop-edit-preserved g c =
     record {
       grows = grows_trans _ _ _ c.loop-edit.invariant.grows c.in_ok-edit_cell.ensures.grows;
       small = λ h. c.in_ok-edit_cell.ensures.small (c.loop-edit.invariant.small h);
+      few = λ k.
+          let before = c.loop-edit.invariant.few (c.in_ok-edit_cell.ensures.grows.frame k).word in
+          let longer = ap (sum_of edit_pages) (edits_more c.args.edits.now c.loop-edit.edit-index _ c.loop-edit-test.true) in
+          omega (arith, before, c.in_ok-edit_cell.ensures.few k, longer, sum_more edit_pages (take c.loop-edit.edit-index (map edit_in c.args.edits.now)) (edit_in (get_or c.args.edits.now c.loop-edit.edit-index c.loop-edit-item.result)));
+      size = omega (arith, c.loop-edit.invariant.size, c.in_ok-edit_cell.ensures.size);
       edited = λ pairs e rise shown k.
           let h = c.loop-edit.invariant.edited pairs e rise shown (c.in_ok-edit_cell.ensures.grows.frame k).word in
           let more = c.in_ok-edit_cell.ensures.edits h.pairs h.items_are h.rise h.shown k in
