@@ -15,11 +15,14 @@ use Rattle.btree.specs.Calls.{IsChained}
 use Rattle.btree.specs.Tree.{HasLinks}
 use Rattle.btree.specs.Keys.{Each, sum_of}
 use Rattle.btree.specs.Loose.{IsChild, IsStub, Stub, arm_stub, item_stub, stub_size, stubs_size, under_key}
-use Rattle.btree.specs.Few.{AreFewJoined, AreFewOff, AreFewPages, IsFew, IsFullPart, IsLittle, IsOnePage, MakesUpTo, chain_pages}
+use Rattle.btree.specs.Few.{AreFewJoined, AreFewOff, AreFewPages, IsFew, IsFullPart, IsLittle, IsOnePage, MakesUpTo, chain_pages, edit_pages}
 use Rattle.btree.specs.Store.{IsMade, Store}
 use Rattle.btree.specs.Turn.{Sheaf, sheaf_in}
 use Rattle.page.specs.Content.{Content}
 use Rattle.btree.proofs.CuttingLemmas.{each_at, each_drop, size_all, size_next, size_split}
+use Rattle.btree.specs.declared.editing.Edit.{Edit as ProgramEdit}
+use Rattle.btree.specs.EditView.{edit_in}
+use Rattle.btree.proofs.EditLemmas.{edits_more}
 use Rattle.btree.proofs.ListLemmas.{each_append, each_back, each_front, long_append, long_map}
 use Rattle.btree.proofs.LooseLemmas.{map_behind, map_take}
 use Rattle.btree.proofs.PartLemmas.{first_here}
@@ -278,6 +281,10 @@ pub grown_on : {X : Type 0} (before between after : ℕ) (r : Result X TreeFault
 grown_on before between after (Err e) le f = tt
 grown_on before between after (Ok x) le f = omega (arith, f)
 
-pub sum_more : {X : Type 0} (f : X → ℕ) (xs : List X) (x : X) → sum_of f (xs ++ x ∷ []) ≡ sum_of f xs + f x
+sum_more : {X : Type 0} (f : X → ℕ) (xs : List X) (x : X) → sum_of f (xs ++ x ∷ []) ≡ sum_of f xs + f x
 sum_more f [] x = omega arith
 sum_more f (y ∷ ys) x = omega (arith, sum_more f ys x)
+
+pub edits_few : (old mid new : Store) (es : List ProgramEdit) (i : ℕ) (d : ProgramEdit) → i < length es → MakesUpTo old mid (sum_of edit_pages (take i (map edit_in es))) → MakesUpTo mid new (edit_pages (edit_in (get_or es i d)))
+    → MakesUpTo old new (sum_of edit_pages (take (i + 1) (map edit_in es)))
+edits_few old mid new es i d lt before more = omega (arith, before, more, ap (sum_of edit_pages) (edits_more es i d lt), sum_more edit_pages (take i (map edit_in es)) (edit_in (get_or es i d)))

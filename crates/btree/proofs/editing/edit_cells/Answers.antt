@@ -1,11 +1,8 @@
-use Rattle.std.proofs.Common.{ap, arith, get_or, map, subst, sym, take}
+use Rattle.std.proofs.Common.{arith, map, subst, sym}
 use Rattle.btree.specs.View.{item_in}
-use Rattle.btree.specs.EditView.{edit_in}
-use Rattle.btree.specs.Few.{edit_pages}
-use Rattle.btree.specs.Keys.{sum_of}
 use Rattle.btree.specs.Calls.{IsEdited}
 use Rattle.btree.proofs.EditLemmas.{edited_on, edits_more}
-use Rattle.btree.proofs.FewLemmas.{sum_more}
+use Rattle.btree.proofs.FewLemmas.{edits_few}
 use Rattle.btree.proofs.StoreLemmas.{answer_failed, cause_later, grows_trans}
 use Rattle.btree.proofs.editing.edit_cells.Goals as goal
 
@@ -28,8 +25,7 @@ loop-edit-preserved g c =
       small = λ h. c.in_ok-edit_cell.ensures.small (c.loop-edit.invariant.small h);
       few = λ k.
           let before = c.loop-edit.invariant.few (c.in_ok-edit_cell.ensures.grows.frame k).word in
-          let longer = ap (sum_of edit_pages) (edits_more c.args.edits.now c.loop-edit.edit-index _ c.loop-edit-test.true) in
-          omega (arith, before, c.in_ok-edit_cell.ensures.few k, longer, sum_more edit_pages (take c.loop-edit.edit-index (map edit_in c.args.edits.now)) (edit_in (get_or c.args.edits.now c.loop-edit.edit-index c.loop-edit-item.result)));
+          edits_few (g.P.Pages.store c.args.pages.now) (g.P.Pages.store c.loop-edit.pages) (g.P.Pages.store c.edit_cell.new.pages) c.args.edits.now c.loop-edit.edit-index _ c.loop-edit-test.true before (c.in_ok-edit_cell.ensures.few k);
       size = omega (arith, c.loop-edit.invariant.size, c.in_ok-edit_cell.ensures.size);
       edited = λ pairs e rise shown k.
           let h = c.loop-edit.invariant.edited pairs e rise shown (c.in_ok-edit_cell.ensures.grows.frame k).word in
