@@ -1,5 +1,5 @@
 -- How many pages cells and children take.
-use Rattle.std.proofs.Common.{◌≡◌, ℕ, zero, suc, ◌+◌, ◌-◌, ◌*◌, ◌/◌, ◌<◌, ◌≤◌, ◌⊎◌, List, [], ◌∷◌, ◌++◌, length, map, take, drop, get_or, Vec, Global, Result, Ok, Err, refl, sym, ap, ◌∙◌, subst, arith, if◌then◌else◌, inl, inr}
+use Rattle.std.proofs.Common.{◌≡◌, ℕ, zero, suc, ◌+◌, ◌-◌, ◌*◌, ◌/◌, ◌^◌, ◌<◌, ◌≤◌, ◌⊎◌, List, [], ◌∷◌, ◌++◌, length, map, take, drop, get_or, Vec, Global, Result, Ok, Err, refl, sym, ap, ◌∙◌, subst, arith, append_assoc, if◌then◌else◌, inl, inr}
 use Rattle.std.specs.List.{AllByRecursion, insert, remove}
 use Rattle.std.proofs.lemmas.Bool.{lt-leb}
 use Rattle.std.proofs.lemmas.List.{length-drop}
@@ -13,9 +13,11 @@ use Rattle.btree.specs.LooseView.{stub_in}
 use Rattle.btree.specs.View.{item_in}
 use Rattle.btree.specs.Calls.{IsChained}
 use Rattle.btree.specs.Tree.{HasLinks}
-use Rattle.btree.specs.Keys.{Each, sum_of}
+use Rattle.btree.specs.Change.{edit_keys}
+use Rattle.btree.specs.Keys.{Each, Edit, Entry, IsNotUnder, IsUnder, Rises, sum_of}
 use Rattle.btree.specs.Loose.{IsChild, IsStub, Stub, arm_stub, item_stub, stub_size, stubs_size, under_key}
-use Rattle.btree.specs.Few.{AreFewJoined, AreFewOff, AreFewPages, IsFew, IsFullPart, IsLittle, IsOnePage, MakesUpTo, chain_pages, edit_pages}
+use Rattle.btree.specs.Few.{AreFewJoined, AreFewOff, AreFewPages, IsFew, IsFullPart, IsLittle, IsOnePage, IsFewTop, IsOneChild, MakesUpTo, chain_pages, edit_pages, levels_of}
+use Rattle.btree.specs.Reach.{HasMap, HasTree}
 use Rattle.btree.specs.Store.{IsMade, Store}
 use Rattle.btree.specs.Turn.{Sheaf, sheaf_in}
 use Rattle.page.specs.Content.{Content}
@@ -23,7 +25,8 @@ use Rattle.btree.proofs.CuttingLemmas.{each_at, each_drop, size_all, size_next, 
 use Rattle.btree.specs.declared.editing.Edit.{Edit as ProgramEdit}
 use Rattle.btree.specs.EditView.{edit_in}
 use Rattle.btree.proofs.EditLemmas.{edits_more}
-use Rattle.btree.proofs.ListLemmas.{each_append, each_back, each_front, long_append, long_map}
+use Rattle.btree.proofs.ListLemmas.{each_append, each_back, each_front, get_here, long_append, long_map}
+use Rattle.btree.proofs.HeldLemmas.{under_long}
 use Rattle.btree.proofs.LooseLemmas.{map_behind, map_take}
 use Rattle.btree.proofs.PartLemmas.{first_here}
 
@@ -288,3 +291,110 @@ sum_more f (y ∷ ys) x = omega (arith, sum_more f ys x)
 pub edits_few : (old mid new : Store) (es : List ProgramEdit) (i : ℕ) (d : ProgramEdit) → i < length es → MakesUpTo old mid (sum_of edit_pages (take i (map edit_in es))) → MakesUpTo mid new (edit_pages (edit_in (get_or es i d)))
     → MakesUpTo old new (sum_of edit_pages (take (i + 1) (map edit_in es)))
 edits_few old mid new es i d lt before more = omega (arith, before, more, ap (sum_of edit_pages) (edits_more es i d lt), sum_more edit_pages (take i (map edit_in es)) (edit_in (get_or es i d)))
+
+stubs_of_items : (items : List Item) → Each IsItem items → Each IsStub (map item_stub items)
+stubs_of_items [] h = tt
+stubs_of_items (x ∷ xs) h = (record { size = h.0.size; load = h.0.place }, stubs_of_items xs h.1)
+
+pub cells_few : (items cells leaf : List Item) (stubs : List Stub) (n : ℕ) → stubs ≡ map item_stub items → Each IsItem items → cells ≡ leaf → total item_size items ≤ total item_size cells + 1360 * n → total item_size leaf ≤ 4080 → n ≤ 1
+    → Each IsStub stubs × (stubs_size stubs ≤ 5440)
+cells_few items cells leaf stubs n e h same grown room one = (subst (Each IsStub) (sym e) (stubs_of_items items h), omega (arith, ap stubs_size e, items_size items, ap (total item_size) same))
+
+pub branch_two : (low : List ℕ) (arms : List Arm) (units : List Unit) → map stub_in units ≡ map arm_stub (under_key low arms) → IsBranch arms → 2 ≤ length units
+branch_two low arms units e h = omega (arith, h.some, under_long low arms, ap length e, long_map stub_in units)
+
+-- ---- one edit of a branch's children
+
+-- the one edit belongs to the child, and none to those before it
+pub record IsMine (es theirs mine : List ProgramEdit) : Type 0 where
+  pub none : length theirs ≡ 0
+  pub one : length mine ≡ 1
+  pub same : map edit_in es ≡ map edit_in mine
+
+pub all_mine : (es theirs mine : List ProgramEdit) (units all : List Unit) (left right : List Stub) (unit : Stub) (key : List ℕ) (at : ℕ) (d : ProgramEdit) → length es ≡ 1 → map edit_in es ≡ map edit_in theirs ++ map edit_in mine
+    → (Rises (edit_keys (map edit_in es)) → Each (λ (e : Edit). IsUnder e.key key) (map edit_in theirs)) → units ≡ all → map stub_in all ≡ (left ++ unit ∷ []) ++ right → key ≡ unit.key → length left ≡ at
+    → ((s : Stub) → 0 < at → IsNotUnder (get_or es (length es - 1) d).key.now (get_or (map stub_in units) at s).key) → (0 < length theirs → 0 < at) → IsMine es theirs mine
+all_mine [] theirs mine units all left right unit key at d one e before same_units parts key_is long here some = absurd (omega arith)
+all_mine (x ∷ y ∷ ys) theirs mine units all left right unit key at d one e before same_units parts key_is long here some = absurd (omega arith)
+all_mine (x ∷ []) [] mine units all left right unit key at d one e before same_units parts key_is long here some = record { none = refl; one = omega (arith, ap length e, long_map edit_in mine); same = e }
+all_mine (x ∷ []) (t ∷ ts) mine units all left right unit key at d one e before same_units parts key_is long here some =
+    let under : IsUnder t.key.now key = (before (tt, tt)).0 in
+    let same : t.key.now ≡ x.key.now = sym (ap (λ (zs : List Edit). (get_or zs 0 (edit_in t)).key) e) in
+    let parts' : map stub_in units ≡ left ++ unit ∷ right = ap (map stub_in) same_units ∙ parts ∙ append_assoc left (unit ∷ []) right in
+    let there : get_or (map stub_in units) at unit ≡ unit = ap (λ ss. get_or ss at unit) parts' ∙ ap (λ n. get_or (left ++ unit ∷ right) n unit) (sym long) ∙ get_here left unit right unit in
+    absurd (here unit (some (omega arith)) (subst (IsUnder x.key.now) (key_is ∙ ap (λ (s : Stub). s.key) (sym there)) (subst (λ k. IsUnder k key) same under)))
+
+pub unit_little : (all left right : List Stub) (unit : Stub) (key : List ℕ) → all ≡ (left ++ unit ∷ []) ++ right → Each IsStub all → key ≡ unit.key → 6 + length key ≤ 1360
+unit_little all left right unit key parts h same =
+    let one : stub_size unit ≤ 1360 = (each_back IsStub left (unit ∷ []) (each_front IsStub (left ++ unit ∷ []) right (subst (Each IsStub) parts h))).0.size in
+    omega (arith, ap length same)
+
+zero_or : (n : ℕ) → (n ≡ 0) ⊎ (0 < n)
+zero_or zero = inl refl
+zero_or (suc n) = inr (omega arith)
+
+-- the children of a branch, of which one was changed
+module _ (old a b c new : Store) (loose left right below front back : Sheaf) (unit : Stub) (pages : ℕ) (parts : loose.stubs ≡ (left.stubs ++ unit ∷ []) ++ right.stubs) (left_rank : left.rank ≡ loose.rank) (right_rank : right.rank ≡ loose.rank)
+    (deep : 0 < loose.rank) (little : IsLittle 5440 loose) (two : 2 ≤ length loose.stubs) (front_is : front ≡ left) (same : MakesUpTo a b 0) (few : IsFew old a (left.rank - 1) 10880 (4 * (left.rank - 1) + pages) below)
+    (some_behind : 0 < length right.stubs → Each IsStub right.stubs → AreFewJoined b c 10880 below right back) (none_behind : length right.stubs ≡ 0 → (back ≡ below) × MakesUpTo b c 0) where
+  parts_size : stubs_size left.stubs + (stub_size unit + stubs_size right.stubs) ≡ stubs_size loose.stubs
+  parts_size = omega (arith, ap stubs_size parts, both_size (left.stubs ++ unit ∷ []) right.stubs, both_size left.stubs (unit ∷ []))
+
+  parts_long : length left.stubs + (1 + length right.stubs) ≡ length loose.stubs
+  parts_long = omega (arith, ap length parts, long_append (left.stubs ++ unit ∷ []) right.stubs, long_append left.stubs (unit ∷ []))
+
+  front_small : Each IsStub (left.stubs ++ unit ∷ [])
+  front_small = each_front IsStub (left.stubs ++ unit ∷ []) right.stubs (subst (Each IsStub) parts little.0)
+
+  left_small : Each IsStub left.stubs
+  left_small = each_front IsStub left.stubs (unit ∷ []) front_small
+
+  right_small : Each IsStub right.stubs
+  right_small = each_back IsStub (left.stubs ++ unit ∷ []) right.stubs (subst (Each IsStub) parts little.0)
+
+  last_few : (l : Loose) → length right.stubs ≡ 0 → AreFewJoined c new 10880 left below (sheaf_in l) → MakesUpTo b c 0 → IsFew old new loose.rank 10880 (4 * loose.rank + pages) (sheaf_in l)
+  last_few l none j m =
+      let f = j.behind (omega (arith, few.rank_is)) (omega (arith, parts_long)) few.size in
+      record { rank_is = f.rank_is ∙ left_rank; small = f.small; size = omega (arith, f.size, parts_size, little.1); made = omega (arith, few.made, same, m, f.made) }
+
+  mid_few : (l : Loose) → AreFewJoined c new 10880 left back (sheaf_in l) → IsFew b c right.rank (stubs_size right.stubs + 5440) 4 back → IsFew old new loose.rank 10880 (4 * loose.rank + pages) (sheaf_in l)
+  mid_few l j m =
+      let f = j.level (omega (arith, m.rank_is)) in
+      record { rank_is = f.rank_is ∙ left_rank; small = f.small; size = omega (arith, f.size, m.size, parts_size, little.1); made = omega (arith, few.made, same, m.made, f.made) }
+
+  pub children_few : (r : Result Loose TreeFault) → (Each IsStub front.stubs → Each IsStub back.stubs → IfOk r (λ l. AreFewJoined c new 10880 front back (sheaf_in l))) → IfOk r (λ l. IsFew old new loose.rank 10880 (4 * loose.rank + pages) (sheaf_in l))
+  children_few (Err e) j = tt
+  children_few (Ok l) j = elim (zero_or (length right.stubs)) [
+    | inl none ↦ (let n = none_behind none in
+          last_few l none (subst (λ x. AreFewJoined c new 10880 x below (sheaf_in l)) front_is (subst (λ x. AreFewJoined c new 10880 front x (sheaf_in l)) n.0
+          (j (subst (λ (x : Sheaf). Each IsStub x.stubs) (sym front_is) left_small) (subst (λ (x : Sheaf). Each IsStub x.stubs) (sym n.0) few.small)))) n.1)
+    | inr some ↦ (let m = (some_behind some right_small).before (omega (arith, few.rank_is)) some few.size in
+          mid_few l (subst (λ x. AreFewJoined c new 10880 x back (sheaf_in l)) front_is (j (subst (λ (x : Sheaf). Each IsStub x.stubs) (sym front_is) left_small) m.small)) m)
+  ]
+
+-- ---- the whole tree
+
+pub root_few : (old mid new : Store) (halvings : ℕ) (top above : List Stub) (r : Result ℕ TreeFault) → stubs_size top ≤ 2720 * 2 ^ halvings → 0 < length above → AreFewPages old mid (stubs_size top) above
+    → ((h : ℕ) → Each IsStub above × (stubs_size above ≤ 2720 * 2 ^ h) → IfOk r (λ done. MakesUpTo mid new (2 * 2 ^ h - 1))) → (IsOneChild above → IfOk r (λ done. MakesUpTo mid new 0)) → IfOk r (λ done. MakesUpTo old new (2 * 2 ^ halvings - 1))
+root_few old mid new zero top above r le some f more alone =
+    let one : length above ≤ 1 = omega (arith, f.few) in
+    costs_on old mid new 1 0 (2 * 2 ^ zero - 1) r (omega (arith, f.made)) (alone (omega arith, f.children)) (omega arith)
+root_few old mid new (suc h) top above r le some f more alone =
+    let few : length above ≤ 2 * 2 ^ h = omega (arith, f.few) in
+    costs_on old mid new (2 * 2 ^ h) (2 * 2 ^ h - 1) (2 * 2 ^ suc h - 1) r (omega (arith, f.made)) (more h (f.small, omega (arith, size_many above f.small))) (omega arith)
+
+pub not_alone : (ss : List Stub) → IsOneChild ss → ((s : Stub) → ss ≡ s ∷ [] → IsChild s.load → ⊥) → ⊥
+not_alone [] one no = omega (arith, one.0)
+not_alone (s ∷ t ∷ ts) one no = omega (arith, one.0)
+not_alone (s ∷ []) one no = no s refl one.1.0
+
+pub first_few : (old new : Store) (n chain : ℕ) (r : Result Loose TreeFault) → IfOk r (λ l. IsFew old new 0 5440 chain (sheaf_in l)) → IfOk r (λ l. IsFewTop old new (4 * n + 3 + chain) (sheaf_in l))
+first_few old new n chain (Err e) f = tt
+first_few old new n chain (Ok l) f = record { halvings = 1; pages = chain; little = (f.small, f.size); made = f.made; enough = omega arith }
+
+pub levels_few : (old new : Store) (root : ℕ) (pages : List ℕ) (entries : List Entry) (tree : HasMap old root pages entries) (below chain : ℕ) (r : Result Loose TreeFault) → (root ≡ 0 → ⊥)
+    → ((t : HasTree old root pages entries) → below ≡ t.d) → IfOk r (λ l. IsFew old new below 10880 (4 * below + chain) (sheaf_in l)) → IfOk r (λ l. IsFewTop old new (4 * levels_of tree + 3 + chain) (sheaf_in l))
+levels_few old new root pages entries tree below chain (Err e) some is f = tt
+levels_few old new root pages entries (inl none) below chain (Ok l) some is f = absurd (some none.0)
+levels_few old new root pages entries (inr t) below chain (Ok l) some is f =
+    record { halvings = 2; pages = 4 * below + chain; little = (f.small, f.size); made = f.made; enough = omega (arith, is t) }

@@ -1,5 +1,5 @@
 -- How many pages a change makes, at most.
-use Rattle.std.specs.Prelude.{◌≡◌, ℕ, suc, ◌+◌, ◌*◌, ◌/◌, ◌<◌, ◌≤◌, ◌⊎◌, leb, List, length, take, Option, Some, None, Result, IfOk, if◌then◌else◌}
+use Rattle.std.specs.Prelude.{◌≡◌, ℕ, suc, ◌+◌, ◌-◌, ◌*◌, ◌/◌, ◌^◌, ◌<◌, ◌≤◌, ◌⊎◌, leb, List, length, take, Option, Some, None, Result, IfOk, if◌then◌else◌}
 use Rattle.std.proofs.Common.{inl, inr}
 use Rattle.btree.specs.declared.loose.Loose.{Loose}
 use Rattle.btree.specs.declared.pages.TreeFault.{TreeFault}
@@ -60,6 +60,9 @@ pub record AreFewOff (old new : Store) (stubs : List Stub) (others opened : Shea
 abbrev pub IsLittle : ℕ → Sheaf → Type 0
 IsLittle bytes sheaf = Each IsStub sheaf.stubs × (stubs_size sheaf.stubs ≤ bytes)
 
+abbrev pub IsOneChild : List Stub → Type 0
+IsOneChild stubs = (length stubs ≡ 1) × Each (λ s. IsChild s.load) stubs
+
 -- What stands at one height goes together with no page made. What stands one level below the other, and has so many bytes
 -- at most, makes four pages at most.
 pub record AreFewJoined (old new : Store) (bytes : ℕ) (left right both : Sheaf) : Type 0 where
@@ -88,3 +91,11 @@ pub record AreFewPages (old new : Store) (bytes : ℕ) (above : List Stub) : Typ
   pub few : 2720 * length above ≤ bytes + 2719
   pub children : Each (λ s. IsChild s.load) above
   pub small : Each IsStub above
+
+-- What is left to write up to the root has 2,720 bytes, doubled so often; with what was made it takes so many pages at most.
+pub record IsFewTop (old new : Store) (most : ℕ) (top : Sheaf) : Type 0 where
+  pub halvings : ℕ
+  pub pages : ℕ
+  pub little : IsLittle (2720 * 2 ^ halvings) top
+  pub made : MakesUpTo old new pages
+  pub enough : pages + (2 * 2 ^ halvings - 1) ≤ most
