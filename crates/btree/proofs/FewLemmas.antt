@@ -384,9 +384,9 @@ root_few old mid new (suc h) top above r le some f more alone =
     costs_on old mid new (2 * 2 ^ h) (2 * 2 ^ h - 1) (2 * 2 ^ suc h - 1) r (omega (arith, f.made)) (more h (f.small, omega (arith, size_many above f.small))) (omega arith)
 
 pub not_alone : (ss : List Stub) → IsOneChild ss → ((s : Stub) → ss ≡ s ∷ [] → IsChild s.load → ⊥) → ⊥
-not_alone [] one no = omega (arith, one.0)
-not_alone (s ∷ t ∷ ts) one no = omega (arith, one.0)
-not_alone (s ∷ []) one no = no s refl one.1.0
+not_alone [] one none = omega (arith, one.0)
+not_alone (s ∷ t ∷ ts) one none = omega (arith, one.0)
+not_alone (s ∷ []) one none = none s refl one.1.0
 
 pub first_few : (old new : Store) (n chain : ℕ) (r : Result Loose TreeFault) → IfOk r (λ l. IsFew old new 0 5440 chain (sheaf_in l)) → IfOk r (λ l. IsFewTop old new (4 * n + 3 + chain) (sheaf_in l))
 first_few old new n chain (Err e) f = tt
