@@ -157,7 +157,7 @@ few_step old mid new bytes at above above' rest part behind unit some p full par
     record {
       made = omega (arith, one.made, p.made);
       so_far = subst (λ n. AreSoFar bytes n (map stub_in behind)) (sym longer) (subst (AreSoFar bytes (length (map stub_in above) + 1)) (sym others)
-      (one_more bytes (length (map stub_in above)) at (map stub_in rest) (omega (arith, long_map stub_in rest)) p.so_far (full p.small)));
+          (one_more bytes (length (map stub_in above)) at (map stub_in rest) (omega (arith, long_map stub_in rest)) p.so_far (full p.small)));
       children = subst (Each (λ s. IsChild s.load)) (sym pushed) (each_append (λ s. IsChild s.load) (map stub_in above) (stub_in unit ∷ []) p.children (one.child, tt));
       small_above = subst (Each IsStub) (sym pushed) (each_append IsStub (map stub_in above) (stub_in unit ∷ []) p.small_above (one.small (subst (Each IsStub) (sym parts) (each_take at (map stub_in rest) p.small)), tt));
       small = subst (Each IsStub) (sym others) (each_drop at (map stub_in rest) p.small);
@@ -366,10 +366,10 @@ module _ (old a b c new : Store) (loose left right below front back : Sheaf) (un
   children_few (Err e) j = tt
   children_few (Ok l) j = elim (zero_or (length right.stubs)) [
     | inl none ↦ (let n = none_behind none in
-          last_few l none (subst (λ x. AreFewJoined c new 10880 x below (sheaf_in l)) front_is (subst (λ x. AreFewJoined c new 10880 front x (sheaf_in l)) n.0
-          (j (subst (λ (x : Sheaf). Each IsStub x.stubs) (sym front_is) left_small) (subst (λ (x : Sheaf). Each IsStub x.stubs) (sym n.0) few.small)))) n.1)
+        last_few l none (subst (λ x. AreFewJoined c new 10880 x below (sheaf_in l)) front_is (subst (λ x. AreFewJoined c new 10880 front x (sheaf_in l)) n.0
+        (j (subst (λ (x : Sheaf). Each IsStub x.stubs) (sym front_is) left_small) (subst (λ (x : Sheaf). Each IsStub x.stubs) (sym n.0) few.small)))) n.1)
     | inr some ↦ (let m = (some_behind some right_small).before (omega (arith, few.rank_is)) some few.size in
-          mid_few l (subst (λ x. AreFewJoined c new 10880 x back (sheaf_in l)) front_is (j (subst (λ (x : Sheaf). Each IsStub x.stubs) (sym front_is) left_small) m.small)) m)
+        mid_few l (subst (λ x. AreFewJoined c new 10880 x back (sheaf_in l)) front_is (j (subst (λ (x : Sheaf). Each IsStub x.stubs) (sym front_is) left_small) m.small)) m)
   ]
 
 -- ---- the whole tree

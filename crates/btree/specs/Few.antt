@@ -46,8 +46,8 @@ pub record IsFew (old new : Store) (rank bytes pages : ℕ) (sheaf : Sheaf) : Ty
   pub size : stubs_size sheaf.stubs ≤ bytes
   pub made : MakesUpTo old new pages
 
-abbrev pub Leaves : Store → Store → ℕ → ℕ → ℕ → Result Loose TreeFault → Type 0
-Leaves old new rank bytes pages result = KeepsWord new → IfOk result (λ loose. IsFew old new rank bytes pages (sheaf_in loose))
+abbrev pub GivesFew : Store → Store → ℕ → ℕ → ℕ → Result Loose TreeFault → Type 0
+GivesFew old new rank bytes pages result = KeepsWord new → IfOk result (λ loose. IsFew old new rank bytes pages (sheaf_in loose))
 
 -- One child was taken off, and what stood in its page.
 pub record AreFewOff (old new : Store) (stubs : List Stub) (others opened : Sheaf) : Type 0 where
@@ -70,8 +70,8 @@ pub record AreFewJoined (old new : Store) (bytes : ℕ) (left right both : Sheaf
   pub behind : left.rank ≡ right.rank + 1 → 0 < length left.stubs → stubs_size right.stubs ≤ bytes → IsFew old new left.rank (stubs_size left.stubs + 5440) 4 both
   pub before : left.rank + 1 ≡ right.rank → 0 < length right.stubs → stubs_size left.stubs ≤ bytes → IsFew old new right.rank (stubs_size right.stubs + 5440) 4 both
 
-abbrev pub LeavesFew : ℕ → Store → Store → Sheaf → Sheaf → Result Loose TreeFault → Type 0
-LeavesFew bytes old new left right result =
+abbrev pub JoinsFew : ℕ → Store → Store → Sheaf → Sheaf → Result Loose TreeFault → Type 0
+JoinsFew bytes old new left right result =
     KeepsWord new → Each IsStub left.stubs → Each IsStub right.stubs → IfOk result (λ both. AreFewJoined old new bytes left right (sheaf_in both))
 
 -- A part in front is all that there is, or it takes two thirds of a page, or a third where one page more has room for the rest.

@@ -2,7 +2,7 @@
 ghost use Rattle.std.specs.Prelude.{◌≡◌, ◌<◌, ◌≤◌, ◌+◌, ◌*◌, ◌++◌, ◌∷◌, [], ℕ, zero, List, Option, Some, None, Ok, drop, length, map, slice_index_or, IfErr, IfOk};
 ghost use Rattle.btree.specs.Change.{BeginsAt, edit_keys};
 ghost use Rattle.btree.specs.EditView.{HasRoom, edit_in};
-ghost use Rattle.btree.specs.Few.{IsLittle, Leaves, edit_pages};
+ghost use Rattle.btree.specs.Few.{IsLittle, GivesFew, edit_pages};
 ghost use Rattle.btree.specs.Keys.{Each, Entry, IsBetween, IsNotUnder, IsUnder, Pair, Rises, change, entry_of, sum_of};
 ghost use Rattle.btree.specs.Loose.{Stub, first_or};
 ghost use Rattle.btree.specs.LooseView.{stub_in};
@@ -131,7 +131,7 @@ fn change_leaf<P: Pages>(
 ) -> Result<Loose, TreeFault>
     requires { Each HasRoom edits.now }
     ensures grows { Grows (P.store pages.old) (P.store pages.new) }
-    ensures few { length edits.now ≡ 1 → Leaves (P.store pages.old) (P.store pages.new) rank 5440
+    ensures few { length edits.now ≡ 1 → GivesFew (P.store pages.old) (P.store pages.new) rank 5440
         (sum_of edit_pages (map edit_in edits.now)) result }
     ensures turns { (base : ℕ) (low : List ℕ) (high : Option (List ℕ)) (pairs : List Pair)
         → rank ≡ base → leaf.now ≡ map item_of pairs → IsSound zero low high pairs
@@ -163,7 +163,7 @@ pub(crate) fn change_below<P: Pages>(
     requires { Each HasRoom edits.now }
     ensures grows { Grows (P.store pages.old) (P.store pages.new) }
     ensures few { length edits.now ≡ 1 → 6 + length low.now ≤ 1360
-        → Leaves (P.store pages.old) (P.store pages.new) rank 10880
+        → GivesFew (P.store pages.old) (P.store pages.new) rank 10880
         (4 * rank + sum_of edit_pages (map edit_in edits.now)) result }
     ensures turns { (base d : ℕ) (high : Option (List ℕ)) (body : Body d) → rank ≡ base + d
         → IsAt (P.store pages.old) page (content_of d body) → Shows (P.store pages.old) d body
@@ -208,7 +208,7 @@ fn change_children<P: Pages>(
     ensures some { 0 < length edits.now → IfOk result (λ done. 0 < length loose.units.items) }
     ensures few { length edits.now ≡ 1 → IsLittle 5440 (sheaf_in loose)
         → 2 ≤ length loose.units.items
-        → Leaves (P.store pages.old) (P.store pages.new) loose.rank 10880
+        → GivesFew (P.store pages.old) (P.store pages.new) loose.rank 10880
         (4 * loose.rank + sum_of edit_pages (map edit_in edits.now)) result }
     ensures turns { (base : ℕ) (low : List ℕ) (high : Option (List ℕ)) (entries : List Entry)
         (reached : List ℕ)

@@ -1,7 +1,7 @@
 // Joining what was taken out of neighbouring pages.
 ghost use Rattle.std.specs.Prelude.{◌≡◌, ◌<◌, ◌≤◌, ◌+◌, ◌++◌, ◌∷◌, ℕ, List, Option, Some, false, true, length, map, IfErr, IfOk};
 ghost use Rattle.btree.specs.Change.{IsBehind};
-ghost use Rattle.btree.specs.Few.{AreFewOff, IsLittle, Leaves, LeavesFew, MakesUpTo};
+ghost use Rattle.btree.specs.Few.{AreFewOff, IsLittle, GivesFew, JoinsFew, MakesUpTo};
 ghost use Rattle.btree.specs.Keys.{Each, Entry, IsNotUnder};
 ghost use Rattle.btree.specs.Loose.{IsStub, stubs_size};
 ghost use Rattle.btree.specs.LooseView.{stub_in};
@@ -120,7 +120,7 @@ fn raise_behind<P: Pages>(
     ensures long { 0 < length below.units.items
         → IfOk result (λ both. length front.units.items + 1 ≤ length both.units.items) }
     ensures few { IsLittle 10880 (sheaf_in below) → Each IsStub (map stub_in front.units.items)
-        → Leaves (P.store pages.old) (P.store pages.new) front.rank
+        → GivesFew (P.store pages.old) (P.store pages.new) front.rank
         (stubs_size (map stub_in front.units.items) + 5440) 4 result }
     ensures turns { (base : ℕ) (low mid : List ℕ) (high : Option (List ℕ)) (first last : List Entry)
         (front_pages pages_below : List ℕ)
@@ -148,7 +148,7 @@ fn raise_before<P: Pages>(
     ensures long { 0 < length below.units.items
         → IfOk result (λ both. length back.units.items + 1 ≤ length both.units.items) }
     ensures few { IsLittle 10880 (sheaf_in below) → Each IsStub (map stub_in back.units.items)
-        → Leaves (P.store pages.old) (P.store pages.new) back.rank
+        → GivesFew (P.store pages.old) (P.store pages.new) back.rank
         (stubs_size (map stub_in back.units.items) + 5440) 4 result }
     ensures turns { (base : ℕ) (low : List ℕ) (between high : Option (List ℕ))
         (first last : List Entry) (pages_below back_pages : List ℕ)
@@ -173,7 +173,7 @@ pub(crate) fn join<P: Pages>(
     ensures grows { Grows (P.store pages.old) (P.store pages.new) }
     ensures joined { IfOk result
         (λ both. IsJoined (sheaf_in left) (sheaf_in right) (sheaf_in both)) }
-    ensures few { LeavesFew 1360 (P.store pages.old) (P.store pages.new) (sheaf_in left)
+    ensures few { JoinsFew 1360 (P.store pages.old) (P.store pages.new) (sheaf_in left)
         (sheaf_in right) result }
     ensures turns { (base : ℕ) (low mid : List ℕ) (high : Option (List ℕ)) (first last : List Entry)
         (left_pages right_pages : List ℕ)
@@ -211,7 +211,7 @@ pub(crate) fn meet<P: Pages>(
     right: Loose,
 ) -> Result<Loose, TreeFault>
     ensures grows { Grows (P.store pages.old) (P.store pages.new) }
-    ensures few { LeavesFew 10880 (P.store pages.old) (P.store pages.new) (sheaf_in left)
+    ensures few { JoinsFew 10880 (P.store pages.old) (P.store pages.new) (sheaf_in left)
         (sheaf_in right) result }
     ensures turns { (base : ℕ) (low mid : List ℕ) (high : Option (List ℕ)) (first last : List Entry)
         (left_pages right_pages : List ℕ)
@@ -248,7 +248,7 @@ pub(crate) fn meet_behind<P: Pages>(
 ) -> Result<Loose, TreeFault>
     ensures grows { Grows (P.store pages.old) (P.store pages.new) }
     ensures few { 0 < length right.units.items
-        → LeavesFew 10880 (P.store pages.old) (P.store pages.new) (sheaf_in left)
+        → JoinsFew 10880 (P.store pages.old) (P.store pages.new) (sheaf_in left)
         (sheaf_in right) result }
     ensures none { length right.units.items ≡ 0 → KeepsWord (P.store pages.new)
         → IfOk result (λ both. (both ≡ left) × MakesUpTo (P.store pages.old) (P.store pages.new) 0) }

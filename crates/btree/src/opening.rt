@@ -2,7 +2,7 @@
 ghost use Rattle.std.specs.Prelude.{◌≡◌, ◌<◌, ◌≤◌, ◌+◌, ◌++◌, ◌∷◌, ℕ, List, Option, length, map, IfErr, IfOk, MatchResult};
 ghost use Rattle.page.specs.Content.{Arm, IsBranch, IsLeaf, Item};
 ghost use Rattle.btree.specs.Keys.{Each, Entry};
-ghost use Rattle.btree.specs.Few.{AreFewPages, Leaves};
+ghost use Rattle.btree.specs.Few.{AreFewPages, GivesFew};
 ghost use Rattle.btree.specs.Loose.{IsStub, arm_stub, item_stub, lowered, stubs_of, stubs_size, under_key};
 ghost use Rattle.btree.specs.LooseView.{stub_in};
 ghost use Rattle.btree.specs.Store.{Grows, IsAt, KeepsWord, Store};
@@ -156,7 +156,7 @@ pub(crate) fn open_page<P: Pages>(
     ensures rank { IfOk result (λ loose. loose.rank ≡ rank) }
     ensures some { IfOk result (λ loose. 0 < length loose.units.items) }
     ensures few { 6 + length low.now ≤ 1360
-        → Leaves (P.store pages.old) (P.store pages.new) rank 5440 0 result }
+        → GivesFew (P.store pages.old) (P.store pages.new) rank 5440 0 result }
     ensures opens { (base d : ℕ) (high : Option (List ℕ)) (body : Body d) → rank ≡ base + d
         → IsAt (P.store pages.old) page (content_of d body) → Shows (P.store pages.old) d body
         → IsWhole d body → IsSound d low.now high body → 6 + length low.now ≤ 1360

@@ -3,7 +3,7 @@ ghost use Rattle.std.specs.Prelude.{◌≡◌, ◌≤◌, ◌<◌, ◌+◌, ◌*
 ghost use Rattle.btree.specs.Calls.{IsPart, Yields};
 ghost use Rattle.btree.specs.Change.{Changes, edit_keys, put, removal};
 ghost use Rattle.btree.specs.EditView.{HasRoom, edit_in};
-ghost use Rattle.btree.specs.Few.{Costs, IsFewTop, IsLittle, IsOneChild, Leaves, chain_pages, edit_pages, levels_of};
+ghost use Rattle.btree.specs.Few.{Costs, IsFewTop, IsLittle, IsOneChild, GivesFew, chain_pages, edit_pages, levels_of};
 ghost use Rattle.btree.specs.Keys.{Each, Entry, Rises, change, sum_of};
 ghost use Rattle.btree.specs.Loose.{IsChild, Stub, child};
 ghost use Rattle.btree.specs.LooseView.{stub_in};
@@ -102,7 +102,7 @@ fn first_cells<P: Pages>(
 ) -> Result<Loose, TreeFault>
     requires { Each HasRoom edits.now }
     ensures grows { Grows (P.store pages.old) (P.store pages.new) }
-    ensures few { length edits.now ≡ 1 → Leaves (P.store pages.old) (P.store pages.new) 0 5440
+    ensures few { length edits.now ≡ 1 → GivesFew (P.store pages.old) (P.store pages.new) 0 5440
         (sum_of edit_pages (map edit_in edits.now)) result }
     ensures turns { Turns (P.store pages.old) (P.store pages.new) 0 [] None
         (change (map edit_in edits.now) []) [] result }

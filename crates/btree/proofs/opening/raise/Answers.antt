@@ -17,6 +17,6 @@ returns-clause-turns g c =
 
 pub returns-clause-few : goal.returns-clause-few
 returns-clause-few g c =
-    λ k h. 
+    λ k h.
     let same = c.deref.ensures.value in
     subst (λ us. AreFewPages (g.P.Pages.store c.args.pages.now) (g.P.Pages.store c.write_parts.new.pages) (stubs_size (map stub_in us)) (map stub_in c.in_ok-units.units.items)) same (c.in_ok-units.ensures.few k (subst (λ us. Each IsStub (map stub_in us)) (sym same) h))
