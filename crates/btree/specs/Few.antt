@@ -85,7 +85,7 @@ pub record IsOnePage (old new : Store) (stubs : List Stub) (above : Stub) : Type
   pub child : IsChild above.load
   pub small : Each IsStub stubs → IsStub above
 
--- Each page but the last one holds two thirds of what finds room.
+-- These pages were written of so many bytes: more than 2,720 for each but one.
 pub record AreFewPages (old new : Store) (bytes : ℕ) (above : List Stub) : Type 0 where
   pub made : length new.made ≡ length old.made + length above
   pub few : 2720 * length above ≤ bytes + 2719
