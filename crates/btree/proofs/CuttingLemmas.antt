@@ -62,7 +62,7 @@ behind_long (suc n) (x ∷ xs) le = omega (arith, behind_long n xs (omega arith)
 pub behind_is : (units : List Unit) (n : ℕ) → n ≤ length units → map stub_in (take (length units - n) (drop n units)) ≡ drop n (map stub_in units)
 behind_is units n le = ap (map stub_in) (take_over (length units - n) (drop n units) (omega (arith, behind_long n units le))) ∙ map_drop stub_in n units
 
-size_split : (n : ℕ) (ss : List Stub) → stubs_size (take n ss) + stubs_size (drop n ss) ≡ stubs_size ss
+pub size_split : (n : ℕ) (ss : List Stub) → stubs_size (take n ss) + stubs_size (drop n ss) ≡ stubs_size ss
 size_split zero ss = omega arith
 size_split (suc n) [] = refl
 size_split (suc n) (s ∷ ss) = omega (arith, size_split n ss)
@@ -76,12 +76,12 @@ small_all : (ss : List Stub) → Each IsStub ss → stubs_size ss ≤ 1360 * len
 small_all [] h = omega arith
 small_all (s ∷ ss) h = let one : stub_size s ≤ 1360 = h.0.size in omega (arith, small_all ss h.1)
 
-each_drop : (n : ℕ) (ss : List Stub) → Each IsStub ss → Each IsStub (drop n ss)
+pub each_drop : (n : ℕ) (ss : List Stub) → Each IsStub ss → Each IsStub (drop n ss)
 each_drop zero ss h = h
 each_drop (suc n) [] h = tt
 each_drop (suc n) (s ∷ ss) h = each_drop n ss h.1
 
-each_at : (n : ℕ) (ss : List Stub) (d : Stub) → n < length ss → Each IsStub ss → stub_size (get_or ss n d) ≤ 1360
+pub each_at : (n : ℕ) (ss : List Stub) (d : Stub) → n < length ss → Each IsStub ss → stub_size (get_or ss n d) ≤ 1360
 each_at n [] d lt h = absurd (omega arith)
 each_at zero (s ∷ ss) d lt h = h.0.size
 each_at (suc n) (s ∷ ss) d lt h = each_at n ss d (omega arith) h.1
@@ -91,12 +91,12 @@ drop_long zero ss le = omega arith
 drop_long (suc n) [] le = absurd (omega arith)
 drop_long (suc n) (s ∷ ss) le = omega (arith, drop_long n ss (omega arith))
 
-size_next : (n : ℕ) (ss : List Stub) (d : Stub) → n < length ss → stubs_size (take n ss) + stub_size (get_or ss n d) ≤ stubs_size ss
+pub size_next : (n : ℕ) (ss : List Stub) (d : Stub) → n < length ss → stubs_size (take n ss) + stub_size (get_or ss n d) ≤ stubs_size ss
 size_next n [] d lt = absurd (omega arith)
 size_next zero (s ∷ ss) d lt = omega arith
 size_next (suc n) (s ∷ ss) d lt = omega (arith, size_next n ss d (omega arith))
 
-size_all : (n : ℕ) (ss : List Stub) → length ss ≤ n → stubs_size (take n ss) ≡ stubs_size ss
+pub size_all : (n : ℕ) (ss : List Stub) → length ss ≤ n → stubs_size (take n ss) ≡ stubs_size ss
 size_all n [] le = size_none n
   where
     size_none : (n : ℕ) → stubs_size (take n []) ≡ 0

@@ -5,6 +5,7 @@ pub mod CuttingLemmas
 pub mod EditLemmas
 pub mod EndLemmas
 pub mod FanLemmas
+pub mod FewLemmas
 pub mod GetLemmas
 pub mod HeldLemmas
 pub mod JoinLemmas

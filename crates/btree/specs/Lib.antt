@@ -1,6 +1,7 @@
 pub mod Calls
 pub mod Change
 pub mod EditView
+pub mod Few
 pub mod Keys
 pub mod Laws
 pub mod Loose

@@ -1,5 +1,6 @@
 // Values that lie in chains of pages.
 ghost use Rattle.std.specs.Prelude.{◌≡◌, ◌*◌, ◌+◌, ◌<◌, ◌≤◌, ℕ, List, length};
+ghost use Rattle.btree.specs.Few.{Costs};
 ghost use Rattle.btree.specs.Keys.{Pair};
 ghost use Rattle.btree.specs.Store.{Grows, IsSame, KeepsWord, Store};
 ghost use Rattle.btree.specs.Tree.{HasLinks, HasChain, next_of, place_of};
@@ -101,6 +102,7 @@ pub(crate) fn write_chain<P: Pages>(
 /// Retires the pages of a chain.
 pub(crate) fn retire_chain<P: Pages>(pages: &mut P, first: u32, len: u32) -> Result<(), TreeFault>
     ensures grows { Grows (P.store pages.old) (P.store pages.new) }
+    ensures few { Costs (P.store pages.old) (P.store pages.new) 0 result }
     ensures retires { (links value : List ℕ) → HasLinks (P.store pages.old) links value
         → next_of links ≡ first
         → length value ≡ len → Retires (P.store pages.old) (P.store pages.new) links result }

@@ -1,8 +1,9 @@
 // A change by a list of edits, from a page down.
-ghost use Rattle.std.specs.Prelude.{◌≡◌, ◌<◌, ◌≤◌, ◌+◌, ◌*◌, ◌++◌, ◌∷◌, [], ℕ, zero, List, Option, Some, None, drop, length, map, slice_index_or, IfErr, IfOk};
+ghost use Rattle.std.specs.Prelude.{◌≡◌, ◌<◌, ◌≤◌, ◌+◌, ◌*◌, ◌++◌, ◌∷◌, [], ℕ, zero, List, Option, Some, None, Ok, drop, length, map, slice_index_or, IfErr, IfOk};
 ghost use Rattle.btree.specs.Change.{BeginsAt, edit_keys};
 ghost use Rattle.btree.specs.EditView.{HasRoom, edit_in};
-ghost use Rattle.btree.specs.Keys.{Each, Entry, IsBetween, IsNotUnder, IsUnder, Pair, Rises, change, entry_of};
+ghost use Rattle.btree.specs.Few.{IsLittle, GivesFew, edit_pages};
+ghost use Rattle.btree.specs.Keys.{Each, Entry, IsBetween, IsNotUnder, IsUnder, Pair, Rises, change, entry_of, sum_of};
 ghost use Rattle.btree.specs.Loose.{Stub, first_or};
 ghost use Rattle.btree.specs.LooseView.{stub_in};
 ghost use Rattle.btree.specs.Store.{Grows, IsAt, Store};
@@ -57,6 +58,8 @@ fn child_place(units: &[Unit], key: &[u8]) -> usize
     ensures within { result < length units.now }
     ensures next { (s : Stub) → result + 1 < length units.now
         → IsUnder key.now (slice_index_or (map stub_in units.now) (result + 1) s).key }
+    ensures here { (s : Stub) → 0 < result
+        → IsNotUnder key.now (slice_index_or (map stub_in units.now) result s).key }
 {
     let mut at = units.len() - 1;
     while at > 0 {
@@ -128,6 +131,8 @@ fn change_leaf<P: Pages>(
 ) -> Result<Loose, TreeFault>
     requires { Each HasRoom edits.now }
     ensures grows { Grows (P.store pages.old) (P.store pages.new) }
+    ensures few { length edits.now ≡ 1 → GivesFew (P.store pages.old) (P.store pages.new) rank 5440
+        (sum_of edit_pages (map edit_in edits.now)) result }
     ensures turns { (base : ℕ) (low : List ℕ) (high : Option (List ℕ)) (pairs : List Pair)
         → rank ≡ base → leaf.now ≡ map item_of pairs → IsSound zero low high pairs
         → Shows (P.store pages.old) zero pairs
@@ -157,6 +162,9 @@ pub(crate) fn change_below<P: Pages>(
 ) -> Result<Loose, TreeFault>
     requires { Each HasRoom edits.now }
     ensures grows { Grows (P.store pages.old) (P.store pages.new) }
+    ensures few { length edits.now ≡ 1 → 6 + length low.now ≤ 1360
+        → GivesFew (P.store pages.old) (P.store pages.new) rank 10880
+        (4 * rank + sum_of edit_pages (map edit_in edits.now)) result }
     ensures turns { (base d : ℕ) (high : Option (List ℕ)) (body : Body d) → rank ≡ base + d
         → IsAt (P.store pages.old) page (content_of d body) → Shows (P.store pages.old) d body
         → IsWhole d body → IsSound d low.now high body → 6 + length low.now ≤ 1360
@@ -195,6 +203,13 @@ fn change_children<P: Pages>(
     requires room { Each HasRoom edits.now }
     requires rank { 0 < loose.rank }
     ensures grows { Grows (P.store pages.old) (P.store pages.new) }
+    ensures none { length edits.now ≡ 0
+        → (result ≡ Ok loose) × (P.store pages.new ≡ P.store pages.old) }
+    ensures some { 0 < length edits.now → IfOk result (λ done. 0 < length loose.units.items) }
+    ensures few { length edits.now ≡ 1 → IsLittle 5440 (sheaf_in loose)
+        → 2 ≤ length loose.units.items
+        → GivesFew (P.store pages.old) (P.store pages.new) loose.rank 10880
+        (4 * loose.rank + sum_of edit_pages (map edit_in edits.now)) result }
     ensures turns { (base : ℕ) (low : List ℕ) (high : Option (List ℕ)) (entries : List Entry)
         (reached : List ℕ)
         → IsHeld (P.store pages.old) base low high entries reached (sheaf_in loose)

@@ -1,5 +1,6 @@
 // Cutting cells and children into pages, by bytes.
 ghost use Rattle.std.specs.Prelude.{◌≡◌, ◌<◌, ◌≤◌, ◌+◌, ◌-◌, ◌^◌, ◌⊎◌, ℕ, true, List, length, map, take, drop, None, slice_index_or};
+ghost use Rattle.btree.specs.Few.{IsFullPart};
 ghost use Rattle.btree.specs.Keys.{Each};
 ghost use Rattle.btree.specs.Loose.{GoBehind, IsOver, IsPart, IsStub, Stub, stub_size, stubs_size};
 ghost use Rattle.btree.specs.LooseView.{stub_in};
@@ -128,6 +129,8 @@ pub(crate) fn part_len(units: &[Unit], fills: bool) -> usize
     ensures within { result ≤ length units.now }
     ensures part { Each IsStub (map stub_in units.now)
         → IsPart fills (map stub_in units.now) result }
+    ensures full { Each IsStub (map stub_in units.now)
+        → IsFullPart (map stub_in units.now) result }
 {
     let whole = units_within(units, ROOM);
     if whole >= units.len() {

@@ -1,8 +1,9 @@
 // Edits of the cells of a leaf.
-ghost use Rattle.std.specs.Prelude.{◌≡◌, ◌∷◌, [], ◌≤◌, ◌<◌, ◌^◌, List, length, map, IfOk, zero};
-ghost use Rattle.page.specs.Content.{IsItem, spilled};
+ghost use Rattle.std.specs.Prelude.{◌≡◌, ◌∷◌, [], ◌+◌, ◌*◌, ◌≤◌, ◌<◌, ◌^◌, List, length, map, IfOk, zero};
+ghost use Rattle.page.specs.Content.{IsItem, item_size, spilled, total};
 ghost use Rattle.btree.specs.Calls.{IsSmallPlace};
-ghost use Rattle.btree.specs.Keys.{Each, Pair, Rises};
+ghost use Rattle.btree.specs.Few.{Costs, chain_pages, edit_pages};
+ghost use Rattle.btree.specs.Keys.{Each, Pair, Rises, sum_of};
 ghost use Rattle.btree.specs.Store.{Store, Grows};
 ghost use Rattle.btree.specs.Tree.{HasChain, Shows, item_of, pair_keys, place_of};
 ghost use Rattle.btree.specs.View.{item_in, place_in};
@@ -35,6 +36,7 @@ fn place_among(cells: &[Cell<'_>], key: &[u8]) -> usize
 // Retires the pages of a value.
 fn retire_value<P: Pages>(pages: &mut P, stored: Stored<'_>) -> Result<(), TreeFault>
     ensures grows { Grows (P.store pages.old) (P.store pages.new) }
+    ensures few { Costs (P.store pages.old) (P.store pages.new) 0 result }
     ensures retires { (x : Pair) → place_in stored.entry ≡ place_of x.links x.value
         → HasChain (P.store pages.old) x
         → Retires (P.store pages.old) (P.store pages.new) x.links result }
@@ -56,6 +58,9 @@ fn take_out<P: Pages>(
     ensures within { IfOk result (λ at. at ≤ length cells.new.items) }
     ensures small { Each IsItem (map item_in cells.old.items)
         → Each IsItem (map item_in cells.new.items) }
+    ensures few { Costs (P.store pages.old) (P.store pages.new) 0 result }
+    ensures size { total item_size (map item_in cells.new.items)
+        ≤ total item_size (map item_in cells.old.items) }
     ensures takes { (pairs : List Pair) → map item_in cells.old.items ≡ map item_of pairs
         → Rises (pair_keys pairs)
         → Shows (P.store pages.old) zero pairs
@@ -101,6 +106,7 @@ fn stored_value<'a, P: Pages>(
     requires { length value.now < 2 ^ 32 }
     ensures grows { Grows (P.store pages.old) (P.store pages.new) }
     ensures small { IfOk result (λ stored. IsSmallPlace (place_in stored)) }
+    ensures few { Costs (P.store pages.old) (P.store pages.new) (chain_pages value.now) result }
     ensures stores { StoresValue (P.store pages.old) (P.store pages.new) value.now result }
 {
     if value.len() <= INLINE {
@@ -125,6 +131,9 @@ fn put_in<'a, P: Pages>(
     ensures small { Each IsItem (map item_in cells.old.items)
         → IfOk result (λ done. Each IsItem (map item_in cells.new.items)) }
     ensures grows { Grows (P.store pages.old) (P.store pages.new) }
+    ensures few { Costs (P.store pages.old) (P.store pages.new) (chain_pages value.now) result }
+    ensures size { IfOk result (λ done. total item_size (map item_in cells.new.items)
+        ≤ total item_size (map item_in cells.old.items) + 1360) }
     ensures puts { PutsIn (P.store pages.old) (P.store pages.new) key.now value.now at
         (map item_in cells.old.items) (map item_in cells.new.items) result }
 {
@@ -146,6 +155,10 @@ fn edit_cell<'a, P: Pages>(
     ensures grows { Grows (P.store pages.old) (P.store pages.new) }
     ensures small { Each IsItem (map item_in cells.old.items)
         → IfOk result (λ done. Each IsItem (map item_in cells.new.items)) }
+    ensures few { Costs (P.store pages.old) (P.store pages.new) (edit_pages (edit_in edit.entry))
+        result }
+    ensures size { IfOk result (λ done. total item_size (map item_in cells.new.items)
+        ≤ total item_size (map item_in cells.old.items) + 1360) }
     ensures edits { (pairs : List Pair) → map item_in cells.old.items ≡ map item_of pairs
         → Rises (pair_keys pairs)
         → Shows (P.store pages.old) zero pairs
@@ -170,6 +183,10 @@ pub(crate) fn edit_cells<'a, P: Pages>(
     ensures grows { Grows (P.store pages.old) (P.store pages.new) }
     ensures small { Each IsItem (map item_in cells.old.items)
         → IfOk result (λ done. Each IsItem (map item_in cells.new.items)) }
+    ensures few { Costs (P.store pages.old) (P.store pages.new)
+        (sum_of edit_pages (map edit_in edits.now)) result }
+    ensures size { IfOk result (λ done. total item_size (map item_in cells.new.items)
+        ≤ total item_size (map item_in cells.old.items) + 1360 * length edits.now) }
     ensures edits { (pairs : List Pair) → map item_in cells.old.items ≡ map item_of pairs
         → Rises (pair_keys pairs)
         → Shows (P.store pages.old) zero pairs

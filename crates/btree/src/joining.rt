@@ -1,9 +1,11 @@
 // Joining what was taken out of neighbouring pages.
-ghost use Rattle.std.specs.Prelude.{◌≡◌, ◌<◌, ◌≤◌, ◌+◌, ◌++◌, ◌∷◌, ℕ, List, Option, Some, true, length, map, IfErr, IfOk};
+ghost use Rattle.std.specs.Prelude.{◌≡◌, ◌<◌, ◌≤◌, ◌+◌, ◌++◌, ◌∷◌, ℕ, List, Option, Some, false, true, length, map, IfErr, IfOk};
 ghost use Rattle.btree.specs.Change.{IsBehind};
-ghost use Rattle.btree.specs.Keys.{Entry, IsNotUnder};
+ghost use Rattle.btree.specs.Few.{AreFewOff, IsLittle, GivesFew, JoinsFew, MakesUpTo};
+ghost use Rattle.btree.specs.Keys.{Each, Entry, IsNotUnder};
+ghost use Rattle.btree.specs.Loose.{IsStub, stubs_size};
 ghost use Rattle.btree.specs.LooseView.{stub_in};
-ghost use Rattle.btree.specs.Store.{Grows, Store};
+ghost use Rattle.btree.specs.Store.{Grows, KeepsWord, Store};
 ghost use Rattle.btree.specs.Turn.{GoesBefore, IsHeld, IsJoined, IsReady, IsUpTo, PartsFirst, PartsLast, Turns, sheaf_in};
 
 use crate::cutting::units_within;
@@ -17,7 +19,9 @@ const QUARTER: usize = 1020;
 
 // Whether it may stand in pages of its own.
 fn is_full(loose: &Loose) -> bool
-    ensures { result ≡ true → 2 ≤ length loose.now.units.items }
+    ensures two { result ≡ true → 2 ≤ length loose.now.units.items }
+    ensures few { result ≡ false → Each IsStub (map stub_in loose.now.units.items)
+        → stubs_size (map stub_in loose.now.units.items) ≤ 1360 }
 {
     if loose.units.len() < 2 {
         return false;
@@ -38,6 +42,9 @@ fn take_last<P: Pages>(
         (λ parts. length parts.0.units.items + 1 ≡ length loose.units.items) }
     ensures back_rank { IfOk result (λ parts. parts.1.rank + 1 ≡ loose.rank) }
     ensures back { IfOk result (λ parts. 0 < length parts.1.units.items) }
+    ensures few { KeepsWord (P.store pages.new) → Each IsStub (map stub_in loose.units.items)
+        → IfOk result (λ parts. AreFewOff (P.store pages.old) (P.store pages.new)
+        (map stub_in loose.units.items) (sheaf_in parts.0) (sheaf_in parts.1)) }
     ensures parts { (base : ℕ) (low : List ℕ) (high : Option (List ℕ)) (entries : List Entry)
         (reached : List ℕ)
         → IsHeld (P.store pages.old) base low high entries reached (sheaf_in loose)
@@ -73,6 +80,9 @@ fn take_first<P: Pages>(
     ensures back_rank { IfOk result (λ parts. parts.1.rank ≡ loose.rank) }
     ensures back { IfOk result
         (λ parts. length parts.1.units.items + 1 ≡ length loose.units.items) }
+    ensures few { KeepsWord (P.store pages.new) → Each IsStub (map stub_in loose.units.items)
+        → IfOk result (λ parts. AreFewOff (P.store pages.old) (P.store pages.new)
+        (map stub_in loose.units.items) (sheaf_in parts.1) (sheaf_in parts.0)) }
     ensures parts { (base : ℕ) (low : List ℕ) (high : Option (List ℕ)) (entries : List Entry)
         (reached : List ℕ)
         → IsHeld (P.store pages.old) base low high entries reached (sheaf_in loose)
@@ -109,6 +119,9 @@ fn raise_behind<P: Pages>(
     ensures rank { IfOk result (λ both. both.rank ≡ front.rank) }
     ensures long { 0 < length below.units.items
         → IfOk result (λ both. length front.units.items + 1 ≤ length both.units.items) }
+    ensures few { IsLittle 10880 (sheaf_in below) → Each IsStub (map stub_in front.units.items)
+        → GivesFew (P.store pages.old) (P.store pages.new) front.rank
+        (stubs_size (map stub_in front.units.items) + 5440) 4 result }
     ensures turns { (base : ℕ) (low mid : List ℕ) (high : Option (List ℕ)) (first last : List Entry)
         (front_pages pages_below : List ℕ)
         → IsHeld (P.store pages.old) base low (Some mid) first front_pages (sheaf_in front)
@@ -134,6 +147,9 @@ fn raise_before<P: Pages>(
     ensures rank { IfOk result (λ both. both.rank ≡ back.rank) }
     ensures long { 0 < length below.units.items
         → IfOk result (λ both. length back.units.items + 1 ≤ length both.units.items) }
+    ensures few { IsLittle 10880 (sheaf_in below) → Each IsStub (map stub_in back.units.items)
+        → GivesFew (P.store pages.old) (P.store pages.new) back.rank
+        (stubs_size (map stub_in back.units.items) + 5440) 4 result }
     ensures turns { (base : ℕ) (low : List ℕ) (between high : Option (List ℕ))
         (first last : List Entry) (pages_below back_pages : List ℕ)
         → IsHeld (P.store pages.old) base low between first pages_below (sheaf_in below)
@@ -157,6 +173,8 @@ pub(crate) fn join<P: Pages>(
     ensures grows { Grows (P.store pages.old) (P.store pages.new) }
     ensures joined { IfOk result
         (λ both. IsJoined (sheaf_in left) (sheaf_in right) (sheaf_in both)) }
+    ensures few { JoinsFew 1360 (P.store pages.old) (P.store pages.new) (sheaf_in left)
+        (sheaf_in right) result }
     ensures turns { (base : ℕ) (low mid : List ℕ) (high : Option (List ℕ)) (first last : List Entry)
         (left_pages right_pages : List ℕ)
         → IsHeld (P.store pages.old) base low (Some mid) first left_pages (sheaf_in left)
@@ -193,6 +211,8 @@ pub(crate) fn meet<P: Pages>(
     right: Loose,
 ) -> Result<Loose, TreeFault>
     ensures grows { Grows (P.store pages.old) (P.store pages.new) }
+    ensures few { JoinsFew 10880 (P.store pages.old) (P.store pages.new) (sheaf_in left)
+        (sheaf_in right) result }
     ensures turns { (base : ℕ) (low mid : List ℕ) (high : Option (List ℕ)) (first last : List Entry)
         (left_pages right_pages : List ℕ)
         → IsHeld (P.store pages.old) base low (Some mid) first left_pages (sheaf_in left)
@@ -227,6 +247,11 @@ pub(crate) fn meet_behind<P: Pages>(
     right: Loose,
 ) -> Result<Loose, TreeFault>
     ensures grows { Grows (P.store pages.old) (P.store pages.new) }
+    ensures few { 0 < length right.units.items
+        → JoinsFew 10880 (P.store pages.old) (P.store pages.new) (sheaf_in left)
+        (sheaf_in right) result }
+    ensures none { length right.units.items ≡ 0 → KeepsWord (P.store pages.new)
+        → IfOk result (λ both. (both ≡ left) × MakesUpTo (P.store pages.old) (P.store pages.new) 0) }
     ensures turns { (base : ℕ) (low : List ℕ) (between high : Option (List ℕ))
         (first last : List Entry) (left_pages right_pages : List ℕ)
         → IsHeld (P.store pages.old) base low between first left_pages (sheaf_in left)

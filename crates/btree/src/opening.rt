@@ -1,10 +1,11 @@
 // Taking pages apart, and putting what was taken apart together.
 ghost use Rattle.std.specs.Prelude.{◌≡◌, ◌<◌, ◌≤◌, ◌+◌, ◌++◌, ◌∷◌, ℕ, List, Option, length, map, IfErr, IfOk, MatchResult};
-ghost use Rattle.page.specs.Content.{Arm, IsLeaf, Item};
-ghost use Rattle.btree.specs.Keys.{Entry};
-ghost use Rattle.btree.specs.Loose.{arm_stub, item_stub, lowered, stubs_of, under_key};
+ghost use Rattle.page.specs.Content.{Arm, IsBranch, IsLeaf, Item};
+ghost use Rattle.btree.specs.Keys.{Each, Entry};
+ghost use Rattle.btree.specs.Few.{AreFewPages, GivesFew};
+ghost use Rattle.btree.specs.Loose.{IsStub, arm_stub, item_stub, lowered, stubs_of, stubs_size, under_key};
 ghost use Rattle.btree.specs.LooseView.{stub_in};
-ghost use Rattle.btree.specs.Store.{Grows, IsAt, Store};
+ghost use Rattle.btree.specs.Store.{Grows, IsAt, KeepsWord, Store};
 ghost use Rattle.btree.specs.Tree.{Body, IsSound, IsWhole, Shows, content_of, entries_of, pages_of};
 ghost use Rattle.btree.specs.Turn.{IsHeld, IsReady, MayFill, Opens, PartsFirst, PartsLast, Turns, sheaf_in};
 ghost use Rattle.btree.specs.View.{content_in, item_in};
@@ -38,6 +39,7 @@ pub(crate) fn units_of_branch(
     low: &[u8],
 ) -> Result<Vec<Unit>, TreeFault>
     ensures some { IfOk result (λ units. 0 < length units.items) }
+    ensures sound { IsBranch branch.now }
     ensures ok { IfOk result
         (λ units. map stub_in units.items ≡ map arm_stub (under_key low.now branch.now)) }
     ensures err { IfErr result (λ e. e ≡ Memory) }
@@ -54,6 +56,7 @@ pub(crate) fn units_of_branch(
 // The cells of a leaf, out of their page.
 fn units_of_leaf(alloc: Global, leaf: &Leaf) -> Result<Vec<Unit>, TreeFault>
     ensures some { IfOk result (λ units. 0 < length units.items) }
+    ensures sound { IsLeaf leaf.now }
     ensures ok { IfOk result (λ units. map stub_in units.items ≡ map item_stub leaf.now) }
     ensures err { IfErr result (λ e. e ≡ Memory) }
 {
@@ -107,6 +110,9 @@ pub(crate) fn raise<P: Pages>(
     ensures rank { IfOk result (λ above. above.rank ≡ loose.rank + 1) }
     ensures some { 0 < length loose.units.items
         → IfOk result (λ above. 0 < length above.units.items) }
+    ensures few { KeepsWord (P.store pages.new) → Each IsStub (map stub_in loose.units.items)
+        → IfOk result (λ above. AreFewPages (P.store pages.old) (P.store pages.new)
+        (stubs_size (map stub_in loose.units.items)) (map stub_in above.units.items)) }
     ensures turns { (base : ℕ) (low : List ℕ) (high : Option (List ℕ)) (entries : List Entry)
         (reached : List ℕ)
         → IsHeld (P.store pages.old) base low high entries reached (sheaf_in loose)
@@ -125,6 +131,8 @@ pub(crate) fn raise<P: Pages>(
 // What stands in a page of the tree, out of it, the first child under a key.
 fn units_of(alloc: Global, content: &PageContent, low: &[u8]) -> Result<Vec<Unit>, TreeFault>
     ensures some { IfOk result (λ units. 0 < length units.items) }
+    ensures few { 6 + length low.now ≤ 1360 → IfOk result (λ units.
+        Each IsStub (map stub_in units.items) × (stubs_size (map stub_in units.items) ≤ 5440)) }
     ensures holds { (d : ℕ) (body : Body d) → content_in content.now ≡ content_of d body
         → MatchResult result (λ units. map stub_in units.items ≡ stubs_of d (lowered d low.now body))
         (λ e. e ≡ Memory) }
@@ -147,6 +155,8 @@ pub(crate) fn open_page<P: Pages>(
     ensures grows { Grows (P.store pages.old) (P.store pages.new) }
     ensures rank { IfOk result (λ loose. loose.rank ≡ rank) }
     ensures some { IfOk result (λ loose. 0 < length loose.units.items) }
+    ensures few { 6 + length low.now ≤ 1360
+        → GivesFew (P.store pages.old) (P.store pages.new) rank 5440 0 result }
     ensures opens { (base d : ℕ) (high : Option (List ℕ)) (body : Body d) → rank ≡ base + d
         → IsAt (P.store pages.old) page (content_of d body) → Shows (P.store pages.old) d body
         → IsWhole d body → IsSound d low.now high body → 6 + length low.now ≤ 1360

@@ -2,8 +2,9 @@
 ghost use Rattle.std.specs.Prelude.{◌≡◌, ◌<◌, ◌≤◌, ◌∷◌, [], ◌^◌, ℕ, None, Option, List, length, map, IfErr, IfOk, MatchResult, OnOk, ◌++◌};
 ghost use Rattle.page.specs.Content.{Arm, Item, branch as branch_content, leaf as leaf_content};
 ghost use Rattle.page.specs.Format.{IsFit};
-ghost use Rattle.btree.specs.Loose.{GoBehind, IsEnough, IsSpread, IsStub, arm_stub, bare, bare_arms, item_stub, stubs_of};
-ghost use Rattle.btree.specs.Store.{Store, Grows};
+ghost use Rattle.btree.specs.Few.{AreFewPages, IsOnePage};
+ghost use Rattle.btree.specs.Loose.{GoBehind, IsEnough, IsSpread, IsStub, arm_stub, bare, bare_arms, item_stub, stubs_of, stubs_size};
+ghost use Rattle.btree.specs.Store.{Store, Grows, KeepsWord};
 ghost use Rattle.btree.specs.Tree.{Body, Shows, content_of};
 ghost use Rattle.btree.specs.Turn.{MayFill, WritesPart, WritesParts};
 ghost use Rattle.btree.specs.Keys.{Each};
@@ -192,6 +193,8 @@ fn child_unit(key: Vec<u8>, page: u32) -> Unit
 // Writes cells or children to a page, and gives what stands for it above.
 fn write_part<P: Pages>(alloc: Global, pages: &mut P, units: &[Unit]) -> Result<Unit, TreeFault>
     ensures grows { Grows (P.store pages.old) (P.store pages.new) }
+    ensures one { KeepsWord (P.store pages.new) → IfOk result (λ unit.
+        IsOnePage (P.store pages.old) (P.store pages.new) (map stub_in units.now) (stub_in unit)) }
     ensures writes { (d : ℕ) (body : Body d) → map stub_in units.now ≡ stubs_of d body
         → IsEnough d (map stub_in units.now) → GoBehind None 0 (map stub_in units.now)
         → WritesPart (P.store pages.old) (P.store pages.new) d body result }
@@ -214,6 +217,9 @@ pub(crate) fn write_parts<P: Pages>(
 ) -> Result<Vec<Unit>, TreeFault>
     ensures grows { Grows (P.store pages.old) (P.store pages.new) }
     ensures some { 0 < length units.now → IfOk result (λ above. 0 < length above.items) }
+    ensures few { KeepsWord (P.store pages.new) → Each IsStub (map stub_in units.now)
+        → IfOk result (λ above. AreFewPages (P.store pages.old) (P.store pages.new)
+        (stubs_size (map stub_in units.now)) (map stub_in above.items)) }
     ensures writes { (d : ℕ) (low : List ℕ) (high : Option (List ℕ)) (body : Body d)
         → map stub_in units.now ≡ stubs_of d body → IsEnough d (map stub_in units.now)
         → MayFill d fills → Each IsStub (map stub_in units.now) → IsSpread d low high body

@@ -1,9 +1,10 @@
 // A change of a whole tree, which gives a new root.
-ghost use Rattle.std.specs.Prelude.{◌≡◌, ◌≤◌, ◌<◌, ◌+◌, ◌^◌, ◌∷◌, [], ℕ, List, Option, None, length, map, IfNone, IfOk, IfSome};
+ghost use Rattle.std.specs.Prelude.{◌≡◌, ◌≤◌, ◌<◌, ◌+◌, ◌*◌, ◌-◌, ◌^◌, ◌∷◌, [], ℕ, List, Option, None, length, map, IfNone, IfOk, IfSome};
 ghost use Rattle.btree.specs.Calls.{IsPart, Yields};
 ghost use Rattle.btree.specs.Change.{Changes, edit_keys, put, removal};
 ghost use Rattle.btree.specs.EditView.{HasRoom, edit_in};
-ghost use Rattle.btree.specs.Keys.{Each, Entry, Rises, change};
+ghost use Rattle.btree.specs.Few.{Costs, IsFewTop, IsLittle, IsOneChild, GivesFew, chain_pages, edit_pages, levels_of};
+ghost use Rattle.btree.specs.Keys.{Each, Entry, Rises, change, sum_of};
 ghost use Rattle.btree.specs.Loose.{IsChild, Stub, child};
 ghost use Rattle.btree.specs.LooseView.{stub_in};
 ghost use Rattle.btree.specs.Reach.{HasMap};
@@ -69,6 +70,10 @@ fn single_page(loose: &Loose) -> Option<u32>
 // Writes cells or children up to one page, the root: 0 where there are none.
 fn write_root<P: Pages>(alloc: Global, pages: &mut P, top: Loose) -> Result<u32, TreeFault>
     ensures grows { Grows (P.store pages.old) (P.store pages.new) }
+    ensures few { (halvings : ℕ) → IsLittle (2720 * 2 ^ halvings) (sheaf_in top)
+        → Costs (P.store pages.old) (P.store pages.new) (2 * 2 ^ halvings - 1) result }
+    ensures alone { IsOneChild (map stub_in top.units.items)
+        → Costs (P.store pages.old) (P.store pages.new) 0 result }
     ensures roots { (entries : List Entry) (reached : List ℕ)
         → IsHeld (P.store pages.old) 0 [] None entries reached (sheaf_in top)
         → Changes (P.store pages.old) (P.store pages.new) entries reached result }
@@ -97,6 +102,8 @@ fn first_cells<P: Pages>(
 ) -> Result<Loose, TreeFault>
     requires { Each HasRoom edits.now }
     ensures grows { Grows (P.store pages.old) (P.store pages.new) }
+    ensures few { length edits.now ≡ 1 → GivesFew (P.store pages.old) (P.store pages.new) 0 5440
+        (sum_of edit_pages (map edit_in edits.now)) result }
     ensures turns { Turns (P.store pages.old) (P.store pages.new) 0 [] None
         (change (map edit_in edits.now) []) [] result }
 {
@@ -119,6 +126,11 @@ fn change_root<P: Pages>(
 ) -> Result<Loose, TreeFault>
     requires { Each HasRoom edits.now }
     ensures grows { Grows (P.store pages.old) (P.store pages.new) }
+    ensures few { (before : List ℕ) (entries : List Entry)
+        (tree : HasMap (P.store pages.old) root before entries)
+        → length edits.now ≡ 1 → KeepsWord (P.store pages.new) → IfOk result (λ top.
+        IsFewTop (P.store pages.old) (P.store pages.new)
+        (4 * levels_of tree + 3 + sum_of edit_pages (map edit_in edits.now)) (sheaf_in top)) }
     ensures turns { (before : List ℕ) (entries : List Entry)
         → HasMap (P.store pages.old) root before entries
         → Rises (edit_keys (map edit_in edits.now))
@@ -142,6 +154,10 @@ pub fn change<P: Pages>(
 ) -> Result<u32, TreeFault>
     requires { Each HasRoom edits.now }
     ensures grows { Grows (P.store pages.old) (P.store pages.new) }
+    ensures few { (before : List ℕ) (entries : List Entry)
+        (tree : HasMap (P.store pages.old) root before entries) → length edits.now ≡ 1
+        → Costs (P.store pages.old) (P.store pages.new)
+        (4 * levels_of tree + 3 + sum_of edit_pages (map edit_in edits.now)) result }
     ensures changes { (before : List ℕ) (entries : List Entry)
         → HasMap (P.store pages.old) root before entries
         → Rises (edit_keys (map edit_in edits.now))
@@ -166,6 +182,10 @@ pub fn insert<P: Pages>(
     requires key { length key.now ≤ 1024 }
     requires value { length value.now < 2 ^ 32 }
     ensures grows { Grows (P.store pages.old) (P.store pages.new) }
+    ensures few { (before : List ℕ) (entries : List Entry)
+        (tree : HasMap (P.store pages.old) root before entries)
+        → Costs (P.store pages.old) (P.store pages.new)
+        (4 * levels_of tree + 3 + chain_pages value.now) result }
     ensures changes { (before : List ℕ) (entries : List Entry)
         → HasMap (P.store pages.old) root before entries
         → Changes (P.store pages.old) (P.store pages.new)
@@ -184,6 +204,9 @@ pub fn remove<P: Pages>(
 ) -> Result<u32, TreeFault>
     requires { length key.now ≤ 1024 }
     ensures grows { Grows (P.store pages.old) (P.store pages.new) }
+    ensures few { (before : List ℕ) (entries : List Entry)
+        (tree : HasMap (P.store pages.old) root before entries)
+        → Costs (P.store pages.old) (P.store pages.new) (4 * levels_of tree + 3) result }
     ensures changes { (before : List ℕ) (entries : List Entry)
         → HasMap (P.store pages.old) root before entries
         → Changes (P.store pages.old) (P.store pages.new)

@@ -1,4 +1,4 @@
-use Rattle.std.proofs.Common.{◌∙◌, sym, ap}
+use Rattle.std.proofs.Common.{◌∙◌, sym, ap, arith, length, refl}
 use Rattle.page.specs.Format.{Sheet}
 use Rattle.btree.specs.View.{content_in}
 use Rattle.btree.proofs.StoreLemmas.{answer_failed, cause_later, grows_failed, grows_itself, grows_retired, grows_same, grows_trans}
@@ -6,7 +6,7 @@ use Rattle.btree.proofs.ChainLemmas.{next_retired, retiring, retired_on, not_cha
 use Rattle.btree.proofs.chain.retire_chain.Goals as goal
 
 pub loop-left-init : goal.loop-left-init
-loop-left-init g c = record { grows = grows_itself (g.P.Pages.store c.args.pages.now); chained = λ links value has next long k. retiring (g.P.Pages.store c.args.pages.now) links value _ _ has next long }
+loop-left-init g c = record { grows = grows_itself (g.P.Pages.store c.args.pages.now); few = λ k. refl; chained = λ links value has next long k. retiring (g.P.Pages.store c.args.pages.now) links value _ _ has next long }
 
 pub returns-in_err-shared-clause-retires : goal.returns-in_err-shared-clause-retires
 returns-in_err-shared-clause-retires g c =
@@ -19,6 +19,7 @@ returns-in_err-shared-clause-retires g c =
 pub returns-in_default : goal.returns-in_default
 returns-in_default g c =
     record {
+      few = λ k. tt;
       grows = grows_trans _ _ _ c.loop-left.invariant.grows (grows_same (g.P.Pages.store c.loop-left.pages) (g.P.Pages.store c.read.new.self) c.in_ok-shared.ensures.stays c.in_ok-shared.ensures.same);
       retires = λ links value has next long k.
           not_chain (g.P.Pages.store c.args.pages.now) (g.P.Pages.store c.loop-left.pages) links _ _ _ c.loop-left-test.true (c.loop-left.invariant.chained links value has next long (c.in_ok-shared.ensures.same k).word)
@@ -45,9 +46,16 @@ loop-left-preserved g c =
     record {
       grows = grows_trans (g.P.Pages.store c.args.pages.now) (g.P.Pages.store c.loop-left.pages) (g.P.Pages.store c.retire.new.self) c.loop-left.invariant.grows
           (grows_trans _ _ _ step (grows_retired (g.P.Pages.store c.read.new.self) (g.P.Pages.store c.retire.new.self) _ c.in_ok-retire.ensures.stays c.in_ok-retire.ensures.retires));
+      few = λ k.
+          let gone = c.in_ok-retire.ensures.retires k in
+          let same = c.in_ok-shared.ensures.same gone.frame.word in
+          gone.made ∙ same.made ∙ c.loop-left.invariant.few same.word;
       chained = λ links value has next long k.
           let gone = c.in_ok-retire.ensures.retires k in
           retired_on (g.P.Pages.store c.args.pages.now) (g.P.Pages.store c.loop-left.pages) (g.P.Pages.store c.read.new.self) (g.P.Pages.store c.retire.new.self) links _ _ _ _ c.in-Chain.bytes.items (step.frame gone.frame.word)
           (c.in_ok-shared.ensures.same gone.frame.word) gone c.loop-left-test.true (c.loop-left.invariant.chained links value has next long (step.frame gone.frame.word).word)
           (c.in_ok-shared.ensures.value gone.frame.word ∙ ap (λ (s : Sheet). s.content) (sym c.image.ensures) ∙ ap content_in c.in-Chain.is) c.saturating_sub-left.ensures;
     }
+
+pub returns-clause-few : goal.returns-clause-few
+returns-clause-few g c = λ k. omega (arith, ap length (c.loop-left.invariant.few k))

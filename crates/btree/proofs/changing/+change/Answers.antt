@@ -1,8 +1,10 @@
-use Rattle.std.proofs.Common.{◌≡◌, ◌∙◌, ◌++◌, ◌∷◌, ◌+◌, [], Some, map, sym, ap, subst, arith, refl, inr, suc}
+use Rattle.std.proofs.Common.{◌-◌, ◌*◌, length, ◌≡◌, ◌∙◌, ◌++◌, ◌∷◌, ◌+◌, [], Some, map, sym, ap, subst, arith, refl, inr, suc}
 use Rattle.btree.specs.LooseView.{stub_in}
 use Rattle.btree.specs.EditView.{edit_in}
 use Rattle.btree.specs.View.{content_in}
-use Rattle.btree.specs.Keys.{change, times}
+use Rattle.btree.specs.Few.{IsFew, edit_pages}
+use Rattle.btree.specs.Keys.{change, sum_of, times}
+use Rattle.btree.specs.Store.{Store}
 use Rattle.btree.specs.Tree.{Shows, IsSound, entries_of, pages_of}
 use Rattle.page.specs.Format.{Sheet}
 use Rattle.btree.specs.Turn.{sheaf_in}
@@ -12,8 +14,9 @@ use Rattle.btree.proofs.ChangingLemmas.{at_leaf, begins, behind_later, branch_de
 use Rattle.btree.specs.Change.{IsBehind}
 use Rattle.btree.specs.Turn.{IsHeld}
 use Rattle.btree.proofs.EndLemmas.{last_is_child, within_up_to}
+use Rattle.btree.proofs.FewLemmas.{all_mine, branch_few, branch_two, children_few, few_on, unit_little}
 use Rattle.btree.proofs.SplitLemmas.{two_parts}
-use Rattle.btree.proofs.ListLemmas.{long_append}
+use Rattle.btree.proofs.ListLemmas.{long_append, long_map}
 use Rattle.btree.proofs.PrepareLemmas.{begins_there, children_done, prepare}
 use Rattle.btree.proofs.changing.+change.Goals as goal
 
@@ -139,3 +142,40 @@ change_below-returns-in-Leaf-clause-grows g t c = grows_trans _ _ _ (grows_trans
 
 pub change_children-returns-in_err-front-clause-grows : goal.change_children-returns-in_err-front-clause-grows
 change_children-returns-in_err-front-clause-grows g t c = grows_trans _ _ _ c.in_ok-below.ensures.grows c.in_err-front.ensures.grows
+
+pub change_below-returns-in-Leaf-clause-few : goal.change_below-returns-in-Leaf-clause-few
+change_below-returns-in-Leaf-clause-few g t c =
+    λ one little k.
+    let gone = c.in_ok-retire.ensures.retires (c.change_leaf.ensures.grows.frame k).word in
+    let same = c.in_ok-shared.ensures.same gone.frame.word in
+    few_on (g.P.Pages.store c.args.pages.now) (g.P.Pages.store c.retire.new.self) (g.P.Pages.store c.change_leaf.new.pages) c.args.rank c.args.rank _ _ _ _ 0 c.change_leaf.result (omega (arith, ap length (gone.made ∙ same.made)))
+    (c.change_leaf.ensures.few one k) refl (omega arith) (omega arith)
+
+pub change_below-returns-clause-few : goal.change_below-returns-clause-few
+change_below-returns-clause-few g t c =
+    λ one little k.
+    let gone = c.in_ok-retire.ensures.retires (c.change_children.ensures.grows.frame k).word in
+    let same = c.in_ok-shared.ensures.same gone.frame.word in
+    few_on (g.P.Pages.store c.args.pages.now) (g.P.Pages.store c.retire.new.self) (g.P.Pages.store c.change_children.new.pages) c.args.rank c.args.rank _ _ _ _ 0 c.change_children.result (omega (arith, ap length (gone.made ∙ same.made)))
+    (c.change_children.ensures.few one (branch_few c.args.low.now c.in-Branch.branch _ c.in_ok-units.ensures.ok c.in_ok-units.ensures.sound little) (branch_two c.args.low.now c.in-Branch.branch _ c.in_ok-units.ensures.ok c.in_ok-units.ensures.sound) k) refl (omega arith) (omega arith)
+
+pub change_children-returns-clause-few : goal.change_children-returns-clause-few
+change_children-returns-clause-few g t c =
+    λ one little two k.
+    let g4 = c.meet.ensures.grows.frame k in
+    let g3 = c.in_ok-back.ensures.grows.frame g4.word in
+    let g2 = c.in_ok-front.ensures.grows.frame g3.word in
+    let left = c.in_ok-left.field-0.left in
+    let right = c.in_ok-left.field-0.right in
+    let m = all_mine c.args.edits.now c.edits_at.result.0.now c.edits_at.result.1.now c.deref.result.now c.args.loose.units.items (map stub_in left.units.items) (map stub_in right.units.items) (stub_in c.in_ok-left.field-0.unit) c.as_slice-key.result.now c.child_place-at.result _ one
+    c.edits_at.ensures.parts c.edits_at.ensures.before c.deref.ensures.value c.in_ok-left.ensures.parts c.as_slice-key.ensures.value (omega (arith, c.in_ok-left.ensures.left, long_map stub_in left.units.items))
+    c.child_place-at.ensures.here (λ lt. omega (arith, c.in_ok-front.ensures.some lt, c.in_ok-left.ensures.left)) in
+    let front = c.in_ok-front.ensures.none m.none in
+    let front_is : c.in_ok-front.front ≡ left = (let whole = front.0 in cc) in
+    let b = c.in_ok-below.ensures.few m.one (unit_little (map stub_in c.args.loose.units.items) (map stub_in left.units.items) (map stub_in right.units.items) (stub_in c.in_ok-left.field-0.unit) _ c.in_ok-left.ensures.parts little.0 c.as_slice-key.ensures.value) g2.word in
+    children_few (g.P.Pages.store c.args.pages.now) (g.P.Pages.store c.change_below.new.pages) (g.P.Pages.store c.change_children.new.pages) (g.P.Pages.store c.meet_behind.new.pages) (g.P.Pages.store c.meet.new.pages)
+    (sheaf_in c.args.loose) (sheaf_in left) (sheaf_in right) (sheaf_in c.in_ok-below.below) (sheaf_in c.in_ok-front.front) (sheaf_in c.in_ok-back.back) (stub_in c.in_ok-left.field-0.unit) (sum_of edit_pages (map edit_in c.args.edits.now))
+    c.in_ok-left.ensures.parts c.in_ok-left.ensures.left_rank c.in_ok-left.ensures.right_rank c.requires.rank little (omega (arith, long_map stub_in c.args.loose.units.items)) (ap sheaf_in front_is) (omega (arith, ap (λ (s : Store). length s.made) front.1))
+    (subst (λ es. IsFew (g.P.Pages.store c.args.pages.now) (g.P.Pages.store c.change_below.new.pages) (left.rank - 1) 10880 (4 * (left.rank - 1) + sum_of edit_pages es) (sheaf_in c.in_ok-below.below)) (sym m.same) b)
+    (λ some small. c.in_ok-back.ensures.few (omega (arith, long_map stub_in right.units.items)) g4.word b.small small) (λ none. let n = c.in_ok-back.ensures.none (omega (arith, long_map stub_in right.units.items)) g4.word in (ap sheaf_in n.0, n.1))
+    c.meet.result (λ hl hr. c.meet.ensures.few k hl hr)

@@ -1,9 +1,11 @@
-use Rattle.std.proofs.Common.{◌∷◌, [], ap, sym, subst, map}
+use Rattle.std.proofs.Common.{◌∷◌, [], ap, arith, sym, subst, map}
 use Rattle.std.specs.Option.{option_map}
 use Rattle.btree.specs.EditView.{edit_in}
 use Rattle.btree.specs.Calls.{IsEdited}
+use Rattle.btree.specs.Few.{chain_pages, put_pages}
 use Rattle.btree.specs.View.{item_in}
 use Rattle.btree.proofs.StoreLemmas.{grows_trans}
+use Rattle.btree.proofs.FewLemmas.{costs_on, grown_on}
 use Rattle.btree.proofs.EditLemmas.{edits_done, removed_key}
 use Rattle.btree.proofs.editing.edit_cell.Goals as goal
 
@@ -22,3 +24,15 @@ returns-in-Some-clause-edits g c =
     let g2 = c.put_in.ensures.grows.frame k in
     edits_done (g.P.Pages.store c.args.pages.now) (g.P.Pages.store c.take_out.new.pages) (g.P.Pages.store c.put_in.new.pages) (edit_in c.args.edit) c.in-Some.value.now pairs _ _ _ c.put_in.result (ap (option_map (λ b. b.now)) c.in-Some.is)
     (c.in_ok-at.ensures.grows.frame g2.word) g2 (c.in_ok-at.ensures.takes pairs e rise shown g2.word) (c.put_in.ensures.puts k) rise shown
+
+pub returns-in-None-clause-few : goal.returns-in-None-clause-few
+returns-in-None-clause-few g c = λ k. omega (arith, c.in_ok-at.ensures.few k)
+
+pub returns-in-Some-clause-few : goal.returns-in-Some-clause-few
+returns-in-Some-clause-few g c =
+    λ k.
+    let same = ap (λ (v : _). put_pages (option_map (λ b. b.now) v)) c.in-Some.is in
+    costs_on (g.P.Pages.store c.args.pages.now) (g.P.Pages.store c.take_out.new.pages) (g.P.Pages.store c.put_in.new.pages) 0 (chain_pages c.in-Some.value.now) _ c.put_in.result (c.in_ok-at.ensures.few (c.put_in.ensures.grows.frame k).word) (c.put_in.ensures.few k) (omega (arith, same))
+
+pub returns-in-Some-clause-size : goal.returns-in-Some-clause-size
+returns-in-Some-clause-size g c = grown_on _ _ _ c.put_in.result c.in_ok-at.ensures.size c.put_in.ensures.size

@@ -1,7 +1,8 @@
-use Rattle.std.proofs.Common.{map, subst, sym}
+use Rattle.std.proofs.Common.{arith, map, subst, sym}
 use Rattle.btree.specs.View.{item_in}
 use Rattle.btree.specs.Calls.{IsEdited}
 use Rattle.btree.proofs.EditLemmas.{edited_on, edits_more}
+use Rattle.btree.proofs.FewLemmas.{edits_few}
 use Rattle.btree.proofs.StoreLemmas.{answer_failed, cause_later, grows_trans}
 use Rattle.btree.proofs.editing.edit_cells.Goals as goal
 
@@ -22,6 +23,10 @@ loop-edit-preserved g c =
     record {
       grows = grows_trans _ _ _ c.loop-edit.invariant.grows c.in_ok-edit_cell.ensures.grows;
       small = λ h. c.in_ok-edit_cell.ensures.small (c.loop-edit.invariant.small h);
+      few = λ k.
+          let before = c.loop-edit.invariant.few (c.in_ok-edit_cell.ensures.grows.frame k).word in
+          edits_few (g.P.Pages.store c.args.pages.now) (g.P.Pages.store c.loop-edit.pages) (g.P.Pages.store c.edit_cell.new.pages) c.args.edits.now c.loop-edit.edit-index _ c.loop-edit-test.true before (c.in_ok-edit_cell.ensures.few k);
+      size = omega (arith, c.loop-edit.invariant.size, c.in_ok-edit_cell.ensures.size);
       edited = λ pairs e rise shown k.
           let h = c.loop-edit.invariant.edited pairs e rise shown (c.in_ok-edit_cell.ensures.grows.frame k).word in
           let more = c.in_ok-edit_cell.ensures.edits h.pairs h.items_are h.rise h.shown k in

@@ -1,10 +1,11 @@
-use Rattle.std.proofs.Common.{◌≡◌, ◌∙◌, sym, ap, subst, arith, length, map, rules, vec_len}
+use Rattle.std.proofs.Common.{◌≡◌, ◌≤◌, ◌∙◌, sym, ap, subst, arith, length, map, rules, vec_len}
 use Rattle.std.specs.Ordering.{is_eq}
 use Rattle.btree.specs.Calls.{IsTakenOut}
 use Rattle.btree.specs.View.{item_in}
 use Rattle.btree.specs.Keys.{Each}
-use Rattle.page.specs.Content.{IsItem}
+use Rattle.page.specs.Content.{IsItem, item_size, total}
 use Rattle.btree.specs.Search.{IsPlace}
+use Rattle.btree.proofs.FewLemmas.{removed_size}
 use Rattle.btree.proofs.EditLemmas.{each_removed, taken_past, taken_other, taken_here, taken_failed}
 use Rattle.btree.proofs.editing.take_out.Goals as goal
 
@@ -30,3 +31,6 @@ returns-clause-takes g c =
 
 pub returns-clause-small : goal.returns-clause-small
 returns-clause-small g c = λ h. subst (λ cs. Each IsItem (map item_in cs)) (sym c.remove.ensures.items) (each_removed c.args.cells.now.items c.place_among-at.result h)
+
+pub returns-clause-size : goal.returns-clause-size
+returns-clause-size g c = subst (λ cs. total item_size (map item_in cs) ≤ total item_size (map item_in c.args.cells.now.items)) (sym c.remove.ensures.items) (removed_size c.args.cells.now.items c.place_among-at.result)

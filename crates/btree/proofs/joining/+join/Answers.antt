@@ -1,8 +1,9 @@
-use Rattle.std.proofs.Common.{◌≡◌, ◌<◌, ◌++◌, arith, length, rules}
+use Rattle.std.proofs.Common.{◌≡◌, ◌<◌, ◌++◌, arith, length, refl, rules}
 use Rattle.btree.specs.LooseView.{stub_in}
 use Rattle.btree.specs.Turn.{sheaf_in}
 use Rattle.btree.proofs.ListLemmas.{long_map}
 use Rattle.btree.proofs.StoreLemmas.{cause_later, frame_trans, grows_trans}
+use Rattle.btree.proofs.FewLemmas.{few_before, few_behind, few_concat, few_left_gone, few_level, few_on, few_right_gone}
 use Rattle.btree.proofs.HeldLemmas.{concat_turns, glue_held, held_later, turns_failed}
 use Rattle.btree.proofs.JoinLemmas.{left_gone, ready_joined, right_gone, turned_left, turned_right, up_to_trans}
 use Rattle.btree.proofs.joining.+join.Goals as goal
@@ -108,3 +109,45 @@ returns-in_err-below-2-clause-grows g t c = grows_trans _ _ _ c.in_ok-first.ensu
 
 pub returns-clause-grows : goal.returns-clause-grows
 returns-clause-grows g t c = grows_trans _ _ _ (grows_trans _ _ _ c.in_ok-first.ensures.grows c.in_ok-below-2.ensures.grows) c.raise_before.ensures.grows
+
+pub returns-then-is_empty-clause-few : goal.returns-then-is_empty-clause-few
+returns-then-is_empty-clause-few g t c =
+    λ k hl hr.
+    let none : length c.args.left.units.items ≡ 0 = search rules in
+    few_left_gone (g.P.Pages.store c.args.pages.now) 1360 (sheaf_in c.args.left) (sheaf_in c.args.right) (omega (arith, long_map stub_in c.args.left.units.items)) hr
+
+pub returns-then-is_empty-2-clause-few : goal.returns-then-is_empty-2-clause-few
+returns-then-is_empty-2-clause-few g t c =
+    λ k hl hr.
+    let none : length c.args.right.units.items ≡ 0 = search rules in
+    few_right_gone (g.P.Pages.store c.args.pages.now) 1360 (sheaf_in c.args.left) (sheaf_in c.args.right) (omega (arith, long_map stub_in c.args.right.units.items)) hl
+
+pub returns-then-left-right-clause-few : goal.returns-then-left-right-clause-few
+returns-then-left-right-clause-few g t c =
+    λ k hl hr.
+    few_level (g.P.Pages.store c.args.pages.now) (g.P.Pages.store c.args.pages.now) 1360 (sheaf_in c.args.left) (sheaf_in c.args.right) c.concat.result c.if-left-right.true
+    (few_concat (g.P.Pages.store c.args.pages.now) (g.P.Pages.store c.args.pages.now) c.args.left.rank _ 0 (sheaf_in c.args.left) (sheaf_in c.args.right) c.concat.result refl c.concat.ensures.rank c.concat.ensures.ok hl hr (omega arith) (omega arith))
+
+pub returns-then-left-right-2-clause-few : goal.returns-then-left-right-2-clause-few
+returns-then-left-right-2-clause-few g t c =
+    λ k hl hr.
+    let g3 = c.raise_behind.ensures.grows.frame k in
+    let g2 = c.in_ok-below.ensures.grows.frame g3.word in
+    let o = c.in_ok-front.ensures.few g2.word hl in
+    few_behind (g.P.Pages.store c.args.pages.now) (g.P.Pages.store c.raise_behind.new.pages) 1360 (sheaf_in c.args.left) (sheaf_in c.args.right) c.raise_behind.result (omega arith)
+    (λ e little.
+    let b = (c.in_ok-below.ensures.few g3.word o.opened_small hr).level (omega (arith, e, c.in_ok-front.ensures.back_rank)) in
+    few_on (g.P.Pages.store c.args.pages.now) (g.P.Pages.store c.join.new.pages) (g.P.Pages.store c.raise_behind.new.pages) c.in_ok-front.front.rank c.args.left.rank _ _ 4 4 0 c.raise_behind.result (omega (arith, o.made, b.made))
+    (c.raise_behind.ensures.few (b.small, omega (arith, b.size, o.opened_size, little)) o.small k) c.in_ok-front.ensures.front_rank (omega (arith, o.size)) (omega arith))
+
+pub returns-clause-few : goal.returns-clause-few
+returns-clause-few g t c =
+    λ k hl hr.
+    let g3 = c.raise_before.ensures.grows.frame k in
+    let g2 = c.in_ok-below-2.ensures.grows.frame g3.word in
+    let o = c.in_ok-first.ensures.few g2.word hr in
+    few_before (g.P.Pages.store c.args.pages.now) (g.P.Pages.store c.raise_before.new.pages) 1360 (sheaf_in c.args.left) (sheaf_in c.args.right) c.raise_before.result (omega arith)
+    (λ e little.
+    let b = (c.in_ok-below-2.ensures.few g3.word hl o.opened_small).level (omega (arith, e, c.in_ok-first.ensures.front_rank)) in
+    few_on (g.P.Pages.store c.args.pages.now) (g.P.Pages.store c.join-2.new.pages) (g.P.Pages.store c.raise_before.new.pages) c.in_ok-first.back.rank c.args.right.rank _ _ 4 4 0 c.raise_before.result (omega (arith, o.made, b.made))
+    (c.raise_before.ensures.few (b.small, omega (arith, b.size, o.opened_size, little)) o.small k) c.in_ok-first.ensures.back_rank (omega (arith, o.size)) (omega arith))

@@ -1,7 +1,8 @@
-use Rattle.std.proofs.Common.{arith, refl}
+use Rattle.std.proofs.Common.{◌<◌, arith, length, map, refl, rules}
 use Rattle.btree.specs.LooseView.{stub_in}
 use Rattle.btree.specs.Turn.{sheaf_in}
 use Rattle.btree.proofs.ListLemmas.{long_map}
+use Rattle.btree.proofs.FewLemmas.{off_first}
 use Rattle.btree.proofs.EndLemmas.{first_failed, first_is_child, first_off, first_units, took_first}
 use Rattle.btree.proofs.joining.take_first.Goals as goal
 
@@ -26,3 +27,11 @@ returns-clause-parts g c =
     (first_units c.args.loose.units.items c.remove-unit.new.self.items c.remove-unit.result c.deref.result.now some c.remove-unit.ensures.value c.remove-unit.ensures.items c.deref.ensures.value) deep (omega (arith, long_map stub_in c.args.loose.units.items, some)) c.in-Some.ensures in
     took_first (g.P.Pages.store c.args.pages.now) (g.P.Pages.store c.open_page.new.pages) base low high entries reached c.args.loose.rank c.in-Some.page _ (sheaf_in c.in_ok-opened.opened) _
     (c.in_ok-opened.ensures.grows.frame k) (omega (arith, c.requires)) (λ base d high body r a s w so l. c.in_ok-opened.ensures.opens base d high body r a s w so l k) _ upto o
+
+pub returns-clause-few : goal.returns-clause-few
+returns-clause-few g c =
+    λ k small.
+    let some : 0 < length c.args.loose.units.items = search rules in
+    let off = off_first (map stub_in c.args.loose.units.items) _ _ (first_units c.args.loose.units.items c.remove-unit.new.self.items c.remove-unit.result c.deref.result.now some c.remove-unit.ensures.value c.remove-unit.ensures.items c.deref.ensures.value) small in
+    let o = c.in_ok-opened.ensures.few off.2 k in
+    record { small = off.0; size = off.1; opened_small = o.small; opened_size = o.size; made = o.made }

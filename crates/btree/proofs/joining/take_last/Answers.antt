@@ -1,7 +1,8 @@
-use Rattle.std.proofs.Common.{arith, refl}
+use Rattle.std.proofs.Common.{arith, map, refl}
 use Rattle.btree.specs.LooseView.{stub_in}
 use Rattle.btree.specs.Turn.{sheaf_in}
 use Rattle.btree.proofs.ListLemmas.{long_map}
+use Rattle.btree.proofs.FewLemmas.{off_last}
 use Rattle.btree.proofs.EndLemmas.{last_failed, last_is_child, last_off, last_units, took_last}
 use Rattle.btree.proofs.joining.take_last.Goals as goal
 
@@ -26,3 +27,10 @@ returns-clause-parts g c =
     (last_units c.args.loose.units.items c.pop.new.self.items c.in-Some.unit c.deref.result.now c.in-Some.ensures.items c.deref.ensures.value) deep (omega (arith, long_map stub_in c.args.loose.units.items, some)) c.in-Some-page_below.ensures in
     took_last (g.P.Pages.store c.args.pages.now) (g.P.Pages.store c.open_page.new.pages) base low high entries reached c.args.loose.rank c.in-Some-page_below.page _ (sheaf_in c.in_ok-opened.opened) _
     (c.in_ok-opened.ensures.grows.frame k) (omega (arith, c.requires)) (λ base d high body r a s w so l. c.in_ok-opened.ensures.opens base d high body r a s w so l k) _ o
+
+pub returns-clause-few : goal.returns-clause-few
+returns-clause-few g c =
+    λ k small.
+    let off = off_last (map stub_in c.args.loose.units.items) _ _ (last_units c.args.loose.units.items c.pop.new.self.items c.in-Some.unit c.deref.result.now c.in-Some.ensures.items c.deref.ensures.value) small in
+    let o = c.in_ok-opened.ensures.few off.2 k in
+    record { small = off.0; size = off.1; opened_small = o.small; opened_size = o.size; made = o.made }

@@ -1,4 +1,4 @@
-use Rattle.std.proofs.Common.{◌∙◌, ◌∷◌, sym, ap}
+use Rattle.std.proofs.Common.{◌∙◌, ◌∷◌, sym, ap, arith, length, refl}
 use Rattle.page.specs.Format.{Sheet}
 use Rattle.btree.proofs.StoreLemmas.{answer_failed, frame_same, frame_trans}
 use Rattle.btree.proofs.HeldLemmas.{opened}
@@ -17,3 +17,11 @@ returns-clause-opens g c =
     opened (g.P.Pages.store c.args.pages.now) (g.P.Pages.store c.retire.new.self) base d c.args.rank c.args.page c.args.low.now high body _ rank shown whole sound little
     (c.in_ok-units.ensures.holds d body (ap (λ (s : Sheet). s.content) c.image.ensures ∙ sym (c.in_ok-shared.ensures.value gone.frame.word) ∙ at.holds))
     (frame_trans _ (g.P.Pages.store c.read.new.self) _ (frame_same _ _ same) gone.frame) (gone.made ∙ same.made) (gone.retired ∙ ap (λ zs. c.args.page ∷ zs) same.retired)
+
+pub returns-clause-few : goal.returns-clause-few
+returns-clause-few g c =
+    λ little k.
+    let gone = c.in_ok-retire.ensures.retires k in
+    let same = c.in_ok-shared.ensures.same gone.frame.word in
+    let few = c.in_ok-units.ensures.few little in
+    record { rank_is = refl; small = few.0; size = few.1; made = omega (arith, ap length (gone.made ∙ same.made)) }

@@ -1,6 +1,7 @@
 use Rattle.std.proofs.Common.{◌∙◌, sym, ap, subst, map, refl}
 use Rattle.btree.specs.Keys.{Each}
-use Rattle.btree.specs.Loose.{IsEnough, IsStub}
+use Rattle.btree.specs.Few.{AreFewPages}
+use Rattle.btree.specs.Loose.{IsEnough, IsStub, stubs_size}
 use Rattle.btree.specs.LooseView.{stub_in}
 use Rattle.btree.specs.Turn.{sheaf_in}
 use Rattle.btree.proofs.HeldLemmas.{raised, ready_enough}
@@ -13,3 +14,9 @@ returns-clause-turns g c =
     raised (g.P.Pages.store c.args.pages.now) (g.P.Pages.store c.write_parts.new.pages) base low high entries reached (sheaf_in c.args.loose) _ h ready
     (c.in_ok-units.ensures.writes h.d low high h.body (same ∙ h.stubs_are) (subst (IsEnough h.d) (sym same) (ready_enough base h.d (sheaf_in c.args.loose) (h.rank_is ready.0) ready))
     (c.may_fill-fills.ensures h.d h.body h.stubs_are) (subst (Each IsStub) (sym same) h.small) h.spread h.shown k) refl
+
+pub returns-clause-few : goal.returns-clause-few
+returns-clause-few g c =
+    λ k h.
+    let same = c.deref.ensures.value in
+    subst (λ us. AreFewPages (g.P.Pages.store c.args.pages.now) (g.P.Pages.store c.write_parts.new.pages) (stubs_size (map stub_in us)) (map stub_in c.in_ok-units.units.items)) same (c.in_ok-units.ensures.few k (subst (λ us. Each IsStub (map stub_in us)) (sym same) h))

@@ -1,7 +1,9 @@
-use Rattle.std.proofs.Common.{◌≡◌, sym, subst, arith, map, length, rules}
+use Rattle.std.proofs.Common.{◌≡◌, ◌<◌, sym, subst, arith, map, length, rules}
 use Rattle.btree.proofs.ListLemmas.{long_map}
 use Rattle.btree.specs.LooseView.{stub_in}
 use Rattle.btree.proofs.StoreLemmas.{grows_itself, grows_trans}
+use Rattle.btree.specs.Loose.{stubs_size}
+use Rattle.btree.proofs.FewLemmas.{AreFewSoFar, few_done, few_none, few_step}
 use Rattle.btree.proofs.RaiseLemmas.{ArePartly, partly_done, partly_failed, partly_none, partly_step, writes_failed}
 use Rattle.btree.proofs.parts.write_parts.Goals as goal
 
@@ -9,6 +11,8 @@ pub loop-rest-init : goal.loop-rest-init
 loop-rest-init g c = record {
   grows = grows_itself (g.P.Pages.store c.args.pages.now);
   some = λ lt. omega arith;
+  few = λ k h. subst (λ us. AreFewSoFar (g.P.Pages.store c.args.pages.now) (g.P.Pages.store c.args.pages.now) (stubs_size (map stub_in c.args.units.now)) (map stub_in us) (map stub_in c.args.units.now)) (sym c.new-above.ensures.items)
+      (few_none (g.P.Pages.store c.args.pages.now) (map stub_in c.args.units.now) h);
   partly = λ d low high body e enough may small spread shown k.
       subst (λ us. ArePartly (g.P.Pages.store c.args.pages.now) (g.P.Pages.store c.args.pages.now) d low high body (map stub_in us) (map stub_in c.args.units.now)) (sym c.new-above.ensures.items)
       (partly_none (g.P.Pages.store c.args.pages.now) d low high body _ e enough small spread shown);
@@ -26,6 +30,8 @@ pub loop-rest-preserved : goal.loop-rest-preserved
 loop-rest-preserved g c = record {
   grows = grows_trans _ _ _ c.loop-rest.invariant.grows c.in_ok-unit.ensures.grows;
   some = λ lt. omega (arith, c.in_ok-push_unit.ensures.long);
+  few = λ k h. few_step (g.P.Pages.store c.args.pages.now) (g.P.Pages.store c.loop-rest.pages) (g.P.Pages.store c.write_part.new.pages) _ c.part_len-at.result _ _ c.loop-rest.rest.now _ _ c.in_ok-unit.unit (let some : 0 < length c.loop-rest.rest.now = search rules in some)
+      (c.loop-rest.invariant.few (c.in_ok-unit.ensures.grows.frame k).word h) c.part_len-at.ensures.full c.split_at.ensures.front c.split_at.ensures.back (c.in_ok-unit.ensures.one k) c.in_ok-push_unit.ensures.ok;
   partly = λ d low high body e enough may small spread shown k.
       partly_step (g.P.Pages.store c.args.pages.now) (g.P.Pages.store c.loop-rest.pages) (g.P.Pages.store c.write_part.new.pages) d low high body _ c.loop-rest.rest.now _ c.part_len-at.result c.args.fills
       (c.loop-rest.invariant.partly d low high body e enough may small spread shown (c.in_ok-unit.ensures.grows.frame k).word) may c.part_len-at.ensures.part c.part_len-at.ensures.some c.part_len-at.ensures.within
@@ -41,3 +47,7 @@ returns-in_err-unit-clause-grows g c = grows_trans _ _ _ c.loop-rest.invariant.g
 
 pub returns-in_err-push_unit-clause-grows : goal.returns-in_err-push_unit-clause-grows
 returns-in_err-push_unit-clause-grows g c = grows_trans _ _ _ c.loop-rest.invariant.grows c.in_ok-unit.ensures.grows
+
+pub returns-clause-few : goal.returns-clause-few
+returns-clause-few g c = λ k h.
+    few_done (g.P.Pages.store c.args.pages.now) (g.P.Pages.store c.loop-rest.pages) _ _ _ (c.loop-rest.invariant.few k h) (let none : length c.loop-rest.rest.now ≡ 0 = search rules in omega (arith, long_map stub_in c.loop-rest.rest.now))

@@ -1,6 +1,7 @@
 use Rattle.std.proofs.Common.{◌≡◌, ◌<◌, ◌∙◌, ◌∷◌, length, map, sym, ap, arith, inl, inr, rules}
 use Rattle.btree.specs.LooseView.{stub_in}
 use Rattle.btree.specs.Turn.{sheaf_in}
+use Rattle.btree.proofs.FewLemmas.{not_alone, root_few}
 use Rattle.btree.proofs.HeldLemmas.{no_stubs}
 use Rattle.btree.proofs.ListLemmas.{long_map}
 use Rattle.btree.proofs.RaiseLemmas.{head_of}
@@ -57,3 +58,14 @@ returns-clause-roots g t c =
 
 pub returns-clause-grows : goal.returns-clause-grows
 returns-clause-grows g t c = grows_trans _ _ _ c.in_ok-above.ensures.grows c.write_root.ensures.grows
+
+pub returns-clause-few : goal.returns-clause-few
+returns-clause-few g t c =
+    λ halvings little k.
+    let word = (c.write_root.ensures.grows.frame k).word in
+    let some : 0 < length c.args.top.units.items = search rules in
+    root_few (g.P.Pages.store c.args.pages.now) (g.P.Pages.store c.raise.new.pages) (g.P.Pages.store c.write_root.new.pages) halvings _ (map stub_in c.in_ok-above.above.units.items) c.write_root.result little.1
+    (omega (arith, c.in_ok-above.ensures.some some, long_map stub_in c.in_ok-above.above.units.items)) (c.in_ok-above.ensures.few word little.0) (λ h less. c.write_root.ensures.few h less k) (λ one. c.write_root.ensures.alone one k)
+
+pub returns-clause-alone : goal.returns-clause-alone
+returns-clause-alone g t c = λ one k. absurd (not_alone (map stub_in c.args.top.units.items) one c.in_default.ensures.none)

@@ -1,6 +1,7 @@
 use Rattle.std.proofs.Common.{◌≡◌, map}
 use Rattle.btree.specs.EditView.{edit_in}
 use Rattle.btree.specs.Keys.{change}
+use Rattle.btree.proofs.FewLemmas.{costs_on}
 use Rattle.btree.proofs.RootLemmas.{change_failed, change_on}
 use Rattle.btree.proofs.StoreLemmas.{grows_trans}
 use Rattle.btree.proofs.root.change.Goals as goal
@@ -19,3 +20,9 @@ returns-clause-changes g c =
 
 pub returns-clause-grows : goal.returns-clause-grows
 returns-clause-grows g c = grows_trans _ _ _ c.in_ok-top.ensures.grows c.write_root.ensures.grows
+
+pub returns-clause-few : goal.returns-clause-few
+returns-clause-few g c =
+    λ before entries tree one k.
+    let u = c.in_ok-top.ensures.few before entries tree one (c.write_root.ensures.grows.frame k).word in
+    costs_on (g.P.Pages.store c.args.pages.now) (g.P.Pages.store c.change_root.new.pages) (g.P.Pages.store c.write_root.new.pages) u.pages _ _ c.write_root.result u.made (c.write_root.ensures.few u.halvings u.little k) u.enough

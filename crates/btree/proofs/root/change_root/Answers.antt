@@ -1,5 +1,8 @@
-use Rattle.std.proofs.Common.{◌≡◌, ◌∙◌, ◌∷◌, [], None, Some, ap, map, sym, subst, arith, inl, inr}
+use Rattle.std.proofs.Common.{◌≡◌, ◌∙◌, ◌∷◌, [], None, Some, ap, length, map, refl, sym, subst, arith, inl, inr}
 use Rattle.btree.specs.EditView.{edit_in}
+use Rattle.btree.specs.Few.{edit_pages, levels_of}
+use Rattle.btree.specs.Keys.{sum_of}
+use Rattle.btree.proofs.FewLemmas.{few_on, first_few, levels_few}
 use Rattle.btree.proofs.GetLemmas.{root_part}
 use Rattle.btree.proofs.RootLemmas.{all_between, turned_behind}
 use Rattle.btree.proofs.StoreLemmas.{part_kept}
@@ -18,3 +21,18 @@ returns-clause-turns g c =
           turned_behind old mid (g.P.Pages.store c.change_below.new.pages) (map edit_in c.args.edits.now) entries _ before _ c.change_below.result (c.in_ok-below.ensures.same word) t.entries_are t.pages_are
           (c.change_below.ensures.turns 0 t.d None t.body (omega (arith, c.in_ok-below.ensures.levels t.d [] None t.body part word)) kept.at kept.shown kept.whole kept.sound (omega arith) rise (all_between _) k)
     ]
+
+pub returns-then-root-eq0-clause-few : goal.returns-then-root-eq0-clause-few
+returns-then-root-eq0-clause-few g c =
+    λ before entries tree one k. first_few (g.P.Pages.store c.args.pages.now) (g.P.Pages.store c.first_cells.new.pages) (levels_of tree) _ c.first_cells.result (c.first_cells.ensures.few one k)
+
+pub returns-clause-few : goal.returns-clause-few
+returns-clause-few g c =
+    λ before entries tree one k.
+    let word = (c.change_below.ensures.grows.frame k).word in
+    let old = g.P.Pages.store c.args.pages.now in
+    let mid = g.P.Pages.store c.levels_below.new.pages in
+    let same = c.in_ok-below.ensures.same word in
+    levels_few old (g.P.Pages.store c.change_below.new.pages) c.args.root before entries tree c.in_ok-below.below (sum_of edit_pages (map edit_in c.args.edits.now)) c.change_below.result c.if-root-eq0.false
+    (λ t. c.in_ok-below.ensures.levels t.d [] None t.body (root_part old c.args.root t.d t.body t.tree) word)
+    (few_on old mid (g.P.Pages.store c.change_below.new.pages) _ _ _ _ _ _ 0 c.change_below.result (omega (arith, ap (λ zs. length zs) same.made)) (c.change_below.ensures.few one (omega arith) k) refl (omega arith) (omega arith))

@@ -1,0 +1,101 @@
+-- How many pages a change makes, at most.
+use Rattle.std.specs.Prelude.{◌≡◌, ℕ, suc, ◌+◌, ◌-◌, ◌*◌, ◌/◌, ◌^◌, ◌<◌, ◌≤◌, ◌⊎◌, leb, List, length, take, Option, Some, None, Result, IfOk, if◌then◌else◌}
+use Rattle.std.proofs.Common.{inl, inr}
+use Rattle.btree.specs.declared.loose.Loose.{Loose}
+use Rattle.btree.specs.declared.pages.TreeFault.{TreeFault}
+use Rattle.btree.specs.Keys.{Each, Edit, Entry}
+use Rattle.btree.specs.Loose.{IsChild, IsStub, Stub, stub_size, stubs_size}
+use Rattle.btree.specs.Reach.{HasMap}
+use Rattle.btree.specs.Store.{KeepsWord, Store}
+use Rattle.btree.specs.Turn.{Sheaf, sheaf_in}
+
+-- ---- what the calls of a tree promise
+
+-- the levels of a tree: none of the empty one, one of a single leaf
+abbrev pub levels_of : {s : Store} {root : ℕ} {pages : List ℕ} {entries : List Entry} → HasMap s root pages entries → ℕ
+levels_of (inl empty) = 0
+levels_of (inr tree) = suc tree.d
+
+-- the pages of a value's chain: none for up to 330 bytes, which lie in the cell
+abbrev pub chain_pages : List ℕ → ℕ
+chain_pages value = if leb (length value) 330 then 0 else (length value + 4075) / 4076
+
+-- so many pages were made, at most
+abbrev pub MakesUpTo : Store → Store → ℕ → Type 0
+MakesUpTo old new pages = length new.made ≤ length old.made + pages
+
+-- While the device keeps its word, a change that was made took so many pages at most.
+abbrev pub Costs : {X : Type 0} → Store → Store → ℕ → Result X TreeFault → Type 0
+Costs old new pages result = KeepsWord new → IfOk result (λ done. MakesUpTo old new pages)
+
+-- ---- edits of a leaf's cells
+
+abbrev pub put_pages : Option (List ℕ) → ℕ
+put_pages None = 0
+put_pages (Some value) = chain_pages value
+
+abbrev pub edit_pages : Edit → ℕ
+edit_pages e = put_pages e.value
+
+-- ---- what stands in no page
+
+-- Cells or children of this rank, of so many bytes at most. So many pages were made, at most.
+pub record IsFew (old new : Store) (rank bytes pages : ℕ) (sheaf : Sheaf) : Type 0 where
+  pub rank_is : sheaf.rank ≡ rank
+  pub small : Each IsStub sheaf.stubs
+  pub size : stubs_size sheaf.stubs ≤ bytes
+  pub made : MakesUpTo old new pages
+
+abbrev pub GivesFew : Store → Store → ℕ → ℕ → ℕ → Result Loose TreeFault → Type 0
+GivesFew old new rank bytes pages result = KeepsWord new → IfOk result (λ loose. IsFew old new rank bytes pages (sheaf_in loose))
+
+-- One child was taken off, and what stood in its page.
+pub record AreFewOff (old new : Store) (stubs : List Stub) (others opened : Sheaf) : Type 0 where
+  pub small : Each IsStub others.stubs
+  pub size : stubs_size others.stubs ≤ stubs_size stubs
+  pub opened_small : Each IsStub opened.stubs
+  pub opened_size : stubs_size opened.stubs ≤ 5440
+  pub made : MakesUpTo old new 0
+
+abbrev pub IsLittle : ℕ → Sheaf → Type 0
+IsLittle bytes sheaf = Each IsStub sheaf.stubs × (stubs_size sheaf.stubs ≤ bytes)
+
+abbrev pub IsOneChild : List Stub → Type 0
+IsOneChild stubs = (length stubs ≡ 1) × Each (λ s. IsChild s.load) stubs
+
+-- What stands at one height goes together with no page made. What stands one level below the other, and has so many bytes
+-- at most, makes four pages at most.
+pub record AreFewJoined (old new : Store) (bytes : ℕ) (left right both : Sheaf) : Type 0 where
+  pub level : left.rank ≡ right.rank → IsFew old new left.rank (stubs_size left.stubs + stubs_size right.stubs) 0 both
+  pub behind : left.rank ≡ right.rank + 1 → 0 < length left.stubs → stubs_size right.stubs ≤ bytes → IsFew old new left.rank (stubs_size left.stubs + 5440) 4 both
+  pub before : left.rank + 1 ≡ right.rank → 0 < length right.stubs → stubs_size left.stubs ≤ bytes → IsFew old new right.rank (stubs_size right.stubs + 5440) 4 both
+
+abbrev pub JoinsFew : ℕ → Store → Store → Sheaf → Sheaf → Result Loose TreeFault → Type 0
+JoinsFew bytes old new left right result =
+    KeepsWord new → Each IsStub left.stubs → Each IsStub right.stubs → IfOk result (λ both. AreFewJoined old new bytes left right (sheaf_in both))
+
+-- A part in front is all that there is, or it takes two thirds of a page, or a third where one page more has room for the rest.
+abbrev pub IsFullPart : List Stub → ℕ → Type 0
+IsFullPart stubs at = (length stubs ≤ at)
+    ⊎ ((4080 < stubs_size stubs) × ((2720 ≤ stubs_size (take at stubs)) ⊎ ((1360 ≤ stubs_size (take at stubs)) × (stubs_size stubs ≤ 5440))))
+
+-- One page was made, and this stands for it.
+pub record IsOnePage (old new : Store) (stubs : List Stub) (above : Stub) : Type 0 where
+  pub made : length new.made ≡ length old.made + 1
+  pub child : IsChild above.load
+  pub small : Each IsStub stubs → IsStub above
+
+-- These pages were written of so many bytes: more than 2,720 for each but one.
+pub record AreFewPages (old new : Store) (bytes : ℕ) (above : List Stub) : Type 0 where
+  pub made : length new.made ≡ length old.made + length above
+  pub few : 2720 * length above ≤ bytes + 2719
+  pub children : Each (λ s. IsChild s.load) above
+  pub small : Each IsStub above
+
+-- What is left to write up to the root has 2,720 bytes, doubled so often; with what was made it takes so many pages at most.
+pub record IsFewTop (old new : Store) (most : ℕ) (top : Sheaf) : Type 0 where
+  pub halvings : ℕ
+  pub pages : ℕ
+  pub little : IsLittle (2720 * 2 ^ halvings) top
+  pub made : MakesUpTo old new pages
+  pub enough : pages + (2 * 2 ^ halvings - 1) ≤ most
