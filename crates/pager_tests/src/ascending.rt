@@ -31,9 +31,10 @@ fn put(alloc: Global, samples: &Samples, both: &mut Both<MemDisk>, number: u32) 
     }
 }
 
-/// A key of 17 bytes and a value of 330 take 353 with their lengths: 11 go into a leaf's 4,080 bytes. Ten thousand fill 910 leaves. A
-/// branch has 177 children of 6 + 17 bytes where it is full and 59 where it is filled to a third: 16 branches at most, and a root. One
-/// leaf more may stand at the end, where two share what is left: 928.
+/// A key of 17 bytes and a value of 330 take 353 with their lengths: 11 go into a leaf's 4,080 bytes. Ten
+/// thousand fill 910 leaves. A branch has 177 children of 6 + 17 bytes where it is full and 59 where it is
+/// filled to a third: 16 branches at most, and a root. One leaf more may stand at the end, where two share
+/// what is left: 928.
 #[test]
 fn documents_fill_their_leaves(rt: HostRuntime) -> Result<(), Fail> {
     let samples = Samples::new(rt.alloc(), 10_000, 17, 0)?;
@@ -41,7 +42,10 @@ fn documents_fill_their_leaves(rt: HostRuntime) -> Result<(), Fail> {
         panic!(&rt; "no memory");
     };
     for number in 0..10 {
-        assert!(rt; put(rt.alloc(), &samples, &mut both, number), "list {number}");
+        assert!(rt;
+            put(rt.alloc(), &samples, &mut both, number),
+            "list {number}"
+        );
     }
     let Some(mut both) = reopen(rt.alloc(), both, LIMIT) else {
         panic!(&rt; "it doesn't open again");

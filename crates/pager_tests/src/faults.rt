@@ -37,7 +37,14 @@ const BEFORE: [Item; 2] = [
 struct Turn {
     list: &'static [Change],
     after: &'static [Item],
-    pages: u64,
+    pages: u32,
+}
+
+impl Turn {
+    /// The writes and syncs of its commit: eight sectors a page, a sync, the root, and a sync.
+    fn calls(&self) -> u64 {
+        8 * self.pages as u64 + 3
+    }
 }
 
 const TURNS: [Turn; 3] = [
@@ -130,8 +137,7 @@ fn holds(alloc: Global, samples: &Samples, disk: MemDisk, items: &[Item]) -> (bo
     }
 }
 
-/// Whether an image holds the entries of the turn or, where it wasn't committed, those from before. It is opened twice, once before and
-/// once behind what was read.
+/// Whether an image holds the entries of the turn or, where it wasn't committed, those from before.
 fn is_right(
     alloc: Global,
     samples: &Samples,
@@ -160,7 +166,10 @@ fn all_images(
     is_done: bool,
 ) {
     for mask in 0..2_048 {
-        assert!(rt; is_right(rt.alloc(), samples, disk, mask, turn, is_done), "{mask}");
+        assert!(rt;
+            is_right(rt.alloc(), samples, disk, mask, turn, is_done),
+            "{mask}"
+        );
     }
 }
 
@@ -174,9 +183,15 @@ fn some_images(
 ) {
     for bit in 0..12u16 {
         let one = if bit < 11 { 1u16 << bit } else { 0 };
-        assert!(rt; is_right(rt.alloc(), samples, disk, one, turn, is_done), "{one}");
+        assert!(rt;
+            is_right(rt.alloc(), samples, disk, one, turn, is_done),
+            "{one}"
+        );
         let others = 2_047 ^ one;
-        assert!(rt; is_right(rt.alloc(), samples, disk, others, turn, is_done), "{others}");
+        assert!(rt;
+            is_right(rt.alloc(), samples, disk, others, turn, is_done),
+            "{others}"
+        );
     }
 }
 
@@ -201,7 +216,8 @@ fn change_again<D: Disk>(
     }
 }
 
-/// Commits a turn. Whether that was done: where it wasn't, the pager is stopped, and a second commit fails too.
+/// Commits a turn. Whether that was done: where it wasn't, the pager is stopped, and a second commit fails
+/// too.
 fn commit<D: Disk>(rt: &impl Abort, pager: &mut Pager<D>, root: u32) -> bool {
     let answer = pager.commit(root);
     assert_eq!(rt; pager.is_stopped(), answer.is_err());
@@ -230,8 +246,8 @@ fn stop_at(
     };
     let root = change_again(rt, samples, &mut pager, turn);
     let is_done = commit(rt, &mut pager, root);
-    // a sync opens, and a commit writes eight sectors a page, syncs, writes the root and syncs
-    assert_eq!(rt; is_done, n == 8 * turn.pages + 4);
+    // a sync opens
+    assert_eq!(rt; is_done, n == turn.calls().wrapping_add(1));
     all_images(rt, samples, &pager.into_disk().into_inner(), turn, is_done);
 }
 
@@ -240,14 +256,15 @@ fn stop_everywhere(rt: HostRuntime) -> Result<(), Fail> {
     let samples = Samples::new(rt.alloc(), 5, 6, 0)?;
     let before = disk_before(&rt, &samples);
     for turn in &TURNS {
-        for n in 0..8 * turn.pages + 5 {
+        for n in 0..turn.calls().wrapping_add(2) {
             stop_at(&rt, &samples, before.image(0)?, turn, n);
         }
     }
     Ok(())
 }
 
-/// Commits a turn on a disk of which the n-th call fails, counted from 1. Whether a call failed that late in the commit.
+/// Commits a turn on a disk of which the n-th call fails, counted from 1. Whether a call failed that late
+/// in the commit.
 fn fail_at(
     rt: &(impl Abort + AllocGlobal),
     samples: &Samples,
@@ -273,16 +290,16 @@ fn fail_at(
 /// The calls of a commit come last: as many of all calls fail there as it has.
 fn fail_each(rt: &(impl Abort + AllocGlobal), samples: &Samples, turn: &Turn, lands: bool) {
     let before = disk_before(rt, samples);
-    let mut failed = 0;
+    let mut failed = 0u64;
     for n in 1..100 {
         let Ok(disk) = before.image(0) else {
             panic!(rt; "no memory");
         };
         if fail_at(rt, samples, disk, turn, n, lands) {
-            failed += 1;
+            failed = failed.wrapping_add(1);
         }
     }
-    assert_eq!(rt; failed, 8 * turn.pages + 3);
+    assert_eq!(rt; failed, turn.calls());
 }
 
 #[test]

@@ -54,7 +54,14 @@ fn full_is_taken_back(rt: HostRuntime) -> Result<(), Fail> {
     let Some(mut both) = begin(alloc, LIMIT) else {
         panic!(&rt; "no memory");
     };
-    assert!(rt; commits(alloc, &samples, &mut both, &[put(1, 70), put(2, 0), put(3, 330)]));
+    assert!(rt;
+        commits(
+            alloc,
+            &samples,
+            &mut both,
+            &[put(1, 70), put(2, 0), put(3, 330)]
+        )
+    );
     assert_eq!(rt; count_free(alloc, &mut both.pager, 20), 10);
     // 17 pages and a leaf don't find room, nor do 10 pages and a leaf
     assert!(rt; is_full(alloc, &samples, &mut both, &[put(0, 65_535)]));

@@ -1,4 +1,5 @@
-//! Turns of which one growth of memory is refused: what a pager answers is followed, and what it holds is that.
+//! Turns of which one growth of memory is refused: what a pager answers is followed, and what it holds is
+//! that.
 use crate::both::{change, gives};
 use crate::plain::{Change, Item};
 use crate::samples::{Samples, Value};
@@ -115,7 +116,8 @@ fn change_again(
     }
 }
 
-/// Commits a turn, once more where memory ran out. False where the disk found none, and the pager is stopped.
+/// Commits a turn, once more where memory ran out. False where the disk found none, and the pager is
+/// stopped.
 fn commit_again(rt: &impl Abort, pager: &mut Pager<MemDisk>, root: u32) -> bool {
     let before = pager.generation();
     match pager.commit(root) {

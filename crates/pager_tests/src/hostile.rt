@@ -9,8 +9,8 @@ use std::test::Fail;
 
 /// Sector 1 up to its last byte that isn't zero: generation 1, the tree below page 1, 5 pages.
 const ROOT: [u8; 32] = [
-    b'D', b'O', b'C', b'P', b'A', b'G', b'E', b'1', 1, 0, 0, 0, 0, 16, 0, 0, 1, 0, 0, 0, 0, 0, 0, 0, 1, 0,
-    0, 0, 5, 0, 0, 0,
+    b'D', b'O', b'C', b'P', b'A', b'G', b'E', b'1', 1, 0, 0, 0, 0, 16, 0, 0, 1, 0, 0, 0, 0, 0, 0,
+    0, 1, 0, 0, 0, 5, 0, 0, 0,
 ];
 
 /// Writes these bytes, and zeros behind them, from a sector on.
@@ -83,9 +83,7 @@ const LONGER: &[u8] = &[
 const CHAIN: &[u8] = &[3, 0, 0x4b, 1, 2, 0, 0, 0, 1];
 
 /// The first page of a chain as page 2, with 4,076 bytes, which goes on at page 3.
-const FIRST: &[u8] = &[
-    3, 0, 0xec, 0x0f, 2, 0, 0, 0, 1, 0, 0, 0, 0, 0, 0, 0, 3,
-];
+const FIRST: &[u8] = &[3, 0, 0xec, 0x0f, 2, 0, 0, 0, 1, 0, 0, 0, 0, 0, 0, 0, 3];
 
 /// The last of 3,924 bytes as page 3.
 const LAST: &[u8] = &[3, 0, 0x54, 0x0f, 3, 0, 0, 0, 1];
@@ -153,10 +151,12 @@ const DAMAGED: [&[&[u8]]; 22] = [
     ]],
     // keys that fall, and the same key twice
     &[&[
-        1, 0, 2, 0, 1, 0, 0, 0, 1, 0, 0, 0, 0, 0, 0, 0, 1, 0, 0, 0, 0, 0, b'b', 1, 0, 0, 0, 0, 0, b'a',
+        1, 0, 2, 0, 1, 0, 0, 0, 1, 0, 0, 0, 0, 0, 0, 0, 1, 0, 0, 0, 0, 0, b'b', 1, 0, 0, 0, 0, 0,
+        b'a',
     ]],
     &[&[
-        1, 0, 2, 0, 1, 0, 0, 0, 1, 0, 0, 0, 0, 0, 0, 0, 1, 0, 0, 0, 0, 0, b'a', 1, 0, 0, 0, 0, 0, b'a',
+        1, 0, 2, 0, 1, 0, 0, 0, 1, 0, 0, 0, 0, 0, 0, 0, 1, 0, 0, 0, 0, 0, b'a', 1, 0, 0, 0, 0, 0,
+        b'a',
     ]],
     // a chain that is too short: its only page, and its last
     &[LONG, &[3, 0, 0x4a, 1, 2, 0, 0, 0, 1]],
@@ -180,12 +180,17 @@ fn damaged_files_are_not_opened(rt: HostRuntime) -> Result<(), Fail> {
         assert_eq!(rt; fault_of(&rt, fronts), None);
     }
     for (row, fronts) in DAMAGED.iter().enumerate() {
-        assert_eq!(rt; fault_of(&rt, fronts), Some(OpenFault::Damaged), "row {row}");
+        assert_eq!(rt;
+            fault_of(&rt, fronts),
+            Some(OpenFault::Damaged),
+            "row {row}"
+        );
     }
     Ok(())
 }
 
-/// Files that are opened, since their pages are there, each once. Their keys don't lie between those of the branch above them.
+/// Files that are opened, since their pages are there, each once. Their keys don't lie between those of the
+/// branch above them.
 const UNORDERED: [&[&[u8]]; 2] = [
     // "z" below "m"
     &[
@@ -217,7 +222,8 @@ fn reads_wrong(alloc: Global, pager: &mut Pager<MemDisk>, key: &[u8]) -> bool {
     look == Some(TreeFault::Order) && all == Some(TreeFault::Order)
 }
 
-/// A change of a tree whose keys don't ascend returns, with an answer or a fault, and taken back it leaves the pages as they were.
+/// A change of a tree whose keys don't ascend returns, with an answer or a fault, and taken back it leaves
+/// the pages as they were.
 fn changes_and_returns(alloc: Global, pager: &mut Pager<MemDisk>, key: &[u8]) -> bool {
     let mark = pager.mark();
     let edit = Edit {
@@ -239,8 +245,14 @@ fn keys_out_of_order_are_a_fault(rt: HostRuntime) -> Result<(), Fail> {
             panic!(&rt; "row {row} isn't opened");
         };
         assert!(rt; reads_wrong(rt.alloc(), &mut pager, b"n"), "row {row}");
-        assert!(rt; changes_and_returns(rt.alloc(), &mut pager, b"n"), "row {row}");
-        assert!(rt; changes_and_returns(rt.alloc(), &mut pager, b"b"), "row {row}");
+        assert!(rt;
+            changes_and_returns(rt.alloc(), &mut pager, b"n"),
+            "row {row}"
+        );
+        assert!(rt;
+            changes_and_returns(rt.alloc(), &mut pager, b"b"),
+            "row {row}"
+        );
     }
     Ok(())
 }
@@ -252,10 +264,22 @@ fn other_roots_are_a_fault(rt: HostRuntime) -> Result<(), Fail> {
     let Ok(mut pager) = Pager::open(alloc, disk_of(&rt, &[LONG, CHAIN]), 20) else {
         panic!(&rt; "it isn't opened");
     };
-    assert_eq!(rt; get(alloc, &mut pager, 2, b"k").err(), Some(TreeFault::Kind));
-    assert_eq!(rt; get(alloc, &mut pager, 3, b"k").err(), Some(TreeFault::Number));
-    assert_eq!(rt; get(alloc, &mut pager, 5, b"k").err(), Some(TreeFault::Number));
-    assert_eq!(rt; get(alloc, &mut pager, u32::MAX, b"k").err(), Some(TreeFault::Number));
+    assert_eq!(rt;
+        get(alloc, &mut pager, 2, b"k").err(),
+        Some(TreeFault::Kind)
+    );
+    assert_eq!(rt;
+        get(alloc, &mut pager, 3, b"k").err(),
+        Some(TreeFault::Number)
+    );
+    assert_eq!(rt;
+        get(alloc, &mut pager, 5, b"k").err(),
+        Some(TreeFault::Number)
+    );
+    assert_eq!(rt;
+        get(alloc, &mut pager, u32::MAX, b"k").err(),
+        Some(TreeFault::Number)
+    );
     assert!(rt; get(alloc, &mut pager, 1, b"k")?.is_some());
     Ok(())
 }

@@ -105,17 +105,21 @@ fn put_all(rt: &impl Abort, run: &mut Run) {
 fn remove_all(rt: &impl Abort, run: &mut Run) {
     for i in 0..500u32 {
         assert!(rt; run.turn(i, None), "removes {i}");
-        assert!(rt; run.turn(999u32.wrapping_sub(i), None), "removes the last but {i}");
+        assert!(rt;
+            run.turn(999u32.wrapping_sub(i), None),
+            "removes the last but {i}"
+        );
         if i % 49 == 0 {
             assert!(rt; run.is_right(), "without {i}");
         }
     }
 }
 
-/// An entry takes 6 + 17 + 100 bytes. Any leaf but one alone has a quarter of its 4,080 bytes, so 8 entries at least, or the change
-/// that made it joined it with the page beside it: at most 125 leaves. 177 children find room in a branch of 6 + 17 bytes for each, and
-/// 44 are a quarter: 3 branches at most, and a root. A turn makes a page on each of three levels and, where a page is joined or cut, one
-/// beside it. So 140 pages are enough, with page 0, where a page that is free is taken before a new one.
+/// An entry takes 6 + 17 + 100 bytes. Any leaf but one alone has a quarter of its 4,080 bytes, so 8 entries
+/// at least, or the change that made it joined it with the page beside it: at most 125 leaves. 177 children
+/// find room in a branch of 6 + 17 bytes for each, and 44 are a quarter: 3 branches at most, and a root. A
+/// turn makes a page on each of three levels and, where a page is joined or cut, one beside it. So 140
+/// pages are enough, with page 0, where a page that is free is taken before a new one.
 #[test]
 fn a_thousand_up_and_down(rt: HostRuntime) -> Result<(), Fail> {
     let mut run = new_run(&rt, 1_000, 17, 400);
@@ -132,8 +136,8 @@ fn a_thousand_up_and_down(rt: HostRuntime) -> Result<(), Fail> {
     Ok(())
 }
 
-/// Lengths of the value at one key, turn by turn, and the pages of its tree: a leaf, and one for each 4,076 bytes of a value of more
-/// than 330.
+/// Lengths of the value at one key, turn by turn, and the pages of its tree: a leaf, and one for each 4,076
+/// bytes of a value of more than 330.
 const LENGTHS: [(u16, u32); 14] = [
     (330, 1),
     (331, 2),
@@ -158,7 +162,7 @@ fn values_replace_each_other(rt: HostRuntime) -> Result<(), Fail> {
     for (len, pages) in LENGTHS {
         assert!(rt; run.turn(0, value(len)), "{len}");
         assert!(rt; run.is_right(), "{len}");
-        assert_eq!(rt; run.free(200), 99 - pages, "{len}");
+        assert_eq!(rt; run.free(200).wrapping_add(pages), 99, "{len}");
     }
     assert!(rt; run.turn(0, None));
     assert_eq!(rt; run.free(200), 99);
@@ -170,7 +174,8 @@ fn values_replace_each_other(rt: HostRuntime) -> Result<(), Fail> {
 /// Values of the entries with long keys.
 const LONG: [u16; 6] = [330, 0, 331, 1, 330, 65_535];
 
-/// A key of 1,014 bytes and 330 of its value are 1,350, so a leaf has three entries or four, and a branch four children.
+/// A key of 1,014 bytes and 330 of its value are 1,350, so a leaf has three entries or four, and a branch
+/// four children.
 #[test]
 fn long_keys(rt: HostRuntime) -> Result<(), Fail> {
     let mut run = new_run(&rt, 200, 1_014, 2_000);

@@ -9,8 +9,8 @@ pub(crate) const KEYS: u32 = 10_000;
 /// Lengths at which a value goes into a page more.
 const LENGTHS: [u16; 8] = [0, 1, 329, 330, 331, 4_076, 4_077, 8_153];
 
-/// What a list is like: where its first key may lie, how many changes it has at most, how far apart their keys are, and how many
-/// of sixteen changes are removals.
+/// What a list is like: where its first key may lie, how many changes it has at most, how far apart their
+/// keys are, and how many of sixteen changes are removals.
 #[derive(Clone, Copy)]
 pub(crate) struct Shape {
     pub(crate) start: u32,

@@ -12,7 +12,8 @@ const LIMIT: u32 = 20_000;
 /// How many entries a scan gives at most.
 const BATCHES: [usize; 7] = [1_000, 7, 20_000, 64, 333, 1, 4_096];
 
-/// Where the first key may lie, the most changes, the greatest gap between two keys, the removals among sixteen changes.
+/// Where the first key may lie, the most changes, the greatest gap between two keys, the removals among
+/// sixteen changes.
 const SHAPES: [[u32; 4]; 12] = [
     // all over the keys, most of them put
     [40, 600, 32, 3],
