@@ -115,11 +115,11 @@ fn remove_all(rt: &impl Abort, run: &mut Run) {
     }
 }
 
-/// An entry takes 6 + 17 + 100 bytes. Any leaf but one alone has a quarter of its 4,080 bytes, so 8 entries
-/// at least, or the change that made it joined it with the page beside it: at most 125 leaves. 177 children
-/// find room in a branch of 6 + 17 bytes for each, and 44 are a quarter: 3 branches at most, and a root. A
-/// turn makes a page on each of three levels and, where a page is joined or cut, one beside it. So 140
-/// pages are enough, with page 0, where a page that is free is taken before a new one.
+/// An entry takes 6 + 17 + 100 bytes. A leaf of less than a quarter of its 4,080 bytes, 8 entries or fewer,
+/// is joined with the page beside it: some 112 leaves at most. A child takes 6 + 17 bytes of a branch, and 44
+/// are less than a quarter: 3 branches at most, and a root. A turn makes two pages on each of three levels at
+/// most, and a new root. With page 0 these are 124, where a page that is free is taken before a new one; no
+/// contract bounds them, so 140 are let pass. A file that lost a page each turn would have 2,000.
 #[test]
 fn a_thousand_up_and_down(rt: HostRuntime) -> Result<(), Fail> {
     let mut run = new_run(&rt, 1_000, 17, 400);
