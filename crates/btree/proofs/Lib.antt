@@ -1,3 +1,4 @@
+pub mod CapacityLemmas
 pub mod ChainLemmas
 pub mod ChangeLemmas
 pub mod ChangingLemmas

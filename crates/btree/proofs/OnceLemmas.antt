@@ -22,7 +22,7 @@ old_trees_stay old new root pages entries g (inr t) =
 
 -- ---- what is reached is live
 
-abbrev IsLive : Store → ℕ → Type 0
+abbrev pub IsLive : Store → ℕ → Type 0
 IsLive s n = s.live n ≡ true
 
 links_live : (s : Store) (pages bytes : List ℕ) → HasLinks s pages bytes → Each (IsLive s) pages
@@ -39,7 +39,7 @@ shows_live s zero (x ∷ xs) h = each_append (IsLive s) x.links (pages_of zero x
 shows_live s (suc d) [] h = tt
 shows_live s (suc d) (w ∷ ws) h = each_append (IsLive s) (w.page ∷ pages_of d w.body) (pages_of (suc d) ws) (h.0.0.live, shows_live s d w.body h.0.1) (shows_live s (suc d) ws h.1)
 
-map_live : (s : Store) (root : ℕ) (pages : List ℕ) (entries : List Entry) → HasMap s root pages entries → Each (IsLive s) pages
+pub map_live : (s : Store) (root : ℕ) (pages : List ℕ) (entries : List Entry) → HasMap s root pages entries → Each (IsLive s) pages
 map_live s root pages entries (inl none) = subst (Each (IsLive s)) (sym none.1.0) tt
 map_live s root pages entries (inr t) = subst (Each (IsLive s)) (sym t.pages_are) (t.tree.at.live, shows_live s t.d t.body t.tree.shown)
 

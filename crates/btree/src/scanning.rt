@@ -1,5 +1,5 @@
 // Entries in ascending order of their keys, a batch at a time.
-ghost use Rattle.std.specs.Prelude.{◌≡◌, ◌++◌, ◌∷◌, [], Ok, ℕ, zero, List, map, IfErr, IfOk, MatchResult, true, false};
+ghost use Rattle.std.specs.Prelude.{◌≡◌, ◌++◌, ◌∷◌, [], Ok, ℕ, zero, List, map, IfErr, MatchResult, true, false};
 ghost use Rattle.std.specs.Option.{option_map};
 ghost use Rattle.btree.specs.Keys.{Pair, Rises, entry_of, Entry as MapEntry};
 ghost use Rattle.btree.specs.Store.{Grows, HasCause, IsSame, KeepsWord, Store};
@@ -181,7 +181,7 @@ pub fn scan<P: Pages>(
     ensures grows { Grows (P.store pages.old) (P.store pages.new) }
     ensures same { KeepsWord (P.store pages.new)
         → IsSame (P.store pages.old) (P.store pages.new) }
-    ensures empty { root ≡ 0 → IfOk result (λ batch. Holds range.entry.limit [] batch) }
+    ensures empty { root ≡ 0 → MatchResult result (Holds range.entry.limit []) (λ e. ⊥) }
     ensures scans { (d : ℕ) (body : Body d) → IsTree (P.store pages.old) root d body
         → Yields (P.store pages.old) (P.store pages.new)
         (λ batch. Holds range.entry.limit (within range.entry (entries_of d body)) batch)

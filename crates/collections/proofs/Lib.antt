@@ -1,6 +1,9 @@
 pub mod ApplyLemmas
 pub mod CommitLemmas
+pub mod FoundLemmas
 pub mod LawLemmas
 pub mod MarkLemmas
 pub mod OpenLemmas
+pub mod ReadingLemmas
 pub mod StandingLemmas
+pub mod WalkLemmas

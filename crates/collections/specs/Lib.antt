@@ -5,6 +5,8 @@ pub mod Holding
 pub mod Laws
 pub mod Marks
 pub mod Opening
+pub mod Reading
 pub mod Standing
 pub mod State
 pub mod View
+pub mod Walk

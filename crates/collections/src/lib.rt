@@ -6,6 +6,10 @@ mod applying;
 mod collections;
 pub mod laws;
 mod mark;
+mod reading;
+mod walk;
 
 pub use collections::Collections;
 pub use mark::Mark;
+pub use reading::Name;
+pub use walk::{Walk, goes_on_walking};

@@ -2,6 +2,7 @@ pub mod AfterLemmas
 pub mod BeginLemmas
 pub mod BookLemmas
 pub mod CallLemmas
+pub mod CapacityLemmas
 pub mod EndLemmas
 pub mod FindLemmas
 pub mod ListLemmas

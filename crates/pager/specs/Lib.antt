@@ -1,4 +1,5 @@
 pub mod Calls
+pub mod Capacity
 pub mod Commit
 pub mod Kept
 pub mod Opening

@@ -45,6 +45,7 @@ impl<D: Disk> Model for Pager<D> {
 impl<D: Disk> Pager<D> {
     ghost use Rattle.std.specs.Prelude.{IfOk, IfErr, length};
     ghost use Rattle.roots.specs.tree.Store.{durable_root, is_stopped};
+    ghost use Rattle.pager.specs.Capacity.{TreesFit};
     ghost use Rattle.pager.specs.Commit.{Commits, MovesTurns};
     ghost use Rattle.pager.specs.Opening.{IsOpened, IsRefused};
     ghost use Rattle.pager.specs.State.{State};
@@ -104,6 +105,13 @@ impl<D: Disk> Pager<D> {
         ensures { result ≡ is_stopped self.now.store }
     {
         self.store.is_stopped()
+    }
+
+    /// Each page of the turn's tree is one of the file's and is reached once, so the tree has few entries.
+    pub fn trees_fit(&self)
+        ensures { TreesFit D.history self.now }
+    {
+        let _ = &self.made;
     }
 
     /// Whether the running turn has made or retired a page.

@@ -1,0 +1,169 @@
+-- What a look-up in the tree says of the collections, and how answers go on from there.
+use Rattle.std.proofs.Common.{◌≡◌, ℕ, false, true, List, refl, ap, inl, inr}
+use Rattle.std.specs.Prelude.{◌==◌, not, Result, Ok, Err, MatchResult}
+use Rattle.page.specs.History.{History, KeepsWord}
+use Rattle.path.specs.declared.refusal.Refusal.{Refusal}
+use Rattle.path.specs.declared.refusal.Refusal.TheVariants as refusals
+use Rattle.btree.specs.Keys.{Entry}
+use Rattle.btree.specs.Store.{HasCause as HasTreeCause}
+use Rattle.btree.specs.declared.pages.TreeFault.{TreeFault}
+use Rattle.btree.specs.declared.pages.TreeFault.TheVariants as faults
+use Rattle.btree.proofs.StoreLemmas.{grows_itself}
+use Rattle.pager.specs.State.{State as PagerState}
+use Rattle.pager.specs.View.{store_of}
+use Rattle.index.specs.State.{Collection}
+use Rattle.collections.specs.Applying.{refusal_of}
+use Rattle.collections.specs.Calls.{HasCause, Reads}
+use Rattle.collections.specs.Reading.{IsInTree, LooksUp, OrMemory, ReadsOf}
+use Rattle.collections.specs.Standing.{HasState, IsTurnOf}
+use Rattle.collections.specs.State.{State}
+use Rattle.collections.specs.View.{disk_history, is_changed, is_stopped}
+use Rattle.collections.proofs.StandingLemmas.{state_stays, tree_same}
+
+-- ---- before anything is read
+
+module _ {D X : Type 0} (history : D → History) (Q : List Collection → X → Type 0) (old : State D) where
+  pub reads_memory : (e : Refusal) → e ≡ refusals.OutOfMemory → Reads history Q (Err e) old old
+  reads_memory e is = record {
+    on = grows_itself (store_of history old.pager);
+    unchanged = refl;
+    same = λ start now has. has;
+    answers = λ k start now has. inl is;
+  }
+
+  pub reads_stopped : is_stopped old ≡ true → Reads history Q (Err refusals.StorageFailed) old old
+  reads_stopped stopped = record {
+    on = grows_itself (store_of history old.pager);
+    unchanged = refl;
+    same = λ start now has. has;
+    answers = λ k start now has. inr (inl (refl, inl stopped));
+  }
+
+module _ {D A X : Type 0} (history : D → History) (Is : List Collection → A → Type 0) (Q : List Collection → A → X → Type 0) (old : State D) where
+  pub asks_memory : (e : Refusal) → e ≡ refusals.OutOfMemory → ReadsOf history Is Q (Err e) old old
+  asks_memory e is = record {
+    on = grows_itself (store_of history old.pager);
+    unchanged = refl;
+    same = λ start now has. has;
+    answers = λ k start now has asked so. inl is;
+  }
+
+  -- an answer that needs no look at the tree
+  pub asks_nothing : (x : X) → ((now : List Collection) (asked : A) → Is now asked → Q now asked x) → ReadsOf history Is Q (Ok x) old old
+  asks_nothing x right = record {
+    on = grows_itself (store_of history old.pager);
+    unchanged = refl;
+    same = λ start now has. has;
+    answers = λ k start now has asked so. right now asked so;
+  }
+
+-- ---- a look at the tree
+
+module _ {D X : Type 0} (history : D → History) (IsRight : List Entry → X → Type 0) (old : State D) (pager : PagerState D) (result : Result X TreeFault)
+    (looks : LooksUp history old.root IsRight result old.pager pager) where
+  abbrev new : State D
+  new = record old { pager = pager }
+
+  unchanged_there : is_changed new ≡ is_changed old
+  unchanged_there = ap (λ (tree : ℕ). not (old.root == tree)) (tree_same history old.pager pager looks.grows.stays)
+
+  stays_there : (start now : List Collection) → HasState history old start now → HasState history new start now
+  stays_there start now = state_stays history old new start now looks.grows refl (λ k. (looks.same k).made) (λ k. (looks.same k).retired)
+
+  cause_there : (e : TreeFault) → HasTreeCause (store_of history old.pager) (store_of history pager) e → HasCause history old new (refusal_of e)
+  cause_there faults.Memory cause = inl refl
+  cause_there faults.Device cause = inr (inl (refl, inr cause))
+  cause_there faults.Full cause = inr (inr (refl, cause))
+  cause_there faults.Kind cause = absurd cause
+  cause_there faults.Number cause = absurd cause
+  cause_there faults.Order cause = absurd cause
+  cause_there faults.Length cause = absurd cause
+
+  pub reads_there : (x : X) → result ≡ Ok x → is_stopped old ≡ false → Reads history (IsInTree IsRight) (Ok x) old new
+  reads_there x is running = record {
+    on = looks.grows;
+    unchanged = unchanged_there;
+    same = stays_there;
+    answers = λ k start now has.
+        let t : IsTurnOf history old start now = has running (looks.grows.frame k).word in
+        let right : IsRight t.after x = subst_result x is t.after (looks.yields t.pages t.after t.turn.holds k) in
+        record { entries = t.after; spells = t.spells_now; state = t.now_state; right = right };
+  }
+    where
+      subst_result : (x : X) → result ≡ Ok x → (entries : List Entry) → MatchResult result (IsRight entries) (HasTreeCause (store_of history old.pager) (store_of history pager)) → IsRight entries x
+      subst_result x is entries answer = rw is at answer
+
+  pub reads_failed : {Y : Type 0} (Q : List Collection → Y → Type 0) (e : TreeFault) → result ≡ Err e → is_stopped old ≡ false → Reads history Q (Err (refusal_of e)) old new
+  reads_failed Q e is running = record {
+    on = looks.grows;
+    unchanged = unchanged_there;
+    same = stays_there;
+    answers = λ k start now has.
+        let t : IsTurnOf history old start now = has running (looks.grows.frame k).word in
+        cause_there e (cause_of (IsRight t.after) (looks.yields t.pages t.after t.turn.holds k));
+  }
+    where
+      cause_of : (P : X → Type 0) → MatchResult result P (HasTreeCause (store_of history old.pager) (store_of history pager)) → HasTreeCause (store_of history old.pager) (store_of history pager) e
+      cause_of P answer = rw is at answer
+
+-- ---- what is made of an answer
+
+module _ {D X Y : Type 0} (history : D → History) (P : List Collection → X → Type 0) (Q : List Collection → Y → Type 0) (old new : State D) where
+  pub reads_refused : (e : Refusal) → Reads history P (Err e) old new → Reads history Q (Err e) old new
+  reads_refused e reads = record { on = reads.on; unchanged = reads.unchanged; same = reads.same; answers = reads.answers }
+
+  pub reads_on : (x : X) (r : Result Y Refusal) → Reads history P (Ok x) old new → ((now : List Collection) → P now x → OrMemory (Q now) r) → Reads history Q r old new
+  reads_on x r reads on = record {
+    on = reads.on;
+    unchanged = reads.unchanged;
+    same = reads.same;
+    answers = λ k start now has. or_cause (Q now) r (on now (reads.answers k start now has));
+  }
+    where
+      or_cause : (IsRight : Y → Type 0) (r : Result Y Refusal) → OrMemory IsRight r → MatchResult r IsRight (HasCause history old new)
+      or_cause IsRight (Ok y) right = right
+      or_cause IsRight (Err e) is = inl is
+
+module _ {D A Y : Type 0} (history : D → History) (Is : List Collection → A → Type 0) (Q : List Collection → A → Y → Type 0) (old new : State D) where
+  or_cause_of : (IsRight : Y → Type 0) (r : Result Y Refusal) → OrMemory IsRight r → MatchResult r IsRight (HasCause history old new)
+  or_cause_of IsRight (Ok y) right = right
+  or_cause_of IsRight (Err e) is = inl is
+
+  pub asks_refused : {X : Type 0} (P : List Collection → X → Type 0) (e : Refusal) → Reads history P (Err e) old new → ReadsOf history Is Q (Err e) old new
+  asks_refused P e reads =
+      record { on = reads.on; unchanged = reads.unchanged; same = reads.same; answers = λ k start now has asked so. reads.answers k start now has }
+
+  pub asks_on : {X : Type 0} (P : List Collection → X → Type 0) (x : X) (r : Result Y Refusal) → Reads history P (Ok x) old new
+      → ((now : List Collection) (asked : A) → Is now asked → P now x → OrMemory (Q now asked) r) → ReadsOf history Is Q r old new
+  asks_on P x r reads on = record {
+    on = reads.on;
+    unchanged = reads.unchanged;
+    same = reads.same;
+    answers = λ k start now has asked so. or_cause_of (Q now asked) r (on now asked so (reads.answers k start now has));
+  }
+
+  pub asked_refused : {X : Type 0} (P : List Collection → A → X → Type 0) (e : Refusal) → ReadsOf history Is P (Err e) old new → ReadsOf history Is Q (Err e) old new
+  asked_refused P e reads = record { on = reads.on; unchanged = reads.unchanged; same = reads.same; answers = reads.answers }
+
+  pub asked_on : {X : Type 0} (P : List Collection → A → X → Type 0) (x : X) (r : Result Y Refusal) → ReadsOf history Is P (Ok x) old new
+      → ((now : List Collection) (asked : A) → Is now asked → P now asked x → OrMemory (Q now asked) r) → ReadsOf history Is Q r old new
+  asked_on P x r reads on = record {
+    on = reads.on;
+    unchanged = reads.unchanged;
+    same = reads.same;
+    answers = λ k start now has asked so. or_cause_of (Q now asked) r (on now asked so (reads.answers k start now has asked so));
+  }
+
+-- the same answer, asked of what not all collections have
+module _ {D A X : Type 0} (history : D → History) (Is : List Collection → A → Type 0) (P : List Collection → X → Type 0) (Q : List Collection → A → X → Type 0) (old new : State D) where
+  pub asks_same : (r : Result X Refusal) → Reads history P r old new → ((now : List Collection) (asked : A) (x : X) → Is now asked → P now x → Q now asked x) → ReadsOf history Is Q r old new
+  asks_same r reads on = record {
+    on = reads.on;
+    unchanged = reads.unchanged;
+    same = reads.same;
+    answers = λ k start now has asked so. either (P now) (Q now asked) r (λ x p. on now asked x so p) (reads.answers k start now has);
+  }
+    where
+      either : (P Q : X → Type 0) (r : Result X Refusal) → ((x : X) → P x → Q x) → MatchResult r P (HasCause history old new) → MatchResult r Q (HasCause history old new)
+      either P Q (Ok x) on p = on x p
+      either P Q (Err e) on cause = cause

@@ -1,0 +1,202 @@
+//! Collections by their names, and documents by their `_id`.
+
+ghost use Rattle.std.specs.Prelude.{◌≡◌, List, [], is_some, map};
+ghost use Rattle.std.specs.Option.{option_map};
+ghost use Rattle.bson.specs.Spelling.{frame_of, pairs_bytes};
+ghost use Rattle.bson.specs.Tree.{Pairs};
+ghost use Rattle.index.specs.LawfulState.{IsKept, IsStorable};
+ghost use Rattle.index.specs.State.{Collection, find_collection};
+ghost use Rattle.index.specs.StateEntries.{catalogue_entry};
+ghost use Rattle.collections.specs.Calls.{Reads};
+ghost use Rattle.collections.specs.Reading.{AreBytesAt, AreEach, IsBatchOf, IsInTree, IsNameOf, IsOfCollection, IsOfDocument, IsPlaceOf, IsValueAt, LooksUp, OrMemory, ReadsOf, name_in, name_of, stored_at};
+
+use crate::applying::refusal_of;
+use crate::collections::Collections;
+use bson::Document;
+use btree::{Batch, Entry, Range, TreeFault, get, scan};
+use index::{
+    catalogue_key, catalogue_number, document_in, document_key, first_key, namespace_in,
+};
+use page::Disk;
+use pager::Pager;
+use path::Refusal;
+use std::alloc::Global;
+
+/// The most collections of a database.
+const MOST_COLLECTIONS: usize = 1000;
+
+/// A collection by its name.
+#[derive(Debug, Drop)]
+pub struct Name {
+    pub namespace: String,
+    pub number: u32,
+}
+
+/// The value at a key of the tree below a root page.
+fn value_below<D: Disk>(
+    alloc: Global,
+    pager: &mut Pager<D>,
+    root: u32,
+    key: &[u8],
+) -> Result<Option<Vec<u8>>, TreeFault>
+    ensures { LooksUp D.history root (IsValueAt key.now) result pager.old pager.new }
+{
+    get(alloc, pager, root, key)
+}
+
+/// The entries of a range of that tree.
+fn entries_below<D: Disk>(
+    alloc: Global,
+    pager: &mut Pager<D>,
+    root: u32,
+    range: Range<'_>,
+) -> Result<Batch, TreeFault>
+    ensures { LooksUp D.history root (IsBatchOf range.entry) result pager.old pager.new }
+{
+    scan(alloc, pager, root, range)
+}
+
+/// The document that an entry's value is.
+fn document_of(alloc: Global, value: &[u8]) -> Result<Document, Refusal>
+    ensures { (d : Pairs) → IsStorable d → value.now ≡ frame_of (pairs_bytes d)
+        → OrMemory (λ document. document ≡ d) result }
+{
+    match document_in(alloc, value)? {
+        Some(document) => Ok(document),
+        None => Err(Refusal::StorageFailed),
+    }
+}
+
+/// The documents that entries are.
+pub(crate) fn documents_of(alloc: Global, entries: &[Entry]) -> Result<Vec<Document>, Refusal>
+    ensures { (ds : List Pairs) → AreEach IsOfDocument entries.now ds
+        → OrMemory (λ documents. documents.items ≡ ds) result }
+{
+    let mut documents = Vec::new(alloc);
+    for entry in entries {
+        documents.push(document_of(alloc, &entry.value)?)?;
+    }
+    Ok(documents)
+}
+
+/// The number that the catalogue tells of a collection.
+fn number_in(alloc: Global, value: &[u8]) -> Result<u32, Refusal>
+    ensures { (c : Collection) → IsKept c → c.indexes ≡ [] → value.now ≡ (catalogue_entry c).value
+        → OrMemory (λ number. number ≡ c.number) result }
+{
+    match catalogue_number(alloc, value)? {
+        Some(number) => Ok(number),
+        None => Err(Refusal::StorageFailed),
+    }
+}
+
+/// The collection that an entry of the catalogue is of.
+fn name_at(alloc: Global, entry: &Entry) -> Result<Name, Refusal>
+    ensures { (c : Collection) → IsOfCollection entry.now c
+        → OrMemory (λ name. IsNameOf name c) result }
+{
+    let Some(namespace) = namespace_in(alloc, &entry.key)? else {
+        return Err(Refusal::StorageFailed);
+    };
+    let number = number_in(alloc, &entry.value)?;
+    Ok(Name { namespace, number })
+}
+
+/// The collections that entries of the catalogue are of.
+fn names_at(alloc: Global, entries: &[Entry]) -> Result<Vec<Name>, Refusal>
+    ensures { (cs : List Collection) → AreEach IsOfCollection entries.now cs
+        → OrMemory (λ names. map name_of names.items ≡ map name_in cs) result }
+{
+    let mut names = Vec::new(alloc);
+    for entry in entries {
+        names.push(name_at(alloc, entry)?)?;
+    }
+    Ok(names)
+}
+
+impl<D: Disk> Collections<D> {
+    /// The value at a key of the turn's tree.
+    fn value_at(&mut self, key: &[u8]) -> Result<Option<Vec<u8>>, Refusal>
+        ensures { Reads D.history (IsInTree (IsValueAt key.now)) result self.old self.new }
+    {
+        if self.pager.is_stopped() {
+            return Err(Refusal::StorageFailed);
+        }
+        match value_below(self.alloc, &mut self.pager, self.root, key) {
+            Ok(found) => Ok(found),
+            Err(fault) => Err(refusal_of(fault)),
+        }
+    }
+
+    /// The entries of a range of the turn's tree.
+    pub(crate) fn entries_in(&mut self, range: Range<'_>) -> Result<Batch, Refusal>
+        ensures { Reads D.history (IsInTree (IsBatchOf range.entry)) result self.old self.new }
+    {
+        if self.pager.is_stopped() {
+            return Err(Refusal::StorageFailed);
+        }
+        match entries_below(self.alloc, &mut self.pager, self.root, range) {
+            Ok(batch) => Ok(batch),
+            Err(fault) => Err(refusal_of(fault)),
+        }
+    }
+
+    /// The number of the collection of a name, if there is one.
+    pub fn number_of(&mut self, namespace: &str) -> Result<Option<u32>, Refusal>
+        ensures { Reads D.history (λ now found. found
+            ≡ option_map (λ c. c.number) (find_collection now namespace.now))
+            result self.old self.new }
+    {
+        let key = catalogue_key(self.alloc, namespace)?;
+        let Some(value) = self.value_at(&key)? else {
+            return Ok(None);
+        };
+        Ok(Some(number_in(self.alloc, &value)?))
+    }
+
+    /// All collections, in ascending order of their names.
+    pub fn names(&mut self) -> Result<Vec<Name>, Refusal>
+        ensures { Reads D.history (λ now names. map name_of names.items ≡ map name_in now)
+            result self.old self.new }
+    {
+        let from = first_key(self.alloc, 0, 0)?;
+        let to = first_key(self.alloc, 0, 1)?;
+        let batch = self.entries_in(Range {
+            from: &from,
+            to: Some(&to),
+            limit: MOST_COLLECTIONS,
+        })?;
+        if batch.next.is_some() {
+            return Err(Refusal::StorageFailed);
+        }
+        names_at(self.alloc, &batch.entries)
+    }
+
+    /// The bytes of a document in the collection of a number, by the key text of its `_id`.
+    fn bytes_at(&mut self, number: u32, id: &[u8]) -> Result<Option<Vec<u8>>, Refusal>
+        ensures { ReadsOf D.history (IsPlaceOf number id.now)
+            (λ now place found. AreBytesAt place found) result self.old self.new }
+    {
+        let key = document_key(self.alloc, number, id)?;
+        self.value_at(&key)
+    }
+
+    /// The document of that `_id`, if there is one.
+    pub fn document(&mut self, number: u32, id: &[u8]) -> Result<Option<Document>, Refusal>
+        ensures { ReadsOf D.history (IsPlaceOf number id.now)
+            (λ now place found. found ≡ stored_at place) result self.old self.new }
+    {
+        let Some(bytes) = self.bytes_at(number, id)? else {
+            return Ok(None);
+        };
+        Ok(Some(document_of(self.alloc, &bytes)?))
+    }
+
+    /// Whether there is a document of that `_id`. It isn't decoded.
+    pub fn has_document(&mut self, number: u32, id: &[u8]) -> Result<bool, Refusal>
+        ensures { ReadsOf D.history (IsPlaceOf number id.now)
+            (λ now place found. found ≡ is_some (stored_at place)) result self.old self.new }
+    {
+        Ok(self.bytes_at(number, id)?.is_some())
+    }
+}
