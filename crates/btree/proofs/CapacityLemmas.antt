@@ -28,8 +28,13 @@ fan_few : (d : ℕ) → ((low : List ℕ) (high : Option (List ℕ)) (body : Bod
     → length (pairs_of (suc d) twigs) ≤ 680 * length (pages_of (suc d) twigs)
 fan_few d few high [] fan = omega arith
 fan_few d few high (w ∷ ws) fan =
-    omega (arith, few w.key (high_of high ws) w.body fan.0, fan_few d few high ws fan.1,
-    length-append (pairs_of d w.body) (pairs_of (suc d) ws), length-append (w.page ∷ pages_of d w.body) (pages_of (suc d) ws))
+    omega (
+      arith,
+      few w.key (high_of high ws) w.body fan.0,
+      fan_few d few high ws fan.1,
+      length-append (pairs_of d w.body) (pairs_of (suc d) ws),
+      length-append (w.page ∷ pages_of d w.body) (pages_of (suc d) ws),
+    )
 
 same_pairs : (d : ℕ) (low : List ℕ) (twigs : List (Twig (Body d))) → pairs_of (suc d) (with_low low twigs) ≡ pairs_of (suc d) twigs
 same_pairs d low [] = refl

@@ -276,8 +276,8 @@ pub steps_on : {D X : Type 0} (history : D → History) (Q : List Collection →
     → ReadsOf history (λ now rest. IsWalk now walk rest) Q r old new
 steps_on history Q old new walk from next_is range range_from range_to some batch r reads on =
     asks_on history (λ now rest. IsWalk now walk rest) Q old new (IsInTree (IsBatchOf range)) batch r reads (λ now rest w p.
-      let there = next_there now walk rest w from next_is range range_from range_to some batch p in
-      on now rest w there.each there.step)
+    let there = next_there now walk rest w from next_is range range_from range_to some batch p in
+    on now rest w there.each there.step)
 
 -- the walk behind a step
 module _ (now : List Collection) (walk : Walk) (rest : List Pairs) (w : IsWalk now walk rest) (limit count : ℕ) (next : Option (Vec ℕ)) (step : IsStep walk w.done rest limit count (option_map (λ v. v.items) next))

@@ -14,9 +14,7 @@ use crate::applying::refusal_of;
 use crate::collections::Collections;
 use bson::Document;
 use btree::{Batch, Entry, Range, TreeFault, get, scan};
-use index::{
-    catalogue_key, catalogue_number, document_in, document_key, first_key, namespace_in,
-};
+use index::{catalogue_key, catalogue_number, document_in, document_key, first_key, namespace_in};
 use page::Disk;
 use pager::Pager;
 use path::Refusal;
