@@ -21,3 +21,4 @@ pub use lookup::get;
 pub use pages::{Pages, TreeFault};
 pub use root::{change, insert, remove};
 pub use scanning::{Batch, Entry, Range, scan};
+pub use search::{high_bound, is_between, is_within, low_bound};

@@ -75,7 +75,7 @@ pub(crate) fn child_of_key(branch: &Branch, key: &[u8]) -> usize
 }
 
 /// Whether the key is below the bound, if there is one.
-pub(crate) fn is_within(key: &[u8], high: Option<&[u8]>) -> bool
+pub fn is_within(key: &[u8], high: Option<&[u8]>) -> bool
     ensures { MatchBool result (IsWithin (option_map (λ b. b.now) high.entry) key.now)
         (IsPast (option_map (λ b. b.now) high.entry) key.now) }
 {
@@ -86,7 +86,7 @@ pub(crate) fn is_within(key: &[u8], high: Option<&[u8]>) -> bool
 }
 
 /// Whether the key lies between the bounds.
-pub(crate) fn is_between(key: &[u8], low: &[u8], high: Option<&[u8]>) -> bool
+pub fn is_between(key: &[u8], low: &[u8], high: Option<&[u8]>) -> bool
     ensures yes { IsBetween low.now (option_map (λ b. b.now) high.entry) key.now → result ≡ true }
     ensures no { result ≡ true → IsBetween low.now (option_map (λ b. b.now) high.entry) key.now }
 {
@@ -140,7 +140,7 @@ pub(crate) fn lies_between(content: &PageContent, low: &[u8], high: Option<&[u8]
 }
 
 /// The low bound of the child at this place.
-pub(crate) fn low_bound<'a>(branch: &'a Branch, at: usize, low: &'a [u8]) -> &'a [u8]
+pub fn low_bound<'a>(branch: &'a Branch, at: usize, low: &'a [u8]) -> &'a [u8]
     requires { at < length branch.now }
     ensures first { at ≡ 0 → result.now ≡ low.now }
     ensures later { (d : Arm) → 0 < at → result.now ≡ (slice_index_or branch.now at d).key }
@@ -149,11 +149,7 @@ pub(crate) fn low_bound<'a>(branch: &'a Branch, at: usize, low: &'a [u8]) -> &'a
 }
 
 /// The high bound of the child at this place.
-pub(crate) fn high_bound<'a>(
-    branch: &'a Branch,
-    at: usize,
-    high: Option<&'a [u8]>,
-) -> Option<&'a [u8]>
+pub fn high_bound<'a>(branch: &'a Branch, at: usize, high: Option<&'a [u8]>) -> Option<&'a [u8]>
     requires { at < length branch.now }
     ensures last { length branch.now ≤ at + 1
         → option_map (λ b. b.now) result ≡ option_map (λ b. b.now) high.entry }

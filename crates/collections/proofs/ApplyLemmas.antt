@@ -16,11 +16,21 @@ use Rattle.pager.specs.View.{pager_history, store_of}
 use Rattle.index.specs.State.{Collection}
 use Rattle.index.specs.StateEntries.{Spells}
 use Rattle.collections.specs.State.{State}
-use Rattle.collections.specs.Calls.{Applies, GoesFrom, HasWriteCause}
+use Rattle.collections.specs.Calls.{Applies, GoesFrom, HasWriteCause, IsOfFile}
 use Rattle.collections.specs.Applying.{ChangesTree, refusal_of}
 use Rattle.collections.specs.Standing.{IsTurnOf}
 use Rattle.collections.specs.View.{disk_history, is_stopped}
 use Rattle.collections.proofs.StandingLemmas.{state_on, state_stays, tree_same, turn_on}
+
+-- what a fault of the tree is refused as
+kind_of : (e : TreeFault) → IsOfFile (refusal_of e)
+kind_of faults.Memory = inl refl
+kind_of faults.Full = inr (inr refl)
+kind_of faults.Device = inr (inl refl)
+kind_of faults.Kind = inr (inl refl)
+kind_of faults.Number = inr (inl refl)
+kind_of faults.Order = inr (inl refl)
+kind_of faults.Length = inr (inl refl)
 
 module _ {D : Type 0} (history : D → History) (edits : List Edit) (old : State D) where
   pub applies_stopped : is_stopped old ≡ true → Applies history edits (Err refusals.StorageFailed) old old
@@ -28,6 +38,7 @@ module _ {D : Type 0} (history : D → History) (edits : List Edit) (old : State
     on = grows_itself (store_of history old.pager);
     idle = λ none. refl;
     unchanged = refl;
+    kinds = inr (inl refl);
     state = λ start before after has leads state. has;
     cause = λ k start before after has leads state. inl (inr (inl (refl, inl stopped)));
   }
@@ -37,6 +48,7 @@ module _ {D : Type 0} (history : D → History) (edits : List Edit) (old : State
     on = grows_itself (store_of history old.pager);
     idle = λ _. refl;
     unchanged = tt;
+    kinds = tt;
     state = λ start before after has leads state. state_on history old old start before after (grows_itself (store_of history old.pager)) (λ k t. record {
       pages = t.pages;
       after = t.after;
@@ -55,6 +67,7 @@ module _ {D : Type 0} (history : D → History) (edits : List Edit) (old : State
         on = grows;
         idle = λ none. absurd (some none);
         unchanged = tt;
+        kinds = tt;
         state = λ start before after has leads state. state_on history old new start before after grows (λ k t.
             let c : IsChanged (store_of history old.pager) (store_of history pager) root (change edits t.after) t.pages = changes t.pages t.after t.turn.holds k in
             record {
@@ -95,6 +108,7 @@ module _ {D : Type 0} (history : D → History) (edits : List Edit) (old : State
       on = goes;
       idle = λ none. absurd (some none);
       unchanged = ap (λ (tree : ℕ). not (old.root == tree)) (tree_same history old.pager back goes.stays);
+      kinds = kind_of e;
       state = λ start before after has leads state. state_stays history old new start before goes refl made retired has;
       cause = λ k start before after has leads state.
           let t : IsTurnOf history old start before = has running (goes.frame k).word in

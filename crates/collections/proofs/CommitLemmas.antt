@@ -3,7 +3,7 @@ use Rattle.std.proofs.Common.{◌≡◌, ◌⊎◌, ℕ, false, List, sym, ap, i
 use Rattle.std.specs.Prelude.{Result, Ok, Err}
 use Rattle.page.specs.History.{History, KeepsWord}
 use Rattle.roots.specs.declared.store.CommitFault.{CommitFault}
-use Rattle.roots.specs.tree.Image.{StandsFor}
+use Rattle.roots.specs.Image.{StandsFor}
 use Rattle.pager.specs.Commit.{Commits as CommitsPages, MovesTurns, Moves as MovesPages}
 use Rattle.pager.specs.State.{State as PagerState}
 use Rattle.index.specs.State.{Collection}
@@ -31,8 +31,9 @@ module _ {D : Type 0} (history : D → History) (old : State D) (pager : PagerSt
     moved : (k : KeepsWord (disk_history history new)) → MovesPages history (turn k).pages (turn k).before (turn k).after result old.pager pager
     moved k = moves (turn k).began (turn k).live (turn k).before (turn k).begun (turn k).pages (turn k).after (λ _. (turn k).turn)
 
-  pub committed : CommitsPages history old.root (Ok tt) old.pager pager → MovesTurns history old.root (Ok tt) old.pager pager → Commits history (Ok tt) old new
-  committed commits moves = record {
+  pub committed : CommitsPages history old.root (Ok tt) old.pager pager → pager.book.full_takes ≡ old.pager.book.full_takes → MovesTurns history old.root (Ok tt) old.pager pager → Commits history (Ok tt) old new
+  committed commits takes moves = record {
+    takes = takes;
     on = commits.on;
     running = commits.running;
     version = commits.version;
@@ -53,8 +54,10 @@ module _ {D : Type 0} (history : D → History) (old : State D) (pager : PagerSt
     };
   }
 
-  pub not_committed : (fault : CommitFault) → CommitsPages history old.root (Err fault) old.pager pager → MovesTurns history old.root (Err fault) old.pager pager → Commits history (Err fault) old new
-  not_committed fault commits moves = record {
+  pub not_committed : (fault : CommitFault) → CommitsPages history old.root (Err fault) old.pager pager → pager.book.full_takes ≡ old.pager.book.full_takes
+      → MovesTurns history old.root (Err fault) old.pager pager → Commits history (Err fault) old new
+  not_committed fault commits takes moves = record {
+    takes = takes;
     on = commits.on;
     running = tt;
     version = tt;
@@ -71,6 +74,7 @@ module _ {D : Type 0} (history : D → History) (old : State D) (pager : PagerSt
     };
   }
 
-  pub commits_so : (result : Result (Unit {0}) CommitFault) → CommitsPages history old.root result old.pager pager → MovesTurns history old.root result old.pager pager → Commits history result old new
-  commits_so (Ok tt) commits moves = committed commits moves
-  commits_so (Err fault) commits moves = not_committed fault commits moves
+  pub commits_so : (result : Result (Unit {0}) CommitFault) → CommitsPages history old.root result old.pager pager → pager.book.full_takes ≡ old.pager.book.full_takes
+      → MovesTurns history old.root result old.pager pager → Commits history result old new
+  commits_so (Ok tt) commits takes moves = committed commits takes moves
+  commits_so (Err fault) commits takes moves = not_committed fault commits takes moves

@@ -7,10 +7,10 @@ use Rattle.btree.specs.Reach.{HasMap}
 use Rattle.btree.proofs.OnceLemmas.{old_trees_stay}
 use Rattle.btree.proofs.StoreLemmas.{grows_itself, grows_trans}
 use Rattle.roots.specs.Root.{no_root, root_of}
-use Rattle.roots.specs.tree.Image.{StandsFor}
-use Rattle.roots.specs.tree.Store.{IsCommitted, durable_root}
-use Rattle.roots.proofs.tree.OneMap.{one_map, one_state}
-use Rattle.roots.proofs.tree.TurnLemmas.{stands_now}
+use Rattle.roots.specs.Image.{StandsFor}
+use Rattle.roots.specs.Store.{IsCommitted, durable_root}
+use Rattle.roots.proofs.OneMap.{one_map, one_state}
+use Rattle.roots.proofs.TurnLemmas.{stands_now}
 use Rattle.pager.specs.View.{store_of}
 use Rattle.pager.proofs.BeginLemmas.{begun_map}
 use Rattle.pager.proofs.TurnLemmas.{committed_still}

@@ -2,7 +2,7 @@
 use Rattle.std.proofs.Common.{◌≡◌, ℕ, List, sym, ◌∙◌, ap, subst}
 use Rattle.std.specs.Prelude.{◌==◌, not}
 use Rattle.page.specs.History.{History, KeepsWord}
-use Rattle.roots.specs.tree.Store as stores
+use Rattle.roots.specs.Store as stores
 use Rattle.pager.specs.State.{State as PagerState}
 use Rattle.pager.specs.Turn.{IsBegun, LeadsBack, Returns, undone_to}
 use Rattle.pager.specs.View.{pager_history, store_of}
@@ -31,6 +31,7 @@ untouched_so {D = D} history old pager root made retired undone = record {
   disk = ap (λ (p : PagerState D). pager_history history p) undone;
   stopped = ap (λ (p : PagerState D). stores.is_stopped p.store) undone;
   version = ap (λ (p : PagerState D). (stores.durable_root p.store).generation) undone;
+  takes = ap (λ (p : PagerState D). p.book.full_takes) undone;
 }
 
 pub returns_so : {D : Type 0} (history : D → History) (mark : Mark) (old : State D) (pager : PagerState D) → pager ≡ undone_to mark.pages.made mark.pages.retired old.pager → Returns history mark.pages.made mark.pages.retired old.pager pager

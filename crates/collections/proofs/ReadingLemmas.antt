@@ -1,10 +1,18 @@
 -- What a look-up in the tree says of the collections, and how answers go on from there.
-use Rattle.std.proofs.Common.{◌≡◌, ℕ, false, true, List, refl, ap, inl, inr}
-use Rattle.std.specs.Prelude.{◌==◌, not, Result, Ok, Err, MatchResult}
+use Rattle.std.proofs.Common.{◌≡◌, ℕ, false, true, List, [], ◌∷◌, map, length, refl, sym, ◌∙◌, ap, subst, arith, inl, inr, Some, None}
+use Rattle.std.specs.Prelude.{◌==◌, ◌&&◌, not, is_some, Option, Result, Ok, Err, MatchResult}
 use Rattle.page.specs.History.{History, KeepsWord}
 use Rattle.path.specs.declared.refusal.Refusal.{Refusal}
 use Rattle.path.specs.declared.refusal.Refusal.TheVariants as refusals
-use Rattle.btree.specs.Keys.{Entry}
+use Rattle.std.specs.Global.{Vec}
+use Rattle.std.specs.Option.{option_map}
+use Rattle.std.specs.Ordering.{is_lt}
+use Rattle.std.proofs.lemmas.List.{length-map}
+use Rattle.btree.specs.Calls.{IsBatch}
+use Rattle.btree.specs.Keys.{Entry, is_within, keep_if, key_cmp, window}
+use Rattle.btree.specs.Scan.{Holds, entry_in}
+use Rattle.btree.specs.declared.scanning.Batch.{Batch}
+use Rattle.btree.specs.declared.scanning.Entry.{Entry as OwnEntry}
 use Rattle.btree.specs.Store.{HasCause as HasTreeCause}
 use Rattle.btree.specs.declared.pages.TreeFault.{TreeFault}
 use Rattle.btree.specs.declared.pages.TreeFault.TheVariants as faults
@@ -14,10 +22,12 @@ use Rattle.pager.specs.View.{store_of}
 use Rattle.index.specs.State.{Collection}
 use Rattle.collections.specs.Applying.{refusal_of}
 use Rattle.collections.specs.Calls.{HasCause, Reads}
+use Rattle.collections.specs.Entries.{ReadsEntries}
 use Rattle.collections.specs.Reading.{IsInTree, LooksUp, OrMemory, ReadsOf}
 use Rattle.collections.specs.Standing.{HasState, IsTurnOf}
 use Rattle.collections.specs.State.{State}
 use Rattle.collections.specs.View.{disk_history, is_changed, is_stopped}
+use Rattle.collections.proofs.FoundLemmas.{whole_batch}
 use Rattle.collections.proofs.StandingLemmas.{state_stays, tree_same}
 
 -- ---- before anything is read
@@ -105,6 +115,76 @@ module _ {D X : Type 0} (history : D → History) (IsRight : List Entry → X �
     where
       cause_of : (P : X → Type 0) → MatchResult result P (HasTreeCause (store_of history old.pager) (store_of history pager)) → HasTreeCause (store_of history old.pager) (store_of history pager) e
       cause_of P answer = rw is at answer
+
+-- ---- all entries
+
+abbrev pub AnswersAs : Result (Vec OwnEntry) TreeFault → Result (Vec OwnEntry) Refusal → Type 0
+AnswersAs (Ok x) (Ok y) = x ≡ y
+AnswersAs (Err f) (Err e) = e ≡ refusal_of f
+AnswersAs _ _ = ⊥
+
+module _ {D X Y : Type 0} (history : D → History) (root : ℕ) (P : List Entry → X → Type 0) (Q : List Entry → Y → Type 0) (old new : PagerState D) where
+  pub looks_refused : (e : TreeFault) → LooksUp history root P (Err e) old new → LooksUp history root Q (Err e) old new
+  looks_refused e looks = record { grows = looks.grows; same = looks.same; yields = looks.yields }
+
+  pub looks_on : (x : X) (y : Y) → LooksUp history root P (Ok x) old new → ((entries : List Entry) → P entries x → Q entries y) → LooksUp history root Q (Ok y) old new
+  looks_on x y looks on = record { grows = looks.grows; same = looks.same; yields = λ pages entries has k. on entries (looks.yields pages entries has k) }
+
+  pub looks_never : (x : X) (e : TreeFault) → LooksUp history root P (Ok x) old new → ((entries : List Entry) → P entries x → ⊥) → LooksUp history root Q (Err e) old new
+  looks_never x e looks never = record { grows = looks.grows; same = looks.same; yields = λ pages entries has k. absurd (never entries (looks.yields pages entries has k)) }
+
+next_same : (next : Option (Vec ℕ)) → is_some (option_map (λ v. v.items) next) ≡ is_some next
+next_same None = refl
+next_same (Some v) = refl
+
+module _ {D : Type 0} (history : D → History) (old : State D) (pager : PagerState D) (result : Result (Vec OwnEntry) TreeFault)
+    (looks : LooksUp history old.root (λ entries all. map entry_in all.items ≡ entries) result old.pager pager) where
+  abbrev there : State D
+  there = record old { pager = pager }
+
+  pub entries_there : (r : Result (Vec OwnEntry) Refusal) → AnswersAs result r → ReadsEntries history r old there
+  entries_there r as_read = record {
+    on = looks.grows;
+    unchanged = unchanged_there history (λ entries all. map entry_in all.items ≡ entries) old pager result looks;
+    same = stays_there history (λ entries all. map entry_in all.items ≡ entries) old pager result looks;
+    answers = λ k entries has. answer result r as_read entries (looks.yields has.pages entries has.map k);
+  }
+    where
+      answer : (result : Result (Vec OwnEntry) TreeFault) (r : Result (Vec OwnEntry) Refusal) → AnswersAs result r → (entries : List Entry)
+          → MatchResult result (λ all. map entry_in all.items ≡ entries) (HasTreeCause (store_of history old.pager) (store_of history pager)) → MatchResult r (λ all. map entry_in all.items ≡ entries) (HasCause history old there)
+      answer (Ok x) (Ok y) same entries right = subst (λ (all : Vec OwnEntry). map entry_in all.items ≡ entries) same right
+      answer (Ok x) (Err e) same entries right = absurd same
+      answer (Err f) (Ok y) same entries cause = absurd same
+      answer (Err f) (Err e) same entries cause = subst (HasCause history old there) (sym same) (cause_there history (λ entries all. map entry_in all.items ≡ entries) old pager result looks f cause)
+
+pub entries_stopped : {D : Type 0} (history : D → History) (old : State D) → is_stopped old ≡ true → ReadsEntries history (Err refusals.StorageFailed) old old
+entries_stopped history old stopped = record {
+  on = grows_itself (store_of history old.pager);
+  unchanged = refl;
+  same = λ start now has. has;
+  answers = λ k entries has. inr (inl (refl, inl stopped));
+}
+
+-- a window over all keys
+window_all : (entries : List Entry) → window [] None entries ≡ entries
+window_all [] = refl
+window_all (x ∷ xs) = first x.key ∙ ap (λ (l : List Entry). x ∷ l) (window_all xs)
+  where
+    first : (key : List ℕ) → keep_if (not (is_lt (key_cmp key [])) && is_within None key) x (window [] None xs) ≡ x ∷ window [] None xs
+    first [] = refl
+    first (b ∷ bs) = refl
+
+-- what is read of all keys, up to more than any vector holds
+pub whole_read : (limit : ℕ) (batch : Batch) (entries : List Entry) → is_some batch.next ≡ false → Holds limit (window [] None entries) batch → map entry_in batch.entries.items ≡ entries
+whole_read limit batch entries end right =
+    whole_batch limit (window [] None entries) (map entry_in batch.entries.items) (option_map (λ v. v.items) batch.next) (next_same batch.next ∙ end) right ∙ window_all entries
+
+pub no_next : (batch : Batch) (entries : List Entry) → is_some batch.next ≡ true → Holds 18446744073709551615 (window [] None entries) batch → ⊥
+no_next batch entries more right = go (option_map (λ v. v.items) batch.next) (next_same batch.next ∙ more) right
+  where
+    go : (next : Option (List ℕ)) → is_some next ≡ true → IsBatch 18446744073709551615 (window [] None entries) (map entry_in batch.entries.items) next → ⊥
+    go None more right = cc
+    go (Some key) more right = omega (arith, right.full, length-map batch.entries.items entry_in, batch.entries.ok.0, batch.entries.ok.1, batch.entries.small)
 
 -- ---- what is made of an answer
 

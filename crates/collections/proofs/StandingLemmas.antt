@@ -11,7 +11,7 @@ use Rattle.btree.specs.Store.{Frame, Grows, Stays, flag}
 use Rattle.btree.proofs.OnceLemmas.{old_trees_stay}
 use Rattle.btree.proofs.StoreLemmas.{grows_trans}
 use Rattle.roots.specs.declared.root.Root.{Root}
-use Rattle.roots.specs.tree.Store as stores
+use Rattle.roots.specs.Store as stores
 use Rattle.pager.specs.Commit.{IsTurn}
 use Rattle.pager.specs.State.{State as PagerState}
 use Rattle.pager.specs.Turn.{IsBegun}

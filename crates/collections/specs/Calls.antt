@@ -50,6 +50,10 @@ pub record IsTooLarge (collections : List Collection) : Type 0 where
   pub spells : Spells entries collections
   pub many : 4294967296 ≤ length entries
 
+-- the refusals that come of memory and of the file
+abbrev pub IsOfFile : Refusal → Type 0
+IsOfFile e = (e ≡ refusals.OutOfMemory) ⊎ ((e ≡ refusals.StorageFailed) ⊎ (e ≡ refusals.Full))
+
 abbrev pub HasWriteCause : {D : Type 0} → (D → History) → List Collection
     → State D → State D → Refusal → Type 0
 HasWriteCause history after old new e =
@@ -61,6 +65,7 @@ pub record Applies {D : Type 0} (history : D → History) (edits : List Edit)
   pub on : GoesFrom history old new
   pub idle : edits ≡ [] → new ≡ old
   pub unchanged : OnErr result (is_changed new ≡ is_changed old)
+  pub kinds : IfErr result IsOfFile
   pub state : (start before after : List Collection) → HasState history old start before
       → Leads edits before after → IsUnindexed after
       → MatchResult result (λ _. HasState history new start after)

@@ -9,7 +9,7 @@ use Rattle.collections.specs.State.{State}
 use Rattle.collections.specs.Calls.{HasFailed}
 use Rattle.collections.specs.Holding.{Holds}
 use Rattle.collections.specs.Standing.{HasState}
-use Rattle.collections.specs.View.{disk_history, generation, is_changed, is_stopped}
+use Rattle.collections.specs.View.{disk_history, generation, is_changed, is_stopped, pages_of}
 
 -- Where nothing had failed, a crash at any moment of the call leaves the collections as they were when the turn began, or as
 -- they are now; at Ok as they are now, and the next turn begins with them.
@@ -28,6 +28,8 @@ pub record Commits {D : Type 0} (history : D → History)
   pub running : OnOk result ((is_stopped old ≡ false) × (is_stopped new ≡ false))
   pub version : OnOk result (generation new ≡ generation old + 1)
   pub rests : OnOk result (is_changed new ≡ false)
+  -- no page is asked for
+  pub takes : (pages_of history new).full_takes ≡ (pages_of history old).full_takes
   -- the turn is still there, to be undone
   pub memory : result ≡ Err faults.Memory → new ≡ old
   -- Full comes only where no greater generation is left

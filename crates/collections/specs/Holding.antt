@@ -1,7 +1,7 @@
 -- Which collections an image of a disk holds.
 use Rattle.std.specs.Prelude.{ℕ, List}
 use Rattle.btree.specs.Keys.{Entry}
-use Rattle.roots.specs.tree.Image.{StandsFor}
+use Rattle.roots.specs.Image.{StandsFor}
 use Rattle.index.specs.State.{Collection}
 use Rattle.index.specs.StateEntries.{Spells}
 use Rattle.index.specs.Documents.{IsUnindexed}

@@ -7,7 +7,7 @@ use Rattle.collections.specs.State.{State}
 use Rattle.collections.specs.declared.mark.Mark.{Mark}
 use Rattle.collections.specs.Calls.{GoesFrom}
 use Rattle.collections.specs.Standing.{HasState}
-use Rattle.collections.specs.View.{disk_history, generation, is_changed, is_stopped}
+use Rattle.collections.specs.View.{disk_history, generation, is_changed, is_stopped, pages_of}
 
 -- how far the turn had come then
 pub record IsMarkOf {D : Type 0} (mark : Mark) (c : State D) : Type 0 where
@@ -21,6 +21,7 @@ pub record IsUntouched {D : Type 0} (history : D → History) (old new : State D
   pub disk : disk_history history new ≡ disk_history history old
   pub stopped : is_stopped new ≡ is_stopped old
   pub version : generation new ≡ generation old
+  pub takes : (pages_of history new).full_takes ≡ (pages_of history old).full_takes
 
 -- The collections are those of then, and the turn goes on from there.
 pub record IsBackAt {D : Type 0} (history : D → History) (earlier new : State D) : Type 0 where

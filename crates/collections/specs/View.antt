@@ -2,7 +2,7 @@
 use Rattle.std.specs.Prelude.{ℕ, ◌==◌, Bool, not}
 use Rattle.page.specs.History.{History}
 use Rattle.btree.specs.Store.{Store}
-use Rattle.roots.specs.tree.Store as stores
+use Rattle.roots.specs.Store as stores
 use Rattle.pager.specs.View as pagers
 use Rattle.collections.specs.State.{State}
 

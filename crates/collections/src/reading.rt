@@ -4,10 +4,12 @@ ghost use Rattle.std.specs.Prelude.{◌≡◌, List, [], is_some, map};
 ghost use Rattle.std.specs.Option.{option_map};
 ghost use Rattle.bson.specs.Spelling.{frame_of, pairs_bytes};
 ghost use Rattle.bson.specs.Tree.{Pairs};
+ghost use Rattle.btree.specs.Scan.{entry_in};
 ghost use Rattle.index.specs.LawfulState.{IsKept, IsStorable};
 ghost use Rattle.index.specs.State.{Collection, find_collection};
 ghost use Rattle.index.specs.StateEntries.{catalogue_entry};
 ghost use Rattle.collections.specs.Calls.{Reads};
+ghost use Rattle.collections.specs.Entries.{ReadsEntries};
 ghost use Rattle.collections.specs.Reading.{AreBytesAt, AreEach, IsBatchOf, IsInTree, IsNameOf, IsOfCollection, IsOfDocument, IsPlaceOf, IsValueAt, LooksUp, OrMemory, ReadsOf, name_in, name_of, stored_at};
 
 use crate::applying::refusal_of;
@@ -52,6 +54,27 @@ fn entries_below<D: Disk>(
     ensures { LooksUp D.history root (IsBatchOf range.entry) result pager.old pager.new }
 {
     scan(alloc, pager, root, range)
+}
+
+/// All entries of that tree.
+fn all_below<D: Disk>(
+    alloc: Global,
+    pager: &mut Pager<D>,
+    root: u32,
+) -> Result<Vec<Entry>, TreeFault>
+    ensures { LooksUp D.history root (λ entries all. map entry_in all.items ≡ entries)
+        result pager.old pager.new }
+{
+    let range = Range {
+        from: &[],
+        to: None,
+        limit: usize::MAX,
+    };
+    let batch = entries_below(alloc, pager, root, range)?;
+    if batch.next.is_some() {
+        return Err(TreeFault::Length);
+    }
+    Ok(batch.entries)
 }
 
 /// The document that an entry's value is.
@@ -135,6 +158,19 @@ impl<D: Disk> Collections<D> {
         }
         match entries_below(self.alloc, &mut self.pager, self.root, range) {
             Ok(batch) => Ok(batch),
+            Err(fault) => Err(refusal_of(fault)),
+        }
+    }
+
+    /// All entries of the turn's tree, in ascending order of their keys.
+    pub fn entries(&mut self) -> Result<Vec<Entry>, Refusal>
+        ensures { ReadsEntries D.history result self.old self.new }
+    {
+        if self.pager.is_stopped() {
+            return Err(Refusal::StorageFailed);
+        }
+        match all_below(self.alloc, &mut self.pager, self.root) {
+            Ok(entries) => Ok(entries),
             Err(fault) => Err(refusal_of(fault)),
         }
     }

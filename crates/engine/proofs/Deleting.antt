@@ -29,7 +29,7 @@ use Rattle.engine.specs.Delete.{deleted_in, without_at, without_first, after_del
 use Rattle.engine.specs.Progress.{Leaves, LeavesAll}
 use Rattle.commands.specs.Delete.{Deletion}
 
-All-remove : {X : Type 0} (P : X → Type 0) (xs : List X) (i : ℕ) → All P xs → All P (remove xs i)
+pub All-remove : {X : Type 0} (P : X → Type 0) (xs : List X) (i : ℕ) → All P xs → All P (remove xs i)
 All-remove P [] zero h = h
 All-remove P [] (suc i) h = h
 All-remove P (x ∷ xs) zero h = λ k d below. h (suc k) d (omega arith)

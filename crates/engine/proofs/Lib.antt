@@ -1,5 +1,6 @@
 pub mod Steps
 pub mod Ordered
+pub mod EditPlaceLemmas
 pub mod Rewinding
 pub mod Checked
 pub mod StoringLoop
@@ -15,16 +16,15 @@ pub mod Numbers
 pub mod Loops
 pub mod PairSizes
 pub mod Rising
-pub mod Saving
 pub mod Ending
 pub mod LoadingNames
 pub mod LoadingSteps
 pub mod LoadingAll
-pub mod OpenSteps
-pub mod LoadingOnce
 pub mod Located
 pub mod Growing
 pub mod Deleting
+pub mod LostLemmas
+pub mod NotingLemmas
 pub mod Finding
 pub mod NeededLemmas
 pub mod Applied
@@ -37,3 +37,9 @@ pub mod Listing
 pub mod CursorSteps
 mod UndoneCursors
 pub mod CursorLives
+pub mod WritingLemmas
+pub mod ExecutingLemmas
+pub mod ResultLemmas
+pub mod OpeningLemmas
+pub mod SpellingLemmas
+pub mod FileLemmas

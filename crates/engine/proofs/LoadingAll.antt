@@ -18,7 +18,7 @@ use Rattle.bson.specs.Lawful.{pairs_levels, IsDocument}
 use Rattle.bson.specs.Spelling.{frame_of, pairs_bytes}
 use Rattle.value_order.specs.KeyText.{tree_text}
 use Rattle.value_order.specs.Order.{compare}
-use Rattle.roots.specs.Entries.{Entry}
+use Rattle.btree.specs.Keys.{Entry}
 use Rattle.index.specs.State.{Collection, uses, find_collection, put_collection, by_order}
 use Rattle.engine.specs.Documents.{key_of, checked, place}
 use Rattle.update.specs.Stored.{pairs_fault, id_first}

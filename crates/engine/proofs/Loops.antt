@@ -1,8 +1,11 @@
 -- Loops that add the entry of each element of a list.
 use Rattle.std.proofs.Common.{◌≡◌, ◌≢◌, ℕ, suc, true, false, ◌+◌, ◌<◌, ◌≤◌, List, [], ◌∷◌, ◌++◌, length, drop, get_or, map, sym, ap, ◌∙◌, append_assoc, refl, arith}
 use Rattle.std.proofs.lemmas.List.{append-nil, drop_all}
-use Rattle.roots.specs.Entries.{Entry}
-use Rattle.std.specs.Prelude.{◌==◌, Result, Ok, Err, OnOk}
+use Rattle.btree.specs.Keys.{Entry}
+use Rattle.btree.specs.Scan.{entry_in}
+use Rattle.btree.specs.declared.scanning.Entry.{Entry as OwnEntry}
+use Rattle.btree.proofs.ListLemmas.{map_append}
+use Rattle.std.specs.Prelude.{◌==◌}
 use Rattle.std.proofs.lemmas.Bool.Decides.{nat_tests}
 use Rattle.index.specs.State.{Collection}
 use Rattle.engine.specs.Stored.{catalogue_entry, document_entry, documents_numbered, documents_to, database_entries}
@@ -23,11 +26,9 @@ pub added_all : {X : Type 0} (entry_of : X → Entry) (all : List X) (start now 
 added_all {X} entry_of all start now i whole h =
     sym (append-nil now) ∙ ap (λ (ys : List X). now ++ map entry_of ys) (sym (drop_all i all whole)) ∙ h
 
--- an entry that was pushed, by what its key and its value are
-pub pushed_entry : {E : Type 0} (r : Result (Unit {0}) E) (old new : List Entry) (one other : Entry) → one.key ≡ other.key → one.value ≡ other.value
-    → OnOk r (new ≡ old ++ one ∷ []) → OnOk r (new ≡ old ++ other ∷ [])
-pushed_entry (Ok x) old new one other key value h = h ∙ (λ i. old ++ record { key = key i; value = value i } ∷ [])
-pushed_entry (Err e) old new one other key value h = tt
+-- an entry that was pushed, by what it is
+pub pushed_entry : (old new : List OwnEntry) (one : OwnEntry) (other : Entry) → new ≡ old ++ one ∷ [] → entry_in one ≡ other → map entry_in new ≡ map entry_in old ++ other ∷ []
+pushed_entry old new one other is named = ap (map entry_in) is ∙ map_append entry_in old (one ∷ []) ∙ ap (λ (x : Entry). map entry_in old ++ x ∷ []) named
 
 -- ---- the documents of a number
 

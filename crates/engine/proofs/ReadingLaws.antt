@@ -23,7 +23,7 @@ use Rattle.engine.specs.KillCursors.{run_kill_cursors}
 use Rattle.std.specs.List.{position}
 use Rattle.engine.specs.Find.{query_result, run_find}
 use Rattle.engine.specs.Count.{run_count}
-use Rattle.engine.specs.Step.{run, answered, step, Answers, ForMemory}
+use Rattle.engine.specs.Step.{run, answered, step, Answers}
 use Rattle.engine.specs.Laws.{OnlyReads, BodyOnlyReads}
 
 module _ (w : World) (connection : ℕ) where
@@ -100,8 +100,8 @@ module _ (w : World) (connection : ℕ) where
   stepped (Ok body) h = ran (command_of body) h
   stepped (Err fault) h = refl
 
-pub reads_same : (w new : World) (connection : ℕ) (body : Result Pairs BsonFault) (reply : Pairs) → BodyOnlyReads body → Answers ForMemory w connection body new reply → new.collections ≡ w.collections
-reads_same w new connection body reply h answers = ⊎_elim
+pub reads_same : (beside : World → Refusal → Type 0) (w new : World) (connection : ℕ) (body : Result Pairs BsonFault) (reply : Pairs) → BodyOnlyReads body → Answers beside w connection body new reply → new.collections ≡ w.collections
+reads_same beside w new connection body reply h answers = ⊎_elim
     (λ stepped_so. ap (λ (x : World × Pairs). x.0.collections) stepped_so ∙ stepped w connection body h)
     (λ refused. ap (λ (x : World). x.collections) refused.same)
     answers

@@ -10,34 +10,39 @@ use Rattle.std.proofs.lemmas.Grind.{get_or-set_at}
 use Rattle.std.proofs.lemmas.List.{append-nil, get_or_default, get_or-set_other, set-set, set-get_or, length-set}
 use Rattle.std.proofs.lemmas.List.Edits.{length-insert, length-remove, get_or-insert_at, get_or-remove_below, get_or-remove_above}
 use Rattle.std.proofs.lemmas.List.Quantifiers.{all_pairs_remove}
-use Rattle.std.proofs.lemmas.Cmp.{nat_list_cmp_total}
+use Rattle.std.proofs.lemmas.Cmp.{nat_list_cmp_total, tied_itself}
 use Rattle.bson.specs.Tree.{Tree, Pairs, no_pairs}
 use Rattle.engine.specs.World.{or_empty, unused, with_documents}
-use Rattle.index.specs.State.{Collection, empty_collection}
-use Rattle.engine.specs.Lawful.{IsHeld}
-use Rattle.index.specs.LawfulState.{AreNamedApart}
-use Rattle.engine.specs.Places.{IsGap, IsMissing, by_name, collection_at, no_collection}
-use Rattle.engine.specs.Documents.{checked, place, insert_one}
+use Rattle.index.specs.Documents.{put_document, without_document as without_key}
+use Rattle.index.specs.State.{Collection, empty_collection, find_collection, put_collection, uses, without_collection}
+use Rattle.bson.specs.Lawful.{IsDocument}
+use Rattle.engine.specs.Lawful.{IsStored, IsHeld}
+use Rattle.engine.specs.Redoing.{AreLost, CanRedo, IsMadeAt, without_each}
+use Rattle.index.specs.LawfulState.{AreNamedApart, IsStorable}
+use Rattle.engine.specs.Places.{IsGap, IsMissing, by_key, by_name, collection_at, no_collection}
+use Rattle.engine.specs.Documents.{key_of, checked, place, insert_one}
 use Rattle.update.specs.Stored.{id_first}
-use Rattle.engine.specs.Progress.{Progress, IsProgress, without_document, with_document_at, undo, rewind, has_any, is_changed, turn_start_of, CanUndo, CanRewind, Extends, is_full, Stands, with_document}
+use Rattle.engine.specs.Progress.{Progress, IsProgress, without_document, with_document_at, undo, rewind, has_any, is_changed, turn_start_of, CanUndo, IsKnown, CanRewind, Extends, is_full, Stands, with_document}
 use Rattle.path.specs.declared.refusal.Refusal.{Refusal}
-use Rattle.engine.specs.declared.collections.UndoEntry.{UndoEntry}
-use Rattle.engine.specs.declared.collections.UndoEntry.TheVariants as entries
-use Rattle.engine.proofs.Ordered.{flipped, rises_insert}
+use Rattle.engine.specs.declared.undo_entry.UndoEntry.{UndoEntry}
+use Rattle.engine.specs.declared.undo_entry.UndoEntry.TheVariants as entries
+use Rattle.engine.proofs.Numbers.{unused_unused, unused_bounds}
+use Rattle.engine.proofs.Ordered.{added, flipped, found, missing, rises_insert, without_there}
+use Rattle.engine.proofs.EditPlaceLemmas.{insert-remove, put_back, put_gap, remove-set, storable, without_place}
 
 pub rewind-append : (xs ys : List UndoEntry) (cs : List Collection) → rewind (xs ++ ys) cs ≡ rewind xs (rewind ys cs)
 rewind-append [] ys cs = refl
 rewind-append (x ∷ xs) ys cs = ap (undo x) (rewind-append xs ys cs)
 
-pub CanRewind-push : (xs : List UndoEntry) (x : UndoEntry) (cs : List Collection) → CanUndo x cs → CanRewind xs (undo x cs) → CanRewind (xs ++ x ∷ []) cs
+pub CanRewind-push : (xs : List UndoEntry) (x : UndoEntry) (cs : List Collection) → IsKnown x cs → CanRewind xs (undo x cs) → CanRewind (xs ++ x ∷ []) cs
 CanRewind-push [] x cs one h = (one, tt)
-CanRewind-push (y ∷ ys) x cs one h = (subst (CanUndo y) (sym (rewind-append ys (x ∷ []) cs)) h.0, CanRewind-push ys x cs one h.1)
+CanRewind-push (y ∷ ys) x cs one h = (subst (IsKnown y) (sym (rewind-append ys (x ∷ []) cs)) h.0, CanRewind-push ys x cs one h.1)
 
 pub CanRewind-pop : (xs : List UndoEntry) (x : UndoEntry) (cs : List Collection) → CanRewind (xs ++ x ∷ []) cs → CanUndo x cs × CanRewind xs (undo x cs)
-CanRewind-pop [] x cs h = (h.0, tt)
+CanRewind-pop [] x cs h = (h.0.undo, tt)
 CanRewind-pop (y ∷ ys) x cs h =
     let later = CanRewind-pop ys x cs h.1 in
-    (later.0, (subst (CanUndo y) (rewind-append ys (x ∷ []) cs) h.0, later.1))
+    (later.0, (subst (IsKnown y) (rewind-append ys (x ∷ []) cs) h.0, later.1))
 
 -- what the last change names is there, and the others can be undone after it
 pub CanRewind-last : (old new : List UndoEntry) (x : UndoEntry) (cs : List Collection) → old ≡ new ++ x ∷ [] → CanRewind old cs → CanUndo x cs × CanRewind new (undo x cs)
@@ -121,7 +126,7 @@ remove-insert [] (suc i) x h = absurd (omega arith)
 remove-insert (y ∷ ys) zero x h = refl
 remove-insert {X} (y ∷ ys) (suc i) x h = ap (λ (zs : List X). y ∷ zs) (remove-insert ys i x (omega arith))
 
-module _ (p : Progress) (now : List Collection) (x : UndoEntry) (apart : AreNamedApart now) (can : CanUndo x now) (back : undo x now ≡ p.now) where
+module _ (p : Progress) (now : List Collection) (x : UndoEntry) (apart : AreNamedApart now) (can : IsKnown x now) (back : undo x now ≡ p.now) where
   pub IsProgress-push : (room : ℕ) → length now ≤ 1000 → 1000 ≤ room → CanRewind p.changes p.now → IsProgress (record { now = now; changes = p.changes ++ x ∷ [] }) room
   IsProgress-push room few spare h = record {
     apart = apart;
@@ -134,45 +139,67 @@ module _ (p : Progress) (now : List Collection) (x : UndoEntry) (apart : AreName
   Extends-push = record { more = x ∷ []; noted = refl; back = back }
 
 -- a document is stored in a collection
-module _ (cs : List Collection) (at place : ℕ) (d : Pairs) (within : at < length cs) (gap : place ≤ length (collection_at cs at).documents) where
+module _ (cs : List Collection) (at place : ℕ) (d : Pairs) (within : at < length cs) (gap : IsGap (by_key (key_of d)) (collection_at cs at).documents place) where
+  abbrev stored_change : UndoEntry
+  stored_change = entries.Stored at place (collection_at cs at).number d
+
   abbrev pub grown : Collection
   grown = record (collection_at cs at) { documents = insert (collection_at cs at).documents place d }
 
   there : collection_at (set cs at grown) at ≡ grown
   there = get_or-set_at cs at at grown no_collection refl within
 
-  pub undo-stored : undo (entries.Stored at place) (set cs at grown) ≡ cs
+  pub undo-stored : undo stored_change (set cs at grown) ≡ cs
   undo-stored =
       ap (λ (c : Collection). set (set cs at grown) at (without_document c place)) there
       ∙ set-set cs at grown (without_document grown place)
-      ∙ ap (λ (ds : List Pairs). set cs at (record (collection_at cs at) { documents = ds })) (remove-insert (collection_at cs at).documents place d gap)
+      ∙ ap (λ (ds : List Pairs). set cs at (record (collection_at cs at) { documents = ds })) (remove-insert (collection_at cs at).documents place d gap.within)
       ∙ set-get_or cs at no_collection
 
-  pub CanUndo-stored : CanUndo (entries.Stored at place) (set cs at grown)
+  CanUndo-stored : CanUndo stored_change (set cs at grown)
   CanUndo-stored =
-      let long : place < length grown.documents = omega (arith, length-insert (collection_at cs at).documents place d gap) in
+      let long : place < length grown.documents = omega (arith, gap.within, length-insert (collection_at cs at).documents place d gap.within) in
       (omega (arith, length-set cs at grown), subst (λ (c : Collection). place < length c.documents) (sym there) long)
+
+  CanRedo-stored : CanRedo stored_change (set cs at grown)
+  CanRedo-stored =
+      let ds = (collection_at cs at).documents in
+      let put : put_document d (remove (insert ds place d) place) ≡ insert ds place d = ap (put_document d) (remove-insert ds place d gap.within) ∙ put_gap ds place d gap in
+      subst (λ (c : Collection). ((collection_at cs at).number ≡ c.number) × (put_document d (remove c.documents place) ≡ c.documents)) (sym there) (refl, put)
+
+  pub IsKnown-stored : IsStored d → IsDocument d → IsKnown stored_change (set cs at grown)
+  IsKnown-stored stored readable = record { undo = CanUndo-stored; redo = CanRedo-stored; notable = storable d stored readable }
 
   pub apart-stored : AreNamedApart cs → AreNamedApart (set cs at grown)
   apart-stored h = apart_set cs at grown within refl h
 
 -- documents of a collection are deleted
-module _ (cs : List Collection) (at : ℕ) (left : List Pairs) (within : at < length cs) where
+module _ (cs : List Collection) (at : ℕ) (left removed : List Pairs) (within : at < length cs) where
+  abbrev deleted_change : UndoEntry
+  deleted_change = entries.Replaced at (collection_at cs at).documents (collection_at cs at).number removed
+
   abbrev pub cut : Collection
   cut = record (collection_at cs at) { documents = left }
 
   there-cut : collection_at (set cs at cut) at ≡ cut
   there-cut = get_or-set_at cs at at cut no_collection refl within
 
-  pub undo-deleted : undo (entries.Replaced at (collection_at cs at).documents) (set cs at cut) ≡ cs
+  pub undo-deleted : undo deleted_change (set cs at cut) ≡ cs
   undo-deleted =
       ap (λ (c : Collection). set (set cs at cut) at (record c { documents = (collection_at cs at).documents })) there-cut
       ∙ set-set cs at cut (collection_at cs at)
       ∙ set-get_or cs at no_collection
 
-  pub CanUndo-deleted : IsHeld (collection_at cs at) → CanUndo (entries.Replaced at (collection_at cs at).documents) (set cs at cut)
+  CanUndo-deleted : IsHeld (collection_at cs at) → CanUndo deleted_change (set cs at cut)
   CanUndo-deleted held =
       (omega (arith, length-set cs at cut), subst (λ (c : Collection). IsHeld (record c { documents = (collection_at cs at).documents })) (sym there-cut) held)
+
+  pub IsKnown-deleted : IsHeld (collection_at cs at) → AreLost removed (collection_at cs at).documents left → IsKnown deleted_change (set cs at cut)
+  IsKnown-deleted held lost = record {
+    undo = CanUndo-deleted held;
+    redo = subst (λ (c : Collection). ((collection_at cs at).number ≡ c.number) × (without_each removed (collection_at cs at).documents ≡ c.documents)) (sym there-cut) (refl, lost.left_is);
+    notable = lost.storable;
+  }
 
   pub apart-deleted : AreNamedApart cs → AreNamedApart (set cs at cut)
   apart-deleted h = apart_set cs at cut within refl h
@@ -185,20 +212,23 @@ module _ (cs : List Collection) (at place : ℕ) (d : Pairs) (within : at < leng
   abbrev pub before_change : Pairs
   before_change = get_or (collection_at cs at).documents place no_pairs
 
+  abbrev changed_change : UndoEntry
+  changed_change = entries.Changed at place before_change (collection_at cs at).number d
+
   there-changed : collection_at (set cs at changed) at ≡ changed
   there-changed = get_or-set_at cs at at changed no_collection refl within
 
   documents_back : set (set (collection_at cs at).documents place d) place before_change ≡ (collection_at cs at).documents
   documents_back = set-set (collection_at cs at).documents place d before_change ∙ set-get_or (collection_at cs at).documents place no_pairs
 
-  pub undo-changed : undo (entries.Changed at place before_change) (set cs at changed) ≡ cs
+  pub undo-changed : undo changed_change (set cs at changed) ≡ cs
   undo-changed =
       ap (λ (c : Collection). set (set cs at changed) at (with_document_at place before_change c)) there-changed
       ∙ set-set cs at changed (with_document_at place before_change changed)
       ∙ ap (λ (ds : List Pairs). set cs at (record (collection_at cs at) { documents = ds })) documents_back
       ∙ set-get_or cs at no_collection
 
-  pub CanUndo-changed : IsHeld (collection_at cs at) → CanUndo (entries.Changed at place before_change) (set cs at changed)
+  CanUndo-changed : IsHeld (collection_at cs at) → CanUndo changed_change (set cs at changed)
   CanUndo-changed held =
       let long : place < length changed.documents = omega (arith, length-set (collection_at cs at).documents place d, there) in
       let back = subst (λ (ds : List Pairs). IsHeld (record (collection_at cs at) { documents = ds })) (sym documents_back) held in (
@@ -207,26 +237,75 @@ module _ (cs : List Collection) (at place : ℕ) (d : Pairs) (within : at < leng
         subst (λ (c : Collection). IsHeld (with_document_at place before_change c)) (sym there-changed) back,
       )
 
+  CanRedo-changed : IsHeld (collection_at cs at) → IsHeld changed → CanRedo changed_change (set cs at changed)
+  CanRedo-changed held new =
+      let ds = (collection_at cs at).documents in
+      let gone : without_key (key_of before_change) (set (set ds place d) place before_change) ≡ remove ds place =
+      ap (without_key (key_of before_change)) documents_back ∙ without_place ds place held.lawful.rising there in
+      let same : remove ds place ≡ remove (set ds place d) place = sym (remove-set ds place d) in
+      let long : place < length (set ds place d) = omega (arith, length-set ds place d, there) in
+      let back : put_document d (remove (set ds place d) place) ≡ set ds place d =
+      ap (λ (e : Pairs). put_document e (remove (set ds place d) place)) (sym (get_or-set_at ds place place d no_pairs refl there)) ∙ put_back (set ds place d) place new.lawful.rising long in
+      subst (λ (c : Collection). ((collection_at cs at).number ≡ c.number) × (put_document d (without_key (key_of before_change) (set c.documents place before_change)) ≡ c.documents))
+      (sym there-changed) (refl, ap (put_document d) (gone ∙ same) ∙ back)
+
+  pub IsKnown-changed : IsHeld (collection_at cs at) → IsHeld changed → IsKnown changed_change (set cs at changed)
+  IsKnown-changed held new =
+      let ds = (collection_at cs at).documents in
+      let long : place < length (set ds place d) = omega (arith, length-set ds place d, there) in
+      let is : get_or (set ds place d) place no_pairs ≡ d = get_or-set_at ds place place d no_pairs refl there in
+      record {
+        undo = CanUndo-changed held;
+        redo = CanRedo-changed held new;
+        notable = (
+          storable before_change (held.lawful.stored place no_pairs there) (held.readable.documents place no_pairs there),
+          subst IsStorable is (storable (get_or (set ds place d) place no_pairs) (new.lawful.stored place no_pairs long) (new.readable.documents place no_pairs long)),
+        );
+      }
+
   pub apart-changed : AreNamedApart cs → AreNamedApart (set cs at changed)
   apart-changed h = apart_set cs at changed within refl h
 
 -- a collection is made
 module _ (cs : List Collection) (at : ℕ) (c : Collection) (gap : IsGap (by_name c.name) cs at) where
-  pub undo-made : undo (entries.Made at) (insert cs at c) ≡ cs
-  undo-made = remove-insert cs at c gap.within
+  abbrev made_change : UndoEntry
+  made_change = entries.Made at c.name c.number
 
-  pub CanUndo-made : CanUndo (entries.Made at) (insert cs at c)
-  CanUndo-made = omega (arith, length-insert cs at c gap.within, gap.within)
+  pub undo-made : undo made_change (insert cs at c) ≡ cs
+  undo-made = remove-insert cs at c gap.within
 
   pub apart-made : AreNamedApart cs → AreNamedApart (insert cs at c)
   apart-made h = rises_insert nat_list_cmp_total (λ (x : Collection). x.name) cs at c h gap
 
--- ---- a collection is dropped
+  CanRedo-made : c ≡ empty_collection c.name (unused cs) → length cs < 1000 → CanRedo made_change (insert cs at c)
+  CanRedo-made is room =
+      let back : cs ≡ remove (insert cs at c) at = sym undo-made in
+      subst (λ (us : List Collection). IsMadeAt at c.name c.number us (insert cs at c)) back (record {
+        within = omega (arith, length-insert cs at c gap.within, gap.within);
+        named = ap (λ (x : Collection). x.name) (get_or-insert_at cs at c no_collection gap.within);
+        is = sym (ap (λ (x : Collection). put_collection x cs) (sym empty) ∙ added cs at c.name c gap refl);
+        missing = missing cs at c.name gap;
+        unused = ap (uses cs) numbered ∙ unused_unused cs;
+        room = room;
+      })
+    where
+      numbered : c.number ≡ unused cs
+      numbered = ap (λ (x : Collection). x.number) is
 
-insert-remove : {X : Type 0} (xs : List X) (i : ℕ) (d : X) → i < length xs → insert (remove xs i) i (get_or xs i d) ≡ xs
-insert-remove [] i d h = absurd (omega arith)
-insert-remove (x ∷ xs) zero d h = refl
-insert-remove {X} (x ∷ xs) (suc i) d h = ap (λ (ys : List X). x ∷ ys) (insert-remove xs i d (omega arith))
+      empty : c ≡ empty_collection c.name c.number
+      empty = is ∙ ap (empty_collection c.name) (sym numbered)
+
+  pub IsKnown-made : c ≡ empty_collection c.name (unused cs) → length cs < 1000 → IsKnown made_change (insert cs at c)
+  IsKnown-made is room =
+      let between = unused_bounds cs in
+      let numbered : c.number ≡ unused cs = ap (λ (x : Collection). x.number) is in
+      record {
+        undo = omega (arith, length-insert cs at c gap.within, gap.within);
+        redo = CanRedo-made is room;
+        notable = (omega (arith, numbered, between.least), omega (arith, numbered, between.most, room));
+      }
+
+-- ---- a collection is dropped
 
 module _ (cs : List Collection) (at : ℕ) (within : at < length cs) (apart : AreNamedApart cs) where
   abbrev gone : Collection
@@ -253,8 +332,15 @@ module _ (cs : List Collection) (at : ℕ) (within : at < length cs) (apart : Ar
   pub undo-dropped : undo (entries.Dropped at gone) (remove cs at) ≡ cs
   undo-dropped = insert-remove cs at no_collection within
 
-  pub CanUndo-dropped : length cs ≤ 1000 → CanUndo (entries.Dropped at gone) (remove cs at)
-  CanUndo-dropped few = (gap-dropped, omega (arith, few, length-remove cs at within))
+  pub IsKnown-dropped : length cs ≤ 1000 → length gone.name ≤ 255 → IsKnown (entries.Dropped at gone) (remove cs at)
+  IsKnown-dropped few short = record {
+    undo = (gap-dropped, omega (arith, few, length-remove cs at within));
+    redo = subst (λ (us : List Collection). (find_collection us gone.name ≡ Some gone) × (without_collection gone.name us ≡ remove cs at)) (sym undo-dropped) (
+      found cs at gone.name apart within (tied_itself nat_list_cmp_total gone.name),
+      without_there cs at apart within,
+    );
+    notable = short;
+  }
 
   pub apart-dropped : AreNamedApart (remove cs at)
   apart-dropped = all_pairs_remove (λ (a b : Collection). slice_cmp nat_cmp a.name b.name ≡ orders.Less) cs at within apart

@@ -1,4 +1,4 @@
--- The pairs of lawful collections that bytes can spell have rising keys, and find room in a chain.
+-- The entries of lawful collections that bytes can spell have rising keys.
 use Rattle.std.proofs.Common.{◌≡◌, ℕ, zero, suc, ◌^◌, ◌%◌, ◌<◌, ◌≤◌, Bool, true, false, List, [], ◌∷◌, ◌++◌, length, get_or, map, Some, refl, sym, ap, ◌∙◌, arith}
 use Rattle.std.specs.Prelude.{All, unwrap_or, if◌then◌else◌, ◌==◌}
 use Rattle.std.specs.Str.{bytes_eq}
@@ -22,7 +22,7 @@ use Rattle.value_order.specs.KeyText.{tree_text}
 use Rattle.value_order.specs.declared.texts.Direction.TheVariants as directions
 use Rattle.value_order.proofs.KeyLaws.{texts_order}
 use Rattle.value_order.proofs.NumberLaws.{SortsAs-bytes}
-use Rattle.roots.specs.Entries.{Entry, IsFit, IsBelow, Ascend, AreAscending}
+use Rattle.btree.specs.Keys.{Entry}
 use Rattle.index.specs.State.{Collection}
 use Rattle.engine.specs.Documents.{key_of}
 use Rattle.update.specs.Stored.{id_name}
@@ -30,8 +30,15 @@ use Rattle.engine.specs.Refusals.{words}
 use Rattle.engine.specs.Lawful.{IsStored, IsReadable, IsKept, IsLawfulState}
 use Rattle.index.specs.LawfulState.{IsRising}
 use Rattle.engine.specs.Stored.{key_under, catalogue_entry, document_entry, documents_numbered, documents_to, database_entries}
-use Rattle.engine.proofs.PairSizes.{entry_size, name_size, key_size}
 use Rattle.engine.proofs.SpelledSizes.{length-words}
+
+-- each key is below those of all later entries
+abbrev pub IsBelow : List ℕ → List ℕ → Type 0
+IsBelow one other = slice_cmp nat_cmp one other ≡ orders.Less
+
+abbrev pub Ascend : List Entry → Type 0
+Ascend [] = Unit {0}
+Ascend (entry ∷ entries) = AllByRecursion (λ (later : Entry). IsBelow entry.key later.key) entries × Ascend entries
 
 -- ---- keys under one number, and under two
 
@@ -130,12 +137,6 @@ numbered_rise n ds fine =
     rise_map (document_entry n) ds (λ i j d lt below.
     documents_rise n (get_or ds i d) (get_or ds j d) (fine.stored i d (omega (arith, lt, below))) (fine.stored j d below) (fine.readable i d (omega (arith, lt, below))) (fine.readable j d below) (fine.rising i j d lt below))
 
-numbered_fit : (n : ℕ) (ds : List Pairs) → All IsStored ds → AllByRecursion IsFit (map (document_entry n) ds)
-numbered_fit n ds stored = all_map IsFit (document_entry n) ds (λ k d below. fits (get_or ds k d) (stored k d below))
-  where
-    fits : (d : Pairs) → IsStored d → IsFit (document_entry n d)
-    fits d s = record { key = omega (arith, key_size n (tree_text (key_of d)), s.short); value = omega (arith, s.size) }
-
 -- ---- number after number
 
 -- what stands below each key of a greater number
@@ -143,7 +144,6 @@ abbrev Above : ℕ → Entry → Type 0
 Above n p = (k : ℕ) (ps : Pairs) → n < k → k < 2 ^ 32 → IsBelow p.key (document_entry k ps).key
 
 record Whole (n : ℕ) (cs : List Collection) : Type 0 where
-  fit : AllByRecursion IsFit (documents_to n cs)
   rise : Ascend (documents_to n cs)
   above : AllByRecursion (Above n) (documents_to n cs)
 
@@ -156,7 +156,7 @@ below_all n [] ds fits h = tt
 below_all n (p ∷ ps) ds fits h = (all_map (λ (y : Entry). IsBelow p.key y.key) (document_entry (suc n)) ds (λ k d below. h.0 (suc n) (get_or ds k d) (omega arith) fits), below_all n ps ds fits h.1)
 
 whole : (n : ℕ) (cs : List Collection) → n < 2 ^ 31 → All IsKept cs → All IsReadable cs → Whole n cs
-whole zero cs fits kept h = record { fit = tt; rise = tt; above = tt }
+whole zero cs fits kept h = record { rise = tt; above = tt }
 whole (suc n) cs fits kept h = at (whole n cs (omega (arith, fits)) kept h) (numbered_fine (suc n) cs kept h)
   where
     at : Whole n cs → Fine (documents_numbered (suc n) cs) → Whole (suc n) cs
@@ -164,7 +164,6 @@ whole (suc n) cs fits kept h = at (whole n cs (omega (arith, fits)) kept h) (num
         let ds = documents_numbered (suc n) cs in
         let now = map (document_entry (suc n)) ds in
         record {
-          fit = all_append IsFit (documents_to n cs) now before.fit (numbered_fit (suc n) ds fine.stored);
           rise = rise_append (documents_to n cs) now before.rise (numbered_rise (suc n) ds fine) (below_all n (documents_to n cs) ds (omega (arith, fits)) before.above);
           above = all_append (Above (suc n)) (documents_to n cs) now (later_number n (documents_to n cs) before.above)
               (all_map (Above (suc n)) (document_entry (suc n)) ds (λ k d below j ps lt small. under_two (suc n) j (tree_text (key_of (get_or ds k d))) (tree_text (key_of ps)) lt small));
@@ -178,18 +177,10 @@ first_all (suc n) c cs fits =
     (all_map (λ (y : Entry). IsBelow (catalogue_entry c).key y.key) (document_entry (suc n)) (documents_numbered (suc n) cs)
     (λ k d below. under_two 0 (suc n) (tree_text (words c.name)) (tree_text (key_of (get_or (documents_numbered (suc n) cs) k d))) (omega arith) (omega (arith, fits))))
 
-pub are_ascending : (cs : List Collection) → IsLawfulState cs → All IsReadable cs → AreAscending (database_entries cs)
+pub are_ascending : (cs : List Collection) → IsLawfulState cs → All IsReadable cs → Ascend (database_entries cs)
 unfolding database_entries
 are_ascending cs lawful h =
-    let documents = whole 1000 cs (omega arith) lawful.kept h in
-    record {
-      fit = all_append IsFit (map catalogue_entry cs) (documents_to 1000 cs)
-          (all_map IsFit catalogue_entry cs (λ k d below. fits (get_or cs k d) (lawful.kept k d below))) documents.fit;
-      ascend = rise_append (map catalogue_entry cs) (documents_to 1000 cs)
-          (rise_map catalogue_entry cs (λ i j d lt below. names_rise (get_or cs i d) (get_or cs j d) (lawful.kept i d (omega (arith, lt, below))) (lawful.kept j d below) (h i d (omega (arith, lt, below))) (h j d below) (lawful.apart i j d lt below)))
-          documents.rise
-          (all_map (λ (x : Entry). AllByRecursion (λ (y : Entry). IsBelow x.key y.key) (documents_to 1000 cs)) catalogue_entry cs (λ k d below. first_all 1000 (get_or cs k d) cs (omega arith)));
-    }
-  where
-    fits : (c : Collection) → IsKept c → IsFit (catalogue_entry c)
-    fits c kept = record { key = omega (arith, key_size 0 (tree_text (words c.name)), name_size c.name, kept.short); value = omega (arith, entry_size c.number) }
+    rise_append (map catalogue_entry cs) (documents_to 1000 cs)
+    (rise_map catalogue_entry cs (λ i j d lt below. names_rise (get_or cs i d) (get_or cs j d) (lawful.kept i d (omega (arith, lt, below))) (lawful.kept j d below) (h i d (omega (arith, lt, below))) (h j d below) (lawful.apart i j d lt below)))
+    (whole 1000 cs (omega arith) lawful.kept h).rise
+    (all_map (λ (x : Entry). AllByRecursion (λ (y : Entry). IsBelow x.key y.key) (documents_to 1000 cs)) catalogue_entry cs (λ k d below. first_all 1000 (get_or cs k d) cs (omega arith)))

@@ -4,16 +4,17 @@ use Rattle.std.specs.Prelude.{◌==◌, not, All}
 use Rattle.std.proofs.lemmas.List.Elements.{All-filter}
 use Rattle.bson.specs.Tree.{Pairs}
 use Rattle.page.specs.History.{History, KeepsWord}
-use Rattle.page.specs.Crash.{LeavesNow}
-use Rattle.roots.specs.Store as stores
-use Rattle.roots.specs.declared.store.Store.{Store}
+use Rattle.collections.specs.Calls.{HasWriteCause, IsOfFile}
+use Rattle.collections.specs.Standing.{HasState}
+use Rattle.collections.specs.State.{State}
+use Rattle.collections.specs.View.{disk_history}
 use Rattle.engine.specs.World.{World, Cursor, forget, after_undo}
 use Rattle.index.specs.State.{Collection}
-use Rattle.engine.specs.Lawful.{IsWithin, IsReadable, IsLawfulState, IsLawful}
-use Rattle.engine.specs.Stored.{database_entries}
-use Rattle.engine.specs.Step.{read_and_run, answered, ForMemory, RefusedBeside}
+use Rattle.engine.specs.Lawful.{IsWithin, IsLawfulState, IsLawful}
+use Rattle.engine.specs.Step.{read_and_run, answered, RefusedBeside}
 use Rattle.engine.specs.View.{world, turn_start, with_ok, Runs}
-use Rattle.engine.specs.Durable.{Holds, IsSound}
+use Rattle.engine.specs.Durable.{IsSound}
+use Rattle.engine.specs.Writing.{FileCause}
 use Rattle.engine.specs.declared.engine.Engine.{Engine}
 use Rattle.engine.specs.Refusals.{refusal_reply}
 use Rattle.outcome.specs.Outcome.{Fails}
@@ -21,18 +22,13 @@ use Rattle.path.specs.declared.refusal.Refusal.{Refusal}
 use Rattle.path.specs.declared.refusal.Refusal.TheVariants as refusals
 use Rattle.engine.proofs.LawfulSteps.{steps}
 
--- the disk stayed as it is, and so did the collections from the beginning of the turn
-pub keeps_sound : {D : Type 0} (history : D → History) (old new : Engine D) → IsSound history old → new.store ≡ old.store → turn_start new ≡ turn_start old → IsLawful (world new) → IsSound history new
-keeps_sound {D} history old new h store same lawful = record {
-  store = subst (λ (s : Store D). stores.IsSound history s) (sym store) h.store;
+-- the file has the collections as the turn began, and a tree of those of now
+pub keeps_sound : {D : Type 0} (history : D → History) (old new : Engine D) → IsSound history old → HasState history new.file (turn_start old) (world new).collections → turn_start new ≡ turn_start old → IsLawful (world new) → IsSound history new
+keeps_sound history old new h file same lawful = record {
   lawful = lawful.collections;
   cursors = lawful.cursors;
   before = subst IsLawfulState (sym same) h.before;
-  readable = subst (λ (cs : List Collection). All IsReadable cs) (sym same) h.readable;
-  holds = subst (λ (s : Store D). stores.is_stopped s ≡ false → LeavesNow (history s.disk) (λ image. Holds image (turn_start new))) (sym store)
-      (subst (λ (cs : List Collection). stores.is_stopped old.store ≡ false → LeavesNow (history old.store.disk) (λ image. Holds image cs)) (sym same) h.holds);
-  committed = subst (λ (s : Store D). KeepsWord (history s.disk) → stores.is_stopped s ≡ false → stores.committed_entries history s ≡ database_entries (turn_start new)) (sym store)
-      (subst (λ (cs : List Collection). KeepsWord (history old.store.disk) → stores.is_stopped old.store ≡ false → stores.committed_entries history old.store ≡ database_entries cs) (sym same) h.committed);
+  file = subst (λ (cs : List Collection). HasState history new.file cs (world new).collections) (sym same) file;
 }
 
 -- what a command makes of a lawful world is lawful
@@ -72,7 +68,11 @@ answers_done w new (Ok x) d h = sym (ap both h)
     both (Ok y) = y
     both (Err e) = (w, d)
 
-pub answers_refused : (w new : World) (planned : Result (World × Pairs) Refusal) (e : Refusal) → new ≡ w → Fails refusals.OutOfMemory e planned
-    → ((new, refusal_reply e) ≡ answered w planned) ⊎ RefusedBeside ForMemory w new (refusal_reply e)
-answers_refused w new planned refusals.OutOfMemory same refuses = inr (record { refusal = refusals.OutOfMemory; cause = refl; same = same; says = refl })
-answers_refused w new planned e same refuses = inl ((λ i. (same i, refusal_reply e)) ∙ ap (answered w) (sym (refuses (λ h. absurd cc))))
+-- want of memory is a cause of any file's
+pub for_memory : {D : Type 0} (history : D → History) (old new : State D) (planned : World) → FileCause history old new planned refusals.OutOfMemory
+for_memory history old new planned = (inl refl, λ k. inl (inl refl))
+
+pub answers_refused : {D : Type 0} (history : D → History) (file now : State D) (w new : World) (planned : Result (World × Pairs) Refusal) (e : Refusal) → new ≡ w → Fails refusals.OutOfMemory e planned
+    → ((new, refusal_reply e) ≡ answered w planned) ⊎ RefusedBeside (FileCause history file now) w (answered w planned).0 new (refusal_reply e)
+answers_refused history file now w new planned refusals.OutOfMemory same refuses = inr (record { refusal = refusals.OutOfMemory; cause = for_memory history file now (answered w planned).0; same = same; says = refl })
+answers_refused history file now w new planned e same refuses = inl ((λ i. (same i, refusal_reply e)) ∙ ap (answered w) (sym (refuses (λ h. absurd cc))))

@@ -1,46 +1,13 @@
--- What a commit does to a store and to an engine.
-use Rattle.std.specs.Prelude.{◌≡◌, ◌≢◌, ◌⊎◌, ◌<◌, ◌-◌, ◌^◌, List, ◌≤◌, true, false, Result, Ok, Err, OnOk, OnErr}
+-- What the commit of a turn does to an engine.
+use Rattle.std.specs.Prelude.{◌≡◌, ◌≢◌, ◌⊎◌, ℕ, ◌+◌, ◌<◌, ◌-◌, ◌^◌, ◌≤◌, true, false, Result, Ok, Err, OnOk, OnErr}
 use Rattle.page.specs.History.{History, KeepsWord}
 use Rattle.page.specs.Crash.{GoesOn, LeavesOnly, LeavesNow}
-use Rattle.roots.specs.Entries.{Entry}
-use Rattle.roots.specs.Image.{StandsFor}
-use Rattle.roots.specs.Store as stores
-use Rattle.roots.specs.declared.store.Store.{Store}
 use Rattle.roots.specs.declared.store.CommitFault.{CommitFault}
 use Rattle.roots.specs.declared.store.CommitFault.TheVariants as faults
 use Rattle.engine.specs.World.{are_untouched, after_commit, after_undo}
 use Rattle.engine.specs.View.{world, turn_start}
-use Rattle.engine.specs.Durable.{Holds, disk_history, has_changes, is_stopped, IsRunning, store_of, IsSound, HasNoRoom, full_takes_of}
+use Rattle.engine.specs.Durable.{Holds, disk_history, file_of, full_takes_of, generation, has_changes, is_stopped, IsRunning, IsSound}
 use Rattle.engine.specs.declared.engine.Engine.{Engine}
-
--- These entries were saved, or not.
-pub record Saves {D : Type 0} (history : D → History) (entries : List Entry)
-    (result : Result (Unit {0}) CommitFault) (old new : Store D) : Type 0 where
-  pub sound : stores.IsSound history new
-  pub on : GoesOn (stores.disk_history history old) (stores.disk_history history new)
-  pub any_moment : stores.IsRunning old
-      → LeavesOnly (stores.disk_history history old) (stores.disk_history history new)
-      (λ image. StandsFor image (stores.committed_entries history old) ⊎ StandsFor image entries)
-  pub kept : stores.IsRunning old → result ≢ Err faults.Device
-      → OnErr result (LeavesOnly (stores.disk_history history old) (stores.disk_history history new)
-      (λ image. StandsFor image (stores.committed_entries history old)))
-  pub acknowledged : OnOk result
-      (LeavesNow (stores.disk_history history new) (λ image. StandsFor image entries))
-  pub committed : KeepsWord (stores.disk_history history new)
-      → OnOk result (stores.committed_entries history new ≡ entries)
-  pub before : result ≢ Err faults.Device
-      → OnErr result (KeepsWord (stores.disk_history history new)
-      → stores.committed_entries history new ≡ stores.committed_entries history old)
-  pub limit : stores.limit_of new ≡ stores.limit_of old
-  pub running : result ≢ Err faults.Device → stores.is_stopped new ≡ stores.is_stopped old
-  pub stops : result ≡ Err faults.Device → stores.is_stopped new ≡ true
-  pub takes : stores.full_takes_of old ≤ stores.full_takes_of new
-  pub full : result ≡ Err faults.Full → stores.HasFullCause old new
-  pub too_long : result ≡ Err faults.Full
-      → (stores.version_of old ≡ 2 ^ 64 - 1) ⊎ stores.IsTooLong old entries
-  pub device : result ≡ Err faults.Device → KeepsWord (stores.disk_history history new)
-      → stores.HasDeviceCause history old new
-  pub idle : stores.is_stopped old ≡ true → new ≡ old
 
 -- The turn was ended, and what it changed is durable, or not.
 pub record Commits {D : Type 0} (history : D → History) (result : Result (Unit {0}) CommitFault)
@@ -51,12 +18,12 @@ pub record Commits {D : Type 0} (history : D → History) (result : Result (Unit
   pub stops : result ≡ Err faults.Device
       → (world new ≡ after_commit (world old)) × (is_stopped new ≡ true)
   pub memory : result ≡ Err faults.Memory → world new ≡ after_undo (turn_start old) (world old)
+  -- Full comes only where no greater generation is left
   pub full : result ≡ Err faults.Full → (world new ≡ after_undo (turn_start old) (world old))
-      × HasNoRoom (store_of old) (world old).collections
-      × stores.HasFullCause (store_of old) (store_of new)
+      × (generation old ≡ 2 ^ 64 - 1)
   pub ended : turn_start new ≡ (world new).collections
-  pub limit : stores.limit_of (store_of new) ≡ stores.limit_of (store_of old)
-  pub takes : full_takes_of old ≤ full_takes_of new
+  -- no page is asked for
+  pub takes : full_takes_of history new ≡ full_takes_of history old
   pub running : result ≢ Err faults.Device → is_stopped new ≡ is_stopped old
   -- a crash at any moment of the call leaves the collections as they were before the turn or as they are after it
   pub any_moment : IsRunning old → LeavesOnly (disk_history history old) (disk_history history new)
@@ -74,6 +41,6 @@ pub record Commits {D : Type 0} (history : D → History) (result : Result (Unit
       ⊎ ((disk_history history old).failures < (disk_history history new).failures)
   pub idle : is_stopped old ≡ true → disk_history history new ≡ disk_history history old
   -- where the commands changed nothing, there is nothing to write
-  pub quiet : has_changes old ≡ false → (result ≡ Ok tt) × (store_of new ≡ store_of old)
+  pub quiet : has_changes old ≡ false → (result ≡ Ok tt) × (file_of new ≡ file_of old)
   pub rests : has_changes new ≡ false
   pub rested : are_untouched (world new).cursors ≡ true

@@ -4,11 +4,12 @@ use Rattle.bson.specs.Tree.{Pairs}
 use Rattle.bson.specs.declared.fault.BsonFault.{BsonFault}
 use Rattle.engine.specs.World.{World, new_world}
 use Rattle.index.specs.State.{Collection}
+use Rattle.collections.specs.Calls.{IsOfFile}
 use Rattle.engine.specs.Lawful.{IsLawful}
 use Rattle.engine.specs.Durable.{Holds}
 use Rattle.path.specs.declared.refusal.Refusal.{Refusal}
 use Rattle.commands.specs.Command.{Command, ping, insert, find, count, delete, update, aggregate, create, drop, list_collections, command_of, get_more, kill_cursors, hello}
-use Rattle.engine.specs.Step.{step, Answers, ForMemory}
+use Rattle.engine.specs.Step.{step, Answers}
 use Rattle.engine.specs.View.{IsSendable}
 
 -- the world that an engine begins with is lawful
@@ -53,7 +54,7 @@ BodyOnlyReads (Err fault) = Unit {0}
 abbrev pub ReadsChangeNothing : Type 0
 ReadsChangeNothing =
     (world new : World) (connection : ℕ) (body : Result Pairs BsonFault) (reply : Pairs) → BodyOnlyReads body
-    → Answers ForMemory world connection body new reply → new.collections ≡ world.collections
+    → Answers (λ planned. IsOfFile) world connection body new reply → new.collections ≡ world.collections
 
 -- what a lawful world replies is within the limit of replies
 abbrev pub RepliesSendable : Type 0

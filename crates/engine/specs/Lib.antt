@@ -17,7 +17,9 @@ pub mod ListCollections
 pub mod Step
 pub mod Lawful
 pub mod Places
+pub mod Redoing
 pub mod Progress
+pub mod Noting
 pub mod Updating
 pub mod View
 pub mod Laws
@@ -28,3 +30,6 @@ pub mod Durable
 pub mod Loading
 pub mod Committing
 pub mod Opening
+pub mod Writing
+pub mod Since
+pub mod FileOpening

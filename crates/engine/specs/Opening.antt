@@ -1,7 +1,7 @@
 -- What opening a disk gives.
 use Rattle.std.specs.Prelude.{◌≡◌, ◌≢◌, ◌<◌, false, List, [], Err}
 use Rattle.page.specs.History.{History, KeepsWord, now, reads, IsImage}
-use Rattle.page.specs.Crash.{GoesOn, LeavesOnly, LeavesNow, OnlySyncs}
+use Rattle.page.specs.Crash.{GoesOn, LeavesOnly, LeavesNow}
 use Rattle.roots.specs.Root.{root_of}
 use Rattle.roots.specs.declared.opening.OpenFault.{OpenFault}
 use Rattle.roots.specs.declared.opening.OpenFault.TheVariants as faults
@@ -19,8 +19,6 @@ pub record IsOpened {D : Type 0} (history : D → History) (disk : D)
   pub cursors : ((world engine).cursors ≡ []) × ((world engine).next ≡ 1)
   pub rests : has_changes engine ≡ false
   pub on : GoesOn (history disk) (disk_history history engine)
-  -- it only read and synced
-  pub only : OnlySyncs (history disk) (disk_history history engine)
   -- it gives what was read, and from then on every image holds that alone
   pub holds : KeepsWord (disk_history history engine)
       → Holds (reads (now (history disk))) (world engine).collections

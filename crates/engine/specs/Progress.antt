@@ -15,8 +15,9 @@ use Rattle.index.specs.LawfulState.{AreNamedApart}
 use Rattle.engine.specs.Places.{IsGap, by_name, collection_at}
 use Rattle.path.specs.declared.refusal.Refusal.{Refusal}
 use Rattle.path.specs.declared.refusal.Refusal.TheVariants as refusals
-use Rattle.engine.specs.declared.collections.UndoEntry.{UndoEntry}
-use Rattle.engine.specs.declared.collections.UndoEntry.TheVariants as entries
+use Rattle.engine.specs.Redoing.{CanRedo, IsNotable}
+use Rattle.engine.specs.declared.undo_entry.UndoEntry.{UndoEntry}
+use Rattle.engine.specs.declared.undo_entry.UndoEntry.TheVariants as entries
 
 -- the collection without the document at a place
 abbrev pub without_document : Collection → ℕ → Collection
@@ -28,11 +29,12 @@ with_document_at i d c = record c { documents = slice_set c.documents i d }
 
 -- the collections as they were before a change
 abbrev pub undo : UndoEntry → List Collection → List Collection
-undo (entries.Made at) cs = remove cs at
-undo (entries.Stored at place) cs = slice_set cs at (without_document (collection_at cs at) place)
-undo (entries.Replaced at before) cs =
+undo (entries.Made at name number) cs = remove cs at
+undo (entries.Stored at place number d) cs =
+    slice_set cs at (without_document (collection_at cs at) place)
+undo (entries.Replaced at before number removed) cs =
     slice_set cs at (record (collection_at cs at) { documents = before })
-undo (entries.Changed at place before) cs =
+undo (entries.Changed at place before number d) cs =
     slice_set cs at (with_document_at place before (collection_at cs at))
 undo (entries.Dropped at before) cs = insert cs at before
 
@@ -43,19 +45,25 @@ rewind (change ∷ later) cs = undo change (rewind later cs)
 
 -- what a change names is there, and what it brings back may be there
 abbrev pub CanUndo : UndoEntry → List Collection → Type 0
-CanUndo (entries.Made at) cs = at < length cs
-CanUndo (entries.Stored at place) cs =
+CanUndo (entries.Made at name number) cs = at < length cs
+CanUndo (entries.Stored at place number d) cs =
     (at < length cs) × (place < length (collection_at cs at).documents)
-CanUndo (entries.Replaced at before) cs =
+CanUndo (entries.Replaced at before number removed) cs =
     (at < length cs) × IsHeld (record (collection_at cs at) { documents = before })
-CanUndo (entries.Changed at place before) cs =
+CanUndo (entries.Changed at place before number d) cs =
     (at < length cs) × (place < length (collection_at cs at).documents)
     × IsHeld (with_document_at place before (collection_at cs at))
 CanUndo (entries.Dropped at before) cs = IsGap (by_name before.name) cs at × (length cs < 1000)
 
+-- What is known of a change that led to these collections: how it is undone, and which edits it is.
+pub record IsKnown (change : UndoEntry) (cs : List Collection) : Type 0 where
+  pub undo : CanUndo change cs
+  pub redo : CanRedo change cs
+  pub notable : IsNotable change
+
 abbrev pub CanRewind : List UndoEntry → List Collection → Type 0
 CanRewind [] cs = Unit {0}
-CanRewind (change ∷ later) cs = CanUndo change (rewind later cs) × CanRewind later cs
+CanRewind (change ∷ later) cs = IsKnown change (rewind later cs) × CanRewind later cs
 
 -- the collections as they stand, and the changes of the running turn
 pub record Progress : Type 0 where
@@ -145,34 +153,40 @@ pub record LeavesAll (name : List ℕ) (deletions : List Deletion)
 -- ---- a progress is told apart by its collections and its changes
 
 abbrev pub ChangeSum : Type 0
-ChangeSum = ℕ ⊎ ((ℕ × ℕ) ⊎ ((ℕ × List Pairs) ⊎ (((ℕ × ℕ) × Pairs) ⊎ (ℕ × Collection))))
+ChangeSum = (ℕ × (List ℕ × ℕ)) ⊎ (((ℕ × ℕ) × (ℕ × Pairs)) ⊎ ((ℕ × (List Pairs × (ℕ × List Pairs)))
+    ⊎ ((((ℕ × ℕ) × Pairs) × (ℕ × Pairs)) ⊎ (ℕ × Collection))))
 
 abbrev pub change_sum : UndoEntry → ChangeSum
-change_sum (entries.Made at) = inl at
-change_sum (entries.Stored at place) = inr (inl (at, place))
-change_sum (entries.Replaced at before) = inr (inr (inl (at, before)))
-change_sum (entries.Changed at place before) = inr (inr (inr (inl ((at, place), before))))
+change_sum (entries.Made at name number) = inl (at, (name, number))
+change_sum (entries.Stored at place number d) = inr (inl ((at, place), (number, d)))
+change_sum (entries.Replaced at before number removed) =
+    inr (inr (inl (at, (before, (number, removed)))))
+change_sum (entries.Changed at place before number d) =
+    inr (inr (inr (inl (((at, place), before), (number, d)))))
 change_sum (entries.Dropped at before) = inr (inr (inr (inr (at, before))))
 
 abbrev pub sum_change : ChangeSum → UndoEntry
-sum_change (inl at) = entries.Made at
-sum_change (inr (inl x)) = entries.Stored x.0 x.1
-sum_change (inr (inr (inl x))) = entries.Replaced x.0 x.1
-sum_change (inr (inr (inr (inl x)))) = entries.Changed x.0.0 x.0.1 x.1
+sum_change (inl x) = entries.Made x.0 x.1.0 x.1.1
+sum_change (inr (inl x)) = entries.Stored x.0.0 x.0.1 x.1.0 x.1.1
+sum_change (inr (inr (inl x))) = entries.Replaced x.0 x.1.0 x.1.1.0 x.1.1.1
+sum_change (inr (inr (inr (inl x)))) = entries.Changed x.0.0.0 x.0.0.1 x.0.1 x.1.0 x.1.1
 sum_change (inr (inr (inr (inr x)))) = entries.Dropped x.0 x.1
 
 pub sum_change-change_sum : (change : UndoEntry) → sum_change (change_sum change) ≡ change
-sum_change-change_sum (entries.Made at) = refl
-sum_change-change_sum (entries.Stored at place) = refl
-sum_change-change_sum (entries.Replaced at before) = refl
-sum_change-change_sum (entries.Changed at place before) = refl
+sum_change-change_sum (entries.Made at name number) = refl
+sum_change-change_sum (entries.Stored at place number d) = refl
+sum_change-change_sum (entries.Replaced at before number removed) = refl
+sum_change-change_sum (entries.Changed at place before number d) = refl
 sum_change-change_sum (entries.Dropped at before) = refl
 
 abbrev pub change_code : Coded UndoEntry
 change_code = code_by ChangeSum
-    (coded⊎ coded_ℕ (coded⊎ (coded× coded_ℕ coded_ℕ) (coded⊎
-    (coded× coded_ℕ (coded_list coded_pairs)) (coded⊎
-    (coded× (coded× coded_ℕ coded_ℕ) coded_pairs) (coded× coded_ℕ collection_code)))))
+    (coded⊎ (coded× coded_ℕ (coded× (coded_list coded_ℕ) coded_ℕ))
+    (coded⊎ (coded× (coded× coded_ℕ coded_ℕ) (coded× coded_ℕ coded_pairs))
+    (coded⊎ (coded× coded_ℕ (coded× (coded_list coded_pairs)
+    (coded× coded_ℕ (coded_list coded_pairs))))
+    (coded⊎ (coded× (coded× (coded× coded_ℕ coded_ℕ) coded_pairs) (coded× coded_ℕ coded_pairs))
+    (coded× coded_ℕ collection_code)))))
     change_sum sum_change sum_change-change_sum
 
 abbrev pub progress_code : Coded Progress

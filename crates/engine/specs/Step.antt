@@ -52,23 +52,20 @@ abbrev pub step : World → ℕ → Result Pairs BsonFault → World × Pairs
 step world connection (Ok body) = answered world (read_and_run world connection body)
 step world connection (Err fault) = (world, refusal_reply refusals.InvalidBSON)
 
--- A refusal came beside the definition's step, for a cause of its own. It leaves the world as it was.
-pub record RefusedBeside (beside : Refusal → Type 0) (old new : World)
+-- A refusal came beside the definition's step, for a cause of its own, which may speak of the world that the step leads to. It
+-- leaves the world as it was.
+pub record RefusedBeside (beside : World → Refusal → Type 0) (old planned new : World)
     (reply : Pairs) : Type 0 where
   pub refusal : Refusal
-  pub cause : beside refusal
+  pub cause : beside planned refusal
   pub same : new ≡ old
   pub says : reply ≡ refusal_reply refusal
 
 -- What may be answered: the definition's step, or a refusal that may come beside it, by its cause.
-abbrev pub Answers : (Refusal → Type 0) → World → ℕ → Result Pairs BsonFault → World → Pairs
+abbrev pub Answers : (World → Refusal → Type 0) → World → ℕ → Result Pairs BsonFault → World → Pairs
     → Type 0
-Answers beside world connection body new reply =
-    ((new, reply) ≡ step world connection body) ⊎ RefusedBeside beside world new reply
-
--- Want of memory may always be answered.
-abbrev pub ForMemory : Refusal → Type 0
-ForMemory refusal = refusal ≡ refusals.OutOfMemory
+Answers beside world connection body new reply = let planned = step world connection body in
+    ((new, reply) ≡ planned) ⊎ RefusedBeside beside world planned.0 new reply
 
 -- A command that is an update changes no document and makes none, not even to change it back.
 abbrev pub ChangesNone : World → Command → Type 0

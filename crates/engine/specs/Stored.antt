@@ -7,7 +7,7 @@ use Rattle.std.specs.Int.{w32, to_be_bytes}
 use Rattle.bson.specs.Tree.{Pairs, no_pairs, pair, array, no_items}
 use Rattle.bson.specs.Spelling.{frame_of, pairs_bytes}
 use Rattle.value_order.specs.KeyText.{tree_text}
-use Rattle.roots.specs.Entries.{Entry}
+use Rattle.btree.specs.Keys.{Entry}
 use Rattle.index.specs.State.{Collection}
 use Rattle.engine.specs.Documents.{key_of}
 use Rattle.engine.specs.Refusals.{int, words}

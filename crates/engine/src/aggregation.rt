@@ -9,8 +9,7 @@ ghost use Rattle.aggregate.specs.Taking.{takes, IsEnough};
 ghost use Rattle.aggregate.specs.View.{pipeline_of};
 ghost use Rattle.engine.specs.Lawful.{IsStored};
 ghost use Rattle.engine.specs.Aggregate.{run_aggregate, AreEnough};
-ghost use Rattle.engine.specs.View.{world, turn_start, IsSendable, Runs};
-ghost use Rattle.engine.specs.Durable.{has_changes};
+ghost use Rattle.engine.specs.View.{world, IsSendable, Runs};
 
 use crate::STORED_LIMIT;
 use crate::batch_reply::{BatchKind, batch_reply};
@@ -145,7 +144,7 @@ impl<D: Disk> Engine<D> {
         most: usize,
     ) -> Result<SpelledDocument, Refusal>
         requires { length namespace.now ≤ 255 }
-        ensures disk { self.new.store ≡ self.old.store }
+        ensures file { self.new.file ≡ self.old.file }
         ensures runs { Runs (world self.old)
             (run_aggregate (world self.old) connection (record {
               namespace = namespace.now;
@@ -153,8 +152,7 @@ impl<D: Disk> Engine<D> {
               batch_size = Some most;
             }))
             (world self.new) result }
-        ensures turn_start { turn_start self.new ≡ turn_start self.old }
-        ensures has_changes { has_changes self.new ≡ has_changes self.old }
+        ensures collections { self.new.collections ≡ self.old.collections }
         ensures sendable { IfOk result (λ d. IsSendable d) }
     {
         let alloc = self.alloc;

@@ -1,11 +1,12 @@
 //! `delete`: what its statements leave of a collection.
 
-ghost use Rattle.std.specs.Prelude.{◌≡◌, IfOk};
-ghost use Rattle.std.specs.List.{position};
+ghost use Rattle.std.specs.Prelude.{◌≡◌, ◌++◌, IfErr, IfOk, OnOk};
+ghost use Rattle.std.specs.List.{filter as list_filter, position};
 ghost use Rattle.filter.specs.Matches.{matches};
 ghost use Rattle.engine.specs.Delete.{without_first, after_deletion, after_deletions, run_delete};
-ghost use Rattle.engine.specs.View.{world, turn_start, IsSendable, Runs};
-ghost use Rattle.engine.specs.Durable.{has_changes};
+ghost use Rattle.engine.specs.Redoing.{first_taken, taken, all_taken};
+ghost use Rattle.engine.specs.View.{world, IsSendable, Runs};
+ghost use Rattle.engine.specs.Progress.{Extends};
 
 use crate::engine::Engine;
 use crate::find::matches;
@@ -27,33 +28,92 @@ fn first_match(filter: &Filter, documents: &[SharedDocument]) -> Option<usize>
         .position(|document| matches(filter, document.document()))
 }
 
-/// Takes the first document away that matches a filter.
-fn delete_first(filter: &Filter, documents: &mut Vec<SharedDocument>)
-    ensures { documents.new.items ≡ without_first (matches filter.now) documents.old.items }
+/// The first document that matches a filter moves from the documents to those that are removed.
+fn delete_first(
+    filter: &Filter,
+    documents: &mut Vec<SharedDocument>,
+    removed: &mut Vec<SharedDocument>,
+) -> Result<(), NoMemory>
+    ensures left { OnOk result
+        (documents.new.items ≡ without_first (matches filter.now) documents.old.items) }
+    ensures removed { OnOk result (removed.new.items
+        ≡ removed.old.items ++ first_taken (matches filter.now) documents.old.items) }
 {
     if let Some(place) = first_match(filter, documents) {
-        let _document = documents.remove(place);
+        removed.push(documents.remove(place))?;
     }
+    Ok(())
 }
 
-/// Takes the documents away that a statement means.
-fn run_deletion(deletion: &Deletion, documents: &mut Vec<SharedDocument>)
-    ensures { documents.new.items ≡ after_deletion deletion.now documents.old.items }
+/// Shares the documents that match a filter with those that are removed.
+fn share_matches(
+    filter: &Filter,
+    documents: &[SharedDocument],
+    removed: &mut Vec<SharedDocument>,
+) -> Result<(), NoMemory>
+    ensures { OnOk result
+        (removed.new.items ≡ removed.old.items ++ list_filter (matches filter.now) documents.now) }
+{
+    'documents: for document in documents {
+        if matches(filter, document.document()) {
+            removed.push(document.share()?)?;
+        }
+    }
+    Ok(())
+}
+
+/// The documents that a statement means move to those that are removed.
+fn run_deletion(
+    deletion: &Deletion,
+    documents: &mut Vec<SharedDocument>,
+    removed: &mut Vec<SharedDocument>,
+) -> Result<(), NoMemory>
+    ensures left { OnOk result
+        (documents.new.items ≡ after_deletion deletion.now documents.old.items) }
+    ensures removed { OnOk result
+        (removed.new.items ≡ removed.old.items ++ taken deletion.now documents.old.items) }
 {
     if deletion.only_first {
-        delete_first(&deletion.filter, documents);
-    } else {
-        documents.retain(|document| !matches(&deletion.filter, document.document()));
+        return delete_first(&deletion.filter, documents, removed);
     }
+    share_matches(&deletion.filter, documents, removed)?;
+    documents.retain(|document| !matches(&deletion.filter, document.document()));
+    Ok(())
 }
 
 /// Runs one statement after the other.
-fn run_deletions(deletions: &[Deletion], documents: &mut Vec<SharedDocument>)
-    ensures { documents.new.items ≡ after_deletions deletions.now documents.old.items }
+fn run_deletions(
+    deletions: &[Deletion],
+    documents: &mut Vec<SharedDocument>,
+    removed: &mut Vec<SharedDocument>,
+) -> Result<(), NoMemory>
+    ensures left { OnOk result
+        (documents.new.items ≡ after_deletions deletions.now documents.old.items) }
+    ensures removed { OnOk result
+        (removed.new.items ≡ removed.old.items ++ all_taken deletions.now documents.old.items) }
 {
     'deletions: for deletion in deletions {
-        run_deletion(deletion, documents);
+        run_deletion(deletion, documents, removed)?;
     }
+    Ok(())
+}
+
+/// What a delete leaves of documents, and those that it removes, in the order of its statements.
+#[derive(Drop)]
+pub(crate) struct Left {
+    pub(crate) documents: Vec<SharedDocument>,
+    pub(crate) removed: Vec<SharedDocument>,
+}
+
+/// What a delete leaves the collection at a place.
+#[derive(Drop)]
+pub(crate) struct Rest {
+    pub(crate) at: usize,
+    pub(crate) documents: Vec<SharedDocument>,
+    /// The documents that are deleted, in the order of the statements.
+    pub(crate) removed: Vec<SharedDocument>,
+    /// How many documents are deleted.
+    pub(crate) gone: usize,
 }
 
 /// The documents that statements leave, one statement after the other.
@@ -61,15 +121,22 @@ pub(crate) fn after_deletions(
     alloc: Global,
     documents: &[SharedDocument],
     deletions: &[Deletion],
-) -> Result<Vec<SharedDocument>, NoMemory>
-    ensures { IfOk result (λ v. v.items ≡ after_deletions deletions.now documents.now) }
+) -> Result<Left, NoMemory>
+    ensures left { IfOk result
+        (λ l. l.documents.items ≡ after_deletions deletions.now documents.now) }
+    ensures removed { IfOk result
+        (λ l. l.removed.items ≡ all_taken deletions.now documents.now) }
 {
     let mut rest = Vec::with_capacity(alloc, documents.len())?;
     'documents: for document in documents {
         rest.push(document.share()?)?;
     }
-    run_deletions(deletions, &mut rest);
-    Ok(rest)
+    let mut removed = Vec::new(alloc);
+    run_deletions(deletions, &mut rest, &mut removed)?;
+    Ok(Left {
+        documents: rest,
+        removed,
+    })
 }
 
 impl<D: Disk> Engine<D> {
@@ -79,14 +146,16 @@ impl<D: Disk> Engine<D> {
         namespace: &str,
         deletions: &[Deletion],
     ) -> Result<Document, Refusal>
-        ensures disk { self.new.store ≡ self.old.store }
+        ensures file { self.new.file ≡ self.old.file }
         ensures runs { Runs (world self.old)
             (run_delete (world self.old)
             (record { namespace = namespace.now; deletions = deletions.now }))
             (world self.new) result }
-        ensures turn_start { turn_start self.new ≡ turn_start self.old }
+        ensures extends { Extends self.old.collections self.new.collections }
+        ensures cursors { self.new.cursors ≡ self.old.cursors }
+        ensures refused { IfErr result (λ _. self.new.collections ≡ self.old.collections) }
         ensures has_changes { (world self.new).collections ≡ (world self.old).collections
-            → has_changes self.new ≡ has_changes self.old }
+            → self.new.collections ≡ self.old.collections }
         ensures sendable { IfOk result (λ d. IsSendable d) }
     {
         let Some(rest) = self.collections.without(namespace, deletions)? else {

@@ -19,7 +19,7 @@ use update::{id_first, id_of, limits_fault, names_fault};
 use value_order::{Direction, KeyFault, KeyPart, compare, key_text};
 
 /// The name of the field that documents are found by, which is stored first.
-const ID: &str = "_id";
+pub(crate) const ID: &str = "_id";
 
 /// The `_id` of a document, or null in its place.
 fn id_or<'a>(document: &'a Document, none: &'a Value) -> &'a Value

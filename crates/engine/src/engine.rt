@@ -1,32 +1,30 @@
-//! Commands, turn by turn, over a disk.
+//! Commands, turn by turn, over a file.
 
-ghost use Rattle.std.specs.Prelude.{◌≡◌, ◌≢◌, ◌⊎◌, ◌≤◌, ◌<◌, Ok, Err, Some, true, false, [], List, IfOk, IfErr, OnOk, OnErr, All, length};
-ghost use Rattle.page.specs.History.{KeepsWord, now, reads, IsImage};
-ghost use Rattle.page.specs.Crash.{GoesOn, LeavesOnly, LeavesNow, OnlySyncs};
-ghost use Rattle.roots.specs.Root.{root_of};
-ghost use Rattle.roots.specs.EntryView.{entries_of};
-ghost use Rattle.roots.specs.Store as stores;
-ghost use Rattle.engine.specs.Committing.{Saves, Commits};
+ghost use Rattle.std.specs.Prelude.{◌≡◌, ◌⊎◌, ◌≤◌, Ok, true, false, IfOk, IfErr, length};
+ghost use Rattle.collections.specs.Calls.{GoesFrom};
+ghost use Rattle.collections.specs.Marks.{Undoes};
+ghost use Rattle.engine.specs.Committing.{Commits};
 ghost use Rattle.engine.specs.Opening.{IsOpened, IsRefused};
 ghost use Rattle.engine.specs.World.{are_untouched, after_commit, after_undo, forget};
-ghost use Rattle.index.specs.State.{Collection};
 ghost use Rattle.engine.specs.View.{world, turn_start, reply_of, answer_of, outcome_of, IsSendable, Runs};
 ghost use Rattle.engine.specs.Lawful.{IsLawfulState};
-ghost use Rattle.engine.specs.Step.{Answers, ForMemory, WroteNothing, read_and_run};
-ghost use Rattle.engine.specs.Durable.{Holds, disk_history, has_changes, is_stopped, IsRunning, store_of, IsSound, HasNoRoom, full_takes_of};
+ghost use Rattle.engine.specs.Progress.{Extends};
+ghost use Rattle.engine.specs.Step.{Answers, WroteNothing, read_and_run, step};
+ghost use Rattle.engine.specs.Durable.{disk_history, file_of, full_takes_of, generation, has_changes, is_stopped, IsSound};
+ghost use Rattle.engine.specs.Writing.{Applied, FileCause, Writes};
 
 use crate::FIRST_BATCH;
-use crate::collections::Collections;
 use crate::connection::ConnId;
 use crate::cursors::Cursors;
-use crate::image::image_of;
-use crate::loading::load;
+use crate::loading::open_file;
+use crate::memory::Collections;
 use crate::reply::{Answer, built, ping_reply, spelled};
 use bson::Document;
+use collections::Collections as FileCollections;
 use commands::Command;
 use page::Disk;
 use path::Refusal;
-use roots::{CommitFault, Config, EntryList, OpenFault, Store};
+use roots::{CommitFault, Config, OpenFault};
 use std::alloc::Global;
 
 /// What a command is answered.
@@ -38,25 +36,14 @@ pub enum Reply {
     Refused(Refusal),
 }
 
-/// Commits these entries.
-fn save<D: Disk>(store: &mut Store<D>, entries: &EntryList) -> Result<(), CommitFault>
-    requires { stores.IsSound D.history store.old }
-    ensures { Saves D.history (entries_of entries.now) result store.old store.new }
-{
-    match store.write_entries(entries) {
-        Ok(pages) => store.commit(pages),
-        Err(fault) => Err(fault),
-    }
-}
-
 /// Collections of documents, kept on a disk. Commands run in turns: `commit_turn` makes durable what the commands of a
 /// turn changed, `undo_turn` takes it back.
 #[derive(Drop)]
-pub struct Engine<D> {
+pub struct Engine<D: Disk> {
     pub(crate) alloc: Global,
     pub(crate) collections: Collections,
     pub(crate) cursors: Cursors,
-    store: Store<D>,
+    pub(crate) file: FileCollections<D>,
 }
 
 impl<D: Disk> Engine<D> {
@@ -64,48 +51,46 @@ impl<D: Disk> Engine<D> {
     /// syncs before it answers. An `Err` hands the disk back.
     pub fn open(alloc: Global, disk: D, config: Config) -> Result<Engine<D>, (D, OpenFault)>
         ensures opened { IfOk result (IsOpened D.history disk) }
-        ensures limit { IfOk result
-            (λ engine. stores.limit_of (store_of engine) ≡ stores.limit_in config) }
         ensures refused { IfErr result (λ e. IsRefused D.history disk e.0 e.1) }
     {
-        let (store, entries) = match Store::open_entries(alloc, disk, config) {
+        let (collections, file) = match open_file(alloc, disk, config.limit()) {
             Ok(found) => found,
             Err(refused) => return Err(refused),
         };
-        match load(alloc, &entries) {
-            Ok(collections) => Ok(Engine {
-                alloc,
-                collections,
-                cursors: Cursors::new(alloc),
-                store,
-            }),
-            Err(fault) => Err((store.into_disk(), fault)),
-        }
+        Ok(Engine {
+            alloc,
+            collections,
+            cursors: Cursors::new(alloc),
+            file,
+        })
     }
 
     /// Hands the disk back as it is.
     pub fn into_disk(self) -> D
         ensures { D.history result ≡ disk_history D.history self }
     {
-        self.store.into_disk()
+        self.file.into_disk()
     }
 
     /// Whether a write or a sync has failed. Nothing is committed any more then.
     pub fn is_stopped(&self) -> bool
         ensures { result ≡ is_stopped self.now }
     {
-        self.store.is_stopped()
+        self.file.is_stopped()
     }
 
-    /// Reads a command and runs it.
+    /// Reads a command and runs it on what is in memory.
     fn run(&mut self, connection: ConnId, body: &Document) -> Result<Answer, Refusal>
         requires { IsLawfulState (world self.old).collections }
-        ensures disk { self.new.store ≡ self.old.store }
+        ensures file { self.new.file ≡ self.old.file }
         ensures runs { Runs (world self.old) (read_and_run (world self.old) connection body.now)
             (world self.new) (outcome_of result) }
-        ensures turn_start { turn_start self.new ≡ turn_start self.old }
+        ensures extends { Extends self.old.collections self.new.collections }
+        ensures either { (self.new.collections ≡ self.old.collections)
+            ⊎ (self.new.cursors ≡ self.old.cursors) }
+        ensures refused { IfErr result (λ _. self.new.collections ≡ self.old.collections) }
         ensures has_changes { WroteNothing (world self.old) (Ok body.now) (world self.new)
-            → has_changes self.new ≡ has_changes self.old }
+            → self.new.collections ≡ self.old.collections }
         ensures sendable { IfOk result (λ a. IsSendable (answer_of a)) }
     {
         match Command::read(self.alloc, body)? {
@@ -137,23 +122,60 @@ impl<D: Disk> Engine<D> {
         }
     }
 
-    /// Runs a command and answers it. `OutOfMemory` comes in place of another answer where a growth was
-    /// refused.
+    /// Puts what the turn has changed since a mark into the file. An `Err` takes it back.
+    fn write_since(&mut self, mark: usize) -> Result<(), Refusal>
+        requires { mark ≤ length self.old.collections.changes }
+        ensures { Writes D.history mark result self.old self.new }
+    {
+        if self.collections.mark() == mark {
+            return Ok(());
+        }
+        match self.write(mark) {
+            Ok(()) => Ok(()),
+            Err(refusal) => {
+                self.collections.undo_to(mark);
+                Err(refusal)
+            }
+        }
+    }
+
+    /// Puts what the turn has changed since a mark into the file.
+    fn write(&mut self, mark: usize) -> Result<(), Refusal>
+        requires { mark ≤ length self.old.collections.changes }
+        ensures collections { self.new.collections ≡ self.old.collections }
+        ensures cursors { self.new.cursors ≡ self.old.cursors }
+        ensures writes { Applied D.history mark self.old.collections result self.old.file self.new.file }
+    {
+        if self.file.is_stopped() {
+            return Err(Refusal::StorageFailed);
+        }
+        let edits = self.collections.edits_since(mark)?;
+        self.file.apply(&edits)
+    }
+
+    /// Runs a command and answers it. `OutOfMemory` comes in place of another answer where a growth was refused,
+    /// `StorageFailed` where the device failed, and `Full` where no page of the file is free.
     pub fn execute(&mut self, connection: ConnId, body: &Document) -> Reply
         requires sound { IsSound D.history self.old }
         ensures sound { IsSound D.history self.new }
-        ensures disk { disk_history D.history self.new ≡ disk_history D.history self.old }
+        ensures goes { GoesFrom D.history (file_of self.old) (file_of self.new) }
         ensures running { is_stopped self.new ≡ is_stopped self.old }
-        ensures store { store_of self.new ≡ store_of self.old }
-        ensures answers { Answers ForMemory (world self.old) connection (Ok body.now)
-            (world self.new) (reply_of result) }
+        ensures answers { Answers (FileCause D.history (file_of self.old) (file_of self.new))
+            (world self.old) connection (Ok body.now) (world self.new) (reply_of result) }
         ensures turn_start { turn_start self.new ≡ turn_start self.old }
         ensures has_changes { WroteNothing (world self.old) (Ok body.now) (world self.new)
             → has_changes self.new ≡ has_changes self.old }
+        ensures same { WroteNothing (world self.old) (Ok body.now)
+            (step (world self.old) connection (Ok body.now)).0
+            → file_of self.new ≡ file_of self.old }
         ensures sendable { IsSendable (reply_of result) }
     {
+        let mark = self.collections.mark();
         match self.run(connection, body) {
-            Ok(answer) => Reply::Done(answer),
+            Ok(answer) => match self.write_since(mark) {
+                Ok(()) => Reply::Done(answer),
+                Err(refusal) => Reply::Refused(refusal),
+            },
             Err(refusal) => Reply::Refused(refusal),
         }
     }
@@ -169,14 +191,7 @@ impl<D: Disk> Engine<D> {
             self.cursors.commit();
             return Ok(());
         }
-        let entries = match image_of(self.alloc, &self.collections) {
-            Ok(entries) => entries,
-            Err(_) => {
-                self.take_back();
-                return Err(CommitFault::Memory);
-            }
-        };
-        match save(&mut self.store, &entries) {
+        match self.file.commit() {
             Ok(()) => {
                 self.keep();
                 Ok(())
@@ -198,7 +213,7 @@ impl<D: Disk> Engine<D> {
 
     /// The turn's changes stay in memory.
     fn keep(&mut self)
-        ensures disk { self.new.store ≡ self.old.store }
+        ensures file { self.new.file ≡ self.old.file }
         ensures world { world self.new ≡ after_commit (world self.old) }
         ensures turn_start { turn_start self.new ≡ (world self.new).collections }
         ensures rests { has_changes self.new ≡ false }
@@ -207,13 +222,14 @@ impl<D: Disk> Engine<D> {
         self.cursors.commit();
     }
 
-    /// The turn's changes are taken back in memory. It takes no memory.
+    /// The turn's changes are taken back. It takes no memory.
     fn take_back(&mut self)
-        ensures disk { self.new.store ≡ self.old.store }
+        ensures file { Undoes D.history self.old.file self.new.file }
         ensures world { world self.new ≡ after_undo (turn_start self.old) (world self.old) }
         ensures turn_start { turn_start self.new ≡ (world self.new).collections }
         ensures rests { has_changes self.new ≡ false }
     {
+        self.file.undo();
         self.collections.undo();
         self.cursors.undo();
     }
@@ -224,12 +240,18 @@ impl<D: Disk> Engine<D> {
         ensures sound { IsSound D.history self.new }
         ensures disk { disk_history D.history self.new ≡ disk_history D.history self.old }
         ensures running { is_stopped self.new ≡ is_stopped self.old }
-        ensures store { store_of self.new ≡ store_of self.old }
+        ensures generation { generation self.new ≡ generation self.old }
+        ensures takes { full_takes_of D.history self.new ≡ full_takes_of D.history self.old }
         ensures world { world self.new ≡ after_undo (turn_start self.old) (world self.old) }
         ensures turn_start { turn_start self.new ≡ (world self.new).collections }
         ensures rests { has_changes self.new ≡ false }
         ensures rested { are_untouched (world self.new).cursors ≡ true }
+        ensures quiet { has_changes self.old ≡ false → file_of self.new ≡ file_of self.old }
     {
+        if !self.collections.is_changed() {
+            self.cursors.undo();
+            return;
+        }
         self.take_back();
     }
 
@@ -239,7 +261,7 @@ impl<D: Disk> Engine<D> {
         ensures sound { IsSound D.history self.new }
         ensures disk { disk_history D.history self.new ≡ disk_history D.history self.old }
         ensures running { is_stopped self.new ≡ is_stopped self.old }
-        ensures store { store_of self.new ≡ store_of self.old }
+        ensures file { file_of self.new ≡ file_of self.old }
         ensures world { world self.new ≡ forget (world self.old) connection }
         ensures turn_start { turn_start self.new ≡ turn_start self.old }
         ensures has_changes { has_changes self.new ≡ has_changes self.old }

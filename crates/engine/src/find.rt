@@ -7,8 +7,7 @@ ghost use Rattle.commands.specs.View.{documents_at};
 ghost use Rattle.engine.specs.Lawful.{IsWithin};
 ghost use Rattle.engine.specs.World.{documents_of};
 ghost use Rattle.engine.specs.Find.{matching, window, selection, query_result, run_find, Suffices};
-ghost use Rattle.engine.specs.View.{world, turn_start, IsSendable, Runs};
-ghost use Rattle.engine.specs.Durable.{has_changes};
+ghost use Rattle.engine.specs.View.{world, IsSendable, Runs};
 
 use crate::batch_reply::{BatchKind, batch_reply};
 use crate::connection::ConnId;
@@ -102,13 +101,12 @@ impl<D: Disk> Engine<D> {
         most: usize,
     ) -> Result<SpelledDocument, Refusal>
         requires { length namespace.now ≤ 255 }
-        ensures disk { self.new.store ≡ self.old.store }
+        ensures file { self.new.file ≡ self.old.file }
         ensures runs { Runs (world self.old)
             (run_find (world self.old) connection
             (record { namespace = namespace.now; query = query.now; batch_size = Some most }))
             (world self.new) result }
-        ensures turn_start { turn_start self.new ≡ turn_start self.old }
-        ensures has_changes { has_changes self.new ≡ has_changes self.old }
+        ensures collections { self.new.collections ≡ self.old.collections }
         ensures sendable { IfOk result (λ d. IsSendable d) }
     {
         let alloc = self.alloc;

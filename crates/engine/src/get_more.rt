@@ -2,8 +2,7 @@
 
 ghost use Rattle.std.specs.Prelude.{◌≡◌, ◌≤◌, IfOk, length};
 ghost use Rattle.engine.specs.GetMore.{run_get_more};
-ghost use Rattle.engine.specs.View.{world, turn_start, IsSendable, Runs};
-ghost use Rattle.engine.specs.Durable.{has_changes};
+ghost use Rattle.engine.specs.View.{world, IsSendable, Runs};
 
 use crate::connection::ConnId;
 use crate::engine::Engine;
@@ -21,13 +20,12 @@ impl<D: Disk> Engine<D> {
         most: Option<usize>,
     ) -> Result<SpelledDocument, Refusal>
         requires { length namespace.now ≤ 255 }
-        ensures disk { self.new.store ≡ self.old.store }
+        ensures file { self.new.file ≡ self.old.file }
         ensures runs { Runs (world self.old)
             (run_get_more (world self.old) connection
             (record { id = id.now; namespace = namespace.now; batch_size = most }))
             (world self.new) result }
-        ensures turn_start { turn_start self.new ≡ turn_start self.old }
-        ensures has_changes { has_changes self.new ≡ has_changes self.old }
+        ensures collections { self.new.collections ≡ self.old.collections }
         ensures sendable { IfOk result (λ d. IsSendable d) }
     {
         let Some(at) = self.cursors.place_of(connection, namespace, id) else {

@@ -4,7 +4,7 @@ ghost use Rattle.std.specs.Prelude.{◌≡◌, ◌≤◌, ◌++◌, ◌∷◌, [
 ghost use Rattle.bson.specs.View.{tree};
 ghost use Rattle.bson.specs.Spelling.{Spells, frame_of, pairs_bytes};
 ghost use Rattle.value_order.specs.KeyText.{tree_text};
-ghost use Rattle.roots.specs.EntryView.{entries_of};
+ghost use Rattle.btree.specs.Scan.{entry_in};
 ghost use Rattle.engine.specs.Documents.{key_of};
 ghost use Rattle.engine.specs.Lawful.{IsStored, IsReadable, IsKept, IsLawfulState};
 ghost use Rattle.engine.specs.Refusals.{words};
@@ -12,11 +12,11 @@ ghost use Rattle.engine.specs.Stored.{key_under, catalogue_value, catalogue_entr
 
 use crate::MOST_COLLECTIONS;
 use crate::collection::Collection;
-use crate::collections::Collections;
+use crate::memory::Collections;
 use crate::reply::put;
 use crate::shared_document::SharedDocument;
 use bson::{Array, Document, EncodeFault, NoMemory, Text, Value, encode};
-use roots::EntryList;
+use btree::Entry;
 use std::alloc::{AllocError, Global};
 use update::id_of;
 use value_order::group_text;
@@ -63,77 +63,86 @@ fn name_text(alloc: Global, namespace: &str) -> Result<Vec<u8>, NoMemory>
     group_text(alloc, &name)
 }
 
-/// Adds the catalogue's entry of a collection.
-fn push_entry(list: &mut EntryList, collection: &Collection) -> Result<(), NoMemory>
+/// The catalogue's entry of a collection.
+fn catalogue_entry(alloc: Global, collection: &Collection) -> Result<Entry, NoMemory>
     requires { IsKept collection.now }
-    ensures pushed { OnOk result (entries_of list.new
-        ≡ entries_of list.old ++ catalogue_entry collection.now ∷ []) }
+    ensures entry { IfOk result (λ entry. entry_in entry ≡ catalogue_entry collection.now) }
     ensures readable { IsReadable collection.now }
 {
-    let alloc = list.allocator();
     let _ = collection.documents();
     let text = name_text(alloc, collection.namespace())?;
     let key = key_under(alloc, 0, &text)?;
     let value = spelling(alloc, &catalogue_value(alloc, collection.number())?)?;
-    list.push(&key, &value)
+    Ok(Entry { key, value })
 }
 
 /// Adds the catalogue.
-fn push_catalogue(list: &mut EntryList, collections: &[Collection]) -> Result<(), NoMemory>
+fn push_catalogue(
+    alloc: Global,
+    list: &mut Vec<Entry>,
+    collections: &[Collection],
+) -> Result<(), NoMemory>
     requires { All IsKept collections.now }
-    ensures pushed { OnOk result (entries_of list.new
-        ≡ entries_of list.old ++ map catalogue_entry collections.now) }
+    ensures pushed { OnOk result (map entry_in list.new.items
+        ≡ map entry_in list.old.items ++ map catalogue_entry collections.now) }
     ensures readable { OnOk result (All IsReadable collections.now) }
 {
     'collections: for collection in collections {
-        push_entry(list, collection)?;
+        let entry = catalogue_entry(alloc, collection)?;
+        list.push(entry).map_err(AllocError::from)?;
     }
     Ok(())
 }
 
-/// Adds the entry of a document.
-fn push_document(list: &mut EntryList, number: u32, document: &Document) -> Result<(), NoMemory>
+/// The entry of a document.
+fn document_entry(alloc: Global, number: u32, document: &Document) -> Result<Entry, NoMemory>
     requires { IsStored document.now }
-    ensures { OnOk result (entries_of list.new
-        ≡ entries_of list.old ++ document_entry number document.now ∷ []) }
+    ensures { IfOk result (λ entry. entry_in entry ≡ document_entry number document.now) }
 {
-    let alloc = list.allocator();
     let Some(id) = id_of(document) else {
         unreachable!("it is stored")
     };
     let text = group_text(alloc, id)?;
     let key = key_under(alloc, number, &text)?;
-    list.push(&key, &spelling(alloc, document)?)
+    let value = spelling(alloc, document)?;
+    Ok(Entry { key, value })
 }
 
 /// Adds the documents of a collection.
 fn push_documents(
-    list: &mut EntryList,
+    alloc: Global,
+    list: &mut Vec<Entry>,
     number: u32,
     documents: &[SharedDocument],
 ) -> Result<(), NoMemory>
     requires { All IsStored documents.now }
-    ensures { OnOk result (entries_of list.new
-        ≡ entries_of list.old ++ map (document_entry number) documents.now) }
+    ensures { OnOk result (map entry_in list.new.items
+        ≡ map entry_in list.old.items ++ map (document_entry number) documents.now) }
 {
     'documents: for document in documents {
-        push_document(list, number, document.document())?;
+        let entry = document_entry(alloc, number, document.document())?;
+        list.push(entry).map_err(AllocError::from)?;
     }
     Ok(())
 }
 
 /// The entries that collections are kept as.
-pub(crate) fn image_of(alloc: Global, collections: &Collections) -> Result<EntryList, NoMemory>
+pub(crate) fn image_of(alloc: Global, collections: &Collections) -> Result<Vec<Entry>, NoMemory>
     requires { IsLawfulState collections.now.now }
-    ensures entries { IfOk result (λ list. entries_of list
+    ensures entries { IfOk result (λ list. map entry_in list.items
         ≡ database_entries collections.now.now) }
     ensures readable { IfOk result (λ _. All IsReadable collections.now.now) }
 {
-    let mut list = EntryList::new(alloc);
-    push_catalogue(&mut list, collections.list())?;
+    let mut list = Vec::new(alloc);
+    push_catalogue(alloc, &mut list, collections.list())?;
     'numbers: for before in 0..MOST_COLLECTIONS {
         let number = before as u32 + 1;
-        push_documents(&mut list, number, collections.documents_numbered(number))?;
+        push_documents(
+            alloc,
+            &mut list,
+            number,
+            collections.documents_numbered(number),
+        )?;
     }
     Ok(list)
 }

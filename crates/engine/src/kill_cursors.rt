@@ -6,8 +6,7 @@ ghost use Rattle.std.specs.Ordering.{int_eq};
 ghost use Rattle.bson.specs.Tree.{scalar, int64, item, no_items, append_items};
 ghost use Rattle.engine.specs.KillCursors.{no_ids, with_id, told_apart, has_cursor, id_items, kill_reply, run_kill_cursors};
 ghost use Rattle.engine.specs.Refusals.{ok_reply};
-ghost use Rattle.engine.specs.View.{world, turn_start, IsSendable, Runs};
-ghost use Rattle.engine.specs.Durable.{has_changes};
+ghost use Rattle.engine.specs.View.{world, IsSendable, Runs};
 
 use crate::connection::ConnId;
 use crate::cursors::Cursors;
@@ -128,13 +127,12 @@ impl<D: Disk> Engine<D> {
         ids: &[i64],
     ) -> Result<Document, Refusal>
         requires { length ids.now ≤ 1000 }
-        ensures disk { self.new.store ≡ self.old.store }
+        ensures file { self.new.file ≡ self.old.file }
         ensures runs { Runs (world self.old)
             (run_kill_cursors (world self.old) connection
             (record { namespace = namespace.now; cursors = ids.now }))
             (world self.new) result }
-        ensures turn_start { turn_start self.new ≡ turn_start self.old }
-        ensures has_changes { has_changes self.new ≡ has_changes self.old }
+        ensures collections { self.new.collections ≡ self.old.collections }
         ensures sendable { IfOk result (λ d. IsSendable d) }
     {
         let told = tell_apart(self.alloc, &self.cursors, connection, namespace, ids)?;

@@ -1,26 +1,30 @@
 //! Collections are read from the pairs that they are kept as.
 
-ghost use Rattle.std.specs.Prelude.{◌≡◌, ◌≢◌, ◌≤◌, ◌<◌, ◌^◌, ◌++◌, Some, false, [], ◌∷◌, List, ℕ, IfOk, IfErr, IfSome, IfNone, OnOk, OnErr, IsUtf8, All, length, drop, string_bytes, Err};
+ghost use Rattle.std.specs.Prelude.{◌≡◌, ◌≢◌, ◌⊎◌, ◌≤◌, ◌<◌, ◌^◌, ◌++◌, Some, true, false, [], ◌∷◌, List, ℕ, IfOk, IfErr, IfSome, IfNone, OnOk, OnErr, IsUtf8, All, length, map, drop, string_bytes, Err};
 ghost use Rattle.std.specs.Int.{w32, to_be_bytes};
 ghost use Rattle.bson.specs.Tree.{Pairs};
 ghost use Rattle.bson.specs.Spelling.{Spells};
 ghost use Rattle.value_order.specs.KeyText.{tree_text};
-ghost use Rattle.std.specs.List.{AllByRecursion};
-ghost use Rattle.roots.specs.Entries.{Entry, IsFit, entries_bytes};
-ghost use Rattle.roots.specs.EntryView.{entries_of};
+ghost use Rattle.btree.specs.Keys.{Entry as MapEntry};
+ghost use Rattle.btree.specs.Scan.{entry_in};
 ghost use Rattle.index.specs.State.{Collection};
 ghost use Rattle.engine.specs.Lawful.{IsReadable, IsLawfulState};
 ghost use Rattle.engine.specs.Refusals.{words};
 ghost use Rattle.engine.specs.Stored.{key_under, catalogue_value, database_entries};
 ghost use Rattle.engine.specs.Loading.{IsReadAs, IsNext, IsOfBytes, IsLoading, unescaped, Adds, AddsEntry, AddsDocument, Loads};
+ghost use Rattle.engine.specs.FileOpening.{IsFileOpened, LoadsFile};
+ghost use Rattle.engine.specs.Opening.{IsRefused};
 
 use crate::MOST_COLLECTIONS;
-use crate::collections::Collections;
 use crate::image::image_of;
+use crate::memory::Collections;
 use bson::{BsonFault, Document, NoMemory, Value, decode};
+use btree::Entry;
+use collections::Collections as FileCollections;
 use commands::NAMESPACE_LIMIT;
+use page::Disk;
 use path::Refusal;
-use roots::{EntryList, OpenFault, split_entry};
+use roots::OpenFault;
 use std::alloc::Global;
 
 /// The string that was escaped so.
@@ -148,7 +152,7 @@ fn load_entry(
 ) -> Result<(), OpenFault>
     requires { IsLoading collections.old }
     ensures loading { OnOk result (IsLoading collections.new) }
-    ensures adds { (pair : Entry) (next : List Collection)
+    ensures adds { (pair : MapEntry) (next : List Collection)
         (adds : AddsEntry collections.old.now pair next)
         → text.now ≡ tree_text (words adds.new.name) → pair.value ≡ value.now
         → IsNext result collections.new.now next }
@@ -184,7 +188,7 @@ fn load_document(
 ) -> Result<(), OpenFault>
     requires { IsLoading collections.old }
     ensures loading { OnOk result (IsLoading collections.new) }
-    ensures adds { (pair : Entry) (next : List Collection)
+    ensures adds { (pair : MapEntry) (next : List Collection)
         (adds : AddsDocument collections.old.now pair next) → number ≡ adds.number
         → pair.value ≡ value.now → IsNext result collections.new.now next }
     ensures fault { IfErr result IsOfBytes }
@@ -230,10 +234,9 @@ fn load_pair(
 }
 
 /// The collections that these pairs make.
-fn load_pairs(alloc: Global, bytes: &[u8]) -> Result<Collections, OpenFault>
+fn load_pairs(alloc: Global, entries: &[Entry]) -> Result<Collections, OpenFault>
     ensures loading { IfOk result IsLoading }
-    ensures loads { (pairs : List Entry) (last : List Collection) → AllByRecursion IsFit pairs
-        → bytes.now ≡ entries_bytes pairs → Loads [] pairs last
+    ensures loads { (last : List Collection) → Loads [] (map entry_in entries.now) last
         → IsReadAs (λ collections. collections.now) result last }
     ensures fault { IfErr result IsOfBytes }
 {
@@ -241,40 +244,108 @@ fn load_pairs(alloc: Global, bytes: &[u8]) -> Result<Collections, OpenFault>
         Ok(collections) => collections,
         Err(_) => return Err(OpenFault::Memory),
     };
-    let mut rest = bytes;
-    'pairs: while let Some(pair) = split_entry(rest) {
-        match load_pair(alloc, &mut collections, pair.key, pair.value) {
-            Ok(()) => rest = pair.rest,
+    'entries: for entry in entries {
+        match load_pair(alloc, &mut collections, &entry.key, &entry.value) {
+            Ok(()) => {}
             Err(fault) => return Err(fault),
         }
     }
     Ok(collections)
 }
 
+/// Whether this entry is that one.
+fn is_same(entry: &Entry, other: &Entry) -> bool
+    ensures yes { entry_in entry.now ≡ entry_in other.now → result ≡ true }
+    ensures no { result ≡ true → entry_in entry.now ≡ entry_in other.now }
+{
+    entry.key == other.key && entry.value == other.value
+}
+
+/// Whether these entries are those.
+fn are_same(entries: &[Entry], others: &[Entry]) -> bool
+    ensures yes { map entry_in entries.now ≡ map entry_in others.now → result ≡ true }
+    ensures no { result ≡ true → map entry_in entries.now ≡ map entry_in others.now }
+{
+    if entries.len() != others.len() {
+        return false;
+    }
+    for i in 0..entries.len() {
+        if !is_same(&entries[i], &others[i]) {
+            return false;
+        }
+    }
+    true
+}
+
 /// The collections that are kept as these entries. They are spelled again and compared, so nothing else passes.
-pub(crate) fn load(alloc: Global, list: &EntryList) -> Result<Collections, OpenFault>
+pub(crate) fn load(alloc: Global, entries: &[Entry]) -> Result<Collections, OpenFault>
     ensures loading { IfOk result IsLoading }
     ensures readable { IfOk result (λ collections. All IsReadable collections.now) }
-    ensures entries { IfOk result (λ collections. entries_of list.now
+    ensures entries { IfOk result (λ collections. map entry_in entries.now
         ≡ database_entries collections.now) }
     ensures damaged { IfErr result
         (λ fault. fault ≢ OpenFault.Memory → (collections : List Collection)
         → IsLawfulState collections → All IsReadable collections
-        → entries_of list.now ≡ database_entries collections → ⊥) }
+        → map entry_in entries.now ≡ database_entries collections → ⊥) }
     ensures fault { IfErr result IsOfBytes }
 {
-    let collections = match load_pairs(alloc, list.bytes()) {
+    let collections = match load_pairs(alloc, entries) {
         Ok(collections) => collections,
         Err(fault) => return Err(fault),
     };
     match image_of(alloc, &collections) {
         Ok(again) => {
-            if again.is_same(list) {
+            if are_same(&again, entries) {
                 Ok(collections)
             } else {
                 Err(OpenFault::Damaged)
             }
         }
         Err(_) => Err(OpenFault::Memory),
+    }
+}
+
+/// What a refusal to read the file's entries is.
+fn reading_fault(refusal: Refusal) -> OpenFault
+    ensures device { result ≡ OpenFault.Device → refusal ≡ Refusal.StorageFailed }
+    ensures kinds { (result ≡ OpenFault.Device) ⊎ (result ≡ OpenFault.Memory) }
+{
+    match refusal {
+        Refusal::StorageFailed => OpenFault::Device,
+        _ => OpenFault::Memory,
+    }
+}
+
+/// The collections that a file's tree has, with all their documents.
+fn load_file<D: Disk>(
+    alloc: Global,
+    file: &mut FileCollections<D>,
+) -> Result<Collections, OpenFault>
+    ensures { LoadsFile D.history result file.old file.new }
+{
+    let entries = match file.entries() {
+        Ok(entries) => entries,
+        Err(refusal) => return Err(reading_fault(refusal)),
+    };
+    load(alloc, &entries)
+}
+
+/// Opens a disk that a crash may have left, as a file of at most so many pages, or those that it has, and reads all collections
+/// into memory. An `Err` hands the disk back.
+pub(crate) fn open_file<D: Disk>(
+    alloc: Global,
+    disk: D,
+    limit: u32,
+) -> Result<(Collections, FileCollections<D>), (D, OpenFault)>
+    ensures opened { IfOk result (λ r. IsFileOpened D.history disk r.0 r.1) }
+    ensures refused { IfErr result (λ e. IsRefused D.history disk e.0 e.1) }
+{
+    let mut file = match FileCollections::open(alloc, disk, limit) {
+        Ok(file) => file,
+        Err((disk, fault)) => return Err((disk, fault)),
+    };
+    match load_file(alloc, &mut file) {
+        Ok(collections) => Ok((collections, file)),
+        Err(fault) => Err((file.into_disk(), fault)),
     }
 }

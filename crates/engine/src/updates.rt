@@ -13,19 +13,18 @@ ghost use Rattle.commands.specs.Command.{update};
 ghost use Rattle.engine.specs.Documents.{key_of};
 ghost use Rattle.engine.specs.Lawful.{IsStored, IsHeld};
 ghost use Rattle.engine.specs.Places.{collection_at};
-ghost use Rattle.engine.specs.Progress.{turn_start_of, Extends};
 ghost use Rattle.engine.specs.Refusals.{total, ok_reply};
 ghost use Rattle.engine.specs.Step.{ChangesNone};
 ghost use Rattle.engine.specs.Update.{counted, spelled, upsert_document, upserted_entry, upsert, run_statement, run_statements, counts_reply, run_update};
 ghost use Rattle.engine.specs.Updating.{updated_of, HasNone, IsQuiet, IsChange, UpdatesAt, document_at, RunsMatching, RunsFound, RunsAll};
-ghost use Rattle.engine.specs.View.{world, turn_start, IsSendable, Runs};
-ghost use Rattle.engine.specs.Durable.{has_changes};
+ghost use Rattle.engine.specs.View.{world, IsSendable, Runs};
+ghost use Rattle.engine.specs.Progress.{Extends};
 
-use crate::collections::Collections;
 use crate::documents::check_key;
 use crate::engine::Engine;
 use crate::find::matches;
 use crate::image::spelling;
+use crate::memory::Collections;
 use crate::reply::{add, done, put};
 use crate::{REPLY_LIMIT, STORED_LIMIT};
 use bson::{Array, Document, NoMemory, Pair, Value};
@@ -383,7 +382,7 @@ impl Collections {
         requires few { length statements.now ≤ 1000 }
         requires read { All (λ (s : UpdateStatement). IsRead s.change) statements.now }
         ensures runs { RunsAll namespace.now statements.now self.old self.new result }
-        ensures turn_start { turn_start_of self.new ≡ turn_start_of self.old }
+        ensures extends { Extends self.old self.new }
         ensures err { IfErr result (λ _. self.new ≡ self.old) }
         ensures sendable { IfOk result (λ d. IsSendable d) }
     {
@@ -405,16 +404,17 @@ impl<D: Disk> Engine<D> {
     ) -> Result<Document, Refusal>
         requires few { length statements.now ≤ 1000 }
         requires read { All (λ (s : UpdateStatement). IsRead s.change) statements.now }
-        ensures disk { self.new.store ≡ self.old.store }
+        ensures file { self.new.file ≡ self.old.file }
         ensures runs { Runs (world self.old)
             (run_update (world self.old)
             (record { namespace = namespace.now; statements = statements.now }))
             (world self.new) result }
-        ensures turn_start { turn_start self.new ≡ turn_start self.old }
+        ensures extends { Extends self.old.collections self.new.collections }
+        ensures cursors { self.new.cursors ≡ self.old.cursors }
+        ensures refused { IfErr result (λ _. self.new.collections ≡ self.old.collections) }
         ensures has_changes { ChangesNone (world self.old)
             (update (record { namespace = namespace.now; statements = statements.now }))
-            → IfOk result (λ _. has_changes self.new ≡ has_changes self.old) }
-        ensures refused { IfErr result (λ _. has_changes self.new ≡ has_changes self.old) }
+            → IfOk result (λ _. self.new.collections ≡ self.old.collections) }
         ensures sendable { IfOk result (λ d. IsSendable d) }
     {
         self.collections.update(namespace, statements)

@@ -1,5 +1,6 @@
 //! Cursors: batch after batch, turns of several connections, ends.
 
+ghost use Rattle.std.specs.Prelude.{IfOk};
 ghost use Rattle.page.specs.Memory.{memory_history};
 ghost use Rattle.server.specs.Durable.{IsSound};
 
@@ -9,8 +10,8 @@ use crate::conversation::{
 use crate::session::CONFIG;
 use by_hand::frame;
 use engine::ConnId;
-use page::MemDisk;
-use server::{Config, Core};
+use page::{Disk, MemDisk};
+use server::Core;
 use std::alloc::Global;
 use std::test::*;
 
@@ -364,8 +365,29 @@ fn an_end_and_a_fault(rt: HostRuntime) -> Result<(), Fail> {
     Ok(())
 }
 
-/// A file of sixteen pages.
-const SMALL: Config = Config { max_pages: 16 };
+/// A database at the greatest generation, where no commit finds another: what one turn with this insert made, with the roots of
+/// the two greatest generations in place of its own.
+fn at_last_generation(alloc: Global, insert: &str) -> Result<Core<MemDisk>, Fail>
+    ensures { IfOk result (λ core. IsSound memory_history core) }
+{
+    let mut core = open(alloc, CONFIG)?;
+    core.feed(
+        ConnId::new(0).ok_or("connection 0")?,
+        &message(alloc, insert)?,
+    )?;
+    let _out = core.turn()?;
+    let mut disk = core.into_disk();
+    let mut root = [0; 512];
+    disk.read(1, &mut root)?;
+    root[16..24].copy_from_slice(&u64::MAX.to_le_bytes());
+    disk.write(1, &root)?;
+    root[16..24].copy_from_slice(&(u64::MAX - 1).to_le_bytes());
+    disk.write(0, &root)?;
+    match Core::open(alloc, disk, CONFIG) {
+        Ok(core) => Ok(core),
+        Err(_) => Err(Fail::from("it doesn't open")),
+    }
+}
 
 /// An insert of a document with this number and a string of so many bytes.
 fn large(alloc: Global, number: i32, len: usize) -> Result<String, Fail> {
@@ -395,10 +417,8 @@ const AFTER_FULL: [Row; 2] = [
 #[test]
 fn an_undone_opening(rt: HostRuntime) -> Result<(), Fail> {
     let alloc = rt.alloc();
-    let mut core = open(alloc, SMALL)?;
-    // 40,000 bytes fill ten of the pages
-    let insert = large(alloc, 1, 40_000)?;
-    assert!(rt; answers(alloc, &mut core, 0, &insert, "{n: 1, ok: 1}")?);
+    let insert = "{insert: 'c', documents: [{_id: 1}], $db: 't'}";
+    let mut core = at_last_generation(alloc, insert)?;
     assert!(rt; in_one_turn(alloc, &mut core, &FULL_TURN)?);
     assert_eq!(rt; answered_otherwise(alloc, &mut core, &AFTER_FULL)?, None);
     Ok(())
@@ -435,11 +455,8 @@ const AFTER_UNDONE: [Row; 4] = [
 #[test]
 fn an_undone_turn(rt: HostRuntime) -> Result<(), Fail> {
     let alloc = rt.alloc();
-    let mut core = open(alloc, SMALL)?;
-    let insert = large(alloc, 1, 20_000)?;
-    assert!(rt; answers(alloc, &mut core, 0, &insert, "{n: 1, ok: 1}")?);
-    let insert = large(alloc, 2, 9_000)?;
-    assert!(rt; answers(alloc, &mut core, 0, &insert, "{n: 1, ok: 1}")?);
+    let insert = "{insert: 'c', documents: [{_id: 1}, {_id: 2}], $db: 't'}";
+    let mut core = at_last_generation(alloc, insert)?;
     let first = "{cursor: {firstBatch: [], id: 1L, ns: 't.c'}, ok: 1}";
     let second = "{cursor: {firstBatch: [], id: 2L, ns: 't.c'}, ok: 1}";
     let third = "{cursor: {firstBatch: [], id: 3L, ns: 't.c'}, ok: 1}";

@@ -11,11 +11,11 @@ const DELETE_ONE: &str = "{delete: 'c', deletes: [{q: {a: 1}, limit: 1}], $db: '
 
 const DELETE_ALL: &str = "{delete: 'c', deletes: [{q: {}, limit: 0}], $db: 't'}";
 
-// The catalogue's pair of a collection `t.c` with the number 1: lengths of a key and a value, the key, the value.
+// The catalogue's cell of a collection `t.c` with the number 1: lengths of a key and a value, the key, the value.
 const CATALOGUE: [u8; 40] =
     *b"\x0e\0\x14\0\0\0\0\0\0\0\0\0\0\0\x40t.c\0\0\x14\0\0\0\x10n\0\x01\0\0\0\x04x\0\x05\0\0\0\0\0";
 
-// The pair of its document `{_id: 1}`.
+// The cell of its document `{_id: 1}`.
 const DOCUMENT: [u8; 37] =
     *b"\x11\0\x0e\0\0\0\0\0\0\x01\0\0\0\0\x30\x80\0\0\0\0\0\0\x01\x0e\0\0\0\x10_id\0\x01\0\0\0\0";
 
@@ -102,18 +102,22 @@ fn emptied(rt: HostRuntime) -> Result<(), Fail> {
     let mut session = Session::filled(alloc, "[{_id: 1}]")?;
     assert!(rt; session.answers(DELETE_ALL, "{n: 1, ok: 1}")?);
     let mut disk = session.into_disk();
-    // the collection is still in the catalogue, which is all that the second chain holds
+    // the collection is still in the catalogue, whose entry is the one cell of the second leaf
     let page = sector(&rt, &mut disk, 16);
-    assert!(rt; page[2..4] == [40, 0][..]);
-    assert!(rt; page[20..60] == CATALOGUE[..]);
-    assert!(rt; page[60..].iter().all(|byte| *byte == 0));
+    assert!(rt; page[..8] == [1, 0, 1, 0, 2, 0, 0, 0][..]);
+    assert!(rt; page[8..16] == [2, 0, 0, 0, 0, 0, 0, 0][..]);
+    assert!(rt; page[16..56] == CATALOGUE[..]);
+    assert!(rt; page[56..].iter().all(|byte| *byte == 0));
     let mut session = Session::over(alloc, disk)?;
     let insert = "{insert: 'c', documents: [{_id: 1}], $db: 't'}";
     assert!(rt; session.answers(insert, "{n: 1, ok: 1}")?);
     let mut disk = session.into_disk();
+    // the first leaf's page, which the second commit freed, is the third
     let page = sector(&rt, &mut disk, 8);
-    assert!(rt; page[20..60] == CATALOGUE[..]);
-    assert!(rt; page[60..97] == DOCUMENT[..]);
+    assert!(rt; page[..8] == [1, 0, 2, 0, 1, 0, 0, 0][..]);
+    assert!(rt; page[8..16] == [3, 0, 0, 0, 0, 0, 0, 0][..]);
+    assert!(rt; page[16..56] == CATALOGUE[..]);
+    assert!(rt; page[56..93] == DOCUMENT[..]);
     let mut session = Session::over(alloc, disk)?;
     assert!(rt; session.finds("", "[1]")?);
     Ok(())
@@ -146,9 +150,9 @@ fn an_emptied_one_keeps_its_number(rt: HostRuntime) -> Result<(), Fail> {
         None
     );
     let mut disk = session.into_disk();
-    // three pairs of 40 bytes are the catalogue, and the number stands at 27 in each: the third isn't given the first's
+    // three cells of 40 bytes are the catalogue, and the number stands at 27 in each: the third isn't given the first's
     let page = sector(&rt, &mut disk, 16);
-    for (at, letter, number) in [(20, b'c', 1), (60, b'd', 2), (100, b'e', 3)] {
+    for (at, letter, number) in [(16, b'c', 1), (56, b'd', 2), (96, b'e', 3)] {
         assert_eq!(rt; page[at + 17], letter);
         assert_eq!(rt; page[at + 27], number);
     }
@@ -180,15 +184,22 @@ fn a_full_file(rt: HostRuntime) -> Result<(), Fail> {
     let mut session = Session::within(alloc, MemDisk::new(alloc), config)?;
     assert!(rt; session.answers(&insert_large(alloc, 1, 26_000, "")?, "{n: 1, ok: 1}")?);
     assert!(rt; session.answers(&insert_large(alloc, 2, 4_000, "{_id: 3}")?, "{n: 2, ok: 1}")?);
-    // 30,167 bytes are live in eight pages: without 37 of them it is eight again, and seven are free
-    let small = "{delete: 'c', deletes: [{q: {_id: 3}, limit: 1}], $db: 't'}";
-    assert!(rt; session.refuses(small, 9003)?);
+    // BSON of 26,022 bytes (4, 9 for `_id`, 26,008 for `s`, 1) has a chain of seven pages, for 6 * 4,076 is 24,456; 4,022 bytes
+    // have one. With the leaf nine pages are in use, and six are free: the first document again would want seven, and a leaf
+    let large = insert_large(alloc, 4, 26_000, "")?;
+    assert!(rt; session.refuses(&large, 9003)?);
+    // so does another form of it, as the seven that it leaves aren't free before the turn's end
+    let update = "{update: 'c', updates: [{q: {_id: 1}, u: {$set: {a: 1}}}], $db: 't'}";
+    assert!(rt; session.refuses(update, 9003)?);
     assert!(rt; session.finds("", "[1, 2, 3]")?);
-    // a delete that leaves two pages finds room, and makes room for the other
-    let large = "{delete: 'c', deletes: [{q: {_id: 1}, limit: 1}], $db: 't'}";
-    assert!(rt; session.answers(large, "{n: 1, ok: 1}")?);
+    // a small one wants a leaf alone
+    let small = "{insert: 'c', documents: [{_id: 5}], $db: 't'}";
     assert!(rt; session.answers(small, "{n: 1, ok: 1}")?);
+    // a delete wants a leaf too, and leaves two pages in use: eight of the thirteen others are enough
+    let delete = "{delete: 'c', deletes: [{q: {_id: 1}, limit: 1}], $db: 't'}";
+    assert!(rt; session.answers(delete, "{n: 1, ok: 1}")?);
+    assert!(rt; session.answers(&large, "{n: 1, ok: 1}")?);
     let mut session = Session::within(alloc, session.into_disk(), config)?;
-    assert!(rt; session.finds("", "[2]")?);
+    assert!(rt; session.finds("", "[2, 3, 4, 5]")?);
     Ok(())
 }

@@ -16,14 +16,14 @@ use Rattle.freelist.specs.Book.{Book, committed, is_in_use}
 use Rattle.freelist.proofs.SoundBooks.{stays_sound}
 use Rattle.roots.specs.declared.root.Root.{Root}
 use Rattle.roots.specs.declared.store.CommitFault.{CommitFault}
-use Rattle.roots.specs.declared.tree_store.TreeStore.{TreeStore}
-use Rattle.roots.specs.tree.Commit.{LeavesPages}
-use Rattle.roots.specs.tree.Image.{IsOnPages, sheet_at}
-use Rattle.roots.specs.tree.Store.{disk_history, durable_root}
-use Rattle.roots.specs.tree.Turn.{LieBehind, end_behind, made_or, next_root, numbers_of}
-use Rattle.roots.proofs.tree.ImageLemmas.{sheet_same}
-use Rattle.roots.proofs.tree.KeptPages.{made_there, still_read}
-use Rattle.roots.proofs.tree.MadeLemmas.{inside_end, sheets_after}
+use Rattle.roots.specs.declared.store.Store.{Store}
+use Rattle.roots.specs.Commit.{LeavesPages}
+use Rattle.roots.specs.Image.{IsOnPages, sheet_at}
+use Rattle.roots.specs.Store.{disk_history, durable_root}
+use Rattle.roots.specs.Turn.{LieBehind, end_behind, made_or, next_root, numbers_of}
+use Rattle.roots.proofs.ImageLemmas.{sheet_same}
+use Rattle.roots.proofs.KeptPages.{made_there, still_read}
+use Rattle.roots.proofs.MadeLemmas.{inside_end, sheets_after}
 use Rattle.pager.specs.Kept.{IsBookFor, IsKept, IsNew}
 use Rattle.pager.specs.Writing.{KeepsAll, retired_all, written_of}
 use Rattle.pager.proofs.BookLemmas.{all_full, all_length, all_pins, all_sound, all_waiting, committed_length, committed_waiting}
@@ -38,7 +38,7 @@ some_number image root n sheet is = by_test (nat_lt 0 n) refl is
     by_test true test is = grind (arith, nat_tests, test)
     by_test false test is = absurd cc
 
-module _ {D : Type 0} (history : D → History) (store : TreeStore D) (cache : PageCache) (made : List Sheet) (retired : List ℕ) (book : Book) (so : IsKept history store cache made book) (version : ℕ) where
+module _ {D : Type 0} (history : D → History) (store : Store D) (cache : PageCache) (made : List Sheet) (retired : List ℕ) (book : Book) (so : IsKept history store cache made book) (version : ℕ) where
   abbrev pub planned : Book
   planned = retired_all version retired book
 
@@ -78,7 +78,7 @@ module _ {D : Type 0} (history : D → History) (store : TreeStore D) (cache : P
         behind = λ n free. tt;
       }
 
-  module _ (new : TreeStore D) (after : PageCache) (tree : ℕ) (leaves : LeavesPages history written tree (Ok tt) store new) (content : AllByRecursion (λ (m : Sheet). IsContent m.content) written) (keeps : KeepsAll written cache after)
+  module _ (new : Store D) (after : PageCache) (tree : ℕ) (leaves : LeavesPages history written tree (Ok tt) store new) (content : AllByRecursion (λ (m : Sheet). IsContent m.content) written) (keeps : KeepsAll written cache after)
       (on : KeepsWord (disk_history history new) → KeepsWord (disk_history history store)) where
     abbrev next : Root
     next = next_root (durable_root store) written tree
@@ -154,7 +154,7 @@ module _ {D : Type 0} (history : D → History) (store : TreeStore D) (cache : P
     }
 
   -- a commit that failed: the pages that it wrote aren't in the cache
-  pub kept_failed : (new : TreeStore D) (tree : ℕ) (fault : CommitFault) → LeavesPages history written tree (Err fault) store new → (KeepsWord (disk_history history new) → KeepsWord (disk_history history store)) → IsKept history new cache made book
+  pub kept_failed : (new : Store D) (tree : ℕ) (fault : CommitFault) → LeavesPages history written tree (Err fault) store new → (KeepsWord (disk_history history new) → KeepsWord (disk_history history store)) → IsKept history new cache made book
   kept_failed new tree fault leaves on = record {
     cached = λ k n found is.
         let there : sheet_at (reads (now (disk_history history store))) (durable_root store) n ≡ Ok found = so.cached (on k) n found is in

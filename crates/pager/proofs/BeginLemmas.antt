@@ -15,9 +15,9 @@ use Rattle.btree.proofs.StoreLemmas.{grows_itself}
 use Rattle.freelist.specs.Book.{is_free, is_free_state, is_in_use, is_used_state}
 use Rattle.freelist.specs.declared.states.PageState.{PageState}
 use Rattle.freelist.specs.declared.states.PageState.TheVariants as states
-use Rattle.roots.specs.tree.Image.{content_in, sheet_at, store_of as image_store}
-use Rattle.roots.specs.tree.Store.{durable_root}
-use Rattle.roots.specs.tree.Turn.{made_or, numbers_of}
+use Rattle.roots.specs.Image.{content_in, sheet_at, store_of as image_store}
+use Rattle.roots.specs.Store.{durable_root}
+use Rattle.roots.specs.Turn.{made_or, numbers_of}
 use Rattle.pager.specs.Commit.{IsTurn}
 use Rattle.pager.specs.State.{State}
 use Rattle.pager.specs.Turn.{IsBegun}

@@ -17,7 +17,7 @@ use Rattle.freelist.specs.declared.turns.Retirement.{Retirement}
 use Rattle.freelist.proofs.Rewinding.{below, one_same, used_is}
 use Rattle.freelist.proofs.SoundBooks.{stays_sound}
 use Rattle.freelist.proofs.Undoing.{undoing_leads_back}
-use Rattle.roots.specs.tree.Turn.{numbers_of}
+use Rattle.roots.specs.Turn.{numbers_of}
 use Rattle.pager.specs.Kept.{IsBookFor, takes_of}
 use Rattle.pager.specs.Writing.{retired_all}
 

@@ -7,16 +7,16 @@ use Rattle.page.specs.Content.{Content}
 use Rattle.page.specs.Format.{Sheet}
 use Rattle.page.specs.History.{History}
 use Rattle.page.specs.declared.page_cache.PageCache.{PageCache}
-use Rattle.btree.specs.Store.{HasCause, IsAt, KeepsWord, Stays, Store, flag}
+use Rattle.btree.specs.Store.{HasCause, IsAt, KeepsWord, Stays, Store as Pages, flag}
 use Rattle.btree.specs.declared.pages.TreeFault.{TreeFault}
 use Rattle.btree.specs.declared.pages.TreeFault.TheVariants as faults
 use Rattle.freelist.specs.Book.{Book, is_free, rewind}
 use Rattle.freelist.specs.Coding.{state_number}
 use Rattle.roots.specs.declared.root.Root.{Root}
-use Rattle.roots.specs.declared.tree_store.TreeStore.{TreeStore}
-use Rattle.roots.specs.tree.Image.{content_in}
-use Rattle.roots.specs.tree.Store.{disk_history, durable_root}
-use Rattle.roots.proofs.tree.WalkLemmas.{IsFound, found_at}
+use Rattle.roots.specs.declared.store.Store.{Store}
+use Rattle.roots.specs.Image.{content_in}
+use Rattle.roots.specs.Store.{disk_history, durable_root}
+use Rattle.roots.proofs.WalkLemmas.{IsFound, found_at}
 use Rattle.pager.specs.Calls.{HasReadCause, ReadsPage}
 use Rattle.pager.specs.Kept.{IsKept, IsNew}
 use Rattle.pager.specs.State.{State}
@@ -28,7 +28,7 @@ no_longer : {X : Type 0} (a b : Option X) → b ≡ None → ((x : X) → a ≡ 
 no_longer None b none less = refl
 no_longer {X = X} (Some x) b none less = let never : Some x ≡ None = sym (less x refl) ∙ none in absurd cc
 
-pub read_kept : {D : Type 0} (history : D → History) (store new : TreeStore D) (cache after : PageCache) (made : List Sheet) (book : Book) (page : ℕ) (result : Result Sheet TreeFault) → IsKept history store cache made book
+pub read_kept : {D : Type 0} (history : D → History) (store new : Store D) (cache after : PageCache) (made : List Sheet) (book : Book) (page : ℕ) (result : Result Sheet TreeFault) → IsKept history store cache made book
     → ReadsPage history page result store new cache after → AllByRecursion (λ (m : Sheet). m.page ≢ page) made → IsKept history new after made book
 read_kept history store new cache after made book page result so read ne = record {
   cached = read.agrees so.cached;
@@ -44,7 +44,7 @@ read_kept history store new cache after made book page result so read ne = recor
   booked = so.booked;
 }
 
-pub read_value : {D : Type 0} (history : D → History) (store new : TreeStore D) (cache after : PageCache) (made : List Sheet) (retired : List ℕ) (book : Book) (page : ℕ) (result : Result Sheet TreeFault) (old : State D)
+pub read_value : {D : Type 0} (history : D → History) (store new : Store D) (cache after : PageCache) (made : List Sheet) (retired : List ℕ) (book : Book) (page : ℕ) (result : Result Sheet TreeFault) (old : State D)
     → record { store = store; made = made; retired = retired; book = book } ≡ old → IsKept history store cache made book → ReadsPage history page result store new cache after → AllByRecursion (λ (m : Sheet). m.page ≢ page) made
     → KeepsWord (store_of history (record { store = new; made = made; retired = retired; book = book })) → IfOk result (λ shared. content_in (sheets_of history old page) ≡ shared.content)
 read_value {D = D} history store new cache after made retired book page result old view_is so read ne word =
@@ -54,7 +54,7 @@ read_value {D = D} history store new cache after made retired book page result o
     go (Ok shared) is = ap content_in (made_none made page (sheet_in history store page) ne ∙ is)
     go (Err fault) is = tt
 
-pub read_stays : {D : Type 0} (history : D → History) (store new : TreeStore D) (cache after : PageCache) (made : List Sheet) (retired : List ℕ) (book : Book) (page : ℕ) (result : Result Sheet TreeFault) (old : State D)
+pub read_stays : {D : Type 0} (history : D → History) (store new : Store D) (cache after : PageCache) (made : List Sheet) (retired : List ℕ) (book : Book) (page : ℕ) (result : Result Sheet TreeFault) (old : State D)
     → record { store = store; made = made; retired = retired; book = book } ≡ old → ReadsPage history page result store new cache after
     → Stays (store_of history old) (store_of history (record { store = new; made = made; retired = retired; book = book }))
 read_stays {D = D} history store new cache after made retired book page result old view_is read =
@@ -68,7 +68,7 @@ first_true : (a b : Bool) → (a && b) ≡ true → a ≡ true
 first_true true b is = refl
 first_true false b is = absurd cc
 
-more_cause : (old new : Store) (h0 h1 : History) (fault : TreeFault) → (h0.failures < h1.failures → old.history.failures < new.history.failures) → HasReadCause h0 h1 fault → HasCause old new fault
+more_cause : (old new : Pages) (h0 h1 : History) (fault : TreeFault) → (h0.failures < h1.failures → old.history.failures < new.history.failures) → HasReadCause h0 h1 fault → HasCause old new fault
 more_cause old new h0 h1 faults.Memory to cause = tt
 more_cause old new h0 h1 faults.Device to cause = to cause
 more_cause old new h0 h1 faults.Full to cause = absurd cause
@@ -77,7 +77,7 @@ more_cause old new h0 h1 faults.Number to cause = cause
 more_cause old new h0 h1 faults.Order to cause = cause
 more_cause old new h0 h1 faults.Length to cause = cause
 
-pub read_cause : {D : Type 0} (history : D → History) (store new : TreeStore D) (cache after : PageCache) (made : List Sheet) (retired : List ℕ) (book : Book) (page : ℕ) (result : Result Sheet TreeFault) (old : State D)
+pub read_cause : {D : Type 0} (history : D → History) (store new : Store D) (cache after : PageCache) (made : List Sheet) (retired : List ℕ) (book : Book) (page : ℕ) (result : Result Sheet TreeFault) (old : State D)
     → record { store = store; made = made; retired = retired; book = book } ≡ old → ReadsPage history page result store new cache after → AllByRecursion (λ (m : Sheet). m.page ≢ page) made
     → let last : State D = record { store = new; made = made; retired = retired; book = book } in KeepsWord (store_of history last) → (content : Content) → IsAt (store_of history old) page content
     → IfErr result (HasCause (store_of history old) (store_of history last))

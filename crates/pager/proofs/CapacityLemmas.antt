@@ -21,10 +21,10 @@ use Rattle.freelist.specs.declared.states.PageState.{PageState}
 use Rattle.freelist.specs.declared.states.PageState.TheVariants as states
 use Rattle.roots.specs.Root.{IsKnown}
 use Rattle.roots.specs.declared.root.Root.{Root}
-use Rattle.roots.specs.declared.tree_store.TreeStore.{TreeStore}
-use Rattle.roots.specs.tree.Image.{HoldsMap, sheet_at, store_of as image_store}
-use Rattle.roots.specs.tree.Store.{durable_root}
-use Rattle.roots.specs.tree.Turn.{made_or, numbers_of}
+use Rattle.roots.specs.declared.store.Store.{Store}
+use Rattle.roots.specs.Image.{HoldsMap, sheet_at, store_of as image_store}
+use Rattle.roots.specs.Store.{durable_root}
+use Rattle.roots.specs.Turn.{made_or, numbers_of}
 use Rattle.roots.proofs.OpeningRules.{known}
 use Rattle.pager.specs.Capacity.{FitsFile, TreesFit}
 use Rattle.pager.specs.Commit.{IsTurn}
@@ -156,7 +156,7 @@ module _ {D : Type 0} (history : D → History) (start : State D) (live : List �
           few = omega (arith, entries_are_few (store_of history p) tree pages after turn.holds, pages_are_few 1048576 pages once all);
         }
 
-pub trees_fit : {D : Type 0} (history : D → History) (store : TreeStore D) (cache : PageCache) (made : List Sheet) (retired : List ℕ) (book : Book) → IsKept history store cache made book
+pub trees_fit : {D : Type 0} (history : D → History) (store : Store D) (cache : PageCache) (made : List Sheet) (retired : List ℕ) (book : Book) → IsKept history store cache made book
     → TreesFit history (record { store = store; made = made; retired = retired; book = book })
 trees_fit history store cache made retired book so start live before begun root pages after turn k =
     let inside : AllByRecursion (λ (m : Sheet). m.page < 1048576) made = all_weaker (IsNew (durable_root store).generation cache) (λ (m : Sheet). m.page < 1048576) (λ m new. new.inside) made so.each in

@@ -13,12 +13,12 @@ use Rattle.btree.specs.Store.{flag}
 use Rattle.freelist.specs.Book.{Book, committed, is_in_use}
 use Rattle.roots.specs.declared.store.CommitFault.{CommitFault}
 use Rattle.roots.specs.declared.store.CommitFault.TheVariants as faults
-use Rattle.roots.specs.declared.tree_store.TreeStore.{TreeStore}
-use Rattle.roots.specs.tree.Commit.{CommitsRoot, MovesMap, MovesMaps}
-use Rattle.roots.specs.tree.Image.{StandsFor}
-use Rattle.roots.specs.tree.Store.{disk_history, durable_root}
-use Rattle.roots.specs.tree.Turn.{next_root}
-use Rattle.roots.proofs.tree.TurnLemmas.{stands_now}
+use Rattle.roots.specs.declared.store.Store.{Store}
+use Rattle.roots.specs.Commit.{CommitsRoot, MovesMap, MovesMaps}
+use Rattle.roots.specs.Image.{StandsFor}
+use Rattle.roots.specs.Store.{disk_history, durable_root}
+use Rattle.roots.specs.Turn.{next_root}
+use Rattle.roots.proofs.TurnLemmas.{stands_now}
 use Rattle.pager.specs.Commit.{Commits, IsTurn, MovesTurns}
 use Rattle.pager.specs.Kept.{IsKept}
 use Rattle.pager.specs.State.{State}
@@ -28,7 +28,7 @@ use Rattle.pager.proofs.AfterLemmas.{booked_after, written_inside, written_lie, 
 use Rattle.pager.proofs.BookLemmas.{all_length, all_pins, all_sound, all_waiting, committed_length, committed_use, kept_use, lost_use, others_of}
 use Rattle.pager.proofs.TurnLemmas.{account, committed_still, flag_most, roots_turn, used_now}
 
-module _ {D : Type 0} (history : D → History) (store : TreeStore D) (cache : PageCache) (made : List Sheet) (retired : List ℕ) (book : Book) (so : IsKept history store cache made book) (version : ℕ) where
+module _ {D : Type 0} (history : D → History) (store : Store D) (cache : PageCache) (made : List Sheet) (retired : List ℕ) (book : Book) (so : IsKept history store cache made book) (version : ℕ) where
   abbrev p : State D
   p = record { store = store; made = made; retired = retired; book = book }
 
@@ -58,7 +58,7 @@ module _ {D : Type 0} (history : D → History) (store : TreeStore D) (cache : P
           others = others_of [] (committed last planned) (booked_after history store cache made retired book so version last);
         }
 
-  module _ (root : ℕ) (result : Result (Unit {0}) CommitFault) (new : TreeStore D) (commits : CommitsRoot history root result store new) (moves : MovesMaps history written root result store new)
+  module _ (root : ℕ) (result : Result (Unit {0}) CommitFault) (new : Store D) (commits : CommitsRoot history root result store new) (moves : MovesMaps history written root result store new)
       (content : AllByRecursion (λ (m : Sheet). IsContent m.content) written) where
     moved : (start : State D) (live : List ℕ) (before : List Entry) → IsBegun history start live before → (pages : List ℕ) (after : List Entry) → (KeepsWord (disk_history history store) → IsTurn history start p root live pages after)
         → KeepsWord (disk_history history new) → MovesMap history (next_root (durable_root store) written root) pages before after result store new
@@ -68,7 +68,7 @@ module _ {D : Type 0} (history : D → History) (store : TreeStore D) (cache : P
         (roots_turn history p start (turn k).grows.stays k live before begun so.booked root pages after (turn k) version (written_lie history store cache made retired book so version) (written_inside history store cache made retired book so version)
         (written_sheets history store cache made retired book so version content) k)
 
-  pub moves_done : (root : ℕ) (new : TreeStore D) → CommitsRoot history root (Ok tt) store new → MovesMaps history written root (Ok tt) store new → AllByRecursion (λ (m : Sheet). IsContent m.content) written → (last : ℕ)
+  pub moves_done : (root : ℕ) (new : Store D) → CommitsRoot history root (Ok tt) store new → MovesMaps history written root (Ok tt) store new → AllByRecursion (λ (m : Sheet). IsContent m.content) written → (last : ℕ)
       → MovesTurns history root (Ok tt) p (record { store = new; made = []; retired = []; book = committed last planned })
   moves_done root new commits moves content last start live before begun pages after turn =
       let all = moved root (Ok tt) new commits moves content start live before begun pages after turn in
@@ -84,7 +84,7 @@ module _ {D : Type 0} (history : D → History) (store : TreeStore D) (cache : P
         };
       }
 
-  pub moves_failed : (root : ℕ) (fault : CommitFault) (new : TreeStore D) → CommitsRoot history root (Err fault) store new → MovesMaps history written root (Err fault) store new → AllByRecursion (λ (m : Sheet). IsContent m.content) written
+  pub moves_failed : (root : ℕ) (fault : CommitFault) (new : Store D) → CommitsRoot history root (Err fault) store new → MovesMaps history written root (Err fault) store new → AllByRecursion (λ (m : Sheet). IsContent m.content) written
       → MovesTurns history root (Err fault) p (record { store = new; made = made; retired = retired; book = book })
   moves_failed root fault new commits moves content start live before begun pages after turn =
       let all = moved root (Err fault) new commits moves content start live before begun pages after turn in
@@ -104,7 +104,7 @@ module _ {D : Type 0} (history : D → History) (store : TreeStore D) (cache : P
     begun = tt;
   }
 
-  pub commits_failed : (root : ℕ) (fault : CommitFault) (new : TreeStore D) → CommitsRoot history root (Err fault) store new → Commits history root (Err fault) p (record { store = new; made = made; retired = retired; book = book })
+  pub commits_failed : (root : ℕ) (fault : CommitFault) (new : Store D) → CommitsRoot history root (Err fault) store new → Commits history root (Err fault) p (record { store = new; made = made; retired = retired; book = book })
   commits_failed root fault new commits = record {
     on = commits.on;
     running = tt;

@@ -5,7 +5,7 @@ use Rattle.std.specs.List.{AllByRecursion}
 use Rattle.std.proofs.lemmas.List.{drop_more}
 use Rattle.page.specs.Format.{Sheet}
 use Rattle.page.specs.declared.page_fault.PageFault.{PageFault}
-use Rattle.roots.specs.tree.Turn.{LieBehind, made_or}
+use Rattle.roots.specs.Turn.{LieBehind, made_or}
 use Rattle.pager.proofs.ListLemmas.{all_taken_more, all_weaker, found_there}
 use Rattle.pager.proofs.MemberLemmas.{all_among, among_at}
 

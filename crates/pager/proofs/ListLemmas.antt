@@ -6,7 +6,7 @@ use Rattle.std.proofs.lemmas.Bool.Decides.{nat_tests}
 use Rattle.std.proofs.lemmas.List.{drop_more, take_more}
 use Rattle.page.specs.Format.{Sheet}
 use Rattle.page.specs.declared.page_fault.PageFault.{PageFault}
-use Rattle.roots.specs.tree.Turn.{LieBehind, made_or}
+use Rattle.roots.specs.Turn.{LieBehind, made_or}
 
 -- ---- of all
 

@@ -9,7 +9,7 @@ use Rattle.page.specs.Format.{Sheet}
 use Rattle.page.specs.declared.page_cache.PageCache.{PageCache}
 use Rattle.page.specs.declared.page_fault.PageFault.{PageFault}
 use Rattle.btree.specs.Keys.{times}
-use Rattle.roots.specs.tree.Turn.{LieBehind, made_or, numbers_of}
+use Rattle.roots.specs.Turn.{LieBehind, made_or, numbers_of}
 use Rattle.pager.specs.Calls.{Keeps}
 use Rattle.pager.specs.Writing.{IsAmong, KeepsAll}
 use Rattle.pager.proofs.BookLemmas.{no_time, one_time}

@@ -1,5 +1,5 @@
 -- What opening leaves.
-use Rattle.std.proofs.Common.{◌≡◌, ℕ, zero, suc, ◌+◌, ◌<◌, ◌≤◌, max, false, List, [], ◌∷◌, length, set, replicate, refl, sym, ◌∙◌, ap, subst, arith, inl, inr, Some, None}
+use Rattle.std.proofs.Common.{◌≡◌, ℕ, zero, suc, ◌+◌, ◌<◌, ◌≤◌, max, min, false, List, [], ◌∷◌, length, set, replicate, refl, sym, ◌∙◌, ap, subst, arith, inl, inr, Some, None}
 use Rattle.std.specs.Prelude.{Ok}
 use Rattle.std.proofs.lemmas.Bool.{cases_eq}
 use Rattle.std.proofs.lemmas.List.{get_or-set_other, get_or-set_same, length-replicate, length-set}
@@ -9,6 +9,7 @@ use Rattle.page.specs.History.{History, Sector, KeepsWord, IsImage, now, reads}
 use Rattle.page.specs.Crash.{ReadsOnly}
 use Rattle.page.specs.declared.page_cache.PageCache.{PageCache}
 use Rattle.page.proofs.Moments.{goes_further, leaves_further, leaves_now, reads_moments}
+use Rattle.page.proofs.TwoFacts.{reads_synced}
 use Rattle.btree.specs.Keys.{Entry, times}
 use Rattle.btree.specs.Reach.{AreOnce}
 use Rattle.btree.specs.Store.{flag}
@@ -17,11 +18,11 @@ use Rattle.freelist.specs.declared.states.PageState.{PageState}
 use Rattle.freelist.specs.declared.states.PageState.TheVariants as states
 use Rattle.freelist.proofs.SoundBooks.{opens_sound}
 use Rattle.roots.specs.declared.root.Root.{Root}
-use Rattle.roots.specs.declared.tree_store.TreeStore.{TreeStore}
-use Rattle.roots.specs.tree.Image.{HoldsMap, OpensAs, sheet_at}
-use Rattle.roots.specs.tree.Opening.{IsOpened as IsStoreOpened}
-use Rattle.roots.specs.tree.Store.{IsCommitted, disk_history, durable_root}
-use Rattle.roots.specs.tree.Walk.{FindsFree}
+use Rattle.roots.specs.declared.store.Store.{Store}
+use Rattle.roots.specs.Image.{HoldsMap, OpensAs, sheet_at}
+use Rattle.roots.specs.Opening.{IsOpened as IsStoreOpened}
+use Rattle.roots.specs.Store.{IsCommitted, disk_history, durable_root}
+use Rattle.roots.specs.Walk.{FindsFree, HasMapThere}
 use Rattle.pager.specs.Kept.{IsBookFor, IsKept}
 use Rattle.pager.specs.Opening.{IsOpened}
 use Rattle.pager.specs.Turn.{IsBegun}
@@ -67,10 +68,17 @@ booked_new in_use count generation few = record {
   behind = λ n free. tt;
 }
 
-module _ {D : Type 0} (history : D → History) (disk : D) (mid new : TreeStore D) (book : Book) (limit : ℕ) (few : limit ≤ 1048576) (first : IsStoreOpened history disk mid)
+module _ {D : Type 0} (history : D → History) (disk : D) (mid new : Store D) (book : Book) (limit : ℕ) (few : limit ≤ 1048576) (first : IsStoreOpened history disk mid)
     (only : ReadsOnly (disk_history history mid) (disk_history history new)) (finds : FindsFree history limit (Ok book) mid new) where
   booked : IsBookFor [] book
   booked = subst (IsBookFor []) (sym finds.some.is) (booked_new finds.some.in_use _ (durable_root mid).generation (omega (arith, few, first.known.pages)))
+
+  pub limit_opened : (asked : ℕ) → limit ≡ min asked 1048576 → length book.states ≡ max (min asked 1048576) (durable_root new).pages
+  limit_opened asked is =
+      let count = max (max limit (durable_root mid).pages) 1 in
+      let long : length book.states ≡ count = ap (λ (b : Book). length b.states) finds.some.is ∙ length_used finds.some.in_use (replicate count states.Free) ∙ length-replicate count states.Free in
+      let most : length book.states ≡ max limit (durable_root new).pages = omega (arith, long, first.known.tree, ap (λ (r : Root). r.pages) finds.root) in
+      most ∙ ap (λ (n : ℕ). max n (durable_root new).pages) is
 
   pub kept_opened : (cache : PageCache) (made : List Sheet) → made ≡ [] → ((n : ℕ) → kept cache n ≡ None) → IsKept history new cache made book
   kept_opened cache made is none = subst (λ (m : List Sheet). IsKept history new cache m book) (sym is) (record {
@@ -111,6 +119,17 @@ module _ {D : Type 0} (history : D → History) (disk : D) (mid new : TreeStore 
         retired = refl;
         on = goes_further h0 h1 h2 first.on only.on;
         opens = λ k. subst (OpensAs (reads (now h0))) (sym finds.root) (first.opens (only.on.kept k));
+        stands = λ k.
+            let same : reads (now h1) ≡ reads (now h0) = reads_synced (now h0) (now h1) (first.only.syncs (only.on.kept k)) in
+            let there : HasMapThere (reads (now h1)) (durable_root mid) = finds.stands k in (
+              there.1.0,
+              record {
+                root = durable_root mid;
+                pages = there.0;
+                opens = first.opens (only.on.kept k);
+                holds = subst (λ (image : ℕ → List ℕ). HoldsMap (sheet_at image (durable_root mid)) (durable_root mid) there.0 there.1.0) same there.1.1;
+              },
+            );
         begun = begins;
         alone = λ entries stands k image is. first.alone entries stands (only.on.kept k) image (subst (λ (s : ℕ → Sector). IsImage s image) (only.same k) is);
         any_moment = λ readable.

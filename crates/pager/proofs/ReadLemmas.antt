@@ -11,20 +11,20 @@ use Rattle.btree.specs.declared.pages.TreeFault.{TreeFault}
 use Rattle.roots.specs.declared.opening.OpenFault.{OpenFault}
 use Rattle.roots.specs.declared.opening.OpenFault.TheVariants as opens
 use Rattle.roots.specs.declared.root.Root.{Root}
-use Rattle.roots.specs.declared.tree_store.TreeStore.{TreeStore}
-use Rattle.roots.specs.tree.Image.{sheet_at}
-use Rattle.roots.specs.tree.Store.{disk_history, durable_root}
-use Rattle.roots.specs.tree.Walk.{HasCause}
+use Rattle.roots.specs.declared.store.Store.{Store}
+use Rattle.roots.specs.Image.{sheet_at}
+use Rattle.roots.specs.Store.{disk_history, durable_root}
+use Rattle.roots.specs.Walk.{HasCause}
 use Rattle.pager.specs.Calls.{HasReadCause, Keeps, OnlyRead, ReadsPage, tree_fault}
 use Rattle.pager.specs.Kept.{Agrees}
 
-pub nothing_read : {D : Type 0} (history : D → History) (store : TreeStore D) → OnlyRead history store store
+pub nothing_read : {D : Type 0} (history : D → History) (store : Store D) → OnlyRead history store store
 nothing_read history store = record { root = refl; stopped = refl; reads = reads_nothing (disk_history history store) }
 
-abbrev pub sheet_in : {D : Type 0} → (D → History) → TreeStore D → ℕ → Result Sheet PageFault
+abbrev pub sheet_in : {D : Type 0} → (D → History) → Store D → ℕ → Result Sheet PageFault
 sheet_in history store n = sheet_at (reads (now (disk_history history store))) (durable_root store) n
 
-module _ {D : Type 0} (history : D → History) (old new : TreeStore D) (only : OnlyRead history old new) where
+module _ {D : Type 0} (history : D → History) (old new : Store D) (only : OnlyRead history old new) where
   -- the disk holds what it held
   pub still_there : KeepsWord (disk_history history new) → (n : ℕ) → sheet_in history new n ≡ sheet_in history old n
   still_there k n =
@@ -64,7 +64,7 @@ module _ {D : Type 0} (history : D → History) (old new : TreeStore D) (only : 
   }
 
 -- it was kept
-pub found_kept : {D : Type 0} (history : D → History) (store : TreeStore D) (page : ℕ) (sheet : Sheet) (before after : PageCache) → kept before page ≡ Some sheet
+pub found_kept : {D : Type 0} (history : D → History) (store : Store D) (page : ℕ) (sheet : Sheet) (before after : PageCache) → kept before page ≡ Some sheet
     → ((n : ℕ) → kept after n ≡ kept before n) → ReadsPage history page (Ok sheet) store store before after
 found_kept history store page sheet before after found same = record {
   only = nothing_read history store;

@@ -9,11 +9,11 @@ use Rattle.roots.specs.Root.{root_of}
 use Rattle.roots.specs.declared.opening.OpenFault.{OpenFault}
 use Rattle.roots.specs.declared.opening.OpenFault.TheVariants as faults
 use Rattle.roots.specs.declared.root.Root.{Root}
-use Rattle.roots.specs.declared.tree_store.TreeStore.{TreeStore}
-use Rattle.roots.specs.tree.Image.{HoldsMap, StandsFor, sheet_at}
-use Rattle.roots.specs.tree.Opening.{IsOpened as IsStoreOpened, IsRefused as IsStoreRefused}
-use Rattle.roots.specs.tree.Store.{IsCommitted, disk_history, durable_root}
-use Rattle.roots.specs.tree.Walk.{FindsFree, HasCause}
+use Rattle.roots.specs.declared.store.Store.{Store}
+use Rattle.roots.specs.Image.{HoldsMap, StandsFor, sheet_at}
+use Rattle.roots.specs.Opening.{IsOpened as IsStoreOpened, IsRefused as IsStoreRefused}
+use Rattle.roots.specs.Store.{IsCommitted, disk_history, durable_root}
+use Rattle.roots.specs.Walk.{FindsFree, HasCause}
 use Rattle.pager.specs.Opening.{IsRefused}
 
 -- a fault that reading a page may give
@@ -30,7 +30,7 @@ read_fault old new faults.NotADatabase cause = absurd cause
 read_fault old new faults.NewerFormat cause = absurd cause
 
 -- Reads behind an opened store failed. Where a tree is committed, it isn't damaged.
-module _ {D : Type 0} (history : D → History) (disk : D) (mid : TreeStore D) (first : IsStoreOpened history disk mid) where
+module _ {D : Type 0} (history : D → History) (disk : D) (mid : Store D) (first : IsStoreOpened history disk mid) where
   committed_there : (entries : List Entry) (stands : StandsFor (reads (now (history disk))) entries) → KeepsWord (disk_history history mid) → IsCommitted history mid stands.pages entries
   committed_there entries stands k =
       let image = reads (now (history disk)) in
@@ -63,7 +63,7 @@ module _ {D : Type 0} (history : D → History) (disk : D) (mid : TreeStore D) (
       by_others faults.NewerFormat a b c d = absurd (d refl)
 
   -- in the walk over the tree's pages
-  pub refused_walking : (limit : ℕ) (new : TreeStore D) (back : D) (fault : OpenFault) → history back ≡ disk_history history new → ReadsOnly (disk_history history mid) (disk_history history new)
+  pub refused_walking : (limit : ℕ) (new : Store D) (back : D) (fault : OpenFault) → history back ≡ disk_history history new → ReadsOnly (disk_history history mid) (disk_history history new)
       → HasCause (disk_history history mid) (disk_history history new) fault → FindsFree history limit (Err fault) mid new → IsRefused history disk back fault
   refused_walking limit new back fault same only cause finds =
       let h1 = disk_history history mid in

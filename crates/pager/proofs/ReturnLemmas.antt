@@ -16,9 +16,9 @@ use Rattle.freelist.specs.declared.turns.Change.{Change}
 use Rattle.freelist.specs.declared.turns.Change.TheVariants as changes
 use Rattle.freelist.proofs.Rewinding.{put_back, rewind-append, used_is}
 use Rattle.freelist.proofs.SoundBooks.{stays_sound}
-use Rattle.roots.specs.tree.Image.{content_in, sheet_at}
-use Rattle.roots.specs.tree.Store.{durable_root}
-use Rattle.roots.specs.tree.Turn.{made_or, numbers_of}
+use Rattle.roots.specs.Image.{content_in, sheet_at}
+use Rattle.roots.specs.Store.{durable_root}
+use Rattle.roots.specs.Turn.{made_or, numbers_of}
 use Rattle.pager.specs.Kept.{IsBookFor, takes_of}
 use Rattle.pager.specs.State.{State}
 use Rattle.pager.specs.Turn.{IsOrderly, Returns, undone_to}

@@ -26,17 +26,17 @@ use Rattle.freelist.proofs.LeastLaws.{takes_least}
 use Rattle.freelist.proofs.Rewinding.{below, free_is, put_back, rewind-append}
 use Rattle.freelist.proofs.SoundBooks.{stays_sound}
 use Rattle.freelist.proofs.Undoing.{undoing_leads_back}
-use Rattle.roots.specs.declared.tree_store.TreeStore.{TreeStore}
-use Rattle.roots.specs.tree.Image.{content_in, sheet_at}
-use Rattle.roots.specs.tree.Store.{durable_root, is_stopped}
-use Rattle.roots.specs.tree.Turn.{numbers_of}
+use Rattle.roots.specs.declared.store.Store.{Store}
+use Rattle.roots.specs.Image.{content_in, sheet_at}
+use Rattle.roots.specs.Store.{durable_root, is_stopped}
+use Rattle.roots.specs.Turn.{numbers_of}
 use Rattle.pager.specs.Calls.{Refuses}
 use Rattle.pager.specs.Kept.{Agrees, IsKept, IsNew}
 use Rattle.pager.specs.State.{State}
 use Rattle.pager.specs.View.{pager_history, root_numbers, sheets_of, store_of}
 use Rattle.pager.proofs.ListLemmas.{all_both, all_more, lie_more, made_last, made_others}
 
-abbrev pub base_with : {D : Type 0} → TreeStore D → List PageState → List ℕ
+abbrev pub base_with : {D : Type 0} → Store D → List PageState → List ℕ
 base_with store pages = flag (is_stopped store) ∷ root_numbers (durable_root store) ++ map state_number pages
 
 -- a take that is taken back
@@ -85,7 +85,7 @@ module _ (b : Book) (page : ℕ) (least : least_free b.states ≡ Some page) whe
 
 -- ---- a page more
 
-module _ {D : Type 0} (history : D → History) (store : TreeStore D) (cache : PageCache) (made : List Sheet) (retired : List ℕ) (book : Book) (kept_so : IsKept history store cache made book)
+module _ {D : Type 0} (history : D → History) (store : Store D) (cache : PageCache) (made : List Sheet) (retired : List ℕ) (book : Book) (kept_so : IsKept history store cache made book)
     (sheet : Sheet) (least : least_free book.states ≡ Some sheet.page) where
   below_all : AllByRecursion (λ (m : Sheet). m.page < sheet.page) made
   below_all = kept_so.booked.behind sheet.page (was_free book sheet.page least)
@@ -218,7 +218,7 @@ module _ {D : Type 0} (history : D → History) (store : TreeStore D) (cache : P
 
 -- ---- no page more
 
-module _ {D : Type 0} (history : D → History) (store : TreeStore D) (made : List Sheet) (retired : List ℕ) (book new_book : Book) (count : book.full_takes < 2 ^ 64) where
+module _ {D : Type 0} (history : D → History) (store : Store D) (made : List Sheet) (retired : List ℕ) (book new_book : Book) (count : book.full_takes < 2 ^ 64) where
   abbrev start : State D
   start = record { store = store; made = made; retired = retired; book = book }
 
@@ -296,7 +296,7 @@ module _ {D : Type 0} (history : D → History) (store : TreeStore D) (made : Li
 
 -- ---- as the call has it
 
-pub fresh_refused : {D : Type 0} (history : D → History) (store : TreeStore D) (made more : List Sheet) (retired : List ℕ) (book new_book : Book) (old : State D) → book.full_takes < 2 ^ 64
+pub fresh_refused : {D : Type 0} (history : D → History) (store : Store D) (made more : List Sheet) (retired : List ℕ) (book new_book : Book) (old : State D) → book.full_takes < 2 ^ 64
     → record { store = store; made = made; retired = retired; book = book } ≡ old → more ≡ made → (fault : TreeFault) → Refuses fault book new_book → (content : Content) (result : Result ℕ TreeFault) → result ≡ Err fault
     → let new : State D = record { store = store; made = more; retired = retired; book = new_book } in KeepsWord (store_of history new)
     → MatchResult result (λ page. IsMade (store_of history old) (store_of history new) page content) (HasFailed (store_of history old) (store_of history new))
@@ -307,7 +307,7 @@ fresh_refused {D = D} history store made more retired book new_book old count vi
     (λ word. subst (λ (r : Result ℕ TreeFault). MatchResult r (λ page. IsMade (store_of history (start history store made retired book new_book count)) (store_of history (new made)) page content) (HasFailed (store_of history (start history store made retired book new_book count)) (store_of history (new made)))) (sym is)
     (take_failed history store made retired book new_book count fault refuses word)))
 
-pub fresh_done : {D : Type 0} (history : D → History) (store : TreeStore D) (cache : PageCache) (made more : List Sheet) (retired : List ℕ) (book new_book : Book) (old : State D) → IsKept history store cache made book
+pub fresh_done : {D : Type 0} (history : D → History) (store : Store D) (cache : PageCache) (made more : List Sheet) (retired : List ℕ) (book new_book : Book) (old : State D) → IsKept history store cache made book
     → record { store = store; made = made; retired = retired; book = book } ≡ old → (sheet : Sheet) → more ≡ made ++ sheet ∷ [] → Takes (Some sheet.page) book new_book → (page : ℕ) → sheet.page ≡ page → (content : Content) → sheet.content ≡ content
     → let new : State D = record { store = store; made = more; retired = retired; book = new_book } in KeepsWord (store_of history new) → IsMade (store_of history old) (store_of history new) page content
 fresh_done {D = D} history store cache made more retired book new_book old so view_is sheet pushed takes page page_is content content_is =
@@ -319,7 +319,7 @@ fresh_done {D = D} history store cache made more retired book new_book old so vi
     (subst (λ (x : Content). KeepsWord (store_of history (new (made ++ sheet ∷ []) (taken sheet.page book))) → IsMade (store_of history (new made book)) (store_of history (new (made ++ sheet ∷ []) (taken sheet.page book))) sheet.page x) content_is
     (one_made history store cache made retired book so sheet takes.0)))))
 
-pub fresh_kept : {D : Type 0} (history : D → History) (store : TreeStore D) (cache after_cache : PageCache) (made more : List Sheet) (book new_book : Book) → IsKept history store cache made book
+pub fresh_kept : {D : Type 0} (history : D → History) (store : Store D) (cache after_cache : PageCache) (made more : List Sheet) (book new_book : Book) → IsKept history store cache made book
     → (sheet : Sheet) → more ≡ made ++ sheet ∷ [] → Takes (Some sheet.page) book new_book → (page : ℕ) → sheet.page ≡ page → kept after_cache page ≡ None → ((n : ℕ) → n ≢ page → kept after_cache n ≡ kept cache n)
     → (generation : ℕ) → sheet.generation ≡ generation → generation ≡ min ((durable_root store).generation + 1) (2 ^ 64 - 1) → IsKept history store after_cache more new_book
 fresh_kept history store cache after_cache made more book new_book so sheet pushed takes page page_is this others generation born is =
@@ -327,7 +327,7 @@ fresh_kept history store cache after_cache made more book new_book so sheet push
     (subst (IsKept history store after_cache (made ++ sheet ∷ [])) (sym takes.1)
     (one_kept history store cache made [] book so sheet takes.0 after_cache (ap (kept after_cache) page_is ∙ this) (λ n ne. others n (λ same. ne (same ∙ sym page_is))) (omega (arith, born, is)) (omega (arith, born, is)) (omega (arith, born, is))))
 
-pub fresh_stays_refused : {D : Type 0} (history : D → History) (store : TreeStore D) (made more : List Sheet) (retired : List ℕ) (book new_book : Book) (old : State D) → book.full_takes < 2 ^ 64
+pub fresh_stays_refused : {D : Type 0} (history : D → History) (store : Store D) (made more : List Sheet) (retired : List ℕ) (book new_book : Book) (old : State D) → book.full_takes < 2 ^ 64
     → record { store = store; made = made; retired = retired; book = book } ≡ old → more ≡ made → (fault : TreeFault) → Refuses fault book new_book
     → Stays (store_of history old) (store_of history (record { store = store; made = more; retired = retired; book = new_book }))
 fresh_stays_refused {D = D} history store made more retired book new_book old count view_is same fault refuses =
@@ -335,7 +335,7 @@ fresh_stays_refused {D = D} history store made more retired book new_book old co
     subst (λ (m : List Sheet). Stays (store_of history old) (store_of history (after m))) (sym same)
     (subst (λ (s : State D). Stays (store_of history s) (store_of history (after made))) view_is (refused_stays history store made retired book new_book count fault refuses))
 
-pub fresh_stays : {D : Type 0} (history : D → History) (store : TreeStore D) (cache : PageCache) (made more : List Sheet) (retired : List ℕ) (book new_book : Book) (old : State D) → IsKept history store cache made book
+pub fresh_stays : {D : Type 0} (history : D → History) (store : Store D) (cache : PageCache) (made more : List Sheet) (retired : List ℕ) (book new_book : Book) (old : State D) → IsKept history store cache made book
     → record { store = store; made = made; retired = retired; book = book } ≡ old → (sheet : Sheet) → more ≡ made ++ sheet ∷ [] → Takes (Some sheet.page) book new_book
     → Stays (store_of history old) (store_of history (record { store = store; made = more; retired = retired; book = new_book }))
 fresh_stays {D = D} history store cache made more retired book new_book old so view_is sheet pushed takes =

@@ -20,10 +20,10 @@ use Rattle.freelist.specs.declared.states.PageState.TheVariants as states
 use Rattle.freelist.specs.declared.turns.Change.{Change}
 use Rattle.freelist.proofs.Rewinding.{below, used_is}
 use Rattle.roots.specs.declared.root.Root.{Root}
-use Rattle.roots.specs.tree.Image.{HoldsMap, OpensAs, content_in, sheet_at, store_of as image_store}
-use Rattle.roots.specs.tree.Store.{IsCommitted, durable_root, is_stopped}
-use Rattle.roots.specs.tree.Turn.{IsTurn as IsRootsTurn, LieBehind, made_or, next_root, numbers_of}
-use Rattle.roots.proofs.tree.KeptPages.{kept_there}
+use Rattle.roots.specs.Image.{HoldsMap, OpensAs, content_in, sheet_at, store_of as image_store}
+use Rattle.roots.specs.Store.{IsCommitted, durable_root, is_stopped}
+use Rattle.roots.specs.Turn.{IsTurn as IsRootsTurn, LieBehind, made_or, next_root, numbers_of}
+use Rattle.roots.proofs.KeptPages.{kept_there}
 use Rattle.pager.specs.Commit.{IsTurn}
 use Rattle.pager.specs.Kept.{IsBookFor, takes_of}
 use Rattle.pager.specs.State.{State}

@@ -15,9 +15,9 @@ use Rattle.freelist.specs.declared.states.PageState.TheVariants as states
 use Rattle.freelist.specs.declared.turns.Change.{Change}
 use Rattle.freelist.specs.declared.turns.Change.TheVariants as changes
 use Rattle.freelist.proofs.SoundBooks.{stays_sound}
-use Rattle.roots.specs.declared.tree_store.TreeStore.{TreeStore}
-use Rattle.roots.specs.tree.Store.{durable_root}
-use Rattle.roots.specs.tree.Turn.{LieBehind}
+use Rattle.roots.specs.declared.store.Store.{Store}
+use Rattle.roots.specs.Store.{durable_root}
+use Rattle.roots.specs.Turn.{LieBehind}
 use Rattle.pager.specs.Kept.{IsKept, IsNew, takes_of}
 use Rattle.pager.specs.State.{State}
 use Rattle.pager.specs.Turn.{IsBegun, LeadsBack, undone_to}
@@ -75,7 +75,7 @@ before_rest last zero made x lie among = tt
 before_rest last (suc n) [] x lie among = tt
 before_rest last (suc n) (m ∷ ms) x lie among = (behind_among m.page ms x lie.1 (dropped_among n ms x among), before_rest m.page n ms x lie.1 among)
 
-module _ {D : Type 0} (history : D → History) (store : TreeStore D) (cache : PageCache) (made : List Sheet) (book : Book) (so : IsKept history store cache made book) (n : ℕ) where
+module _ {D : Type 0} (history : D → History) (store : Store D) (cache : PageCache) (made : List Sheet) (book : Book) (so : IsKept history store cache made book) (n : ℕ) where
   later_is : drop n book.turn ≡ takes_of (drop n made)
   later_is = ap (drop n) so.booked.turn ∙ drop_takes n made
 
@@ -105,7 +105,7 @@ module _ {D : Type 0} (history : D → History) (store : TreeStore D) (cache : P
   }
 
 -- back to where the turn began
-pub begun_again : {D : Type 0} (history : D → History) (store : TreeStore D) (cache : PageCache) (made : List Sheet) (retired : List ℕ) (book : Book) (so : IsKept history store cache made book)
+pub begun_again : {D : Type 0} (history : D → History) (store : Store D) (cache : PageCache) (made : List Sheet) (retired : List ℕ) (book : Book) (so : IsKept history store cache made book)
     (start : State D) (live : List ℕ) (entries : List Entry) → IsBegun history start live entries → let p : State D = record { store = store; made = made; retired = retired; book = book } in
     Grows (store_of history start) (store_of history p) → IsBegun history (undone_to 0 0 p) live entries
 begun_again {D = D} history store cache made retired book so start live entries begun grows =
@@ -123,7 +123,7 @@ begun_again {D = D} history store cache made retired book so start live entries 
       };
     }
 
-pub leads_back : {D : Type 0} (history : D → History) (store : TreeStore D) (cache : PageCache) (made : List Sheet) (retired : List ℕ) (book : Book) → IsKept history store cache made book → (some few : ℕ)
+pub leads_back : {D : Type 0} (history : D → History) (store : Store D) (cache : PageCache) (made : List Sheet) (retired : List ℕ) (book : Book) → IsKept history store cache made book → (some few : ℕ)
     → let p : State D = record { store = store; made = made; retired = retired; book = book } in LeadsBack history some few p (undone_to some few p)
 leads_back {D = D} history store cache made retired book so some few start live entries begun grows none empty =
     let p : State D = record { store = store; made = made; retired = retired; book = book } in

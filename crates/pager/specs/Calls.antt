@@ -10,13 +10,13 @@ use Rattle.btree.specs.declared.pages.TreeFault.TheVariants as faults
 use Rattle.freelist.specs.Book.{Book, Takes}
 use Rattle.roots.specs.declared.opening.OpenFault.{OpenFault}
 use Rattle.roots.specs.declared.opening.OpenFault.TheVariants as opens
-use Rattle.roots.specs.declared.tree_store.TreeStore.{TreeStore}
-use Rattle.roots.specs.tree.Image.{sheet_at}
-use Rattle.roots.specs.tree.Store.{disk_history, durable_root, is_stopped}
+use Rattle.roots.specs.declared.store.Store.{Store}
+use Rattle.roots.specs.Image.{sheet_at}
+use Rattle.roots.specs.Store.{disk_history, durable_root, is_stopped}
 use Rattle.pager.specs.Kept.{Agrees}
 
 -- a store whose disk was only read
-pub record OnlyRead {D : Type 0} (history : D → History) (old new : TreeStore D) : Type 0 where
+pub record OnlyRead {D : Type 0} (history : D → History) (old new : Store D) : Type 0 where
   pub root : durable_root new ≡ durable_root old
   pub stopped : is_stopped new ≡ is_stopped old
   pub reads : ReadsOnly (disk_history history old) (disk_history history new)
@@ -45,8 +45,8 @@ HasReadCause old new faults.Order = ⊥
 HasReadCause old new faults.Length = ⊥
 
 -- The page of this number was read from the cache or from the disk.
-pub record ReadsPage {D : Type 0} (history : D → History) (page : ℕ) (result : Result Sheet TreeFault)
-    (old new : TreeStore D) (before after : PageCache) : Type 0 where
+pub record ReadsPage {D : Type 0} (history : D → History) (page : ℕ)
+    (result : Result Sheet TreeFault) (old new : Store D) (before after : PageCache) : Type 0 where
   pub only : OnlyRead history old new
   pub value : Agrees history old before → KeepsWord (disk_history history new)
       → let sheet = sheet_at (reads (now (disk_history history old))) (durable_root old) page in

@@ -18,5 +18,6 @@ pub record FitsFile (pages : List ℕ) (entries : List Entry) : Type 0 where
 abbrev pub TreesFit : {D : Type 0} → (D → History) → State D → Type 0
 TreesFit {D = D} history p =
     (start : State D) (live : List ℕ) (before : List Entry) → IsBegun history start live before
-    → (root : ℕ) (pages : List ℕ) (after : List Entry) → IsTurn history start p root live pages after
+    → (root : ℕ) (pages : List ℕ) (after : List Entry)
+    → IsTurn history start p root live pages after
     → KeepsWord (pager_history history p) → FitsFile pages after

@@ -5,8 +5,8 @@ use Rattle.page.specs.Crash.{GoesOn, LeavesOnly, LeavesNow}
 use Rattle.btree.specs.Keys.{Entry, times}
 use Rattle.btree.specs.Reach.{HasMap}
 use Rattle.btree.specs.Store.{Grows}
-use Rattle.roots.specs.tree.Image.{StandsFor}
-use Rattle.roots.specs.tree.Store.{HasDeviceCause, IsRunning, durable_root, is_stopped}
+use Rattle.roots.specs.Image.{StandsFor}
+use Rattle.roots.specs.Store.{HasDeviceCause, IsRunning, durable_root, is_stopped}
 use Rattle.roots.specs.declared.store.CommitFault.{CommitFault}
 use Rattle.roots.specs.declared.store.CommitFault.TheVariants as faults
 use Rattle.pager.specs.State.{State}

@@ -9,13 +9,13 @@ use Rattle.freelist.specs.Book.{Book, is_free}
 use Rattle.freelist.specs.Sound.{IsSound}
 use Rattle.freelist.specs.declared.turns.Change.{Change}
 use Rattle.freelist.specs.declared.turns.Change.TheVariants as changes
-use Rattle.roots.specs.declared.tree_store.TreeStore.{TreeStore}
-use Rattle.roots.specs.tree.Image.{sheet_at}
-use Rattle.roots.specs.tree.Store.{disk_history, durable_root}
-use Rattle.roots.specs.tree.Turn.{LieBehind}
+use Rattle.roots.specs.declared.store.Store.{Store}
+use Rattle.roots.specs.Image.{sheet_at}
+use Rattle.roots.specs.Store.{disk_history, durable_root}
+use Rattle.roots.specs.Turn.{LieBehind}
 
 -- while the disk keeps its word, each page in the cache is the one on the disk
-abbrev pub Agrees : {D : Type 0} → (D → History) → TreeStore D → PageCache → Type 0
+abbrev pub Agrees : {D : Type 0} → (D → History) → Store D → PageCache → Type 0
 Agrees history store cache =
     KeepsWord (disk_history history store) → (n : ℕ) (sheet : Sheet) → kept cache n ≡ Some sheet
     → sheet_at (reads (now (disk_history history store))) (durable_root store) n ≡ Ok sheet
@@ -44,7 +44,7 @@ pub record IsBookFor (made : List Sheet) (book : Book) : Type 0 where
   pub behind : (n : ℕ) → is_free book.states n ≡ true
       → AllByRecursion (λ (sheet : Sheet). sheet.page < n) made
 
-pub record IsKept {D : Type 0} (history : D → History) (store : TreeStore D) (cache : PageCache)
+pub record IsKept {D : Type 0} (history : D → History) (store : Store D) (cache : PageCache)
     (made : List Sheet) (book : Book) : Type 0 where
   pub cached : Agrees history store cache
   pub ascending : LieBehind 0 made

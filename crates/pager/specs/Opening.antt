@@ -1,16 +1,21 @@
 -- What opening a pager gives.
-use Rattle.std.specs.Prelude.{◌≡◌, ◌≢◌, ℕ, ◌<◌, List, [], Err}
+use Rattle.std.specs.Prelude.{◌≡◌, ◌≢◌, ℕ, ◌<◌, max, min, List, [], length, Err}
 use Rattle.page.specs.History.{History, KeepsWord, IsImage, now, reads}
 use Rattle.page.specs.Crash.{GoesOn, LeavesNow, LeavesOnly}
 use Rattle.btree.specs.Keys.{Entry}
 use Rattle.roots.specs.Root.{root_of}
 use Rattle.roots.specs.declared.opening.OpenFault.{OpenFault}
 use Rattle.roots.specs.declared.opening.OpenFault.TheVariants as faults
-use Rattle.roots.specs.tree.Image.{HoldsMap, OpensAs, StandsFor, sheet_at}
-use Rattle.roots.specs.tree.Store.{IsRunning, durable_root}
+use Rattle.roots.specs.Image.{HoldsMap, OpensAs, StandsFor, sheet_at}
+use Rattle.roots.specs.Store.{IsRunning, durable_root}
 use Rattle.pager.specs.State.{State}
 use Rattle.pager.specs.Turn.{IsBegun}
 use Rattle.pager.specs.View.{pager_history}
+
+-- The file may have so many pages, with page 0: as many as were asked for, 1,048,576 at most, or those that it has.
+abbrev pub HasLimit : {D : Type 0} → ℕ → State D → Type 0
+HasLimit limit pager =
+    length pager.book.states ≡ max (min limit 1048576) (durable_root pager.store).pages
 
 -- The disk was opened as this pager, by reads and a sync alone.
 pub record IsOpened {D : Type 0} (history : D → History) (disk : D) (pager : State D) : Type 0 where
@@ -21,6 +26,9 @@ pub record IsOpened {D : Type 0} (history : D → History) (disk : D) (pager : S
   -- its root is the one that the disk's sectors give
   pub opens : KeepsWord (pager_history history pager)
       → OpensAs (reads (now (history disk))) (durable_root pager.store)
+  -- which names a tree in that image
+  pub stands : KeepsWord (pager_history history pager)
+      → (entries : List Entry) × StandsFor (reads (now (history disk))) entries
   -- a turn may begin with whatever entries this root has
   pub begun : (live : List ℕ) (entries : List Entry)
       → (KeepsWord (pager_history history pager) → let image = reads (now (history disk)) in
@@ -28,7 +36,7 @@ pub record IsOpened {D : Type 0} (history : D → History) (disk : D) (pager : S
       → IsBegun history pager live entries
   pub alone : (entries : List Entry) → StandsFor (reads (now (history disk))) entries
       → LeavesNow (pager_history history pager) (λ image. StandsFor image entries)
-  -- where reads give one of the images, those during the call and after it are among those from before
+  -- where reads give one of the images, those during the call and after it are among those before
   pub any_moment : IsImage (now (history disk)) (reads (now (history disk)))
       → LeavesOnly (history disk) (pager_history history pager) (IsImage (now (history disk)))
 

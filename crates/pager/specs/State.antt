@@ -2,12 +2,12 @@
 use Rattle.std.specs.Prelude.{ℕ, List}
 use Rattle.page.specs.Format.{Sheet}
 use Rattle.freelist.specs.Book.{Book}
-use Rattle.roots.specs.declared.tree_store.TreeStore.{TreeStore}
+use Rattle.roots.specs.declared.store.Store.{Store}
 
 -- The store of the tree that is committed; the pages that the turn made, in ascending order, and the numbers that it
 -- retired, in the order of the calls; the book of free pages. The pages that are kept in memory are no part of it.
 pub record State (D : Type 0) : Type 0 where
-  pub store : TreeStore D
+  pub store : Store D
   pub made : List Sheet
   pub retired : List ℕ
   pub book : Book

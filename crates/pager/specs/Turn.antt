@@ -4,8 +4,8 @@ use Rattle.page.specs.History.{History, KeepsWord}
 use Rattle.btree.specs.Keys.{Entry, times}
 use Rattle.btree.specs.Store.{Grows, IsSame, flag}
 use Rattle.freelist.specs.Book.{Book, is_free, is_in_use, undone}
-use Rattle.roots.specs.tree.Store.{IsCommitted}
-use Rattle.roots.specs.tree.Turn.{LieBehind}
+use Rattle.roots.specs.Store.{IsCommitted}
+use Rattle.roots.specs.Turn.{LieBehind}
 use Rattle.pager.specs.Kept.{IsBookFor}
 use Rattle.pager.specs.State.{State}
 use Rattle.pager.specs.View.{pager_history, store_of}

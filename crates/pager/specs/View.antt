@@ -7,9 +7,9 @@ use Rattle.freelist.specs.Book.{is_free, rewind}
 use Rattle.freelist.specs.Coding.{state_number}
 use Rattle.btree.specs.Store.{Store, flag}
 use Rattle.roots.specs.declared.root.Root.{Root}
-use Rattle.roots.specs.tree.Image.{content_in, sheet_at}
-use Rattle.roots.specs.tree.Store.{disk_history, durable_root, is_stopped}
-use Rattle.roots.specs.tree.Turn.{made_or, numbers_of}
+use Rattle.roots.specs.Image.{content_in, sheet_at}
+use Rattle.roots.specs.Store.{disk_history, durable_root, is_stopped}
+use Rattle.roots.specs.Turn.{made_or, numbers_of}
 use Rattle.pager.specs.State.{State}
 
 -- each moment of the pager's disk so far

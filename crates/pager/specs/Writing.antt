@@ -14,7 +14,8 @@ retired_all version (page ∷ pages) book = retired_all version pages (retired p
 
 -- the pages that are written: those that are in use, as far as a tree may have them
 abbrev pub written_of : Book → List Sheet → List Sheet
-written_of book made = filter (λ sheet. is_of_tree sheet.content && is_in_use book.states sheet.page) made
+written_of book made =
+    filter (λ sheet. is_of_tree sheet.content && is_in_use book.states sheet.page) made
 
 abbrev pub IsAmong : Sheet → List Sheet → Type 0
 IsAmong sheet [] = ⊥

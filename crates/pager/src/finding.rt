@@ -3,7 +3,7 @@ ghost use Rattle.std.specs.Prelude.{◌≡◌, ◌≢◌, Result, Ok, MatchOptio
 ghost use Rattle.std.specs.List.{AllByRecursion};
 ghost use Rattle.page.specs.Format.{Sheet};
 ghost use Rattle.page.specs.declared.page_fault.PageFault.{PageFault};
-ghost use Rattle.roots.specs.tree.Turn.{LieBehind, made_or};
+ghost use Rattle.roots.specs.Turn.{LieBehind, made_or};
 
 use page::SharedPage;
 

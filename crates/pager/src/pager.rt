@@ -9,7 +9,7 @@ use crate::writing::{keep_all, plan_commit};
 use btree::{Pages, TreeFault};
 use freelist::FreePages;
 use page::{Disk, PageCache, PageContent, SharedPage};
-use roots::{CommitFault, MAX_PAGES, OpenFault, TreeStore};
+use roots::{CommitFault, MAX_PAGES, OpenFault, Store};
 use std::alloc::Global;
 use std::marker::Model;
 
@@ -18,7 +18,7 @@ use std::marker::Model;
 #[derive(Drop)]
 pub struct Pager<D: Disk> {
     alloc: Global,
-    store: TreeStore<D>,
+    store: Store<D>,
     cache: PageCache,
     book: FreePages,
     made: Vec<SharedPage>,
@@ -44,10 +44,10 @@ impl<D: Disk> Model for Pager<D> {
 
 impl<D: Disk> Pager<D> {
     ghost use Rattle.std.specs.Prelude.{IfOk, IfErr, length};
-    ghost use Rattle.roots.specs.tree.Store.{durable_root, is_stopped};
+    ghost use Rattle.roots.specs.Store.{durable_root, is_stopped};
     ghost use Rattle.pager.specs.Capacity.{TreesFit};
     ghost use Rattle.pager.specs.Commit.{Commits, MovesTurns};
-    ghost use Rattle.pager.specs.Opening.{IsOpened, IsRefused};
+    ghost use Rattle.pager.specs.Opening.{HasLimit, IsOpened, IsRefused};
     ghost use Rattle.pager.specs.State.{State};
     ghost use Rattle.pager.specs.Turn.{IsOrderly, LeadsBack, Returns, is_changed, undone_to};
     ghost use Rattle.pager.specs.View.{pager_history};
@@ -56,9 +56,10 @@ impl<D: Disk> Pager<D> {
     /// the tree once. An `Err` hands the disk back.
     pub fn open(alloc: Global, disk: D, limit: u32) -> Result<Pager<D>, (D, OpenFault)>
         ensures opened { IfOk result (IsOpened D.history disk) }
+        ensures limit { IfOk result (HasLimit limit) }
         ensures refused { IfErr result (λ e. IsRefused D.history disk e.0 e.1) }
     {
-        let mut store = match TreeStore::open(disk) {
+        let mut store = match Store::open(disk) {
             Ok(store) => store,
             Err(refused) => return Err(refused),
         };
@@ -149,6 +150,7 @@ impl<D: Disk> Pager<D> {
     /// root. What it retired is free from then on. An `Err` leaves the turn, to be undone. It reads nothing.
     pub fn commit(&mut self, root: u32) -> Result<(), CommitFault>
         ensures commits { Commits D.history root result self.old self.new }
+        ensures takes { self.new.book.full_takes ≡ self.old.book.full_takes }
         ensures moves { MovesTurns D.history root result self.old self.new }
     {
         let mark = self.book.mark();

@@ -4,7 +4,7 @@ ghost use Rattle.pager.specs.Calls.{Keeps, ReadsPage, tree_fault};
 
 use btree::TreeFault;
 use page::{Disk, PageCache, SharedPage};
-use roots::{OpenFault, TreeStore};
+use roots::{OpenFault, Store};
 use std::alloc::Global;
 
 /// Why a page of the tree wasn't read.
@@ -30,7 +30,7 @@ pub(crate) fn keep_page(cache: &mut PageCache, page: u32, shared: &SharedPage)
 /// The page of this number, as the disk holds it. It is kept in the cache from then on.
 pub(crate) fn read_page<D: Disk>(
     alloc: Global,
-    store: &mut TreeStore<D>,
+    store: &mut Store<D>,
     cache: &mut PageCache,
     page: u32,
 ) -> Result<SharedPage, TreeFault>

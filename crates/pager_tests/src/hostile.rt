@@ -1,9 +1,8 @@
-//! Files that no commit left: they aren't opened, or a read of them is a fault.
-use btree::{Edit, Range, TreeFault, change, get, scan};
+//! Files that no commit left: they aren't opened.
+use btree::{TreeFault, get};
 use page::{Disk, MemDisk};
 use pager::Pager;
 use roots::OpenFault;
-use std::alloc::Global;
 use std::process::Abort;
 use std::test::Fail;
 
@@ -29,7 +28,7 @@ fn write_front(disk: &mut MemDisk, first: u64, front: &[u8]) -> bool {
 }
 
 /// A disk of these pages. The number of each stands in its fifth byte.
-fn disk_of(rt: &(impl Abort + AllocGlobal), fronts: &[&[u8]]) -> MemDisk {
+pub(crate) fn disk_of(rt: &(impl Abort + AllocGlobal), fronts: &[&[u8]]) -> MemDisk {
     let mut disk = MemDisk::new(rt.alloc());
     let mut root = [0; 512];
     root[..32].copy_from_slice(&ROOT);
@@ -95,7 +94,7 @@ const SOUND: [&[&[u8]]; 4] = [
     &[LONGER, FIRST, LAST],
 ];
 
-const DAMAGED: [&[&[u8]]; 22] = [
+const DAMAGED: [&[&[u8]]; 24] = [
     // zeros
     &[],
     // a branch that names itself, one that names a leaf twice, and one whose child names it
@@ -172,6 +171,21 @@ const DAMAGED: [&[&[u8]]; 22] = [
         LONGER,
         &[3, 0, 0xec, 0x0f, 2, 0, 0, 0, 1, 0, 0, 0, 0, 0, 0, 0, 1],
     ],
+    // "z" below "m", and "a" from "m" on
+    &[
+        &[
+            2, 0, 2, 0, 1, 0, 0, 0, 1, 0, 0, 0, 0, 0, 0, 0, 3, 0, 0, 0, 1, 0, b'm', 2,
+        ],
+        LEFT,
+        RIGHT,
+    ],
+    &[
+        BRANCH,
+        LEFT,
+        &[
+            1, 0, 1, 0, 3, 0, 0, 0, 1, 0, 0, 0, 0, 0, 0, 0, 1, 0, 0, 0, 0, 0, b'a',
+        ],
+    ],
 ];
 
 #[test]
@@ -183,74 +197,6 @@ fn damaged_files_are_not_opened(rt: HostRuntime) -> Result<(), Fail> {
         assert_eq!(rt;
             fault_of(&rt, fronts),
             Some(OpenFault::Damaged),
-            "row {row}"
-        );
-    }
-    Ok(())
-}
-
-/// Files that are opened, since their pages are there, each once. Their keys don't lie between those of the
-/// branch above them.
-const UNORDERED: [&[&[u8]]; 2] = [
-    // "z" below "m"
-    &[
-        &[
-            2, 0, 2, 0, 1, 0, 0, 0, 1, 0, 0, 0, 0, 0, 0, 0, 3, 0, 0, 0, 1, 0, b'm', 2,
-        ],
-        LEFT,
-        RIGHT,
-    ],
-    // "a" from "m" on, and "a" again
-    &[
-        BRANCH,
-        LEFT,
-        &[
-            1, 0, 1, 0, 3, 0, 0, 0, 1, 0, 0, 0, 0, 0, 0, 0, 1, 0, 0, 0, 0, 0, b'a',
-        ],
-    ],
-];
-
-/// Whether reading all entries, the value at a key, or a batch of one is a fault of the order.
-fn reads_wrong(alloc: Global, pager: &mut Pager<MemDisk>, key: &[u8]) -> bool {
-    let range = Range {
-        from: key,
-        to: None,
-        limit: 9,
-    };
-    let look = get(alloc, pager, 1, key).err();
-    let all = scan(alloc, pager, 1, range).err();
-    look == Some(TreeFault::Order) && all == Some(TreeFault::Order)
-}
-
-/// A change of a tree whose keys don't ascend returns, with an answer or a fault, and taken back it leaves
-/// the pages as they were.
-fn changes_and_returns(alloc: Global, pager: &mut Pager<MemDisk>, key: &[u8]) -> bool {
-    let mark = pager.mark();
-    let edit = Edit {
-        key,
-        value: Some(key),
-    };
-    if key.len() > 1_024 {
-        return false;
-    }
-    let _ = change(alloc, pager, 1, &[edit]);
-    pager.undo_to(mark);
-    !pager.is_changed()
-}
-
-#[test]
-fn keys_out_of_order_are_a_fault(rt: HostRuntime) -> Result<(), Fail> {
-    for (row, fronts) in UNORDERED.iter().enumerate() {
-        let Ok(mut pager) = Pager::open(rt.alloc(), disk_of(&rt, fronts), 20) else {
-            panic!(&rt; "row {row} isn't opened");
-        };
-        assert!(rt; reads_wrong(rt.alloc(), &mut pager, b"n"), "row {row}");
-        assert!(rt;
-            changes_and_returns(rt.alloc(), &mut pager, b"n"),
-            "row {row}"
-        );
-        assert!(rt;
-            changes_and_returns(rt.alloc(), &mut pager, b"b"),
             "row {row}"
         );
     }

@@ -6,6 +6,8 @@ mod ascending;
 #[cfg(test)]
 mod both;
 #[cfg(test)]
+mod damage;
+#[cfg(test)]
 mod faults;
 #[cfg(test)]
 mod full;

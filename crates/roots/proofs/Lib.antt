@@ -1,15 +1,14 @@
-mod AscendingSteps
-pub mod CommitSteps
-mod CommittingLemmas
-pub mod FreePages
-pub mod Images
-pub mod Links
-pub mod OpenSteps
+pub mod FoundLemmas
+pub mod FreeLemmas
+pub mod ImageLemmas
+pub mod KeptPages
+pub mod MadeLemmas
+pub mod MarkLemmas
+pub mod MovesLemmas
+pub mod OneMap
+pub mod OpenLemmas
 pub mod OpeningRules
-pub mod ReadSteps
 pub mod ReplaceSteps
-mod SplitSteps
-pub mod StandsLemmas
-pub mod tree
-pub mod WriteSteps
-mod WritingLemmas
+pub mod RootLemmas
+pub mod TurnLemmas
+pub mod WalkLemmas

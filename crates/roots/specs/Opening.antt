@@ -1,31 +1,33 @@
 -- What opening a disk gives.
-use Rattle.std.specs.Prelude.{◌≡◌, ◌≢◌, ◌<◌, List, Err}
+use Rattle.std.specs.Prelude.{◌≡◌, ◌≢◌, ℕ, ◌<◌, List, Err}
 use Rattle.page.specs.History.{History, KeepsWord, now, reads, IsImage}
 use Rattle.page.specs.Crash.{GoesOn, LeavesOnly, LeavesNow, OnlySyncs, ReadsOnly}
-use Rattle.roots.specs.Root.{root_of}
-use Rattle.roots.specs.Image.{StandsFor, Holds}
-use Rattle.roots.specs.Entries.{Entry, AreAscending}
-use Rattle.roots.specs.Store.{IsSound, IsRunning, disk_history, committed_entries, full_takes_of}
+use Rattle.btree.specs.Keys.{Entry}
+use Rattle.roots.specs.Root.{IsKnown, root_of}
+use Rattle.roots.specs.Image.{OpensAs, HoldsMap, StandsFor, sheet_at}
+use Rattle.roots.specs.Store.{IsRunning, IsCommitted, disk_history, durable_root}
 use Rattle.roots.specs.declared.opening.OpenFault.{OpenFault}
 use Rattle.roots.specs.declared.opening.OpenFault.TheVariants as faults
 use Rattle.roots.specs.declared.store.Store.{Store}
 
 -- The disk was opened as this store, by reads and a sync alone.
 pub record IsOpened {D : Type 0} (history : D → History) (disk : D) (store : Store D) : Type 0 where
-  pub sound : IsSound history store
   pub running : IsRunning store
-  pub takes : full_takes_of store ≡ 0
   pub on : GoesOn (history disk) (disk_history history store)
   pub only : OnlySyncs (history disk) (disk_history history store)
-  -- it gives the entries that were read, and from then on every image stands for these alone
-  pub stands : KeepsWord (disk_history history store)
-      → StandsFor (reads (now (history disk))) (committed_entries history store)
-  pub ascending : KeepsWord (disk_history history store)
-      → AreAscending (committed_entries history store)
+  pub known : IsKnown (durable_root store)
+  -- its root is the one that the disk's sectors give
+  pub opens : KeepsWord (disk_history history store)
+      → OpensAs (reads (now (history disk))) (durable_root store)
   pub synced : LeavesNow (disk_history history store) (λ image. image ≡ reads (now (history disk)))
-  pub alone : LeavesNow (disk_history history store)
-      (λ image. StandsFor image (committed_entries history store))
-  -- where reads give one of the images, those during the call and after it are among those from before
+  -- Entries that this root has are committed, and from then on every image stands for these alone.
+  pub committed : (live : List ℕ) (entries : List Entry)
+      → (KeepsWord (disk_history history store) → let image = reads (now (history disk)) in
+      HoldsMap (sheet_at image (durable_root store)) (durable_root store) live entries)
+      → IsCommitted history store live entries
+  pub alone : (entries : List Entry) → StandsFor (reads (now (history disk))) entries
+      → LeavesNow (disk_history history store) (λ image. StandsFor image entries)
+  -- where reads give one of the images, those during the call and after it are among those before
   pub any_moment : IsImage (now (history disk)) (reads (now (history disk)))
       → LeavesOnly (history disk) (disk_history history store) (IsImage (now (history disk)))
 
@@ -33,14 +35,9 @@ pub record IsOpened {D : Type 0} (history : D → History) (disk : D) (store : S
 pub record IsRefused {D : Type 0} (history : D → History) (disk back : D)
     (fault : OpenFault) : Type 0 where
   pub untouched : ReadsOnly (history disk) (history back)
-  -- a fault of the bytes comes only where they hold no entries
-  pub damaged : fault ≢ faults.Device → fault ≢ faults.Memory → KeepsWord (history back)
-      → (entries : List Entry) → Holds (reads (now (history disk))) entries → ⊥
-  pub foreign : fault ≡ faults.NotADatabase → KeepsWord (history back)
-      → root_of (reads (now (history disk)) 0) (reads (now (history disk)) 1)
-      ≡ Err faults.NotADatabase
-  pub later : fault ≡ faults.NewerFormat → KeepsWord (history back)
-      → root_of (reads (now (history disk)) 0) (reads (now (history disk)) 1)
-      ≡ Err faults.NewerFormat
+  -- a fault of the bytes is that of the two root sectors
+  pub judged : fault ≢ faults.Device → KeepsWord (history back)
+      → root_of (reads (now (history disk)) 0) (reads (now (history disk)) 1) ≡ Err fault
+  pub no_memory : fault ≢ faults.Memory
   pub device : fault ≡ faults.Device → KeepsWord (history back)
       → (history disk).failures < (history back).failures

@@ -2,7 +2,7 @@
 ghost use Rattle.std.specs.Prelude.{◌≡◌, ◌≢◌, ◌<◌, IfOk, IfErr, Err};
 ghost use Rattle.page.specs.History.{KeepsWord, now, reads};
 ghost use Rattle.page.specs.Crash.{ReadsOnly};
-ghost use Rattle.roots.specs.Image.{HasRoot};
+ghost use Rattle.roots.specs.Image.{OpensAs};
 ghost use Rattle.roots.specs.Root.{newer_root, worse_fault, root_of, IsKnown};
 ghost use Rattle.roots.specs.declared.opening.OpenFault.TheVariants.{Device, Memory};
 
@@ -105,7 +105,7 @@ pub(crate) fn choose(even: &[u8; 512], odd: &[u8; 512]) -> Result<Root, OpenFaul
 pub(crate) fn read_root<D: Disk>(disk: &mut D) -> Result<Root, OpenFault>
     ensures reads { ReadsOnly (D.history disk.old) (D.history disk.new) }
     ensures root { KeepsWord (D.history disk.new)
-        → IfOk result (HasRoot (reads (now (D.history disk.old)))) }
+        → IfOk result (OpensAs (reads (now (D.history disk.old)))) }
     ensures refused { let image = reads (now (D.history disk.old)) in
         KeepsWord (D.history disk.new) → IfErr result (λ fault. fault ≢ OpenFault.Device
         → root_of (image 0) (image 1) ≡ Err fault) }

@@ -15,7 +15,7 @@ const PAGE_SIZE: u32 = 4096;
 /// The most pages that a file has.
 pub const MAX_PAGES: u32 = 1_048_576;
 
-/// What a commit makes durable: its number, the first page of its chain (0 where there are no entries), and how many pages the file
+/// What a commit makes durable: its number, the root page of its tree (0 where there are no entries), and how many pages the file
 /// has, with page 0.
 #[derive(Clone, Copy, Debug, PartialEq, Eq)]
 pub struct Root {

@@ -1,27 +1,29 @@
-//! A store: its disk, the root that it committed last, and the pages of that root's chain.
-ghost use Rattle.std.specs.Prelude.{◌≡◌, ◌<◌, ◌≤◌, ◌+◌, ◌*◌, IfOk, IfErr, max};
-ghost use Rattle.page.specs.History.{KeepsWord};
-ghost use Rattle.roots.specs.Chain.{first_of};
-ghost use Rattle.roots.specs.Committing.{WritesEntries, CommitsPages};
-ghost use Rattle.roots.specs.Entries.{AreAscending};
-ghost use Rattle.roots.specs.EntryView.{entries_of};
+//! A store: its disk, and the root that it committed last.
+ghost use Rattle.std.specs.Prelude.{◌≡◌, ◌<◌, ◌≤◌, IfOk, IfErr, OnOk, OnErr, ℕ, max};
+ghost use Rattle.std.specs.List.{AllByRecursion};
+ghost use Rattle.page.specs.History.{KeepsWord, now, reads};
+ghost use Rattle.page.specs.Crash.{GoesOn, LeavesOnly, IsImageOutside};
+ghost use Rattle.page.specs.Format.{Sheet, page_bytes};
+ghost use Rattle.page.specs.Page.{IsSectorOf, page_at};
+ghost use Rattle.roots.specs.Commit.{CommitsRoot, LeavesPages, MovesDisk, MovesMaps};
+ghost use Rattle.roots.specs.Image.{IsOnPages};
 ghost use Rattle.roots.specs.Opening.{IsOpened, IsRefused};
-ghost use Rattle.roots.specs.Store.{is_stopped, IsSound, IsWritten, limit_in, limit_of, disk_history, committed_entries, version_of, full_takes_of};
+ghost use Rattle.roots.specs.Store.{disk_history, durable_root, is_stopped, limit_in};
+ghost use Rattle.roots.specs.Walk.{FindsFree, Looks, ReadsSheet};
+ghost use Rattle.roots.specs.Turn.{AreWritten, LieBehind, end_behind, numbers_of};
 
-use crate::chain::write_chain;
-use crate::entries::{EntryList, are_ascending};
-use crate::free::{ChainPages, take};
 use crate::opening::{OpenFault, read_root};
-use crate::reading::{Chain, read_chain};
 use crate::replace::replace;
 use crate::root::{MAX_PAGES, Root};
-use page::{CHAIN_BYTES, DeviceFault, Disk};
+use crate::walk::{reached_pages, read_sheet};
+use freelist::FreePages;
+use page::{DeviceFault, Disk, PageImage, SharedPage, write_page};
 use std::alloc::Global;
 
 /// The fewest pages that a limit leaves to a file.
 pub const LEAST_LIMIT: u32 = 16;
 
-/// How a store is opened.
+/// How a file is opened.
 #[derive(Clone, Copy, Debug, PartialEq, Eq)]
 pub struct Config {
     /// The most pages of the file. Below 16 counts as 16, above 1,048,576 as that.
@@ -29,7 +31,8 @@ pub struct Config {
 }
 
 impl Config {
-    fn limit(self) -> u32
+    /// The most pages of the file, if it hasn't more already: from 16 to 1,048,576.
+    pub fn limit(self) -> u32
         ensures { result ≡ limit_in self }
     {
         if self.max_pages < LEAST_LIMIT {
@@ -49,7 +52,7 @@ pub enum CommitFault {
     Device = 1,
     /// Out of memory. Nothing changed.
     Memory,
-    /// No free page was found, or no greater generation is left. Nothing changed but the count of takes that found none.
+    /// No greater generation is left. Nothing changed.
     Full,
 }
 
@@ -68,102 +71,107 @@ impl CommitFault {
     }
 }
 
-/// The pages that hold so many bytes.
-fn pages_for(len: usize) -> usize
-    ensures enough { len ≤ 4076 * result }
-    ensures needed { 4076 * result < len + 4076 }
-{
-    let full = len / CHAIN_BYTES;
-    if full * CHAIN_BYTES == len {
-        full
-    } else {
-        full + 1
-    }
-}
-
 fn greater(one: u32, other: u32) -> u32
-    ensures one { one ≤ result }
-    ensures other { other ≤ result }
-    ensures greater { result ≡ max one other }
+    ensures { result ≡ max one other }
 {
     if one < other { other } else { one }
 }
 
-/// The page that names a chain of these pages.
-fn first(pages: &[u32]) -> u32
-    ensures { result ≡ first_of pages.now }
+/// The number of pages of a file that ends behind these, with page 0.
+fn end_of(made: &[SharedPage]) -> u32
+    ensures { AllByRecursion (λ (sheet : Sheet). sheet.page < 1048576) made.now
+        → result ≡ end_behind 1 made.now }
 {
-    match pages.first() {
-        Some(page) => *page,
-        None => 0,
+    match made.last() {
+        Some(last) => last.image().page.saturating_add(1),
+        None => 1,
     }
 }
 
-/// Entries on a disk, made durable by one commit after another.
+/// Writes a page.
+fn write_shared<D: Disk>(disk: &mut D, shared: &SharedPage) -> Result<(), DeviceFault>
+    ensures on { GoesOn (D.history disk.old) (D.history disk.new) }
+    ensures any_moment { let before = now (D.history disk.old) in
+        LeavesOnly (D.history disk.old) (D.history disk.new)
+        (IsImageOutside before (IsSectorOf shared.now.page)) }
+    ensures others { let before = now (D.history disk.old) in
+        KeepsWord (D.history disk.new)
+        → (k : ℕ) → (IsSectorOf shared.now.page k → ⊥) → now (D.history disk.new) k ≡ before k }
+    ensures written { KeepsWord (D.history disk.new) → OnOk result
+        (page_at (reads (now (D.history disk.new))) shared.now.page ≡ page_bytes shared.now) }
+    ensures failed { KeepsWord (D.history disk.new)
+        → OnErr result ((D.history disk.old).failures < (D.history disk.new).failures) }
+{
+    let image = shared.image();
+    let mut bytes = [0; 4096];
+    image.write(&mut bytes);
+    write_page(disk, image.page, &bytes)
+}
+
+/// Writes pages in their order.
+fn write_made<D: Disk>(disk: &mut D, made: &[SharedPage]) -> Result<(), DeviceFault>
+    ensures on { GoesOn (D.history disk.old) (D.history disk.new) }
+
+    // Elsewhere a crash leaves what it could leave before.
+    ensures any_moment { let before = now (D.history disk.old) in
+        LeavesOnly (D.history disk.old) (D.history disk.new)
+        (IsImageOutside before (IsOnPages (numbers_of made.now))) }
+    ensures others { let before = now (D.history disk.old) in
+        KeepsWord (D.history disk.new) → (k : ℕ) → (IsOnPages (numbers_of made.now) k → ⊥)
+        → now (D.history disk.new) k ≡ before k }
+    ensures written { KeepsWord (D.history disk.new) → LieBehind 0 made.now
+        → OnOk result (AreWritten (reads (now (D.history disk.new))) made.now) }
+    ensures failed { KeepsWord (D.history disk.new)
+        → OnErr result ((D.history disk.old).failures < (D.history disk.new).failures) }
+{
+    for shared in made {
+        write_shared(disk, shared)?;
+    }
+    Ok(())
+}
+
+/// Writes pages, and behind them the root that names their tree.
+fn write_commit<D: Disk>(disk: &mut D, made: &[SharedPage], root: Root) -> Result<(), DeviceFault>
+    ensures on { GoesOn (D.history disk.old) (D.history disk.new) }
+    ensures moves { MovesDisk made.now root result (D.history disk.old) (D.history disk.new) }
+    ensures others { KeepsWord (D.history disk.new) → (k : ℕ) → 2 ≤ k
+        → (IsOnPages (numbers_of made.now) k → ⊥)
+        → reads (now (D.history disk.new)) k ≡ reads (now (D.history disk.old)) k }
+    ensures written { KeepsWord (D.history disk.new) → LieBehind 0 made.now
+        → OnOk result (AreWritten (reads (now (D.history disk.new))) made.now) }
+    ensures failed { KeepsWord (D.history disk.new)
+        → OnErr result ((D.history disk.old).failures < (D.history disk.new).failures) }
+{
+    write_made(disk, made)?;
+    replace(disk, root.generation % 2, &root.sector())
+}
+
+/// A tree on a disk, made durable by one commit after another.
 #[derive(Drop)]
 pub struct Store<D> {
-    alloc: Global,
     disk: D,
     root: Root,
-    live: Vec<u32>,
-    limit: u32,
-    // how often no free page was found
-    full_takes: u64,
     stopped: bool,
 }
 
 impl<D: Disk> Store<D> {
-    /// Opens a disk that a crash may have left, and hands on the entries that it holds. It writes nothing, and syncs before
-    /// it answers. An `Err` hands the disk back.
-    pub fn open_entries(
-        alloc: Global,
-        mut disk: D,
-        config: Config,
-    ) -> Result<(Store<D>, EntryList), (D, OpenFault)>
-        ensures opened { IfOk result (λ found. IsOpened D.history disk found.0) }
-        ensures ascending { IfOk result (λ found. AreAscending (entries_of found.1)) }
-        ensures entries { IfOk result (λ found. KeepsWord (disk_history D.history found.0)
-            → entries_of found.1 ≡ committed_entries D.history found.0) }
-        ensures limit { IfOk result (λ found. limit_of found.0 ≡ limit_in config) }
+    /// Opens a disk that a crash may have left. It reads the two roots, writes nothing, and syncs before it answers. An `Err`
+    /// hands the disk back.
+    pub fn open(mut disk: D) -> Result<Store<D>, (D, OpenFault)>
+        ensures opened { IfOk result (IsOpened D.history disk) }
         ensures refused { IfErr result (λ e. IsRefused D.history disk e.0 e.1) }
     {
         let root = match read_root(&mut disk) {
             Ok(root) => root,
             Err(fault) => return Err((disk, fault)),
         };
-        let Chain { pages, bytes } = match read_chain(alloc, &mut disk, root) {
-            Ok(chain) => chain,
-            Err(fault) => return Err((disk, fault)),
-        };
-        if !are_ascending(&bytes) {
-            return Err((disk, OpenFault::Damaged));
-        }
         match disk.sync() {
-            Ok(()) => {
-                let store = Store {
-                    alloc,
-                    disk,
-                    root,
-                    live: pages,
-                    limit: config.limit(),
-                    full_takes: 0,
-                    stopped: false,
-                };
-                Ok((store, EntryList::from_bytes(bytes)))
-            }
+            Ok(()) => Ok(Store {
+                disk,
+                root,
+                stopped: false,
+            }),
             Err(DeviceFault) => Err((disk, OpenFault::Device)),
-        }
-    }
-
-    /// Opens a disk as `open_entries` does.
-    pub fn open(alloc: Global, disk: D, config: Config) -> Result<Store<D>, (D, OpenFault)>
-        ensures opened { IfOk result (IsOpened D.history disk) }
-        ensures limit { IfOk result (λ store. limit_of store ≡ limit_in config) }
-        ensures refused { IfErr result (λ e. IsRefused D.history disk e.0 e.1) }
-    {
-        match Store::open_entries(alloc, disk, config) {
-            Ok((store, _)) => Ok(store),
-            Err(refused) => Err(refused),
         }
     }
 
@@ -174,18 +182,11 @@ impl<D: Disk> Store<D> {
         self.disk
     }
 
-    /// The number of the last commit, 0 before the first.
-    pub fn version(&self) -> u64
-        ensures { result ≡ version_of self.now }
+    /// The root that was committed last.
+    pub fn root(&self) -> Root
+        ensures { result ≡ durable_root self.now }
     {
-        self.root.generation
-    }
-
-    /// How often no free page was found; at most 2^64 - 1.
-    pub fn full_takes(&self) -> u64
-        ensures { result ≡ full_takes_of self.now }
-    {
-        self.full_takes
+        self.root
     }
 
     /// Whether a write or a sync has failed. A stopped store commits nothing any more.
@@ -195,50 +196,34 @@ impl<D: Disk> Store<D> {
         self.stopped
     }
 
-    /// Writes entries into the least pages that the committed root doesn't reach, for a commit of these pages. Only
-    /// ascending entries are opened again.
-    pub fn write_entries(&mut self, entries: &EntryList) -> Result<ChainPages, CommitFault>
-        requires sound { IsSound D.history self.old }
-        ensures { WritesEntries D.history (entries_of entries.now) result self.old self.new }
+    /// The page of this number, as the disk holds it under the root that was committed last. Damaged where it is no page of
+    /// that file.
+    pub fn read(&mut self, alloc: Global, page: u32) -> Result<PageImage, OpenFault>
+        ensures looks { Looks result (disk_history D.history self.old)
+            (disk_history D.history self.new) }
+        ensures reads { ReadsSheet D.history page result self.old self.new }
     {
-        if self.stopped {
-            return Err(CommitFault::Device);
-        }
-        if self.root.generation == u64::MAX {
-            return Err(CommitFault::Full);
-        }
-        let bytes = entries.bytes();
-        let limit = greater(self.limit, self.root.pages);
-        let found = match take(self.alloc, &self.live, pages_for(bytes.len()), limit) {
-            Ok(found) => found,
-            Err(_) => return Err(CommitFault::Memory),
-        };
-        let taken = match found {
-            Some(taken) => taken,
-            None => {
-                self.full_takes = self.full_takes.saturating_add(1);
-                return Err(CommitFault::Full);
-            }
-        };
-        match write_chain(
-            &mut self.disk,
-            self.root.generation + 1,
-            &taken.pages,
-            bytes,
-        ) {
-            Ok(()) => Ok(taken),
-            Err(DeviceFault) => {
-                self.stopped = true;
-                Err(CommitFault::Device)
-            }
-        }
+        read_sheet(alloc, &mut self.disk, self.root, page)
     }
 
-    /// Makes the entries in these pages the committed ones.
-    pub fn commit(&mut self, pages: ChainPages) -> Result<(), CommitFault>
-        requires sound { IsSound D.history self.old }
-        requires written { IsWritten D.history self.old pages }
-        ensures { CommitsPages D.history pages result self.old self.new }
+    /// The book of the file's pages, in which those that the committed tree reaches are in use. The others below the limit, or
+    /// below the number of pages that the file has, are free. It reads each page of the tree once.
+    pub fn free_pages(&mut self, alloc: Global, limit: u32) -> Result<FreePages, OpenFault>
+        ensures looks { Looks result (disk_history D.history self.old)
+            (disk_history D.history self.new) }
+        ensures finds { FindsFree D.history limit result self.old self.new }
+    {
+        let in_use = reached_pages(alloc, &mut self.disk, self.root)?;
+        let limit = greater(limit, self.root.pages);
+        Ok(FreePages::open(alloc, &in_use, limit, self.root.generation)?)
+    }
+
+    /// Makes the tree below this page the committed one. The pages that the turn made ascend; they are written, then the next
+    /// root. It reads nothing and takes no memory.
+    pub fn commit(&mut self, made: &[SharedPage], tree: u32) -> Result<(), CommitFault>
+        ensures commits { CommitsRoot D.history tree result self.old self.new }
+        ensures moves { MovesMaps D.history made.now tree result self.old self.new }
+        ensures pages { LeavesPages D.history made.now tree result self.old self.new }
     {
         if self.stopped {
             return Err(CommitFault::Device);
@@ -247,17 +232,14 @@ impl<D: Disk> Store<D> {
             return Err(CommitFault::Full);
         }
         // the number of pages never falls
-        let tree = first(&pages.pages);
-        let count = greater(self.root.pages, pages.end);
         let root = Root {
             generation: self.root.generation + 1,
             tree,
-            pages: count,
+            pages: greater(self.root.pages, end_of(made)),
         };
-        match replace(&mut self.disk, root.generation % 2, &root.sector()) {
+        match write_commit(&mut self.disk, made, root) {
             Ok(()) => {
                 self.root = root;
-                self.live = pages.pages;
                 Ok(())
             }
             Err(_) => {

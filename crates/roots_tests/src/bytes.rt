@@ -1,41 +1,9 @@
-//! The sectors that a commit writes.
-ghost use Rattle.page.specs.Memory.{memory_history};
-ghost use Rattle.roots.specs.Store.{IsSound};
-
-use crate::lists::{list_of, value_of};
-use page::{Disk, MemDisk, is_all_zero};
-use roots::{CommitFault, Config, EntryList, Store};
+//! The sectors that a commit writes, and trees that are none.
+use crate::trees::{number_in, page_of, turn};
+use page::{Disk, MemDisk, is_all_zero, write_page};
+use roots::{OpenFault, Root, Store};
 use std::process::Abort;
 use std::test::Fail;
-
-const CONFIG: Config = Config { max_pages: 40 };
-
-fn commit(rt: &impl Abort, store: &mut Store<MemDisk>, entries: &EntryList)
-    requires { IsSound memory_history store.old }
-    ensures { IsSound memory_history store.new }
-{
-    let Ok(pages) = store.write_entries(entries) else {
-        panic!(rt; "the entries aren't written");
-    };
-    assert!(rt; store.commit(pages).is_ok());
-}
-
-fn new_store(rt: &(impl Abort + AllocGlobal)) -> Store<MemDisk>
-    ensures { IsSound memory_history result }
-{
-    match Store::open(rt.alloc(), MemDisk::new(rt.alloc()), CONFIG) {
-        Ok(store) => store,
-        Err(_) => panic!(rt; "zeros don't open"),
-    }
-}
-
-/// Opens the disk again. Answers the value of the only entry.
-fn open_again(rt: &(impl Abort + AllocGlobal), disk: MemDisk) -> (Store<MemDisk>, Vec<u8>) {
-    match Store::open_entries(rt.alloc(), disk, CONFIG) {
-        Ok((store, entries)) => (store, value_of(rt, &entries)),
-        Err(_) => panic!(rt; "what was committed doesn't open"),
-    }
-}
 
 fn sector(rt: &impl Abort, disk: &mut MemDisk, number: u64) -> [u8; 512] {
     let mut bytes = [0; 512];
@@ -43,11 +11,25 @@ fn sector(rt: &impl Abort, disk: &mut MemDisk, number: u64) -> [u8; 512] {
     bytes
 }
 
-/// The first commit: page 1 and the root in sector 1, by nine writes and two syncs.
+fn new_store(rt: &(impl Abort + AllocGlobal)) -> Store<MemDisk> {
+    match Store::open(MemDisk::new(rt.alloc())) {
+        Ok(store) => store,
+        Err(_) => panic!(rt; "zeros don't open"),
+    }
+}
+
+fn commit(rt: &(impl Abort + AllocGlobal), store: &mut Store<MemDisk>, generation: u64) {
+    let (made, tree) = turn(rt, generation);
+    assert!(rt; store.commit(&made, tree).is_ok());
+}
+
+/// The first commit: page 1 and the root in sector 1, by nine writes and two syncs, without a read.
 #[test]
-fn first_commit(rt: HostRuntime) -> Result<(), Fail> {
+fn first_tree(rt: HostRuntime) -> Result<(), Fail> {
     let mut store = new_store(&rt);
-    commit(&rt, &mut store, &list_of(&rt, &[7; 70]));
+    assert!(rt; store.root().generation == 0 && store.root().tree == 0);
+    commit(&rt, &mut store, 1);
+    assert!(rt; !store.is_stopped());
     let mut disk = store.into_disk();
     // two reads and a sync opened it
     assert_eq!(rt; disk.calls(), 3 + 9 + 2);
@@ -61,75 +43,116 @@ fn first_commit(rt: HostRuntime) -> Result<(), Fail> {
     assert!(rt; sector(&rt, &mut disk, 0) == [0; 512]);
 
     let page = sector(&rt, &mut disk, 8);
-    assert!(rt; page[..8] == [3, 0, 77, 0, 1, 0, 0, 0][..]);
-    assert!(rt; page[8..20] == [1, 0, 0, 0, 0, 0, 0, 0, 0, 0, 0, 0][..]);
-    assert!(rt; page[20..27] == [1, 0, 70, 0, 0, 0, b'k'][..]);
-    assert!(rt; page[27..97] == [7; 70][..]);
-    assert!(rt; is_all_zero(&page[97..]));
+    assert!(rt; page[..8] == [1, 0, 1, 0, 1, 0, 0, 0][..]);
+    assert!(rt; page[8..16] == [1, 0, 0, 0, 0, 0, 0, 0][..]);
+    assert!(rt; page[16..24] == [1, 0, 1, 0, 0, 0, b'k', b'v'][..]);
+    assert!(rt; is_all_zero(&page[24..]));
     assert!(rt; sector(&rt, &mut disk, 15) == [0; 512]);
     Ok(())
 }
 
-/// The pages of two commits take turns, and the number of pages never falls.
+/// Roots take turns in their sectors, and the number of pages never falls.
 #[test]
-fn three_commits(rt: HostRuntime) -> Result<(), Fail> {
+fn four_trees(rt: HostRuntime) -> Result<(), Fail> {
     let mut store = new_store(&rt);
-    commit(&rt, &mut store, &list_of(&rt, b"1"));
-    commit(&rt, &mut store, &list_of(&rt, b"12"));
-    commit(&rt, &mut store, &list_of(&rt, b"123"));
-    assert_eq!(rt; store.version(), 3);
-    let (store, value) = open_again(&rt, store.into_disk());
-    assert_eq!(rt; store.version(), 3);
-    assert!(rt; value[..] == b"123"[..]);
+    commit(&rt, &mut store, 1);
+    commit(&rt, &mut store, 2);
+    commit(&rt, &mut store, 3);
+    commit(&rt, &mut store, 4);
     let mut disk = store.into_disk();
+    assert_eq!(rt; disk.calls(), 3 + 6 * 8 + 4 * 3);
     assert!(rt;
-        sector(&rt, &mut disk, 0)[16..32] == [2, 0, 0, 0, 0, 0, 0, 0, 2, 0, 0, 0, 3, 0, 0, 0][..]
+        sector(&rt, &mut disk, 0)[16..32] == [4, 0, 0, 0, 0, 0, 0, 0, 0, 0, 0, 0, 6, 0, 0, 0][..]
     );
     assert!(rt;
-        sector(&rt, &mut disk, 1)[16..32] == [3, 0, 0, 0, 0, 0, 0, 0, 1, 0, 0, 0, 3, 0, 0, 0][..]
+        sector(&rt, &mut disk, 1)[16..32] == [3, 0, 0, 0, 0, 0, 0, 0, 5, 0, 0, 0, 6, 0, 0, 0][..]
     );
     Ok(())
 }
 
-/// A chain of two pages: 4,076 bytes in page 1, which names page 2, and the rest there.
+/// The page that was committed is read, and neither page 0 nor one behind the end.
 #[test]
-fn two_pages(rt: HostRuntime) -> Result<(), Fail> {
+fn pages_are_read(rt: HostRuntime) -> Result<(), Fail> {
     let mut store = new_store(&rt);
-    commit(&rt, &mut store, &list_of(&rt, &[9; 4993]));
-    let (store, value) = open_again(&rt, store.into_disk());
-    assert!(rt; value[..] == [9; 4993][..]);
+    commit(&rt, &mut store, 1);
+    assert!(rt; store.read(rt.alloc(), 1).is_ok());
+    assert!(rt; store.read(rt.alloc(), 0).is_err() && store.read(rt.alloc(), 2).is_err());
     let mut disk = store.into_disk();
-    assert!(rt;
-        sector(&rt, &mut disk, 8)[..20]
-            == [
-                3, 0, 236, 15, 1, 0, 0, 0, 1, 0, 0, 0, 0, 0, 0, 0, 2, 0, 0, 0
-            ][..]
-    );
-    assert!(rt;
-        sector(&rt, &mut disk, 16)[..20]
-            == [3, 0, 156, 3, 2, 0, 0, 0, 1, 0, 0, 0, 0, 0, 0, 0, 0, 0, 0, 0][..]
-    );
+    // one page was read
+    assert_eq!(rt; disk.calls(), 3 + 9 + 2 + 8);
+    assert!(rt; sector(&rt, &mut disk, 16) == [0; 512]);
     Ok(())
 }
 
-/// No entries have no page, and pages past the limit are Full and change nothing.
+/// What the walk answers over these pages, the first of which is the root page of the first commit.
+fn walk_over(rt: &(impl Abort + AllocGlobal), fronts: &[&[u8]]) -> Result<Option<u32>, OpenFault> {
+    let mut disk = MemDisk::new(rt.alloc());
+    for front in fronts {
+        assert!(rt; write_page(&mut disk, number_in(front), &page_of(front)).is_ok());
+    }
+    let root = Root {
+        generation: 1,
+        tree: 1,
+        pages: 4,
+    };
+    assert!(rt; disk.write(1, &root.sector()).is_ok());
+    let Ok(mut store) = Store::open(disk) else {
+        panic!(rt; "a root that doesn't open");
+    };
+    match store.free_pages(rt.alloc(), 16)?.take() {
+        Ok(least) => Ok(least),
+        Err(_) => Err(OpenFault::Memory),
+    }
+}
+
+/// A leaf with the key "k" and 331 zeros in a chain from page 2.
+const LONG: &[u8] = &[
+    1, 0, 1, 0, 1, 0, 0, 0, 1, 0, 0, 0, 0, 0, 0, 0, 1, 0, 0x4b, 1, 0, 0, b'k', 2,
+];
+
+/// That chain.
+const CHAIN: &[u8] = &[3, 0, 0x4b, 1, 2, 0, 0, 0, 1];
+
+/// A leaf with the key "a" as page 2.
+const LEAF: &[u8] = &[
+    1, 0, 1, 0, 2, 0, 0, 0, 1, 0, 0, 0, 0, 0, 0, 0, 1, 0, 0, 0, 0, 0, b'a',
+];
+
+/// Pages that are no tree below page 1.
+const NO_TREES: [&[&[u8]]; 8] = [
+    // zeros
+    &[],
+    // the chain is missing, a byte too short, or of a later commit
+    &[LONG],
+    &[LONG, &[3, 0, 0x4a, 1, 2, 0, 0, 0, 1]],
+    &[LONG, &[3, 0, 0x4b, 1, 2, 0, 0, 0, 2]],
+    // a chain as the root
+    &[&[3, 0, 0x4b, 1, 1, 0, 0, 0, 1]],
+    // a branch that names itself
+    &[&[
+        2, 0, 2, 0, 1, 0, 0, 0, 1, 0, 0, 0, 0, 0, 0, 0, 1, 0, 0, 0, 1, 0, b'm', 1,
+    ]],
+    // one that names a leaf twice
+    &[
+        &[
+            2, 0, 2, 0, 1, 0, 0, 0, 1, 0, 0, 0, 0, 0, 0, 0, 2, 0, 0, 0, 1, 0, b'm', 2,
+        ],
+        LEAF,
+    ],
+    // one that names a page behind the end
+    &[
+        &[
+            2, 0, 2, 0, 1, 0, 0, 0, 1, 0, 0, 0, 0, 0, 0, 0, 2, 0, 0, 0, 1, 0, b'm', 4,
+        ],
+        LEAF,
+    ],
+];
+
 #[test]
-fn limits(rt: HostRuntime) -> Result<(), Fail> {
-    let Ok(mut store) = Store::open(
-        rt.alloc(),
-        MemDisk::new(rt.alloc()),
-        Config { max_pages: 1 },
-    ) else {
-        panic!(&rt; "zeros don't open");
-    };
-    commit(&rt, &mut store, &EntryList::new(rt.alloc()));
-    let Err(fault) = store.write_entries(&list_of(&rt, &[1; 61_134])) else {
-        panic!(&rt; "sixteen pages hold no more than fifteen");
-    };
-    assert_eq!(rt; fault, CommitFault::Full);
-    assert_eq!(rt; store.full_takes(), 1);
-    commit(&rt, &mut store, &list_of(&rt, &[1; 61_133]));
-    assert_eq!(rt; store.version(), 2);
-    assert_eq!(rt; store.full_takes(), 1);
+fn pages_that_are_no_tree(rt: HostRuntime) -> Result<(), Fail> {
+    assert_eq!(rt; walk_over(&rt, &[LONG, CHAIN]), Ok(Some(3)));
+    for fronts in NO_TREES {
+        assert_eq!(rt; walk_over(&rt, fronts), Err(OpenFault::Damaged));
+    }
     Ok(())
 }

@@ -1,10 +1,8 @@
 //! Stores over files.
 use page::FileDisk;
-use roots::{Config, OpenFault, Store};
+use roots::{OpenFault, Store};
 use std::fs;
 use std::test::Fail;
-
-const CONFIG: Config = Config { max_pages: 40 };
 
 /// A file of no bytes is the empty database, and opening writes nothing.
 #[test]
@@ -14,11 +12,10 @@ fn an_empty_file(rt: HostRuntime) -> Result<(), Fail> {
     let Ok(disk) = FileDisk::open(&rt, path, false) else {
         panic!(&rt; "the file isn't opened");
     };
-    let Ok((store, entries)) = Store::open_entries(rt.alloc(), disk, CONFIG) else {
+    let Ok(store) = Store::open(disk) else {
         panic!(&rt; "no bytes don't open");
     };
-    assert_eq!(rt; store.version(), 0);
-    assert!(rt; entries.bytes().is_empty());
+    assert!(rt; store.root().generation == 0 && store.root().tree == 0);
     drop(store);
     let left = fs::read(&rt, path)?;
     fs::remove_file(&rt, path)?;
@@ -34,7 +31,7 @@ fn a_foreign_file(rt: HostRuntime) -> Result<(), Fail> {
     let Ok(disk) = FileDisk::open(&rt, path, false) else {
         panic!(&rt; "the file isn't opened");
     };
-    let Err((disk, fault)) = Store::open(rt.alloc(), disk, CONFIG) else {
+    let Err((disk, fault)) = Store::open(disk) else {
         panic!(&rt; "other bytes open");
     };
     assert_eq!(rt; fault, OpenFault::NotADatabase);

@@ -1,119 +1,82 @@
-//! Commits of which one growth of memory is refused: what a store answers is followed, and what it holds is that.
-ghost use Rattle.std.specs.Prelude.{◌<◌, ◌^◌, length};
-ghost use Rattle.page.specs.Memory.{memory_history};
-ghost use Rattle.roots.specs.Store.{IsSound};
-
-use page::MemDisk;
-use roots::{CommitFault, Config, EntryList, OpenFault, Store, split_entry};
+//! Reads of which one growth of memory is refused: asked once more, the store answers.
+use crate::trees::{MADE, number_in, page_of};
+use freelist::FreePages;
+use page::{Disk, MemDisk, write_page};
+use roots::{OpenFault, Root, Store};
 use std::process::Abort;
 use std::test::Fail;
 
-const CONFIG: Config = Config { max_pages: 40 };
+/// The root of the second commit: a leaf, and its value's chain.
+const ROOT: Root = Root {
+    generation: 2,
+    tree: 2,
+    pages: 4,
+};
 
-/// Opens a disk, once more after an allocation failure.
-fn open_again(rt: &(impl Abort + AllocGlobal), disk: MemDisk) -> (Store<MemDisk>, EntryList)
-    ensures { IsSound memory_history result.0 }
-{
-    let (disk, fault) = match Store::open_entries(rt.alloc(), disk, CONFIG) {
-        Ok(found) => return found,
+/// Opens a disk, once more after a refused growth. A disk in memory that finds none fails.
+fn open_again(rt: &impl Abort, disk: MemDisk) -> Store<MemDisk> {
+    let (disk, fault) = match Store::open(disk) {
+        Ok(store) => return store,
         Err(refused) => refused,
     };
-    // a disk in memory that finds none fails
-    assert!(rt; fault == OpenFault::Memory || fault == OpenFault::Device);
-    match Store::open_entries(rt.alloc(), disk, CONFIG) {
-        Ok(found) => found,
+    assert_eq!(rt; fault, OpenFault::Device);
+    match Store::open(disk) {
+        Ok(store) => store,
         Err(_) => panic!(rt; "a disk that doesn't open"),
     }
 }
 
-/// A list of one entry, pushed once more after an allocation failure.
-fn list_of(rt: &(impl Abort + AllocGlobal), value: &[u8]) -> EntryList
-    requires { length value.now < 2 ^ 32 }
-{
-    let mut entries = EntryList::new(rt.alloc());
-    if entries.push(b"k", value).is_err() {
-        assert!(rt; entries.bytes().is_empty());
-        assert!(rt; entries.push(b"k", value).is_ok());
+/// Writes a sector, once more after a refused growth.
+fn write_again(rt: &impl Abort, disk: &mut MemDisk, sector: u64, root: Root) {
+    let bytes = root.sector();
+    assert!(rt; disk.write(sector, &bytes).is_ok() || disk.write(sector, &bytes).is_ok());
+}
+
+/// A disk that holds the second commit.
+fn second_commit(rt: &(impl Abort + AllocGlobal)) -> MemDisk {
+    let mut disk = MemDisk::new(rt.alloc());
+    for front in MADE[1] {
+        let page = number_in(front);
+        let bytes = page_of(front);
+        assert!(rt;
+            write_page(&mut disk, page, &bytes).is_ok()
+                || write_page(&mut disk, page, &bytes).is_ok()
+        );
     }
-    entries
-}
-
-fn commit(store: &mut Store<MemDisk>, entries: &EntryList) -> Result<(), CommitFault>
-    requires { IsSound memory_history store.old }
-    ensures { IsSound memory_history store.new }
-{
-    let pages = store.write_entries(entries)?;
-    store.commit(pages)
-}
-
-/// Commits a list, unless that was done.
-fn once_more(
-    rt: &impl Abort,
-    mut store: Store<MemDisk>,
-    before: u64,
-    entries: &EntryList,
-) -> Store<MemDisk>
-    requires { IsSound memory_history store }
-    ensures { IsSound memory_history result }
-{
-    if store.version() == before {
-        assert!(rt; commit(&mut store, entries).is_ok());
-    }
-    store
-}
-
-/// Commits a list, once more after an allocation failure, and on the disk opened again where the disk found none.
-fn commit_list(
-    rt: &(impl Abort + AllocGlobal),
-    mut store: Store<MemDisk>,
-    entries: &EntryList,
-) -> Store<MemDisk>
-    requires { IsSound memory_history store }
-    ensures { IsSound memory_history result }
-{
-    let before = store.version();
-    match commit(&mut store, entries) {
-        Ok(()) => store,
-        Err(CommitFault::Memory) => {
-            assert!(rt; store.version() == before);
-            once_more(rt, store, before, entries)
-        }
-        Err(fault) => {
-            assert!(rt; fault == CommitFault::Device);
-            let (store, _) = open_again(rt, store.into_disk());
-            once_more(rt, store, before, entries)
-        }
-    }
-}
-
-/// Commits a value as this version, and finds it on the disk opened again.
-fn commit_and_find(
-    rt: &(impl Abort + AllocGlobal),
-    store: Store<MemDisk>,
-    value: &[u8],
-    version: u64,
-) -> Store<MemDisk>
-    requires sound { IsSound memory_history store }
-    requires short { length value.now < 2 ^ 32 }
-    ensures { IsSound memory_history result }
-{
-    let store = commit_list(rt, store, &list_of(rt, value));
-    let (store, entries) = open_again(rt, store.into_disk());
-    assert_eq!(rt; store.version(), version);
-    let Some(found) = split_entry(entries.bytes()) else {
-        panic!(rt; "no entry");
+    let before = Root {
+        generation: 1,
+        tree: 1,
+        pages: 2,
     };
-    assert!(rt; found.value == value && found.rest.is_empty());
-    store
+    write_again(rt, &mut disk, 1, before);
+    write_again(rt, &mut disk, 0, ROOT);
+    disk
+}
+
+/// The book of free pages, asked for once more after a refused growth.
+fn book_again(rt: &(impl Abort + AllocGlobal), store: &mut Store<MemDisk>) -> FreePages {
+    match store.free_pages(rt.alloc(), 16) {
+        Ok(book) => return book,
+        Err(fault) => assert_eq!(rt; fault, OpenFault::Memory),
+    }
+    match store.free_pages(rt.alloc(), 16) {
+        Ok(book) => book,
+        Err(_) => panic!(rt; "no memory again"),
+    }
 }
 
 #[test]
 fn refused_growths(rt: HostRuntime) -> Result<(), Fail> {
-    let (store, none) = open_again(&rt, MemDisk::new(rt.alloc()));
-    assert!(rt; none.bytes().is_empty());
-    let store = commit_and_find(&rt, store, &[1; 70], 1);
-    let store = commit_and_find(&rt, store, &[2; 4993], 2);
-    let store = commit_and_find(&rt, store, &[], 3);
-    drop(store);
+    let mut store = open_again(&rt, second_commit(&rt));
+    assert_eq!(rt; store.root(), ROOT);
+    for page in 2..4 {
+        if let Err(fault) = store.read(rt.alloc(), page) {
+            assert_eq!(rt; fault, OpenFault::Memory);
+            assert!(rt; store.read(rt.alloc(), page).is_ok());
+        }
+    }
+    let book = book_again(&rt, &mut store);
+    assert!(rt; book.is_in_use(2) && book.is_in_use(3) && !book.is_in_use(1));
+    assert!(rt; store.root() == ROOT && !store.is_stopped());
     Ok(())
 }

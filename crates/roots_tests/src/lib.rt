@@ -10,12 +10,6 @@ mod files;
 #[cfg(test)]
 mod growths;
 #[cfg(test)]
-mod lists;
-#[cfg(test)]
 mod opening;
-#[cfg(test)]
-mod tree_bytes;
-#[cfg(test)]
-mod tree_faults;
 #[cfg(test)]
 mod trees;

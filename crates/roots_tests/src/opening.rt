@@ -1,17 +1,12 @@
 //! Disks with roots written by hand.
-ghost use Rattle.std.specs.Prelude.{◌≤◌, length};
-
-use crate::lists::list_of;
-use page::{Disk, MemDisk, chain_page, write_page};
+use page::{Disk, MemDisk};
 use roots::{CommitFault, Config, OpenFault, Root, Store};
 use std::process::Abort;
 use std::test::Fail;
 
-const CONFIG: Config = Config { max_pages: 40 };
-
-fn version_of(rt: &(impl Abort + AllocGlobal), disk: MemDisk) -> Result<u64, OpenFault> {
-    match Store::open(rt.alloc(), disk, CONFIG) {
-        Ok(store) => Ok(store.version()),
+fn generation_of(disk: MemDisk) -> Result<u64, OpenFault> {
+    match Store::open(disk) {
+        Ok(store) => Ok(store.root().generation),
         Err((_, fault)) => Err(fault),
     }
 }
@@ -35,23 +30,34 @@ fn root(generation: u64) -> [u8; 512] {
 
 #[test]
 fn zeros_are_the_empty_database(rt: HostRuntime) -> Result<(), Fail> {
-    let answer = Store::open_entries(rt.alloc(), MemDisk::new(rt.alloc()), CONFIG);
-    let Ok((store, entries)) = answer else {
+    let Ok(mut store) = Store::open(MemDisk::new(rt.alloc())) else {
         panic!(&rt; "zeros don't open");
     };
-    assert_eq!(rt; store.version(), 0);
-    assert!(rt; entries.bytes().is_empty());
+    let none = Root {
+        generation: 0,
+        tree: 0,
+        pages: 1,
+    };
+    assert!(rt; store.root() == none && !store.is_stopped());
+    let Ok(mut free) = store.free_pages(rt.alloc(), 16) else {
+        panic!(&rt; "a tree in zeros");
+    };
+    let least = match free.take() {
+        Ok(least) => least,
+        Err(_) => None,
+    };
+    assert_eq!(rt; least, Some(1));
     Ok(())
 }
 
 #[test]
 fn other_bytes_are_no_database(rt: HostRuntime) -> Result<(), Fail> {
     assert_eq!(rt;
-        version_of(&rt, with_roots(&rt, &[0x41; 512], &[0x41; 512])),
+        generation_of(with_roots(&rt, &[0x41; 512], &[0x41; 512])),
         Err(OpenFault::NotADatabase)
     );
     assert_eq!(rt;
-        version_of(&rt, with_roots(&rt, &root(2), &[0x41; 512])),
+        generation_of(with_roots(&rt, &root(2), &[0x41; 512])),
         Err(OpenFault::NotADatabase)
     );
     Ok(())
@@ -62,11 +68,11 @@ fn a_newer_format_is_told(rt: HostRuntime) -> Result<(), Fail> {
     let mut newer = root(2);
     newer[8] = 2;
     assert_eq!(rt;
-        version_of(&rt, with_roots(&rt, &newer, &root(1))),
+        generation_of(with_roots(&rt, &newer, &root(1))),
         Err(OpenFault::NewerFormat)
     );
     assert_eq!(rt;
-        version_of(&rt, with_roots(&rt, &newer, &[0x41; 512])),
+        generation_of(with_roots(&rt, &newer, &[0x41; 512])),
         Err(OpenFault::NotADatabase)
     );
     Ok(())
@@ -80,69 +86,50 @@ fn damage_is_told(rt: HostRuntime) -> Result<(), Fail> {
         let mut odd = root(1);
         odd[place] = byte;
         assert_eq!(rt;
-            version_of(&rt, with_roots(&rt, &zeros, &odd)),
+            generation_of(with_roots(&rt, &zeros, &odd)),
             Err(OpenFault::Damaged)
         );
     }
     assert_eq!(rt;
-        version_of(&rt, with_roots(&rt, &root(2), &zeros)),
+        generation_of(with_roots(&rt, &root(2), &zeros)),
         Err(OpenFault::Damaged)
     );
     assert_eq!(rt;
-        version_of(&rt, with_roots(&rt, &zeros, &root(3))),
+        generation_of(with_roots(&rt, &zeros, &root(3))),
         Err(OpenFault::Damaged)
     );
     assert_eq!(rt;
-        version_of(&rt, with_roots(&rt, &root(4), &root(1))),
+        generation_of(with_roots(&rt, &root(4), &root(1))),
         Err(OpenFault::Damaged)
     );
-    assert_eq!(rt; version_of(&rt, with_roots(&rt, &zeros, &root(1))), Ok(1));
-    assert_eq!(rt; version_of(&rt, with_roots(&rt, &root(2), &root(1))), Ok(2));
-    assert_eq!(rt; version_of(&rt, with_roots(&rt, &root(2), &root(3))), Ok(3));
+    assert_eq!(rt; generation_of(with_roots(&rt, &zeros, &root(1))), Ok(1));
+    assert_eq!(rt; generation_of(with_roots(&rt, &root(2), &root(1))), Ok(2));
+    assert_eq!(rt; generation_of(with_roots(&rt, &root(2), &root(3))), Ok(3));
     Ok(())
 }
 
 #[test]
 fn the_greatest_generation_is_full(rt: HostRuntime) -> Result<(), Fail> {
     let disk = with_roots(&rt, &root(u64::MAX - 1), &root(u64::MAX));
-    let Ok(mut store) = Store::open(rt.alloc(), disk, CONFIG) else {
+    let Ok(mut store) = Store::open(disk) else {
         panic!(&rt; "the greatest generation doesn't open");
     };
-    assert_eq!(rt; store.version(), u64::MAX);
-    let Err(fault) = store.write_entries(&list_of(&rt, b"entry")) else {
-        panic!(&rt; "a generation past the greatest");
-    };
-    assert_eq!(rt; fault, CommitFault::Full);
-    assert_eq!(rt; store.full_takes(), 0);
+    assert_eq!(rt; store.root().generation, u64::MAX);
+    assert_eq!(rt; store.commit(&[], 0), Err(CommitFault::Full));
+    assert!(rt; !store.is_stopped());
     Ok(())
 }
 
-/// What opening answers where the chain of the first commit is one page of these bytes.
-fn answer_over(rt: &(impl Abort + AllocGlobal), bytes: &[u8]) -> Result<u64, OpenFault>
-    requires { length bytes.now ≤ 4076 }
-{
-    let mut disk = MemDisk::new(rt.alloc());
-    assert!(rt; write_page(&mut disk, 1, &chain_page(1, 1, 0, bytes)).is_ok());
-    let root = Root {
-        generation: 1,
-        tree: 1,
-        pages: 2,
-    };
-    assert!(rt; disk.write(1, &root.sector()).is_ok());
-    version_of(rt, disk)
-}
-
 #[test]
-fn bytes_that_are_no_pairs_are_damage(rt: HostRuntime) -> Result<(), Fail> {
-    // the entry of no bytes, and behind it one of the key 0 and the value 7
-    let two = [0, 0, 0, 0, 0, 0, 1, 0, 1, 0, 0, 0, 0, 7];
-    assert_eq!(rt; answer_over(&rt, &two), Ok(1));
-    // one byte of it is missing, or one too many
-    assert_eq!(rt; answer_over(&rt, &two[..13]), Err(OpenFault::Damaged));
-    assert_eq!(rt; answer_over(&rt, &two[..7]), Err(OpenFault::Damaged));
-    // the same key again, and a key that falls
-    assert_eq!(rt; answer_over(&rt, &[0; 12]), Err(OpenFault::Damaged));
-    let falls = [1, 0, 0, 0, 0, 0, 9, 1, 0, 0, 0, 0, 0, 8];
-    assert_eq!(rt; answer_over(&rt, &falls), Err(OpenFault::Damaged));
+fn limits_are_kept_within(rt: HostRuntime) -> Result<(), Fail> {
+    for (max_pages, limit) in [
+        (0, 16),
+        (15, 16),
+        (17, 17),
+        (1_048_577, 1_048_576),
+        (u32::MAX, 1_048_576),
+    ] {
+        assert_eq!(rt; Config { max_pages }.limit(), limit);
+    }
     Ok(())
 }

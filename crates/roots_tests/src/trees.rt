@@ -1,6 +1,6 @@
 //! Trees whose pages are written out byte by byte, committed one after the other.
 use page::{MemDisk, PageImage, SharedPage, read_page};
-use roots::TreeStore;
+use roots::Store;
 use std::process::Abort;
 
 /// The pages that each commit makes, up to their last byte that isn't zero.
@@ -106,7 +106,7 @@ fn has_pages(disk: &mut MemDisk, generation: u64) -> bool {
 }
 
 /// Whether a commit's root names so many pages, and its tree leaves this page as the least free one.
-fn is_state(rt: &(impl Abort + AllocGlobal), store: &mut TreeStore<MemDisk>) -> bool {
+fn is_state(rt: &(impl Abort + AllocGlobal), store: &mut Store<MemDisk>) -> bool {
     let at = store.root().generation as usize;
     let Ok(mut free) = store.free_pages(rt.alloc(), 16) else {
         return false;
@@ -120,7 +120,7 @@ fn is_state(rt: &(impl Abort + AllocGlobal), store: &mut TreeStore<MemDisk>) -> 
 
 /// The number of the commit whose tree a disk holds, whole.
 pub(crate) fn state_in(rt: &(impl Abort + AllocGlobal), disk: MemDisk) -> (u64, MemDisk) {
-    let Ok(mut store) = TreeStore::open(disk) else {
+    let Ok(mut store) = Store::open(disk) else {
         panic!(rt; "an image that doesn't open");
     };
     assert!(rt; is_state(rt, &mut store));

@@ -1,12 +1,9 @@
--- An image holds one list of collections at most.
-use Rattle.std.proofs.Common.{◌≡◌, ℕ, List}
-use Rattle.roots.proofs.OpenSteps.{one_state}
+-- An image of zeros holds no collection, and no others beside.
+use Rattle.std.proofs.Common.{◌≡◌, ℕ, List, []}
+use Rattle.std.specs.Prelude.{replicate}
+use Rattle.collections.proofs.LawLemmas.{holds_one, zeros_hold_nothing}
 use Rattle.index.specs.State.{Collection}
-use Rattle.engine.specs.Stored.{database_entries}
 use Rattle.engine.specs.Durable.{Holds}
-use Rattle.engine.proofs.Ending.{stands_for}
-use Rattle.engine.proofs.LoadingOnce.{one_list}
 
-pub one_collections : (image : ℕ → List ℕ) (a b : List Collection) → Holds image a → Holds image b → a ≡ b
-one_collections image a b h g =
-    one_list a b h.lawful g.lawful h.readable g.readable (one_state image (database_entries a) (database_entries b) (stands_for a image h) (stands_for b image g))
+pub nothing_held : (image : ℕ → List ℕ) (cs : List Collection) → image 0 ≡ replicate 512 0 → image 1 ≡ replicate 512 0 → Holds image cs → cs ≡ []
+nothing_held image cs even odd held = holds_one image cs [] held.file (zeros_hold_nothing image even odd)

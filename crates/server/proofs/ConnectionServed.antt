@@ -1,5 +1,5 @@
 -- What a link's part of a turn is.
-use Rattle.std.proofs.Common.{◌≡◌, ℕ, List, [], ◌∷◌, ◌++◌, refl, sym, ◌∙◌, ap, append-nil}
+use Rattle.std.proofs.Common.{◌≡◌, inl, ℕ, List, [], ◌∷◌, ◌++◌, refl, sym, ◌∙◌, ap, append-nil}
 use Rattle.std.specs.Prelude.{Bool, true, Result, Ok, Err, Option, Some, None}
 use Rattle.bson.specs.Tree.{Pairs}
 use Rattle.op_msg.specs.Frame.{Frame}
@@ -7,7 +7,8 @@ use Rattle.op_msg.specs.Request.{body_of}
 use Rattle.op_msg.specs.declared.fault.FrameFault.{FrameFault}
 use Rattle.op_msg.specs.declared.request.Request.{Request}
 use Rattle.engine.specs.World.{World}
-use Rattle.engine.specs.Step.{ForMemory, WroteNothing}
+use Rattle.path.specs.declared.refusal.Refusal.{Refusal}
+use Rattle.engine.specs.Step.{step, WroteNothing}
 use Rattle.outcome.specs.Outcome.{Gives}
 use Rattle.bson.specs.declared.fault.BsonFault.{BsonFault}
 use Rattle.bson.specs.declared.fault.BsonFault.TheVariants as bson_faults
@@ -16,6 +17,7 @@ use Rattle.server.specs.Taking.{IsTaken, IsAnswer, Serves}
 use Rattle.server.specs.declared.connection.Connection.{Connection}
 use Rattle.server.specs.declared.connection.Taken.{Taken}
 use Rattle.server.specs.declared.connection.Taken.TheVariants as takes
+use Rattle.server.proofs.CauseLemmas.{answers_weaker}
 
 abbrev Front : Type 0
 Front = Result (Option (Frame × List ℕ)) FrameFault
@@ -28,17 +30,17 @@ taken_link old new (Ok (Some x)) (takes.Call n r) h = h.2
 taken_link old new (Err e) takes.Nothing h = h
 taken_link old new (Err e) (takes.Call n r) h = absurd h
 
-pub nothing_served : (old new : Connection) (front : Front) (t : Taken) (w : World) (given : List (ℕ × List ℕ)) → IsTaken old front t new → ((n : ℕ) (r : Request) → t ≡ takes.Call n r → ⊥) → Serves ForMemory (call_at old front) w w true given given
-nothing_served old new (Ok None) t w given h none = record { replies = []; runs = refl; frames = λ e. sym (append-nil given) }
-nothing_served old new (Err e) t w given h none = record { replies = []; runs = refl; frames = λ e. sym (append-nil given) }
-nothing_served old new (Ok (Some x)) takes.Nothing w given h none = absurd h
-nothing_served old new (Ok (Some x)) (takes.Call n r) w given h none = absurd (none n r refl)
+pub nothing_served : (beside : World → Refusal → Type 0) (old new : Connection) (front : Front) (t : Taken) (w : World) (given : List (ℕ × List ℕ)) → IsTaken old front t new → ((n : ℕ) (r : Request) → t ≡ takes.Call n r → ⊥) → Serves beside (call_at old front) w w true given given
+nothing_served beside old new (Ok None) t w given h none = record { replies = []; runs = refl; frames = λ e. sym (append-nil given) }
+nothing_served beside old new (Err e) t w given h none = record { replies = []; runs = refl; frames = λ e. sym (append-nil given) }
+nothing_served beside old new (Ok (Some x)) takes.Nothing w given h none = absurd h
+nothing_served beside old new (Ok (Some x)) (takes.Call n r) w given h none = absurd (none n r refl)
 
-pub one_served : (old new : Connection) (front : Front) (n : ℕ) (r : Request) (w w' : World) (reply : Pairs) (ok : Bool) (given now : List (ℕ × List ℕ)) → IsTaken old front (takes.Call n r) new
-    → IsAnswer ForMemory w old.id r w' reply → (ok ≡ true → now ≡ given ++ frame_unless r.more_to_come old.id n r.request_id reply) → Serves ForMemory (call_at old front) w w' ok given now
-one_served old new (Ok None) n r w w' reply ok given now h a f = absurd h
-one_served old new (Err e) n r w w' reply ok given now h a f = absurd h
-one_served old new (Ok (Some x)) n r w w' reply ok given now h a f = record {
+pub one_served : (beside : World → Refusal → Type 0) (old new : Connection) (front : Front) (n : ℕ) (r : Request) (w w' : World) (reply : Pairs) (ok : Bool) (given now : List (ℕ × List ℕ)) → IsTaken old front (takes.Call n r) new
+    → IsAnswer beside w old.id r w' reply → (ok ≡ true → now ≡ given ++ frame_unless r.more_to_come old.id n r.request_id reply) → Serves beside (call_at old front) w w' ok given now
+one_served beside old new (Ok None) n r w w' reply ok given now h a f = absurd h
+one_served beside old new (Err e) n r w w' reply ok given now h a f = absurd h
+one_served beside old new (Ok (Some x)) n r w w' reply ok given now h a f = record {
   replies = reply ∷ [];
   runs = (w', a (body_of x.0) h.1.body, refl);
   frames = λ e. f e ∙ ap (λ (fs : List (ℕ × List ℕ)). given ++ fs) (same ∙ sym (append-nil (frame_for (record { connection = old; frame = x.0 }) reply)));
@@ -48,8 +50,9 @@ one_served old new (Ok (Some x)) n r w w' reply ok given now h a f = record {
     same = λ i. frame_unless (h.1.more i) old.id (h.0 i) (h.1.number i) reply
 
 -- a message that changes nothing wrote nothing
-pub one_quiet : (P : Type 0) (old new : Connection) (front : Front) (n : ℕ) (r : Request) (w w' : World) (reply : Pairs) → IsTaken old front (takes.Call n r) new → IsAnswer ForMemory w old.id r w' reply
-    → ((read : Result Pairs BsonFault) → Gives bson_faults.Memory (λ d. d) r.body read → WroteNothing w read w' → P) → ChangeNothing ForMemory w (call_at old front) → P
-one_quiet P old new (Ok None) n r w w' reply h a use_it quiet = absurd h
-one_quiet P old new (Err e) n r w w' reply h a use_it quiet = absurd h
-one_quiet P old new (Ok (Some x)) n r w w' reply h a use_it quiet = use_it (body_of x.0) h.1.body (quiet w' reply (a (body_of x.0) h.1.body)).0
+pub one_quiet : (P : Type 0) (beside other : World → Refusal → Type 0) (weaker : (planned : World) (r : Refusal) → beside planned r → other planned r) (old new : Connection) (front : Front) (n : ℕ) (r : Request) (w w' : World) (reply : Pairs) → IsTaken old front (takes.Call n r) new → IsAnswer beside w old.id r w' reply
+    → ((read : Result Pairs BsonFault) → Gives bson_faults.Memory (λ d. d) r.body read → WroteNothing w read w' → WroteNothing w read (step w old.id read).0 → P) → ChangeNothing other w (call_at old front) → P
+one_quiet P beside other weaker old new (Ok None) n r w w' reply h a use_it quiet = absurd h
+one_quiet P beside other weaker old new (Err e) n r w w' reply h a use_it quiet = absurd h
+one_quiet P beside other weaker old new (Ok (Some x)) n r w w' reply h a use_it quiet = use_it (body_of x.0) h.1.body (quiet w' reply (answers_weaker beside other weaker w _ _ w' reply (a (body_of x.0) h.1.body))).0
+    (quiet (step w old.id (body_of x.0)).0 (step w old.id (body_of x.0)).1 (inl refl)).0

@@ -8,55 +8,54 @@ use Rattle.engine.specs.Refusals.{refusal_reply}
 use Rattle.path.specs.declared.refusal.Refusal.{Refusal}
 use Rattle.op_msg.specs.Frame.{Frame}
 use Rattle.op_msg.specs.declared.fault.FrameFault.{FrameFault}
-use Rattle.engine.specs.Step.{ForMemory}
 use Rattle.server.specs.Turn.{Call, Runs, ChangeNothing, frames_of, frame_for, calls, call_at, front_of, connection_at, connections_after, taken_at, connections_taken, forget_all, refused_calls, refused_frames, faults, fault_at}
 use Rattle.server.specs.Taking.{Serves, refused_at, fault_in, faults_in, closed_by, closed_connections, fault_beside}
 use Rattle.server.specs.declared.connection.Connection.{Connection}
 
-runs_on : (cs ds : List Call) (a b c : World) (rs ss : List Pairs) → Runs ForMemory a cs rs b → Runs ForMemory b ds ss c → Runs ForMemory a (cs ++ ds) (rs ++ ss) c
-runs_on [] ds a b c [] ss h k = subst (λ (w : World). Runs ForMemory w ds ss c) h k
-runs_on [] ds a b c (r ∷ rs) ss h k = absurd h
-runs_on (x ∷ cs) ds a b c [] ss h k = absurd h
-runs_on (x ∷ cs) ds a b c (r ∷ rs) ss h k = (h.0, h.1, runs_on cs ds h.0 b c rs ss h.2 k)
+runs_on : (beside : World → Refusal → Type 0) (cs ds : List Call) (a b c : World) (rs ss : List Pairs) → Runs beside a cs rs b → Runs beside b ds ss c → Runs beside a (cs ++ ds) (rs ++ ss) c
+runs_on beside [] ds a b c [] ss h k = subst (λ (w : World). Runs beside w ds ss c) h k
+runs_on beside [] ds a b c (r ∷ rs) ss h k = absurd h
+runs_on beside (x ∷ cs) ds a b c [] ss h k = absurd h
+runs_on beside (x ∷ cs) ds a b c (r ∷ rs) ss h k = (h.0, h.1, runs_on beside cs ds h.0 b c rs ss h.2 k)
 
-frames_on : (cs ds : List Call) (a b : World) (rs ss : List Pairs) → Runs ForMemory a cs rs b → frames_of (cs ++ ds) (rs ++ ss) ≡ frames_of cs rs ++ frames_of ds ss
-frames_on [] ds a b [] ss h = refl
-frames_on [] ds a b (r ∷ rs) ss h = absurd h
-frames_on (x ∷ cs) ds a b [] ss h = absurd h
-frames_on (x ∷ cs) ds a b (r ∷ rs) ss h =
-    ap (λ (fs : List (ℕ × List ℕ)). frame_for x r ++ fs) (frames_on cs ds h.0 b rs ss h.2)
+frames_on : (beside : World → Refusal → Type 0) (cs ds : List Call) (a b : World) (rs ss : List Pairs) → Runs beside a cs rs b → frames_of (cs ++ ds) (rs ++ ss) ≡ frames_of cs rs ++ frames_of ds ss
+frames_on beside [] ds a b [] ss h = refl
+frames_on beside [] ds a b (r ∷ rs) ss h = absurd h
+frames_on beside (x ∷ cs) ds a b [] ss h = absurd h
+frames_on beside (x ∷ cs) ds a b (r ∷ rs) ss h =
+    ap (λ (fs : List (ℕ × List ℕ)). frame_for x r ++ fs) (frames_on beside cs ds h.0 b rs ss h.2)
     ∙ sym (append_assoc (frame_for x r) (frames_of cs rs) (frames_of ds ss))
 
 -- calls that change nothing leave the collections as they are, and so do those after them
-pub quiet_runs : (cs ds : List Call) (a b : World) (rs : List Pairs) → Runs ForMemory a cs rs b → ChangeNothing ForMemory a (cs ++ ds) → (b.collections ≡ a.collections) × ChangeNothing ForMemory b ds
-quiet_runs [] ds a b [] h quiet = (ap (λ (w : World). w.collections) h, subst (λ (w : World). ChangeNothing ForMemory w ds) (sym h) quiet)
-quiet_runs [] ds a b (r ∷ rs) h quiet = absurd h
-quiet_runs (x ∷ cs) ds a b [] h quiet = absurd h
-quiet_runs (x ∷ cs) ds a b (r ∷ rs) h quiet =
+pub quiet_runs : (beside : World → Refusal → Type 0) (cs ds : List Call) (a b : World) (rs : List Pairs) → Runs beside a cs rs b → ChangeNothing beside a (cs ++ ds) → (b.collections ≡ a.collections) × ChangeNothing beside b ds
+quiet_runs beside [] ds a b [] h quiet = (ap (λ (w : World). w.collections) h, subst (λ (w : World). ChangeNothing beside w ds) (sym h) quiet)
+quiet_runs beside [] ds a b (r ∷ rs) h quiet = absurd h
+quiet_runs beside (x ∷ cs) ds a b [] h quiet = absurd h
+quiet_runs beside (x ∷ cs) ds a b (r ∷ rs) h quiet =
     let one = quiet h.0 r h.1 in
-    let later = quiet_runs cs ds h.0 b rs h.2 one.1 in
+    let later = quiet_runs beside cs ds h.0 b rs h.2 one.1 in
     (later.0 ∙ one.0.0, later.1)
 
 -- calls that change nothing, and those before them
-pub quiet_front : (cs ds : List Call) (a : World) → ChangeNothing ForMemory a (cs ++ ds) → ChangeNothing ForMemory a cs
-quiet_front [] ds a quiet = tt
-quiet_front (x ∷ cs) ds a quiet = λ mid reply h.
+pub quiet_front : (beside : World → Refusal → Type 0) (cs ds : List Call) (a : World) → ChangeNothing beside a (cs ++ ds) → ChangeNothing beside a cs
+quiet_front beside [] ds a quiet = tt
+quiet_front beside (x ∷ cs) ds a quiet = λ mid reply h.
     let one = quiet mid reply h in
-    (one.0, quiet_front cs ds mid one.1)
+    (one.0, quiet_front beside cs ds mid one.1)
 
 both : (p q : Bool) → (p && q) ≡ true → (p ≡ true) × (q ≡ true)
 both true q e = (refl, e)
 both false q e = absurd cc
 
-pub serves_on : (cs ds : List Call) (a b c : World) (p q : Bool) (f g h : List (ℕ × List ℕ)) → Serves ForMemory cs a b p f g → Serves ForMemory ds b c q g h → Serves ForMemory (cs ++ ds) a c (p && q) f h
-serves_on cs ds a b c p q f g h s t = record {
+pub serves_on : (beside : World → Refusal → Type 0) (cs ds : List Call) (a b c : World) (p q : Bool) (f g h : List (ℕ × List ℕ)) → Serves beside cs a b p f g → Serves beside ds b c q g h → Serves beside (cs ++ ds) a c (p && q) f h
+serves_on beside cs ds a b c p q f g h s t = record {
   replies = s.replies ++ t.replies;
-  runs = runs_on cs ds a b c s.replies t.replies s.runs t.runs;
+  runs = runs_on beside cs ds a b c s.replies t.replies s.runs t.runs;
   frames = λ e.
       let e2 = both p q e in
       t.frames e2.1 ∙ ap (λ (fs : List (ℕ × List ℕ)). fs ++ frames_of ds t.replies) (s.frames e2.0)
       ∙ append_assoc f (frames_of cs s.replies) (frames_of ds t.replies)
-      ∙ ap (λ (fs : List (ℕ × List ℕ)). f ++ fs) (sym (frames_on cs ds a b s.replies t.replies s.runs));
+      ∙ ap (λ (fs : List (ℕ × List ℕ)). f ++ fs) (sym (frames_on beside cs ds a b s.replies t.replies s.runs));
 }
 
 calls_append : (ks ls : List Connection) → calls (ks ++ ls) ≡ calls ks ++ calls ls

@@ -7,19 +7,19 @@ use Rattle.std.specs.Global.{Global}
 use Rattle.page.specs.History.{History, KeepsWord}
 use Rattle.page.specs.Crash.{GoesOn, LeavesNow}
 use Rattle.page.proofs.Moments.{goes_nowhere, goes_further, leaves_now}
-use Rattle.roots.specs.Store.{limit_of}
 use Rattle.index.specs.State.{Collection}
 use Rattle.engine.specs.Durable.{Holds}
-use Rattle.engine.specs.Step.{ForMemory}
 use Rattle.server.specs.ServerState.{ServerState, fed, ended}
 use Rattle.server.specs.Turn.{Out, Turns, TurnFails}
 use Rattle.server.specs.Moment.{Moment, TurnEnd, Instant, end_at, last_collections, last_moment, HoldsEither, LeavesInOrder}
+use Rattle.server.specs.Causes.{IsCaused}
 use Rattle.server.specs.History.{Happens, RoomRanOut, turns_in}
 use Rattle.server.specs.View.{state, frames_in}
-use Rattle.server.specs.Durable.{disk_history, is_stopped, IsRunning, store_of, IsSound, collections_of, clock_of, moment_of, instant_of, GoesSafely}
+use Rattle.server.specs.Durable.{disk_history, is_stopped, IsRunning, IsSound, collections_of, clock_of, moment_of, instant_of, GoesSafely}
 use Rattle.server.specs.OneStep.{Adds, Goes, Does, ends_of}
 use Rattle.server.specs.Headline.{Drives, Ends, IsStopped, turns_done}
 use Rattle.server.specs.declared.turn.Core.{Core}
+use Rattle.server.specs.declared.turn.TurnFault.{TurnFault}
 use Rattle.server.specs.declared.turn.TurnFault.TheVariants as turns
 use Rattle.server.specs.declared.step.Step.{Step}
 use Rattle.server.specs.declared.step.Step.TheVariants as steps
@@ -75,7 +75,7 @@ one_at_most (steps.Bytes id chunk) = omega arith
 one_at_most (steps.Gone id) = omega arith
 one_at_most steps.Turn = omega arith
 
-pub one_turn : (first last : Instant) (out : Out) → Turns ForMemory (RoomRanOut first.moment last.moment) first.state out last.state
+pub one_turn : (first last : Instant) (out : Out) → Turns (IsCaused first.moment last.moment) (RoomRanOut first.moment) first.state out last.state
     → Happens first.moment first.state (steps.Turn ∷ []) out.replies (end_at last ∷ []) last.state
 one_turn first last out turns = (last.state, out, [], end_at last, [], turns, refl, sym (append-nil out.replies), refl, (refl, refl, refl))
 
@@ -119,7 +119,6 @@ pub record SoFar {D : Type 0} (history : D → History) (first : Core D) (all : 
   pub in_order : IsRunning first → KeepsWord (disk_history history now)
       → LeavesInOrder (disk_history history now) (clock_of history first) (collections_of first) ends (collections_of now)
   pub idle : is_stopped first ≡ true → disk_history history now ≡ disk_history history first
-  pub limit : limit_of (store_of now) ≡ limit_of (store_of first)
 
 pub starts : {D : Type 0} (history : D → History) (first : Core D) (all : List Step) (out : DriveOut) → out.replies.items ≡ [] → out.turns ≡ 0 → out.stopped ≡ None → IsSound history first → SoFar history first all 0 out first
 starts history first all out nothing none goes sound = record {
@@ -138,7 +137,6 @@ starts history first all out nothing none goes sound = record {
         (λ image here. inl (holds_now history first sound running keeps image here)),
   );
   idle = λ _. refl;
-  limit = refl;
 }
 
 pub ends : {D : Type 0} (history : D → History) (first : Core D) (all : List Step) (i : ℕ) (out : DriveOut) (now : Core D) → length all ≤ i → SoFar history first all i out now → Drives history first all out now
@@ -159,7 +157,6 @@ ends history first all i out now whole s =
       at_stop = λ running k image is. inr (holds_now history now s.sound (s.running ∙ running) k image is);
       idle = s.idle;
       running = λ _. s.running;
-      limit = s.limit;
       device = λ stop. absurd (subst IsStopped s.runs stop);
     }
 
@@ -219,7 +216,6 @@ module _ {D : Type 0} (history : D → History) (first : Core D) (all : List Ste
         running = same ∙ s.running;
         in_order = order_by step last new goes safe (λ running. holds_now history last sound (same ∙ s.running ∙ running));
         idle = idle_on last safe;
-        limit = safe.limit ∙ s.limit;
       }
 
   abbrev failing : DriveFault → Result (Unit {0}) DriveFault
@@ -253,6 +249,13 @@ module _ {D : Type 0} (history : D → History) (first : Core D) (all : List Ste
       (λ holds. inr holds)
       (leaves_now (disk_history history now) (disk_history history last) (HoldsEither (collections_of now) (collections_of last)) safe.on (safe.any_moment (s.running ∙ running)) k image here)
 
+  -- a turn that handed out nothing, from the moment of the last one that answered
+  failed_turn : (fault : TurnFault) (last : Core D) → TurnFails (IsCaused (moment_of history now) (moment_of history last)) (state now) fault (is_stopped now) (state last)
+      → TurnFails (IsCaused (last_moment (moment_of history first) s.ends) (moment_of history last)) (state now) fault (is_stopped first) (state last)
+  failed_turn fault last fails =
+      subst (λ (m : Moment). TurnFails (IsCaused m (moment_of history last)) (state now) fault (is_stopped first) (state last)) s.moment
+      (subst (λ (b : Bool). TurnFails (IsCaused (moment_of history now) (moment_of history last)) (state now) fault b (state last)) s.running fails)
+
   pub stops_at : (fault : DriveFault) (new : DriveOut) (last : Core D) → Does (instant_of history now) step old (Err fault) (is_stopped now) new (instant_of history last) → IsSound history last → GoesSafely history now last
       → (failing fault ≢ failing (stops.Turn turns.Stopped) → is_stopped last ≡ is_stopped now)
       → (failing fault ≡ failing (stops.Turn turns.Stopped) → KeepsWord (disk_history history last) → (is_stopped now ≡ true) ⊎ ((disk_history history now).failures < (disk_history history last).failures))
@@ -270,30 +273,28 @@ module _ {D : Type 0} (history : D → History) (first : Core D) (all : List Ste
     at_stop = stop_now last safe;
     idle = idle_on last safe;
     running = λ _. runs (λ e. absurd cc) ∙ s.running;
-    limit = safe.limit ∙ s.limit;
     device = λ stop. absurd stop;
   }
   stops_at (stops.Feed feeds.Closed) new last does sound safe runs cause = absurd does
   stops_at (stops.Turn turns.Memory) new last does sound safe runs cause = record {
     given = frames_in new.replies.items;
     ends = s.ends;
-    happens = (at new 0 does.1 _ does.0, record { before = state now; happens = before new 0 does.1; turn = subst (λ (b : Bool). TurnFails ForMemory (state now) turns.Memory b (state last)) s.running does.2 });
+    happens = (at new 0 does.1 _ does.0, record { before = state now; happens = before new 0 does.1; turn = failed_turn turns.Memory last does.2 });
     frames = refl;
     bytes = λ _. refl;
     turns = omega (arith, does.1.counted, s.counted);
     on = goes_further (disk_history history first) (disk_history history now) (disk_history history last) s.on safe.on;
     in_order = order_on last safe;
-    at_end = λ running goes. end_same last sound safe (subst (λ (b : Bool). TurnFails ForMemory (state now) turns.Memory b (state last)) (s.running ∙ running) does.2) (runs (λ e. absurd cc)) running;
+    at_end = λ running goes. end_same last sound safe (subst (λ (b : Bool). TurnFails (IsCaused (moment_of history now) (moment_of history last)) (state now) turns.Memory b (state last)) (s.running ∙ running) does.2) (runs (λ e. absurd cc)) running;
     at_stop = stop_now last safe;
     idle = idle_on last safe;
     running = λ _. runs (λ e. absurd cc) ∙ s.running;
-    limit = safe.limit ∙ s.limit;
     device = λ stop. absurd stop;
   }
   stops_at (stops.Turn turns.Stopped) new last does sound safe runs cause = record {
     given = frames_in new.replies.items;
     ends = s.ends;
-    happens = (at new 0 does.1 _ does.0, record { before = state now; happens = before new 0 does.1; turn = subst (λ (b : Bool). TurnFails ForMemory (state now) turns.Stopped b (state last)) s.running does.2 });
+    happens = (at new 0 does.1 _ does.0, record { before = state now; happens = before new 0 does.1; turn = failed_turn turns.Stopped last does.2 });
     frames = refl;
     bytes = λ _. refl;
     turns = omega (arith, does.1.counted, s.counted);
@@ -303,7 +304,6 @@ module _ {D : Type 0} (history : D → History) (first : Core D) (all : List Ste
     at_stop = stop_now last safe;
     idle = idle_on last safe;
     running = λ goes. absurd (goes tt);
-    limit = safe.limit ∙ s.limit;
     device = λ stop k. ⊎_elim
         (λ stopped_now. inl (sym s.running ∙ stopped_now))
         (λ failed. inr (omega (arith, s.on.failures (safe.on.kept k), failed)))
@@ -323,7 +323,7 @@ module _ {D : Type 0} (history : D → History) (first : Core D) (all : List Ste
             earlier = s.ends;
             lost = does.lost;
             happens = before new 1 does.adds;
-            turn = subst (λ (m : Moment). Turns ForMemory (RoomRanOut m (moment_of history last)) (state now) does.lost (state last)) s.moment does.turn;
+            turn = subst (λ (m : Moment). Turns (IsCaused m (moment_of history last)) (RoomRanOut m) (state now) does.lost (state last)) s.moment does.turn;
             counted = refl;
           },
         );
@@ -336,6 +336,5 @@ module _ {D : Type 0} (history : D → History) (first : Core D) (all : List Ste
         at_stop = λ running k image is. inr (now_holds running k image is);
         idle = idle_on last safe;
         running = λ _. runs (λ e. absurd cc) ∙ s.running;
-        limit = safe.limit ∙ s.limit;
         device = λ stop. absurd stop;
       }

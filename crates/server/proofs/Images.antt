@@ -1,10 +1,12 @@
 -- What images hold, and which states stand among which.
-use Rattle.std.proofs.Common.{⊎_elim, inr, ap, ◌∙◌, ◌≡◌, inl, ℕ, List, [], ◌∷◌, refl, sym, subst}
+use Rattle.std.proofs.Common.{⊎_elim, inr, ap, ◌∙◌, ◌≡◌, ◌<◌, inl, ℕ, List, [], ◌∷◌, Bool, true, false, refl, sym, subst, arith}
 use Rattle.std.specs.Prelude.{◌⊎◌}
-use Rattle.page.specs.History.{History}
+use Rattle.page.specs.History.{History, KeepsWord}
 use Rattle.page.specs.Crash.{GoesOn, LeavesOnly, LeavesNow}
-use Rattle.page.proofs.Moments.{goes_nowhere, started, leaves_weaker}
-use Rattle.roots.specs.Store.{limit_of, version_of, full_takes_of}
+use Rattle.page.proofs.Moments.{goes_nowhere, goes_further, started, leaves_further, leaves_weaker, reads_moments}
+use Rattle.collections.specs.Calls.{GoesFrom}
+use Rattle.collections.specs.View as views
+use Rattle.collections.proofs.LawLemmas.{leaves_start}
 use Rattle.engine.specs.World.{World, after_commit, forget}
 use Rattle.index.specs.State.{Collection}
 use Rattle.op_msg.specs.declared.fault.FrameFault.{FrameFault}
@@ -13,12 +15,22 @@ use Rattle.engine.specs.Durable.{Holds}
 use Rattle.engine.specs.Durable as engines
 use Rattle.engine.specs.View.{world, turn_start}
 use Rattle.engine.specs.declared.engine.Engine.{Engine}
-use Rattle.server.specs.Durable.{disk_history, IsRunning, store_of, IsSound, collections_of, moment_of, GoesSafely}
+use Rattle.server.specs.Durable.{disk_history, IsRunning, file_of, IsSound, collections_of, engine_moment, moment_of, GoesSafely}
 use Rattle.server.specs.declared.turn.Core.{Core}
 
--- between calls every image holds the collections as they are
+-- an engine that runs leaves the collections as they were at the beginning of the turn
+pub start_held : {D : Type 0} (history : D → History) (engine : Engine D) → engines.IsSound history engine → engines.IsRunning engine → LeavesNow (engines.disk_history history engine) (λ image. Holds image (turn_start engine))
+start_held history engine sound running k image is = record {
+  lawful = sound.before;
+  file = leaves_start history (engines.file_of engine) (turn_start engine) (world engine).collections running sound.file k image is;
+}
+
+-- between turns every image holds the collections as they are
+pub engine_holds : {D : Type 0} (history : D → History) (engine : Engine D) → engines.IsSound history engine → turn_start engine ≡ (world engine).collections → engines.IsRunning engine → LeavesNow (engines.disk_history history engine) (λ image. Holds image (world engine).collections)
+engine_holds history engine sound idle running = subst (λ (cs : List Collection). LeavesNow (engines.disk_history history engine) (λ image. Holds image cs)) idle (start_held history engine sound running)
+
 pub holds_now : {D : Type 0} (history : D → History) (core : Core D) → IsSound history core → IsRunning core → LeavesNow (disk_history history core) (λ image. Holds image (collections_of core))
-holds_now history core sound running = subst (λ (cs : List Collection). LeavesNow (disk_history history core) (λ image. Holds image cs)) core.idle (sound.holds running)
+holds_now history core sound running = engine_holds history core.engine sound.engine sound.idle running
 
 -- as long as the disk stays as it is
 pub stays : {D : Type 0} (history : D → History) (old new : Engine D) (Q : (ℕ → List ℕ) → Type 0) → engines.IsSound history old → turn_start old ≡ (world old).collections → engines.disk_history history new ≡ engines.disk_history history old → engines.IsRunning old
@@ -26,29 +38,60 @@ pub stays : {D : Type 0} (history : D → History) (old new : Engine D) (Q : (�
 stays history old new Q sound idle same running =
     subst (λ (h : History). LeavesOnly (engines.disk_history history old) h (λ image. Holds image (world old).collections ⊎ Q image)) (sym same)
     (started (engines.disk_history history old) (λ image. Holds image (world old).collections ⊎ Q image)
-    (λ k image is. inl (subst (λ (cs : List Collection). Holds image cs) idle (sound.holds running k image is))))
+    (λ k image is. inl (engine_holds history old sound idle running k image is)))
 
--- a turn that is committed, or that the device cut
-pub moved : {D : Type 0} (history : D → History) (old mid new : Engine D) → engines.disk_history history mid ≡ engines.disk_history history old → turn_start mid ≡ (world old).collections → world new ≡ after_commit (world mid)
-    → LeavesOnly (engines.disk_history history mid) (engines.disk_history history new) (λ image. Holds image (turn_start mid) ⊎ Holds image (world mid).collections)
-    → LeavesOnly (engines.disk_history history old) (engines.disk_history history new) (λ image. Holds image (world old).collections ⊎ Holds image (world new).collections)
-moved history old mid new same before after leaves =
-    subst (λ (h : History). LeavesOnly h (engines.disk_history history new) (λ image. Holds image (world old).collections ⊎ Holds image (world new).collections)) same
-    (leaves_weaker (engines.disk_history history mid) (engines.disk_history history new) (λ image. Holds image (turn_start mid) ⊎ Holds image (world mid).collections) (λ image. Holds image (world old).collections ⊎ Holds image (world new).collections)
-    (λ image. ⊎_elim
-    (λ holds. inl (subst (λ (cs : List Collection). Holds image cs) before holds))
-    (λ holds. inr (subst (λ (w : World). Holds image w.collections) (sym after) holds)))
-    leaves)
+abbrev Either : {D : Type 0} → Engine D → Engine D → (ℕ → List ℕ) → Type 0
+Either old new image = Holds image (world old).collections ⊎ Holds image (world new).collections
 
--- a turn that is undone by its commit
-pub moved_back : {D : Type 0} (history : D → History) (old mid new : Engine D) → engines.disk_history history mid ≡ engines.disk_history history old → turn_start mid ≡ (world old).collections
-    → LeavesOnly (engines.disk_history history mid) (engines.disk_history history new) (λ image. Holds image (turn_start mid))
-    → LeavesOnly (engines.disk_history history old) (engines.disk_history history new) (λ image. Holds image (world old).collections ⊎ Holds image (world new).collections)
-moved_back history old mid new same before leaves =
-    subst (λ (h : History). LeavesOnly h (engines.disk_history history new) (λ image. Holds image (world old).collections ⊎ Holds image (world new).collections)) same
-    (leaves_weaker (engines.disk_history history mid) (engines.disk_history history new) (λ image. Holds image (turn_start mid)) (λ image. Holds image (world old).collections ⊎ Holds image (world new).collections)
-    (λ image holds. inl (subst (λ (cs : List Collection). Holds image cs) before holds))
-    leaves)
+-- the messages of a turn, which only read the disk, and then its end
+module _ {D : Type 0} (history : D → History) (old mid new : Engine D) (sound : engines.IsSound history old) (running : engines.IsRunning old) (idle : turn_start old ≡ (world old).collections)
+    (goes : GoesFrom history (engines.file_of old) (engines.file_of mid)) where
+  while_read : LeavesOnly (engines.disk_history history old) (engines.disk_history history mid) (Either old new)
+  while_read k image left =
+      inl (engine_holds history old sound idle running (goes.stays.reads.on.kept k) image (reads_moments (engines.disk_history history old) (engines.disk_history history mid) goes.stays.reads k image left))
+
+  -- a turn that is undone without the disk
+  pub unwritten : engines.disk_history history new ≡ engines.disk_history history mid → LeavesOnly (engines.disk_history history old) (engines.disk_history history new) (Either old new)
+  unwritten same = subst (λ (h : History). LeavesOnly (engines.disk_history history old) h (Either old new)) (sym same) while_read
+
+  pub unwritten_on : engines.disk_history history new ≡ engines.disk_history history mid → GoesOn (engines.disk_history history old) (engines.disk_history history new)
+  unwritten_on same = subst (λ (h : History). GoesOn (engines.disk_history history old) h) (sym same) goes.stays.reads.on
+
+  module _ (on : GoesOn (engines.disk_history history mid) (engines.disk_history history new)) where
+    pub then_on : GoesOn (engines.disk_history history old) (engines.disk_history history new)
+    then_on = goes_further (engines.disk_history history old) (engines.disk_history history mid) (engines.disk_history history new) goes.stays.reads.on on
+
+    further : LeavesOnly (engines.disk_history history mid) (engines.disk_history history new) (Either old new) → LeavesOnly (engines.disk_history history old) (engines.disk_history history new) (Either old new)
+    further = leaves_further (engines.disk_history history old) (engines.disk_history history mid) (engines.disk_history history new) (Either old new) on while_read
+
+    -- a turn that is committed, or that the device cut
+    pub moved : turn_start mid ≡ turn_start old → world new ≡ after_commit (world mid)
+        → LeavesOnly (engines.disk_history history mid) (engines.disk_history history new) (λ image. Holds image (turn_start mid) ⊎ Holds image (world mid).collections)
+        → LeavesOnly (engines.disk_history history old) (engines.disk_history history new) (Either old new)
+    moved before after leaves = further
+        (leaves_weaker (engines.disk_history history mid) (engines.disk_history history new) (λ image. Holds image (turn_start mid) ⊎ Holds image (world mid).collections) (Either old new)
+        (λ image. ⊎_elim
+        (λ holds. inl (subst (λ (cs : List Collection). Holds image cs) (before ∙ idle) holds))
+        (λ holds. inr (subst (λ (w : World). Holds image w.collections) (sym after) holds)))
+        leaves)
+
+    -- a turn that is undone by its commit
+    pub moved_back : turn_start mid ≡ turn_start old → LeavesOnly (engines.disk_history history mid) (engines.disk_history history new) (λ image. Holds image (turn_start mid))
+        → LeavesOnly (engines.disk_history history old) (engines.disk_history history new) (Either old new)
+    moved_back before leaves = further
+        (leaves_weaker (engines.disk_history history mid) (engines.disk_history history new) (λ image. Holds image (turn_start mid)) (Either old new)
+        (λ image holds. inl (subst (λ (cs : List Collection). Holds image cs) (before ∙ idle) holds))
+        leaves)
+
+    -- the device failed in the commit
+    pub failed_further : KeepsWord (engines.disk_history history new) → engines.is_stopped mid ≡ engines.is_stopped old
+        → (engines.is_stopped mid ≡ true) ⊎ ((engines.disk_history history mid).failures < (engines.disk_history history new).failures)
+        → (engines.disk_history history old).failures < (engines.disk_history history new).failures
+    failed_further k same (inl stopped) = absurd (both_ways (engines.is_stopped mid) stopped (same ∙ running))
+      where
+        both_ways : (b : Bool) → b ≡ true → b ≡ false → ⊥
+        both_ways b t f = absurd cc
+    failed_further k same (inr failed) = omega (arith, goes.stays.reads.on.failures (on.kept k), failed)
 
 -- a disk that stays as it is goes on
 pub on_same : (old new : History) → new ≡ old → GoesOn old new
@@ -67,18 +110,22 @@ forgotten history old mid new closed same is leaves =
     subst (λ (h : History). LeavesOnly (engines.disk_history history old) h (λ image. Holds image (world old).collections ⊎ Holds image (world new).collections)) (sym same)
     (subst (λ (x : List Collection). LeavesOnly (engines.disk_history history old) (engines.disk_history history mid) (λ image. Holds image (world old).collections ⊎ Holds image x)) (sym collections) leaves)
 
-pub unmoved : {D : Type 0} (history : D → History) (old new : Core D) → IsSound history old → disk_history history new ≡ disk_history history old → store_of new ≡ store_of old → GoesSafely history old new
-unmoved history old new sound same store = record {
+pub unmoved : {D : Type 0} (history : D → History) (old new : Core D) → IsSound history old → disk_history history new ≡ disk_history history old → GoesSafely history old new
+unmoved history old new sound same = record {
   on = subst (λ (h : History). GoesOn (disk_history history old) h) (sym same) (goes_nowhere (disk_history history old));
-  any_moment = stays history old.engine new.engine (λ image. Holds image (collections_of new)) sound old.idle same;
+  any_moment = stays history old.engine new.engine (λ image. Holds image (collections_of new)) sound.engine sound.idle same;
   idle = λ _. same;
-  limit = ap limit_of store;
 }
 
--- between turns every image holds the collections as they are
-pub engine_holds : {D : Type 0} (history : D → History) (engine : Engine D) → engines.IsSound history engine → turn_start engine ≡ (world engine).collections → engines.IsRunning engine → LeavesNow (engines.disk_history history engine) (λ image. Holds image (world engine).collections)
-engine_holds history engine sound idle running = subst (λ (cs : List Collection). LeavesNow (engines.disk_history history engine) (λ image. Holds image cs)) idle (sound.holds running)
+-- a call that leaves the file as it is takes no time
+pub same_engine_moment : {D : Type 0} (history : D → History) (old new : Engine D) → engines.file_of new ≡ engines.file_of old → engine_moment history new ≡ engine_moment history old
+same_engine_moment history old new file = λ i. record {
+  keeps_word = (views.disk_history history (file i)).keeps_word;
+  clock = (views.disk_history history (file i)).clock;
+  failures = (views.disk_history history (file i)).failures;
+  generation = views.generation (file i);
+  full_takes = (views.pages_of history (file i)).full_takes;
+}
 
--- a call that leaves the disk and the store as they are takes no time
-pub same_moment : {D : Type 0} (history : D → History) (old new : Core D) → disk_history history new ≡ disk_history history old → store_of new ≡ store_of old → moment_of history new ≡ moment_of history old
-same_moment history old new disk store = λ i. record { clock = (disk i).clock; failures = (disk i).failures; generation = version_of (store i); full_takes = full_takes_of (store i) }
+pub same_moment : {D : Type 0} (history : D → History) (old new : Core D) → file_of new ≡ file_of old → moment_of history new ≡ moment_of history old
+same_moment history old new file = same_engine_moment history old.engine new.engine file

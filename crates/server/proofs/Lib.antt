@@ -1,3 +1,4 @@
+pub mod CauseLemmas
 pub mod Refusing
 pub mod BodyAnswers
 pub mod TurnParts

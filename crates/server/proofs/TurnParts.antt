@@ -2,22 +2,18 @@
 use Rattle.std.proofs.Common.{◌≡◌, inl, inr, ⊎_elim, ℕ, List, ◌∙◌}
 use Rattle.std.specs.Prelude.{◌⊎◌}
 use Rattle.engine.specs.World.{World}
-use Rattle.roots.specs.Store.{HasFullCause}
-use Rattle.roots.specs.declared.store.Store.{Store}
 use Rattle.engine.specs.View.{world}
-use Rattle.path.specs.declared.refusal.Refusal.TheVariants.{OutOfMemory}
+use Rattle.path.specs.declared.refusal.Refusal.{Refusal}
 use Rattle.op_msg.specs.declared.fault.FrameFault.{FrameFault}
-use Rattle.engine.specs.Step.{ForMemory}
 use Rattle.server.specs.ServerState.{ServerState}
-use Rattle.server.specs.Turn.{Out, Done, Undone, Turns, faults, forget_all, connections_after}
+use Rattle.server.specs.Turn.{Out, Turns, faults, forget_all, connections_after}
 use Rattle.server.specs.Taking.{EndsTurn}
 use Rattle.server.specs.View.{state}
-use Rattle.server.specs.Durable.{store_of, FindsNoRoom, NoRoomFor}
 use Rattle.server.specs.declared.connection.Connection.{Connection}
 use Rattle.server.specs.declared.turn.Core.{Core}
 
-module _ {D : Type 0} (core : Core D) (given : List (ℕ × List ℕ)) (mid : World) (closed : List (ℕ × FrameFault)) (new : World) (left : List Connection)
-    (later : Store D) (s : EndsTurn ForMemory (NoRoomFor (store_of core) later) (world core.engine) core.connections.items given mid) (closes : closed ≡ faults core.connections.items) (forgets : new ≡ forget_all mid closed)
+module _ {D : Type 0} (beside : World → Refusal → Type 0) (no_room : Type 0) (core : Core D) (given : List (ℕ × List ℕ)) (mid : World) (closed : List (ℕ × FrameFault)) (new : World) (left : List Connection)
+    (s : EndsTurn beside no_room (world core.engine) core.connections.items given mid) (closes : closed ≡ faults core.connections.items) (forgets : new ≡ forget_all mid closed)
     (go_on : left ≡ connections_after core.connections.items) where
   abbrev connections : List Connection
   connections = core.connections.items
@@ -34,23 +30,11 @@ module _ {D : Type 0} (core : Core D) (given : List (ℕ × List ℕ)) (mid : Wo
   leaves : (w : World) → mid ≡ w → after ≡ record { world = forget_all w (faults connections); connections = connections_after connections }
   leaves w e = λ i. record { world = (forgets ∙ (λ k. forget_all (e k) (closes k))) i; connections = go_on i }
 
-  pub turned_for : Done ForMemory (state core) handed after ⊎ (Undone ForMemory (state core) OutOfMemory handed after ⊎ FindsNoRoom core handed after)
-  turned_for = ⊎_elim
-      (λ done. inl (record { replies = s.replies; last = s.last; runs = s.runs; hands_out = hands _ done.0; leaves = leaves _ done.1 }))
-      (λ refused. inr (⊎_elim
-      (λ memory. inl (record { replies = s.replies; last = s.last; runs = s.runs; hands_out = hands _ memory; leaves = leaves _ refused.1 }))
-      (λ room. inr (record {
-        undone = record { replies = s.replies; last = s.last; runs = s.runs; hands_out = hands _ room.0; leaves = leaves _ refused.1 };
-        no_room = room.1.no_room;
-      }))
-      refused.0))
-      s.ends
-
-  pub turned : Turns ForMemory (HasFullCause (store_of core) later) (state core) handed after
+  pub turned : Turns beside no_room (state core) handed after
   turned = ⊎_elim
       (λ done. inl (record { replies = s.replies; last = s.last; runs = s.runs; hands_out = hands _ done.0; leaves = leaves _ done.1 }))
       (λ refused. inr (⊎_elim
       (λ memory. inl (record { replies = s.replies; last = s.last; runs = s.runs; hands_out = hands _ memory; leaves = leaves _ refused.1 }))
-      (λ room. inr (room.1.counted, record { replies = s.replies; last = s.last; runs = s.runs; hands_out = hands _ room.0; leaves = leaves _ refused.1 }))
+      (λ room. inr (room.1, record { replies = s.replies; last = s.last; runs = s.runs; hands_out = hands _ room.0; leaves = leaves _ refused.1 }))
       refused.0))
       s.ends

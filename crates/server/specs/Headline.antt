@@ -11,15 +11,14 @@ use Rattle.std.specs.Prelude.{◌≡◌, ◌⊎◌, ◌<◌, ℕ, ◌+◌, Bool,
 use Rattle.std.specs.Global.{Global}
 use Rattle.page.specs.History.{History, KeepsWord}
 use Rattle.page.specs.Crash.{GoesOn, LeavesNow}
-use Rattle.roots.specs.Store.{limit_of}
-use Rattle.engine.specs.Step.{ForMemory}
 use Rattle.engine.specs.Durable.{Holds}
 use Rattle.server.specs.ServerState.{ServerState}
 use Rattle.server.specs.Turn.{Out, Turns, TurnFails}
 use Rattle.server.specs.Moment.{TurnEnd, Instant, end_at, last_collections, last_moment, HoldsEither, LeavesInOrder}
+use Rattle.server.specs.Causes.{IsCaused}
 use Rattle.server.specs.History.{Happens, RoomRanOut, bytes_to, turns_in}
 use Rattle.server.specs.View.{frames_in}
-use Rattle.server.specs.Durable.{disk_history, is_stopped, IsRunning, store_of, collections_of, clock_of, instant_of}
+use Rattle.server.specs.Durable.{disk_history, is_stopped, IsRunning, collections_of, clock_of, instant_of}
 use Rattle.server.specs.declared.turn.Core.{Core}
 use Rattle.server.specs.declared.turn.TurnFault.{TurnFault}
 use Rattle.server.specs.declared.turn.TurnFault.TheVariants as turns
@@ -48,17 +47,18 @@ pub record LosesTurn (first : Instant) (done : List Step) (given : List (ℕ × 
   pub earlier : List TurnEnd
   pub lost : Out
   pub happens : Happens first.moment first.state done given earlier before
-  pub turn : Turns ForMemory
-      (RoomRanOut (last_moment first.moment earlier) last.moment) before lost last.state
+  pub turn : Turns (IsCaused (last_moment first.moment earlier) last.moment)
+      (RoomRanOut (last_moment first.moment earlier)) before lost last.state
   pub counted : ends ≡ earlier ++ end_at last ∷ []
 
 -- A history of these steps, and then one turn that handed out nothing, by its fault and whether the server had stopped at the start.
 pub record FailsTurn (first : Instant) (was_stopped : Bool) (done : List Step)
     (given : List (ℕ × List ℕ)) (ends : List TurnEnd) (fault : TurnFault)
-    (last : ServerState) : Type 0 where
+    (last : Instant) : Type 0 where
   pub before : ServerState
   pub happens : Happens first.moment first.state done given ends before
-  pub turn : TurnFails ForMemory before fault was_stopped last
+  pub turn : TurnFails (IsCaused (last_moment first.moment ends) last.moment) before fault
+      was_stopped last.state
 
 -- How a run ends, by the step and the fault at which it stopped, if it did.
 abbrev pub Ends : Instant → Bool → List Step → Option (ℕ × DriveFault) → List (ℕ × List ℕ)
@@ -69,7 +69,7 @@ Ends first was_stopped all (Some (i, stops.Feed feeds.Memory)) given ends last =
     BytesStandAt i all × Happens first.moment first.state (take i all) given ends last.state
 Ends first was_stopped all (Some (i, stops.Feed feeds.Closed)) given ends last = ⊥
 Ends first was_stopped all (Some (i, stops.Turn fault)) given ends last =
-    TurnStandsAt i all × FailsTurn first was_stopped (take i all) given ends fault last.state
+    TurnStandsAt i all × FailsTurn first was_stopped (take i all) given ends fault last
 Ends first was_stopped all (Some (i, stops.Gather)) given ends last =
     TurnStandsAt i all × LosesTurn first (take i all) given ends last
 
@@ -112,7 +112,6 @@ pub record Drives {D : Type 0} (history : D → History) (first : Core D) (all :
       (HoldsEither (last_collections (collections_of first) ends) (collections_of last))
   pub idle : is_stopped first ≡ true → disk_history history last ≡ disk_history history first
   pub running : (IsStopped out.stopped → ⊥) → is_stopped last ≡ is_stopped first
-  pub limit : limit_of (store_of last) ≡ limit_of (store_of first)
   pub device : IsStopped out.stopped → KeepsWord (disk_history history last)
       → (is_stopped first ≡ true)
       ⊎ ((disk_history history first).failures < (disk_history history last).failures)

@@ -1,20 +1,17 @@
 -- A history: a list of chunks of bytes, turns and ends of connections, and what comes of it. Its output for a connection is its
 -- frames in the order in which the turns handed them out. Its turns' ends are the moments at which they answered, each with the
 -- collections then, in order.
-use Rattle.std.specs.Prelude.{◌≡◌, ◌⊎◌, ◌-◌, ◌^◌, ◌<◌, ℕ, suc, ◌==◌, if◌then◌else◌, List, [], ◌∷◌, ◌++◌}
-use Rattle.engine.specs.Step.{ForMemory}
+use Rattle.std.specs.Prelude.{◌≡◌, ◌-◌, ◌^◌, ℕ, suc, ◌==◌, if◌then◌else◌, List, [], ◌∷◌, ◌++◌}
 use Rattle.server.specs.ServerState.{ServerState, fed, ended}
 use Rattle.server.specs.Turn.{Out, Turns}
 use Rattle.server.specs.Moment.{Moment, TurnEnd}
+use Rattle.server.specs.Causes.{IsCaused}
 use Rattle.server.specs.declared.step.Step.{Step}
 use Rattle.server.specs.declared.step.Step.TheVariants as steps
 
--- Between these moments a commit found no room: no greater generation was left, or a take found no free page, which is counted
--- (the count stays at its greatest value).
-abbrev pub RoomRanOut : Moment → Moment → Type 0
-RoomRanOut old new =
-    (old.generation ≡ 2 ^ 64 - 1)
-    ⊎ ((old.full_takes < new.full_takes) ⊎ (new.full_takes ≡ 2 ^ 64 - 1))
+-- A commit from this moment on finds no greater generation.
+abbrev pub RoomRanOut : Moment → Type 0
+RoomRanOut old = old.generation ≡ 2 ^ 64 - 1
 
 -- From this moment and state on, after these steps the server may be this one, the frames that were handed out these, each with
 -- its connection, in order, and the turns' ends these.
@@ -28,7 +25,7 @@ Happens at state (steps.Gone id ∷ later) given ends new =
 Happens at state (steps.Turn ∷ later) given ends new =
     (mid : ServerState) × (out : Out) × (others : List (ℕ × List ℕ)) × (end : TurnEnd)
     × (more : List TurnEnd)
-    × Turns ForMemory (RoomRanOut at end.at) state out mid
+    × Turns (IsCaused at end.at) (RoomRanOut at) state out mid
     × (end.collections ≡ mid.world.collections)
     × (given ≡ out.replies ++ others) × (ends ≡ end ∷ more)
     × Happens end.at mid later others more new

@@ -1,7 +1,7 @@
-pub mod WorldCode
 pub mod ServerState
 pub mod Turn
 pub mod Moment
+pub mod Causes
 pub mod History
 pub mod View
 pub mod Durable

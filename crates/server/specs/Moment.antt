@@ -1,12 +1,13 @@
--- A moment of a server: its disk's clock, how often the device had failed and a commit had found no room, and the number of
--- the last commit.
-use Rattle.std.specs.Prelude.{◌⊎◌, ℕ, ◌≤◌, List, [], ◌∷◌}
+-- A moment of a server: whether its disk had kept its word, the disk's clock, how often the device had failed and a page was asked
+-- for and none was free, and the number of the last commit.
+use Rattle.std.specs.Prelude.{◌⊎◌, ℕ, Bool, ◌≤◌, List, [], ◌∷◌}
 use Rattle.page.specs.History.{History, IsImage}
 use Rattle.index.specs.State.{Collection}
 use Rattle.engine.specs.Durable.{Holds}
 use Rattle.server.specs.ServerState.{ServerState}
 
 pub record Moment : Type 0 where
+  pub keeps_word : Bool
   pub clock : ℕ
   pub failures : ℕ
   pub generation : ℕ

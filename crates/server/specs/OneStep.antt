@@ -1,9 +1,9 @@
 -- One step of a run: it adds a turn's frames and counts the turn, or says why the run stops.
 use Rattle.std.specs.Prelude.{◌≡◌, Bool, ℕ, ◌+◌, List, [], ◌∷◌, ◌++◌, Result, Ok, Err, Vec}
 use Rattle.std.specs.Global.{Global}
-use Rattle.engine.specs.Step.{ForMemory}
 use Rattle.server.specs.Turn.{Out, Turns, TurnFails}
 use Rattle.server.specs.Moment.{TurnEnd, Instant, end_at, last_moment}
+use Rattle.server.specs.Causes.{IsCaused}
 use Rattle.server.specs.History.{Happens, RoomRanOut, turns_in}
 use Rattle.server.specs.View.{frames_in}
 use Rattle.server.specs.declared.step.Step.{Step}
@@ -36,7 +36,8 @@ pub record Loses (first : Instant) (step : Step) (old new : DriveOut)
     (last : Instant) : Type 0 where
   pub is : step ≡ steps.Turn
   pub lost : Out
-  pub turn : Turns ForMemory (RoomRanOut first.moment last.moment) first.state lost last.state
+  pub turn : Turns (IsCaused first.moment last.moment) (RoomRanOut first.moment)
+      first.state lost last.state
   pub adds : Adds [] 1 old new
 
 -- By the result, and whether the server had stopped before the step.
@@ -49,5 +50,5 @@ Does first step old (Err (stops.Feed feeds.Memory)) was_stopped new last =
 Does first step old (Err (stops.Feed feeds.Closed)) was_stopped new last = ⊥
 Does first step old (Err (stops.Turn fault)) was_stopped new last =
     (step ≡ steps.Turn) × Adds [] 0 old new
-    × TurnFails ForMemory first.state fault was_stopped last.state
+    × TurnFails (IsCaused first.moment last.moment) first.state fault was_stopped last.state
 Does first step old (Err (stops.Gather)) was_stopped new last = Loses first step old new last

@@ -75,32 +75,32 @@ IsTaken old (Ok (Some x)) (takes.Call number request) new =
 IsTaken old front other new = ⊥
 
 -- The calls were answered so, and at ok each frame was put at the end.
-pub record Serves (beside : Refusal → Type 0) (calls : List Call) (old new : World) (ok : Bool)
+pub record Serves (beside : World → Refusal → Type 0) (calls : List Call) (old new : World) (ok : Bool)
     (given now : List (ℕ × List ℕ)) : Type 0 where
   pub replies : List Pairs
   pub runs : Runs beside old calls replies new
   pub frames : ok ≡ true → now ≡ given ++ frames_of calls replies
 
 -- a request with this body, whatever frame it came in
-abbrev pub IsAnswer : (Refusal → Type 0) → World → ℕ → Request → World → Pairs → Type 0
+abbrev pub IsAnswer : (World → Refusal → Type 0) → World → ℕ → Request → World → Pairs → Type 0
 IsAnswer beside old id request new reply =
     (read : Result Pairs BsonFault) → Gives bson_faults.Memory (λ d. d) request.body read
     → Answers beside old id read new reply
 
 -- The messages of the connections ran. The turn kept what they changed and hands out these replies, or it took back what they changed
--- and hands out refusals: for want of room only where there is none in the last world.
-pub record EndsTurn (beside : Refusal → Type 0) (NoRoom : World → Type 0) (old : World)
+-- and hands out refusals: for want of room only by its cause.
+pub record EndsTurn (beside : World → Refusal → Type 0) (no_room : Type 0) (old : World)
     (connections : List Connection) (given : List (ℕ × List ℕ)) (new : World) : Type 0 where
   pub replies : List Pairs
   pub last : World
   pub runs : Runs beside old (calls connections) replies last
   pub ends : ((given ≡ frames_of (calls connections) replies) × (new ≡ after_commit last))
       ⊎ (((given ≡ refused_frames refusals.OutOfMemory connections)
-      ⊎ ((given ≡ refused_frames refusals.Full connections) × NoRoom last))
+      ⊎ ((given ≡ refused_frames refusals.Full connections) × no_room))
       × (new ≡ after_undo old.collections last))
 
 -- The messages of the connections ran, and the device failed when what they changed was to be made durable.
-pub record BreaksTurn (beside : Refusal → Type 0) (old : World) (connections : List Connection)
+pub record BreaksTurn (beside : World → Refusal → Type 0) (old : World) (connections : List Connection)
     (new : World) : Type 0 where
   pub replies : List Pairs
   pub last : World

@@ -1,7 +1,7 @@
 -- What a turn may do. It takes the first whole message of each open connection, in rising connection number, and runs them one
--- after the other. Done: the world is the last step's, and the replies are theirs. Undone, which only want of memory or of room
--- makes it: the state is the one before, every reply is the refusal that says of what, and cursors that were opened, advanced or
--- killed are closed. A fault at a connection's front closes it, done or undone. Cut, where the device failed in the commit: the
+-- after the other. Done: the world is the last step's, and the replies are theirs. Undone, which only want of memory or of a greater
+-- generation makes it: the state is the one before, every reply is the refusal that says of what, and cursors that were opened,
+-- advanced or killed are closed. A fault at a connection's front closes it, done or undone. Cut, where the device failed in the commit: the
 -- world is the last step's, no reply is handed out, and no connection is closed. A message with moreToCome gets no reply, and
 -- replies that are handed out are numbered 1, 2, 3 and so on for each connection.
 use Rattle.std.specs.Prelude.{◌≡◌, ◌⊎◌, ℕ, ◌+◌, Bool, true, false, nat_lt, if◌then◌else◌, List, [], ◌∷◌, ◌++◌, Result, Ok, Err, Option, Some, None}
@@ -88,7 +88,7 @@ frames_of (c ∷ cs) [] = []
 frames_of (c ∷ cs) (r ∷ rs) = frame_for c r ++ frames_of cs rs
 
 -- The calls may be answered so, one after the other, with these refusals beside the definition.
-abbrev pub Runs : (Refusal → Type 0) → World → List Call → List Pairs → World → Type 0
+abbrev pub Runs : (World → Refusal → Type 0) → World → List Call → List Pairs → World → Type 0
 Runs beside world [] [] new = new ≡ world
 Runs beside world [] (r ∷ rs) new = ⊥
 Runs beside world (c ∷ cs) [] new = ⊥
@@ -97,13 +97,13 @@ Runs beside world (c ∷ cs) (r ∷ rs) new =
     × Runs beside mid cs rs new
 
 -- However the messages are answered, none of them writes anything.
-abbrev pub ChangeNothing : (Refusal → Type 0) → World → List Call → Type 0
+abbrev pub ChangeNothing : (World → Refusal → Type 0) → World → List Call → Type 0
 ChangeNothing beside world [] = Unit {0}
 ChangeNothing beside world (c ∷ cs) =
     (mid : World) (reply : Pairs) → Answers beside world c.connection.id (body_of c.frame) mid reply
     → WroteNothing world (body_of c.frame) mid × ChangeNothing beside mid cs
 
-abbrev pub ChangesNothing : (Refusal → Type 0) → ServerState → Type 0
+abbrev pub ChangesNothing : (World → Refusal → Type 0) → ServerState → Type 0
 ChangesNothing beside state = ChangeNothing beside state.world (calls state.connections)
 
 -- connections that a fault closed lose their cursors
@@ -142,7 +142,7 @@ refused_frames refusal connections =
     frames_of (calls connections) (refused_calls refusal (calls connections))
 
 -- The messages are taken, and answered so. Done: the world is the last step's.
-pub record Done (beside : Refusal → Type 0) (state : ServerState) (out : Out)
+pub record Done (beside : World → Refusal → Type 0) (state : ServerState) (out : Out)
     (new : ServerState) : Type 0 where
   pub replies : List Pairs
   pub last : World
@@ -157,7 +157,7 @@ pub record Done (beside : Refusal → Type 0) (state : ServerState) (out : Out)
   }
 
 -- Undone: the state is the one before, and each reply is this refusal.
-pub record Undone (beside : Refusal → Type 0) (state : ServerState) (refusal : Refusal) (out : Out)
+pub record Undone (beside : World → Refusal → Type 0) (state : ServerState) (refusal : Refusal) (out : Out)
     (new : ServerState) : Type 0 where
   pub replies : List Pairs
   pub last : World
@@ -172,14 +172,14 @@ pub record Undone (beside : Refusal → Type 0) (state : ServerState) (refusal :
   }
 
 -- A turn that answers: done, or undone for want of memory, or for want of room, by its cause.
-abbrev pub Turns : (Refusal → Type 0) → Type 0 → ServerState → Out → ServerState → Type 0
+abbrev pub Turns : (World → Refusal → Type 0) → Type 0 → ServerState → Out → ServerState → Type 0
 Turns beside no_room state out new =
     Done beside state out new
     ⊎ (Undone beside state refusals.OutOfMemory out new
     ⊎ (no_room × Undone beside state refusals.Full out new))
 
 -- Cut: the messages are taken and ran, no reply is handed out, and no connection is closed.
-pub record Cut (beside : Refusal → Type 0) (state new : ServerState) : Type 0 where
+pub record Cut (beside : World → Refusal → Type 0) (state new : ServerState) : Type 0 where
   pub replies : List Pairs
   pub last : World
   pub runs : Runs beside state.world (calls state.connections) replies last
@@ -188,7 +188,7 @@ pub record Cut (beside : Refusal → Type 0) (state new : ServerState) : Type 0 
 
 -- A turn that answers no messages, by its fault and whether the server had stopped before. A server that had stopped changes
 -- nothing. One that had not stops where the turn is cut, and changes nothing where memory runs out before a message is taken.
-abbrev pub TurnFails : (Refusal → Type 0) → ServerState → TurnFault → Bool → ServerState → Type 0
+abbrev pub TurnFails : (World → Refusal → Type 0) → ServerState → TurnFault → Bool → ServerState → Type 0
 TurnFails beside state turns.Stopped true new = new ≡ state
 TurnFails beside state turns.Stopped false new = Cut beside state new
 TurnFails beside state turns.Memory true new = ⊥

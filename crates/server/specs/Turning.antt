@@ -2,15 +2,13 @@
 use Rattle.std.specs.Prelude.{◌≡◌, ◌≢◌, ◌⊎◌, ◌<◌, true, Result, Err, IfOk, IfErr, OnOk}
 use Rattle.page.specs.History.{History, KeepsWord}
 use Rattle.page.specs.Crash.{GoesOn, LeavesOnly, LeavesNow}
-use Rattle.roots.specs.Store.{limit_of}
-use Rattle.path.specs.declared.refusal.Refusal.TheVariants as refusals
 use Rattle.engine.specs.Durable.{Holds}
-use Rattle.engine.specs.Step.{ForMemory}
-use Rattle.server.specs.Turn.{Done, Undone, Turns, TurnFails, ChangesNothing}
+use Rattle.server.specs.Turn.{Turns, TurnFails, ChangesNothing}
 use Rattle.server.specs.Moment.{HoldsEither}
+use Rattle.server.specs.Causes.{IsCaused, OfAnyCause}
 use Rattle.server.specs.History.{RoomRanOut}
 use Rattle.server.specs.View.{state, out_of}
-use Rattle.server.specs.Durable.{disk_history, is_stopped, IsRunning, store_of, IsSound, FindsNoRoom, collections_of, moment_of}
+use Rattle.server.specs.Durable.{disk_history, is_stopped, IsRunning, file_of, IsSound, collections_of, moment_of}
 use Rattle.server.specs.declared.turn.Core.{Core}
 use Rattle.server.specs.declared.turn.TurnOut.{TurnOut}
 use Rattle.server.specs.declared.turn.TurnFault.{TurnFault}
@@ -21,13 +19,11 @@ pub record TakesTurn {D : Type 0} (history : D → History) (old : Core D)
   pub sound : IsSound history new
   -- it is done, or undone, or it answers no message
   pub turns : IfOk result (λ out.
-      Turns ForMemory (RoomRanOut (moment_of history old) (moment_of history new)) (state old)
-      (out_of out) (state new))
-  pub full : IfOk result (λ out. Done ForMemory (state old) (out_of out) (state new)
-      ⊎ (Undone ForMemory (state old) refusals.OutOfMemory (out_of out) (state new)
-      ⊎ FindsNoRoom old (out_of out) (state new)))
-  pub fails : IfErr result
-      (λ fault. TurnFails ForMemory (state old) fault (is_stopped old) (state new))
+      Turns (IsCaused (moment_of history old) (moment_of history new))
+      (RoomRanOut (moment_of history old)) (state old) (out_of out) (state new))
+  pub fails : IfErr result (λ fault.
+      TurnFails (IsCaused (moment_of history old) (moment_of history new)) (state old) fault
+      (is_stopped old) (state new))
   pub on : GoesOn (disk_history history old) (disk_history history new)
   -- a crash at any moment of the call leaves the collections as they were before the turn or as they are after it
   pub any_moment : IsRunning old → LeavesOnly (disk_history history old) (disk_history history new)
@@ -44,6 +40,5 @@ pub record TakesTurn {D : Type 0} (history : D → History) (old : Core D)
   pub device : result ≡ Err turn_faults.Stopped → KeepsWord (disk_history history new)
       → (is_stopped old ≡ true)
       ⊎ ((disk_history history old).failures < (disk_history history new).failures)
-  pub limit : limit_of (store_of new) ≡ limit_of (store_of old)
-  -- where its messages change nothing, it makes no call of the disk
-  pub quiet : ChangesNothing ForMemory (state old) → store_of new ≡ store_of old
+  -- where its messages change nothing, it makes no call of the disk, and its file stays as it is
+  pub quiet : ChangesNothing OfAnyCause (state old) → file_of new ≡ file_of old

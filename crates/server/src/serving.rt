@@ -3,22 +3,24 @@
 ghost use Rattle.std.specs.Prelude.{◌≡◌, ◌≢◌, ◌⊎◌, ◌<◌, IfOk, IfSome, IsSome, None, Some, true, false};
 ghost use Rattle.page.specs.History.{KeepsWord};
 ghost use Rattle.page.specs.Crash.{GoesOn, LeavesOnly, LeavesNow};
-ghost use Rattle.roots.specs.Store.{limit_of};
 ghost use Rattle.op_msg.specs.Request.{reply_bytes};
 ghost use Rattle.engine.specs.World.{are_untouched};
 ghost use Rattle.engine.specs.View.{world, turn_start, reply_of, answer_of, IsSendable};
-ghost use Rattle.engine.specs.Durable.{Holds, disk_history, has_changes, is_stopped, IsRunning, store_of, IsSound};
+ghost use Rattle.collections.specs.Calls.{GoesFrom};
+ghost use Rattle.engine.specs.Durable.{Holds, disk_history, file_of, has_changes, is_stopped, IsRunning, IsSound};
 ghost use Rattle.path.specs.declared.refusal.Refusal.TheVariants.{OutOfMemory};
 ghost use Rattle.std.specs.Prelude.{Result};
 ghost use Rattle.bson.specs.Tree.{Pairs};
 ghost use Rattle.outcome.specs.Outcome.{Gives};
 ghost use Rattle.bson.specs.declared.fault.BsonFault.{BsonFault};
 ghost use Rattle.bson.specs.declared.fault.BsonFault.TheVariants as bson_faults;
-ghost use Rattle.engine.specs.Step.{ForMemory, WroteNothing};
+ghost use Rattle.engine.specs.Step.{step, WroteNothing};
 ghost use Rattle.server.specs.Turn.{front_of, connections_taken, taken_at, call_at, calls, refused_frames, forget_all, ChangeNothing};
 ghost use Rattle.server.specs.Taking.{Serves, IsAnswer, EndsTurn, BreaksTurn};
 ghost use Rattle.server.specs.View.{frames_in};
-ghost use Rattle.server.specs.Durable.{NoRoomFor};
+ghost use Rattle.server.specs.Causes.{IsCaused, OfAnyCause};
+ghost use Rattle.server.specs.History.{RoomRanOut};
+ghost use Rattle.server.specs.Durable.{engine_moment};
 
 use crate::connection::{Connection, Taken, take_call};
 use crate::preparing::say_full;
@@ -67,17 +69,20 @@ fn frame_of_reply(
 /// Runs a request. One whose body found no memory, or is no document, is refused.
 fn answer<D: Disk>(engine: &mut Engine<D>, id: ConnId, request: &Request) -> Reply
     requires sound { IsSound D.history engine.old }
+    requires running { IsRunning engine.old }
     ensures sound { IsSound D.history engine.new }
-    ensures disk { disk_history D.history engine.new ≡ disk_history D.history engine.old }
+    ensures goes { GoesFrom D.history (file_of engine.old) (file_of engine.new) }
     ensures running { is_stopped engine.new ≡ is_stopped engine.old }
-    ensures store { store_of engine.new ≡ store_of engine.old }
-    ensures answer { IsAnswer ForMemory (world engine.old) id request.now (world engine.new)
+    ensures answer { IsAnswer (IsCaused (engine_moment D.history engine.old)
+        (engine_moment D.history engine.new)) (world engine.old) id request.now (world engine.new)
         (reply_of result) }
     ensures turn_start { turn_start engine.new ≡ turn_start engine.old }
-    ensures has_changes { (read : Result Pairs BsonFault)
+    ensures quiet { (read : Result Pairs BsonFault)
         → Gives bson_faults.Memory (λ d. d) request.now.body read
         → WroteNothing (world engine.old) read (world engine.new)
-        → has_changes engine.new ≡ has_changes engine.old }
+        → WroteNothing (world engine.old) read (step (world engine.old) id read).0
+        → (has_changes engine.new ≡ has_changes engine.old)
+        × (file_of engine.new ≡ file_of engine.old) }
     ensures sendable { IsSendable (reply_of result) }
 {
     match &request.body {
@@ -94,18 +99,20 @@ fn serve_connection<D: Disk>(
     frames: &mut Vec<(ConnId, Vec<u8>)>,
 ) -> bool
     requires sound { IsSound D.history engine.old }
+    requires running { IsRunning engine.old }
     ensures sound { IsSound D.history engine.new }
-    ensures disk { disk_history D.history engine.new ≡ disk_history D.history engine.old }
+    ensures goes { GoesFrom D.history (file_of engine.old) (file_of engine.new) }
     ensures running { is_stopped engine.new ≡ is_stopped engine.old }
-    ensures store { store_of engine.new ≡ store_of engine.old }
-    ensures serves { Serves ForMemory (call_at connection.old (front_of connection.old))
-        (world engine.old) (world engine.new) result
-        (frames_in frames.old.items) (frames_in frames.new.items) }
+    ensures serves { Serves (IsCaused (engine_moment D.history engine.old)
+        (engine_moment D.history engine.new))
+        (call_at connection.old (front_of connection.old)) (world engine.old) (world engine.new)
+        result (frames_in frames.old.items) (frames_in frames.new.items) }
     ensures connection { connection.new ≡ taken_at connection.old (front_of connection.old) }
     ensures turn_start { turn_start engine.new ≡ turn_start engine.old }
-    ensures quiet { ChangeNothing ForMemory (world engine.old)
+    ensures quiet { ChangeNothing OfAnyCause (world engine.old)
         (call_at connection.old (front_of connection.old))
-        → has_changes engine.new ≡ has_changes engine.old }
+        → (has_changes engine.new ≡ has_changes engine.old)
+        × (file_of engine.new ≡ file_of engine.old) }
 {
     let id = connection.id;
     let Taken::Call(number, request) = take_call(connection) else {
@@ -128,17 +135,18 @@ fn serve_connections<D: Disk>(
     frames: &mut Vec<(ConnId, Vec<u8>)>,
 ) -> bool
     requires sound { IsSound D.history engine.old }
+    requires running { IsRunning engine.old }
     ensures sound { IsSound D.history engine.new }
-    ensures disk { disk_history D.history engine.new ≡ disk_history D.history engine.old }
+    ensures goes { GoesFrom D.history (file_of engine.old) (file_of engine.new) }
     ensures running { is_stopped engine.new ≡ is_stopped engine.old }
-    ensures store { store_of engine.new ≡ store_of engine.old }
-    ensures serves { Serves ForMemory (calls connections.old) (world engine.old)
-        (world engine.new) result
-        (frames_in frames.old.items) (frames_in frames.new.items) }
+    ensures serves { Serves (IsCaused (engine_moment D.history engine.old)
+        (engine_moment D.history engine.new)) (calls connections.old) (world engine.old)
+        (world engine.new) result (frames_in frames.old.items) (frames_in frames.new.items) }
     ensures connections { connections.new ≡ connections_taken connections.old }
     ensures turn_start { turn_start engine.new ≡ turn_start engine.old }
-    ensures quiet { ChangeNothing ForMemory (world engine.old) (calls connections.old)
-        → has_changes engine.new ≡ has_changes engine.old }
+    ensures quiet { ChangeNothing OfAnyCause (world engine.old) (calls connections.old)
+        → (has_changes engine.new ≡ has_changes engine.old)
+        × (file_of engine.new ≡ file_of engine.old) }
 {
     let mut all = true;
     'connections: for connection in connections.iter_mut() {
@@ -157,35 +165,34 @@ pub(crate) fn run_messages<D: Disk>(
     mut refusals: Vec<(ConnId, Vec<u8>)>,
 ) -> Option<Vec<(ConnId, Vec<u8>)>>
     requires sound { IsSound D.history engine.old }
+    requires running { IsRunning engine.old }
     requires idle { turn_start engine.old ≡ (world engine.old).collections }
     requires rests { has_changes engine.old ≡ false }
     requires refusals { frames_in refusals.items
         ≡ refused_frames OutOfMemory connections.old.items }
     ensures sound { IsSound D.history engine.new }
-    ensures settles { IfSome result (λ given. EndsTurn ForMemory
-        (NoRoomFor (store_of engine.old) (store_of engine.new))
+    ensures settles { IfSome result (λ given. EndsTurn
+        (IsCaused (engine_moment D.history engine.old) (engine_moment D.history engine.new))
+        (RoomRanOut (engine_moment D.history engine.old))
         (world engine.old) connections.old.items (frames_in given.items) (world engine.new)) }
-    ensures breaks { result ≡ None
-        → BreaksTurn ForMemory (world engine.old) connections.old.items (world engine.new) }
+    ensures breaks { result ≡ None → BreaksTurn
+        (IsCaused (engine_moment D.history engine.old) (engine_moment D.history engine.new))
+        (world engine.old) connections.old.items (world engine.new) }
     ensures connections { connections.new.items ≡ connections_taken connections.old.items }
     ensures idle { turn_start engine.new ≡ (world engine.new).collections }
     ensures rests { has_changes engine.new ≡ false }
     ensures rested { are_untouched (world engine.new).cursors ≡ true }
     ensures on { GoesOn (disk_history D.history engine.old) (disk_history D.history engine.new) }
-    ensures any_moment { IsRunning engine.old
-        → LeavesOnly (disk_history D.history engine.old) (disk_history D.history engine.new)
+    ensures any_moment { LeavesOnly (disk_history D.history engine.old) (disk_history D.history engine.new)
         (λ image. Holds image (world engine.old).collections
         ⊎ Holds image (world engine.new).collections) }
     ensures running { IfSome result (λ _. is_stopped engine.new ≡ is_stopped engine.old) }
     ensures stops { result ≡ None → is_stopped engine.new ≡ true }
     ensures device { result ≡ None → KeepsWord (disk_history D.history engine.new)
-        → (is_stopped engine.old ≡ true) ⊎ ((disk_history D.history engine.old).failures
-        < (disk_history D.history engine.new).failures) }
-    ensures unchanged { is_stopped engine.old ≡ true
-        → disk_history D.history engine.new ≡ disk_history D.history engine.old }
-    ensures limit { limit_of (store_of engine.new) ≡ limit_of (store_of engine.old) }
-    ensures quiet { ChangeNothing ForMemory (world engine.old) (calls connections.old.items)
-        → store_of engine.new ≡ store_of engine.old }
+        → (disk_history D.history engine.old).failures
+        < (disk_history D.history engine.new).failures }
+    ensures quiet { ChangeNothing OfAnyCause (world engine.old) (calls connections.old.items)
+        → file_of engine.new ≡ file_of engine.old }
 {
     let mut replies = Vec::new(*connections.allocator());
     if !serve_connections(engine, connections, &mut replies) {
@@ -211,7 +218,7 @@ pub(crate) fn forget_closed<D: Disk>(engine: &mut Engine<D>, closed: &[(ConnId, 
     ensures sound { IsSound D.history engine.new }
     ensures disk { disk_history D.history engine.new ≡ disk_history D.history engine.old }
     ensures running { is_stopped engine.new ≡ is_stopped engine.old }
-    ensures store { store_of engine.new ≡ store_of engine.old }
+    ensures file { file_of engine.new ≡ file_of engine.old }
     ensures world { world engine.new ≡ forget_all (world engine.old) closed.now }
     ensures idle { turn_start engine.new ≡ (world engine.new).collections }
     ensures rested { are_untouched (world engine.new).cursors ≡ true }

@@ -1,11 +1,6 @@
 //! Connections, turns, and what they hand out.
 
-ghost use Rattle.std.specs.Prelude.{◌≡◌, true, false};
-ghost use Rattle.engine.specs.View.{world, turn_start};
-ghost use Rattle.engine.specs.Durable.{has_changes};
-ghost use Rattle.engine.specs.World.{are_untouched};
-ghost use Rattle.server.specs.WorldCode.{collections_set, bool_set};
-ghost use Rattle.server.specs.ServerState.{are_ascending};
+ghost use Rattle.std.specs.Prelude.{◌≡◌};
 
 use crate::connection::{
     Connection, FeedFault, close_connections, end_connection, feed_connection, waits,
@@ -59,30 +54,20 @@ pub struct TurnOut {
     pub closed: Vec<(ConnId, FrameFault)>,
 }
 
-/// The engine and the connections.
+/// The engine, with no turn open between calls, and the connections in ascending order of their numbers.
 #[derive(Drop)]
-pub struct Core<D> {
+pub struct Core<D: Disk> {
     pub(crate) engine: Engine<D>,
     pub(crate) connections: Vec<Connection>,
-    // in ascending order of their numbers
-    ghost ascending: { are_ascending connections.items
-        ≡ true } by { bool_set (are_ascending connections.items) true },
-    // no turn is open between calls
-    ghost idle: { turn_start engine
-        ≡ (world engine).collections } by { collections_set (turn_start engine) (world engine).collections },
-    ghost rested: { are_untouched (world engine).cursors
-        ≡ true } by { bool_set (are_untouched (world engine).cursors) true },
-    ghost rests: { has_changes engine ≡ false } by { bool_set (has_changes engine) false },
 }
 
 impl<D: Disk> Core<D> {
     ghost use Rattle.std.specs.Prelude.{◌≢◌, Err, IfOk, IfErr, OnErr, is_err};
-    ghost use Rattle.roots.specs.Store.{limit_of, limit_in};
     ghost use Rattle.engine.specs.Opening.{IsRefused};
     ghost use Rattle.server.specs.ServerState.{fed, ended, find_connection, is_closed_in};
     ghost use Rattle.server.specs.Turn.{is_waiting_in};
     ghost use Rattle.server.specs.View.{state};
-    ghost use Rattle.server.specs.Durable.{disk_history, is_stopped, store_of, IsSound};
+    ghost use Rattle.server.specs.Durable.{disk_history, is_stopped, file_of, IsSound};
     ghost use Rattle.server.specs.Opening.{IsOpened};
     ghost use Rattle.server.specs.Turning.{TakesTurn};
 
@@ -90,7 +75,6 @@ impl<D: Disk> Core<D> {
     /// syncs before it answers. An `Err` hands the disk back.
     pub fn open(alloc: Global, disk: D, config: Config) -> Result<Core<D>, (D, OpenFault)>
         ensures opened { IfOk result (IsOpened D.history disk) }
-        ensures limit { IfOk result (λ core. limit_of (store_of core) ≡ limit_in config) }
         ensures refused { IfErr result (λ e. IsRefused D.history disk e.0 e.1) }
     {
         match Engine::open(alloc, disk, config) {
@@ -121,7 +105,7 @@ impl<D: Disk> Core<D> {
         ensures sound { IsSound D.history self.new }
         ensures disk { disk_history D.history self.new ≡ disk_history D.history self.old }
         ensures running { is_stopped self.new ≡ is_stopped self.old }
-        ensures store { store_of self.new ≡ store_of self.old }
+        ensures file { file_of self.new ≡ file_of self.old }
         ensures fed { result ≢ Err FeedFault.Memory
             → state self.new ≡ fed (state self.old) id bytes.now }
         ensures closed { result ≢ Err FeedFault.Memory
@@ -132,9 +116,9 @@ impl<D: Disk> Core<D> {
     }
 
     /// A turn: it takes the first whole message of each open connection, runs them in rising connection number, makes what
-    /// they changed durable, and hands out the replies. Where memory runs out for a reply, or memory or room for what they
-    /// changed, the turn is undone and each reply is the refusal that says so. A connection with a fault at its front is
-    /// closed. `Memory` took no message and changed nothing. `Stopped` hands out nothing and closes no connection: the
+    /// they changed durable, and hands out the replies. Where memory runs out for a reply or for the commit, or the commit
+    /// finds no greater generation, the turn is undone and each reply is the refusal that says so. A connection with a fault at
+    /// its front is closed. `Memory` took no message and changed nothing. `Stopped` hands out nothing and closes no connection: the
     /// device failed in this turn, or before it, and then nothing changed.
     pub fn turn(&mut self) -> Result<TurnOut, TurnFault>
         requires sound { IsSound D.history self.old }
@@ -163,7 +147,7 @@ impl<D: Disk> Core<D> {
         ensures sound { IsSound D.history self.new }
         ensures disk { disk_history D.history self.new ≡ disk_history D.history self.old }
         ensures running { is_stopped self.new ≡ is_stopped self.old }
-        ensures store { store_of self.new ≡ store_of self.old }
+        ensures file { file_of self.new ≡ file_of self.old }
         ensures state { state self.new ≡ ended (state self.old) id }
     {
         self.engine.gone(id);

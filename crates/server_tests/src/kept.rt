@@ -11,7 +11,7 @@ use std::alloc::Global;
 use std::process::Abort;
 use std::test::*;
 
-// The chain of a collection `t.c` that holds `{_id: 1}`: lengths of a key and a value, the key, the value.
+// The cells of a leaf that keeps a collection `t.c` with `{_id: 1}`: lengths of a key and a value, the key, the value.
 const FIRST: [u8; 77] =
     *b"\x0e\0\x14\0\0\0\0\0\0\0\0\0\0\0\x40t.c\0\0\x14\0\0\0\x10n\0\x01\0\0\0\x04x\0\x05\0\0\0\0\0\x11\0\x0e\0\0\0\0\0\0\x01\0\0\0\0\x30\x80\0\0\0\0\0\0\x01\x0e\0\0\0\x10_id\0\x01\0\0\0\0";
 
@@ -54,10 +54,10 @@ fn the_first_insert(rt: HostRuntime) -> Result<(), Fail> {
     assert!(rt; sector(&rt, &mut disk, 0) == [0; 512]);
     assert!(rt; is_root(&sector(&rt, &mut disk, 1), 1, 1, 2));
     let page = sector(&rt, &mut disk, 8);
-    assert!(rt; page[..8] == [3, 0, 77, 0, 1, 0, 0, 0][..]);
-    assert!(rt; page[8..20] == [1, 0, 0, 0, 0, 0, 0, 0, 0, 0, 0, 0][..]);
-    assert!(rt; page[20..97] == FIRST[..]);
-    assert!(rt; all_zero(&page[97..]));
+    assert!(rt; page[..8] == [1, 0, 2, 0, 1, 0, 0, 0][..]);
+    assert!(rt; page[8..16] == [1, 0, 0, 0, 0, 0, 0, 0][..]);
+    assert!(rt; page[16..93] == FIRST[..]);
+    assert!(rt; all_zero(&page[93..]));
     assert!(rt; sector(&rt, &mut disk, 9) == [0; 512]);
     Ok(())
 }

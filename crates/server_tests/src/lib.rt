@@ -28,4 +28,12 @@ mod sections;
 #[cfg(test)]
 mod session;
 #[cfg(test)]
+mod tree_damage;
+#[cfg(test)]
+mod tree_file;
+#[cfg(test)]
+mod tree_rows;
+#[cfg(test)]
+mod tree_turns;
+#[cfg(test)]
 mod unanswered;

@@ -7,7 +7,7 @@ use Rattle.aggregate.specs.Taking.{takes, IsEnough}
 use Rattle.aggregate.specs.EnoughLaws.{none_is_enough}
 use Rattle.aggregate.specs.View.{pipeline_of}
 use Rattle.engine.proofs.NeededLemmas.{met_taken, met_other, all_met, enough_met, if_equal}
-use Rattle.engine.proofs.Saving.{if_ok}
+use Rattle.engine.proofs.ResultLemmas.{if_ok}
 use Rattle.engine.proofs.aggregation.needed.Goals as goal
 use Rattle.engine.proofs.aggregation.needed.Goals.{then-takes+in_ok-needed, else-takes}
 

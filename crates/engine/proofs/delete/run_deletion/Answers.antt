@@ -7,8 +7,8 @@ use Rattle.commands.specs.Delete.{Deletion}
 use Rattle.engine.specs.Delete.{after_deletion}
 use Rattle.engine.proofs.delete.run_deletion.Goals as goal
 
-pub returns-else-deletion : goal.returns-else-deletion
-returns-else-deletion c =
+pub returns-clause-left : goal.returns-clause-left
+returns-clause-left c =
     let opened : Deletion = record { filter = c.deletion.inside.filter; only_first = c.deletion.inside.only_first } in
     let kept : c.retain.new.self.items ≡ filter (λ ps. not (matches opened.filter ps)) c.args.documents.now.items =
     filter_same _ (λ ps. not (matches opened.filter ps)) _ (λ x b f' k. search rules) _ _ c.retain.ensures.filtered in

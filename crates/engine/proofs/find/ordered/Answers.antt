@@ -4,7 +4,7 @@ use Rattle.commands.specs.Find.{Query}
 use Rattle.engine.specs.Find.{Suffices, window, selection}
 use Rattle.commands.specs.View.{documents_at}
 use Rattle.engine.proofs.Finding.{no_sort, enough}
-use Rattle.engine.proofs.Saving.{if_ok}
+use Rattle.engine.proofs.ResultLemmas.{if_ok}
 use Rattle.engine.proofs.find.ordered.Goals as goal
 
 pub returns-then-is_empty : goal.returns-then-is_empty

@@ -1,21 +1,19 @@
-use Rattle.std.proofs.Common.{◌≡◌, sym, ap, subst, ◌∙◌}
-use Rattle.std.specs.Prelude.{IsTrue}
-use Rattle.roots.specs.EntryView.{entries_of}
-use Rattle.roots.specs.Entries.{entries_bytes}
+use Rattle.std.proofs.Common.{◌≡◌, sym, ap, true, false, map, ◌∙◌}
+use Rattle.btree.specs.Scan.{entry_in}
+use Rattle.engine.specs.Loading.{Loads}
 use Rattle.engine.specs.Stored.{database_entries}
 use Rattle.engine.proofs.LoadingAll.{loads_all}
-use Rattle.engine.proofs.Rising.{are_ascending}
+use Rattle.std.proofs.Common.{subst, List, []}
+use Rattle.btree.specs.Keys.{Entry}
 use Rattle.engine.proofs.loading.load.Goals as goal
 
 pub returns-in-Err-clause-damaged : goal.returns-in-Err-clause-damaged
 returns-in-Err-clause-damaged c other collections lawful readable is =
-    other (c.in-Err.ensures.loads (database_entries collections) collections (are_ascending collections lawful readable).fit
-    (c.bytes.ensures.spelled ∙ ap entries_bytes is) (loads_all collections lawful readable))
+    other (c.in-Err.ensures.loads collections (subst (λ (es : List Entry). Loads [] es collections) (sym is) (loads_all collections lawful readable)))
 
-pub returns-else-is_same-clause-damaged : goal.returns-else-is_same-clause-damaged
-returns-else-is_same-clause-damaged c other collections lawful readable is =
-    let now : c.in-Ok.collections.now ≡ collections =
-    c.in-Ok.ensures.loads (database_entries collections) collections (are_ascending collections lawful readable).fit
-    (c.bytes.ensures.spelled ∙ ap entries_bytes is) (loads_all collections lawful readable) in
-    let same : entries_of c.in-Ok-image_of.again ≡ entries_of c.args.list.now = c.in-Ok-image_of.ensures.entries ∙ ap database_entries now ∙ sym is in
-    let yes = subst IsTrue c.if-is_same.false (c.is_same.ensures.1 same) in absurd cc
+pub returns-else-are_same-clause-damaged : goal.returns-else-are_same-clause-damaged
+returns-else-are_same-clause-damaged c other collections lawful readable is =
+    let now : c.in-Ok.collections.now ≡ collections = c.in-Ok.ensures.loads collections (subst (λ (es : List Entry). Loads [] es collections) (sym is) (loads_all collections lawful readable)) in
+    let same : map entry_in c.deref.result.now ≡ map entry_in c.args.entries.now = ap (map entry_in) c.deref.ensures.value ∙ c.in-Ok-image_of.ensures.entries ∙ ap database_entries now ∙ sym is in
+    let never : false ≡ true = sym c.if-are_same.false ∙ c.are_same.ensures.yes same in
+    absurd cc

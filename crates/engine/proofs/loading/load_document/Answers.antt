@@ -1,6 +1,6 @@
 use Rattle.std.proofs.Common.{◌≡◌, ℕ, List, set, Some, Ok, sym, ap, subst, ◌∙◌}
 use Rattle.bson.specs.Spelling.{Spells}
-use Rattle.roots.specs.Entries.{Entry}
+use Rattle.btree.specs.Keys.{Entry}
 use Rattle.index.specs.State.{Collection}
 use Rattle.engine.specs.Lawful.{IsLawfulState}
 use Rattle.engine.specs.Places.{collection_at}

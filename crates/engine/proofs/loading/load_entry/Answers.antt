@@ -1,7 +1,7 @@
 use Rattle.std.proofs.Common.{◌≡◌, ℕ, List, length, Option, Some, None, sym, ap, subst, ◌∙◌, arith}
 use Rattle.std.specs.Prelude.{IfSome, IfNone}
 use Rattle.bson.specs.Spelling.{Spells}
-use Rattle.roots.specs.Entries.{Entry}
+use Rattle.btree.specs.Keys.{Entry}
 use Rattle.index.specs.State.{Collection, put_collection, find_collection, uses}
 use Rattle.engine.specs.Stored.{catalogue_value}
 use Rattle.engine.specs.Loading.{AddsEntry, IsAdded}

@@ -1,6 +1,6 @@
 use Rattle.std.proofs.Common.{◌≡◌, inl, inr, ℕ, ◌<◌, ◌≤◌, ◌^◌, List, refl, ap, arith}
 use Rattle.value_order.specs.KeyText.{tree_text}
-use Rattle.roots.specs.Entries.{Entry}
+use Rattle.btree.specs.Keys.{Entry}
 use Rattle.index.specs.State.{Collection}
 use Rattle.engine.specs.Documents.{key_of}
 use Rattle.engine.specs.Refusals.{words}

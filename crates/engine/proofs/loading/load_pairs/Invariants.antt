@@ -1,16 +1,11 @@
-use Rattle.std.proofs.Common.{◌≡◌, List, [], length}
-use Rattle.std.specs.List.{AllByRecursion}
-use Rattle.roots.specs.Entries.{Entry, IsFit, entries_bytes}
+use Rattle.std.proofs.Common.{List, [], drop, map}
+use Rattle.btree.specs.Scan.{entry_in}
 use Rattle.index.specs.State.{Collection}
 use Rattle.engine.specs.Loading.{Loads, IsLoading}
-use Rattle.engine.proofs.LoadingSteps.{Left}
 use Rattle.engine.proofs.loading.load_pairs.Given as goal
 
-abbrev pub invariant-pairs : goal.invariant-pairs
-invariant-pairs l = record {
+abbrev pub invariant-entries : goal.invariant-entries
+invariant-entries l = record {
   loading : IsLoading l.collections;
-  left : (pairs : List Entry) (last : List Collection) → AllByRecursion IsFit pairs → l.bytes ≡ entries_bytes pairs → Loads [] pairs last → Left l.rest l.collections.now last;
+  left : (last : List Collection) → Loads [] (map entry_in l.entries) last → Loads l.collections.now (map entry_in (drop l.entry-index l.entries)) last;
 }
-
-abbrev pub decreases-pairs : goal.decreases-pairs
-decreases-pairs l = length l.rest

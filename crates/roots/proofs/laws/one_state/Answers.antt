@@ -1,5 +1,5 @@
-use Rattle.roots.proofs.OpenSteps as steps
+use Rattle.roots.proofs.OneMap as map
 use Rattle.roots.proofs.laws.one_state.Goals as goal
 
 pub returns : goal.returns
-returns c = steps.one_state
+returns c = map.one_state

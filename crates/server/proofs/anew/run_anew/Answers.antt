@@ -5,10 +5,9 @@ use Rattle.page.proofs.Moments.{goes_further}
 use Rattle.engine.specs.World.{new_world}
 use Rattle.index.specs.State.{Collection}
 use Rattle.engine.specs.Durable.{Holds}
-use Rattle.engine.proofs.EmptyImage.{zeros_hold_nothing}
 use Rattle.server.specs.ServerState.{ServerState}
 use Rattle.server.specs.Durable.{disk_history, collections_of}
-use Rattle.server.proofs.AnewLemmas.{one_collections}
+use Rattle.server.proofs.AnewLemmas.{nothing_held}
 use Rattle.server.proofs.anew.run_anew.Goals as goal
 
 pub returns-in-Ok : goal.returns-in-Ok
@@ -25,9 +24,8 @@ returns-in-Ok c =
       drives = drives;
       empty = λ time.
           let held : Holds (reads (now (memory_history disk))) (collections_of first) = c.in-Ok.ensures.opened.engine.holds (drives.on.kept (word time)) in
-          let none : Holds (reads (now (memory_history disk))) [] =
-          zeros_hold_nothing (reads (now (memory_history disk))) (ap (λ (s : ℕ → Sector). (s 0).read) c.new.ensures.zeros) (ap (λ (s : ℕ → Sector). (s 1).read) c.new.ensures.zeros) in
-          let same : collections_of first ≡ [] = one_collections (reads (now (memory_history disk))) (collections_of first) [] held none in
+          let same : collections_of first ≡ [] =
+          nothing_held (reads (now (memory_history disk))) (collections_of first) (ap (λ (s : ℕ → Sector). (s 0).read) c.new.ensures.zeros) (ap (λ (s : ℕ → Sector). (s 1).read) c.new.ensures.zeros) held in
           c.in-Ok.ensures.opened.alone ∙ ap (λ (cs : List Collection). let s : ServerState = record { world = record new_world { collections = cs }; connections = [] } in s) same;
       word = word;
     }

@@ -15,7 +15,7 @@ closed-preserved g c =
       sound = call.ensures.sound;
       disk = call.ensures.disk ∙ inv.disk;
       running = call.ensures.running ∙ inv.running;
-      store = call.ensures.store ∙ inv.store;
+      file = call.ensures.file ∙ inv.file;
       world_is = call.ensures.world ∙ (λ k. forget (inv.world_is k) (c.closed-item.is k).0)
           ∙ sym (forget_all_more (world c.args.engine.now) fs i d c.closed-test.true);
       idle = call.ensures.turn_start ∙ inv.idle ∙ sym (ap (λ (w : World). w.collections) call.ensures.world);

@@ -1,7 +1,11 @@
 use Rattle.std.proofs.Common.{◌≡◌, ℕ, List, [], ◌∷◌, ◌++◌, sym, ◌∙◌, ap, append-nil, rules}
 use Rattle.std.specs.Prelude.{Bool, true, false}
 use Rattle.engine.specs.View.{world, reply_of}
-use Rattle.engine.specs.Durable.{has_changes}
+use Rattle.engine.specs.Durable.{file_of, has_changes}
+use Rattle.collections.proofs.LawLemmas.{goes_from_itself}
+use Rattle.server.specs.Causes.{IsCaused, OfAnyCause}
+use Rattle.server.specs.Durable.{engine_moment}
+use Rattle.server.proofs.CauseLemmas.{any_cause}
 use Rattle.server.specs.Turn.{front_of, frame_unless}
 use Rattle.server.specs.View.{frames_in}
 use Rattle.server.proofs.Histories.{frames_append}
@@ -13,14 +17,14 @@ returns-then-request-clause-serves g c =
     let given = frames_in c.args.frames.now.items in
     let connection = c.args.connection.now in
     let r = c.in-Call.request in
-    one_served connection c.take_call.new.connection (front_of connection) c.in-Call.number r (world c.args.engine.now) (world c.answer-reply.new.engine) (reply_of c.answer-reply.result) true given given c.in-Call.ensures.taken c.answer-reply.ensures.answer
+    one_served (IsCaused (engine_moment g.D.Disk.history c.args.engine.now) (engine_moment g.D.Disk.history c.answer-reply.new.engine)) connection c.take_call.new.connection (front_of connection) c.in-Call.number r (world c.args.engine.now) (world c.answer-reply.new.engine) (reply_of c.answer-reply.result) true given given c.in-Call.ensures.taken c.answer-reply.ensures.answer
     (λ e. sym (append-nil given) ∙ ap (λ (b : Bool). given ++ frame_unless b connection.id c.in-Call.number r.request_id (reply_of c.answer-reply.result)) (sym c.if-request.true))
 
 pub returns-clause-serves : goal.returns-clause-serves
 returns-clause-serves g c =
     let given = frames_in c.args.frames.now.items in
     let connection = c.args.connection.now in
-    one_served connection c.take_call.new.connection (front_of connection) c.in-Call.number c.in-Call.request (world c.args.engine.now) (world c.answer-reply.new.engine) (reply_of c.answer-reply.result) false given given c.in-Call.ensures.taken c.answer-reply.ensures.answer
+    one_served (IsCaused (engine_moment g.D.Disk.history c.args.engine.now) (engine_moment g.D.Disk.history c.answer-reply.new.engine)) connection c.take_call.new.connection (front_of connection) c.in-Call.number c.in-Call.request (world c.args.engine.now) (world c.answer-reply.new.engine) (reply_of c.answer-reply.result) false given given c.in-Call.ensures.taken c.answer-reply.ensures.answer
     (λ e. absurd cc)
 
 pub returns-in-Ok-clause-serves : goal.returns-in-Ok-clause-serves
@@ -29,7 +33,7 @@ returns-in-Ok-clause-serves g c =
     let connection = c.args.connection.now in
     let r = c.in-Call.request in
     let reply = reply_of c.answer-reply.result in
-    one_served connection c.take_call.new.connection (front_of connection) c.in-Call.number r (world c.args.engine.now) (world c.answer-reply.new.engine) reply c.is_ok.result given (frames_in c.push.new.self.items) c.in-Call.ensures.taken c.answer-reply.ensures.answer
+    one_served (IsCaused (engine_moment g.D.Disk.history c.args.engine.now) (engine_moment g.D.Disk.history c.answer-reply.new.engine)) connection c.take_call.new.connection (front_of connection) c.in-Call.number r (world c.args.engine.now) (world c.answer-reply.new.engine) reply c.is_ok.result given (frames_in c.push.new.self.items) c.in-Call.ensures.taken c.answer-reply.ensures.answer
     (λ e.
     let put : c.push.new.self.items ≡ c.args.frames.now.items ++ (connection.id, c.in-Ok.bytes) ∷ [] = search rules in
     ap frames_in put ∙ frames_append c.args.frames.now.items ((connection.id, c.in-Ok.bytes) ∷ [])
@@ -38,7 +42,7 @@ returns-in-Ok-clause-serves g c =
 
 pub returns-in_default-clause-serves : goal.returns-in_default-clause-serves
 returns-in_default-clause-serves g c =
-    nothing_served c.args.connection.now c.take_call.new.connection (front_of c.args.connection.now) c.take_call.result (world c.args.engine.now) (frames_in c.args.frames.now.items) c.take_call.ensures.taken c.in_default.not-Call
+    nothing_served (IsCaused (engine_moment g.D.Disk.history c.args.engine.now) (engine_moment g.D.Disk.history c.args.engine.now)) c.args.connection.now c.take_call.new.connection (front_of c.args.connection.now) c.take_call.result (world c.args.engine.now) (frames_in c.args.frames.now.items) c.take_call.ensures.taken c.in_default.not-Call
 
 pub returns-in_default-clause-connection : goal.returns-in_default-clause-connection
 returns-in_default-clause-connection g c = taken_link c.args.connection.now c.take_call.new.connection (front_of c.args.connection.now) c.take_call.result c.take_call.ensures.taken
@@ -55,17 +59,26 @@ returns-clause-connection g c = taken_link c.args.connection.now c.take_call.new
 pub returns-then-request-clause-quiet : goal.returns-then-request-clause-quiet
 returns-then-request-clause-quiet g c =
     let connection = c.args.connection.now in
-    one_quiet (has_changes c.answer-reply.new.engine ≡ has_changes c.args.engine.now) connection c.take_call.new.connection (front_of connection) c.in-Call.number c.in-Call.request (world c.args.engine.now) (world c.answer-reply.new.engine) (reply_of c.answer-reply.result)
-    c.in-Call.ensures.taken c.answer-reply.ensures.answer c.answer-reply.ensures.has_changes
+    let old = engine_moment g.D.Disk.history c.args.engine.now in
+    let new = engine_moment g.D.Disk.history c.answer-reply.new.engine in
+    one_quiet ((has_changes c.answer-reply.new.engine ≡ has_changes c.args.engine.now) × (file_of c.answer-reply.new.engine ≡ file_of c.args.engine.now)) (IsCaused old new) OfAnyCause (any_cause old new) connection c.take_call.new.connection (front_of connection) c.in-Call.number c.in-Call.request (world c.args.engine.now) (world c.answer-reply.new.engine) (reply_of c.answer-reply.result)
+    c.in-Call.ensures.taken c.answer-reply.ensures.answer c.answer-reply.ensures.quiet
 
 pub returns-clause-quiet : goal.returns-clause-quiet
 returns-clause-quiet g c =
     let connection = c.args.connection.now in
-    one_quiet (has_changes c.answer-reply.new.engine ≡ has_changes c.args.engine.now) connection c.take_call.new.connection (front_of connection) c.in-Call.number c.in-Call.request (world c.args.engine.now) (world c.answer-reply.new.engine) (reply_of c.answer-reply.result)
-    c.in-Call.ensures.taken c.answer-reply.ensures.answer c.answer-reply.ensures.has_changes
+    let old = engine_moment g.D.Disk.history c.args.engine.now in
+    let new = engine_moment g.D.Disk.history c.answer-reply.new.engine in
+    one_quiet ((has_changes c.answer-reply.new.engine ≡ has_changes c.args.engine.now) × (file_of c.answer-reply.new.engine ≡ file_of c.args.engine.now)) (IsCaused old new) OfAnyCause (any_cause old new) connection c.take_call.new.connection (front_of connection) c.in-Call.number c.in-Call.request (world c.args.engine.now) (world c.answer-reply.new.engine) (reply_of c.answer-reply.result)
+    c.in-Call.ensures.taken c.answer-reply.ensures.answer c.answer-reply.ensures.quiet
 
 pub returns-in-Ok-clause-quiet : goal.returns-in-Ok-clause-quiet
 returns-in-Ok-clause-quiet g c =
     let connection = c.args.connection.now in
-    one_quiet (has_changes c.answer-reply.new.engine ≡ has_changes c.args.engine.now) connection c.take_call.new.connection (front_of connection) c.in-Call.number c.in-Call.request (world c.args.engine.now) (world c.answer-reply.new.engine) (reply_of c.answer-reply.result)
-    c.in-Call.ensures.taken c.answer-reply.ensures.answer c.answer-reply.ensures.has_changes
+    let old = engine_moment g.D.Disk.history c.args.engine.now in
+    let new = engine_moment g.D.Disk.history c.answer-reply.new.engine in
+    one_quiet ((has_changes c.answer-reply.new.engine ≡ has_changes c.args.engine.now) × (file_of c.answer-reply.new.engine ≡ file_of c.args.engine.now)) (IsCaused old new) OfAnyCause (any_cause old new) connection c.take_call.new.connection (front_of connection) c.in-Call.number c.in-Call.request (world c.args.engine.now) (world c.answer-reply.new.engine) (reply_of c.answer-reply.result)
+    c.in-Call.ensures.taken c.answer-reply.ensures.answer c.answer-reply.ensures.quiet
+
+pub returns-in_default-clause-goes : goal.returns-in_default-clause-goes
+returns-in_default-clause-goes g c = goes_from_itself g.D.Disk.history (file_of c.args.engine.now)

@@ -1,6 +1,11 @@
 use Rattle.std.proofs.Common.{◌≡◌, ℕ, suc, ◌+◌, List, ◌∷◌, ◌++◌, drop-cons, take, drop, set, get_or, ◌&&◌, sym, ◌∙◌, ap, subst, arith}
 use Rattle.engine.specs.View.{world}
-use Rattle.engine.specs.Step.{ForMemory}
+use Rattle.engine.specs.Durable.{file_of}
+use Rattle.collections.proofs.LawLemmas.{goes_further}
+use Rattle.server.specs.Causes.{IsCaused, OfAnyCause}
+use Rattle.server.specs.Durable.{engine_moment}
+use Rattle.server.specs.Moment.{Moment}
+use Rattle.server.proofs.CauseLemmas.{Follows, follows_itself, goes_follows, caused_wider, any_cause, runs_weaker, serves_weaker}
 use Rattle.server.specs.Turn.{Call, calls, call_at, front_of, connections_taken, ChangeNothing}
 use Rattle.server.specs.Taking.{Serves}
 use Rattle.server.specs.View.{frames_in}
@@ -18,22 +23,31 @@ connections-preserved g c =
     let call = c.serve_connection-found in
     let s = links_step c.connections.connections first i x call.new.connection (omega (arith, c.connections-test.true, c.connections.auto.connections)) inv.done inv.left is call.ensures.connection in
     let next : i + 1 ≡ suc i = omega arith in
+    let history = g.D.Disk.history in
+    let start : Moment = engine_moment history c.args.engine.now in
+    let middle : Moment = engine_moment history c.connections.engine in
+    let end : Moment = engine_moment history call.new.engine in
+    let before : Follows start middle = goes_follows history c.args.engine.now c.connections.engine inv.goes in
+    let after : Follows middle end = goes_follows history c.connections.engine call.new.engine call.ensures.goes in
     let more : calls (take i first) ++ call_at x (front_of x) ≡ calls (take (i + 1) first) =
     ap (λ (y : Connection). calls (take i first) ++ call_at y (front_of y)) s.same ∙ sym (calls_more first i x s.within) in
     record {
       sound = call.ensures.sound;
-      disk = call.ensures.disk ∙ inv.disk;
+      goes = goes_further history (file_of c.args.engine.now) (file_of c.connections.engine) (file_of call.new.engine) inv.goes call.ensures.goes;
       running = call.ensures.running ∙ inv.running;
-      store = call.ensures.store ∙ inv.store;
-      serves = subst (λ (cs : List Call). Serves ForMemory cs (world c.args.engine.now) (world call.new.engine) (c.connections.all && call.result) (frames_in c.args.frames.now.items) (frames_in call.new.frames.items)) more
-          (serves_on (calls (take i first)) (call_at x (front_of x)) (world c.args.engine.now) (world c.connections.engine) (world call.new.engine) c.connections.all call.result (frames_in c.args.frames.now.items) (frames_in c.connections.frames.items) (frames_in call.new.frames.items) inv.serves call.ensures.serves);
+      serves = subst (λ (cs : List Call). Serves (IsCaused start end) cs (world c.args.engine.now) (world call.new.engine) (c.connections.all && call.result) (frames_in c.args.frames.now.items) (frames_in call.new.frames.items)) more
+          (serves_on (IsCaused start end) (calls (take i first)) (call_at x (front_of x)) (world c.args.engine.now) (world c.connections.engine) (world call.new.engine) c.connections.all call.result (frames_in c.args.frames.now.items) (frames_in c.connections.frames.items) (frames_in call.new.frames.items)
+          (serves_weaker (IsCaused start middle) (IsCaused start end) (caused_wider start start middle end (follows_itself start) before after) (calls (take i first)) (world c.args.engine.now) (world c.connections.engine) c.connections.all (frames_in c.args.frames.now.items) (frames_in c.connections.frames.items) inv.serves)
+          (serves_weaker (IsCaused middle end) (IsCaused start end) (caused_wider start middle end end before after (follows_itself end)) (call_at x (front_of x)) (world c.connections.engine) (world call.new.engine) call.result (frames_in c.connections.frames.items) (frames_in call.new.frames.items) call.ensures.serves));
       done = ap (λ (m : ℕ). take m (set c.connections.connections i call.new.connection)) next ∙ s.done ∙ ap (λ (m : ℕ). connections_taken (take m first)) (sym next);
       left = ap (λ (m : ℕ). drop m (set c.connections.connections i call.new.connection)) next ∙ s.left ∙ ap (λ (m : ℕ). drop m first) (sym next);
       turn_start = call.ensures.turn_start ∙ inv.turn_start;
       quiet = λ h.
           let so_far = inv.quiet h in
           let here : drop i first ≡ x ∷ drop (i + 1) first = drop-cons first i x s.within ∙ (λ j. sym s.same j ∷ drop (sym next j) first) in
-          let rest = subst (ChangeNothing ForMemory (world c.connections.engine)) (ap calls here) so_far.1 in
-          let one = quiet_runs (call_at x (front_of x)) (calls (drop (i + 1) first)) (world c.connections.engine) (world call.new.engine) call.ensures.serves.replies call.ensures.serves.runs rest in
-          (call.ensures.quiet (quiet_front (call_at x (front_of x)) (calls (drop (i + 1) first)) (world c.connections.engine) rest) ∙ so_far.0, one.1);
+          let rest = subst (ChangeNothing OfAnyCause (world c.connections.engine)) (ap calls here) so_far.2 in
+          let ran = runs_weaker (IsCaused middle end) OfAnyCause (any_cause middle end) (call_at x (front_of x)) (world c.connections.engine) call.ensures.serves.replies (world call.new.engine) call.ensures.serves.runs in
+          let one = quiet_runs OfAnyCause (call_at x (front_of x)) (calls (drop (i + 1) first)) (world c.connections.engine) (world call.new.engine) call.ensures.serves.replies ran rest in
+          let same = call.ensures.quiet (quiet_front OfAnyCause (call_at x (front_of x)) (calls (drop (i + 1) first)) (world c.connections.engine) rest) in
+          (same.0 ∙ so_far.0, same.1 ∙ so_far.1, one.1);
     }

@@ -11,8 +11,8 @@ use Rattle.engine.proofs.engine.Engine.gone.Goals as goal
 pub returns-clause-sound : goal.returns-clause-sound
 returns-clause-sound g c =
     let old = c.args.self.now in
-    let new : Engine g.row.D.Denot = record { alloc = old.alloc; collections = old.collections; cursors = c.forget.new.self; store = old.store } in
-    keeps_sound g.D.Disk.history old new c.requires.sound refl refl
+    let new : Engine g.row.D.Denot = record { alloc = old.alloc; collections = old.collections; cursors = c.forget.new.self; file = old.file } in
+    keeps_sound g.D.Disk.history old new c.requires.sound c.requires.sound.file refl
     (subst (λ (t : CursorTable). IsLawful (world_of old.collections t)) (sym c.forget.ensures) (forgotten_lawful g.D.Disk.history old c.args.connection c.requires.sound))
 
 pub returns-clause-rested : goal.returns-clause-rested

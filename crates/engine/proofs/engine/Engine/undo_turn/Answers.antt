@@ -1,17 +1,27 @@
-use Rattle.std.proofs.Common.{subst, sym, ap, ◌∙◌}
-use Rattle.engine.specs.World.{World, are_untouched}
+use Rattle.std.proofs.Common.{ap, subst, sym, ◌∙◌}
+use Rattle.engine.specs.World.{CursorTable, are_untouched}
+use Rattle.engine.specs.Lawful.{AreLawfulCursors}
 use Rattle.engine.proofs.CursorSteps.{untouched_untouched}
-use Rattle.engine.specs.View.{world}
-use Rattle.engine.specs.Lawful.{IsLawful}
-use Rattle.engine.proofs.Sound.{keeps_sound, undone_lawful}
+use Rattle.engine.proofs.Ending.{rested_again, sound_again}
+use Rattle.engine.proofs.Sound.{undone_lawful}
 use Rattle.engine.proofs.engine.Engine.undo_turn.Goals as goal
 
 pub returns-clause-sound : goal.returns-clause-sound
 returns-clause-sound g c =
-    let old = c.args.self.now in
-    let new = c.take_back.new.self in
-    keeps_sound g.D.Disk.history old new c.requires.sound c.take_back.ensures.disk (c.take_back.ensures.turn_start ∙ ap (λ (w : World). w.collections) c.take_back.ensures.world)
-    (subst IsLawful (sym c.take_back.ensures.world) (undone_lawful g.D.Disk.history old c.requires.sound))
+    sound_again g.D.Disk.history c.args.self.now c.take_back.new.self c.requires.sound c.take_back.ensures.rests c.take_back.ensures.world c.take_back.ensures.turn_start c.take_back.ensures.file
 
 pub returns-clause-rested : goal.returns-clause-rested
-returns-clause-rested g c = ap (λ (w : World). are_untouched w.cursors) c.take_back.ensures.world ∙ untouched_untouched (world c.args.self.now).cursors
+returns-clause-rested g c = rested_again g.D.Disk.history c.args.self.now c.take_back.new.self c.requires.sound c.take_back.ensures.rests c.take_back.ensures.world c.take_back.ensures.turn_start c.take_back.ensures.file
+
+pub returns-then-not-is_changed-clause-sound : goal.returns-then-not-is_changed-clause-sound
+returns-then-not-is_changed-clause-sound g c =
+    let h = c.requires.sound in
+    record {
+      lawful = h.lawful;
+      cursors = subst (λ (t : CursorTable). AreLawfulCursors t.list) (sym c.undo.ensures) (undone_lawful g.D.Disk.history c.args.self.now h).cursors;
+      before = h.before;
+      file = h.file;
+    }
+
+pub returns-then-not-is_changed-clause-rested : goal.returns-then-not-is_changed-clause-rested
+returns-then-not-is_changed-clause-rested g c = ap (λ (t : CursorTable). are_untouched t.list) c.undo.ensures ∙ untouched_untouched c.args.self.now.cursors.list

@@ -6,13 +6,13 @@ use Rattle.page.specs.Format.{Sheet}
 use Rattle.freelist.specs.Book.{Book, committed, undone}
 use Rattle.roots.specs.declared.store.CommitFault.{CommitFault}
 use Rattle.roots.specs.declared.store.CommitFault.TheVariants as faults
-use Rattle.roots.specs.tree.Commit.{CommitsRoot, LeavesPages, MovesMaps}
+use Rattle.roots.specs.Commit.{CommitsRoot, LeavesPages, MovesMaps}
 use Rattle.pager.specs.Commit.{Commits, MovesTurns}
 use Rattle.pager.specs.Kept.{IsKept}
 use Rattle.pager.specs.State.{State}
 use Rattle.pager.specs.Writing.{KeepsAll, retired_all, written_of}
 use Rattle.pager.proofs.AfterLemmas.{kept_after, kept_failed}
-use Rattle.pager.proofs.BookLemmas.{back_all}
+use Rattle.pager.proofs.BookLemmas.{all_full, back_all}
 use Rattle.pager.proofs.EndLemmas.{commits_failed, moves_done, moves_failed, moves_nothing, ok_of}
 use Rattle.pager.proofs.pager.Pager.commit.Goals as goal
 
@@ -123,3 +123,20 @@ returns-clause-moves g c =
     (subst (MovesTurns history c.args.root (Ok tt) (record { store = i.store; made = i.made.items; retired = i.retired.items; book = i.book }))
     (λ j. after (sym c.clear.ensures.items j) (sym c.clear-2.ensures.items j) (sym book j))
     (moves_done history i.store i.cache i.made.items i.retired.items i.book c.self.invariant v c.args.root new commits moves content last))
+
+pub returns-in_default-clause-takes : goal.returns-in_default-clause-takes
+returns-in_default-clause-takes g c = ap (λ (b : Book). b.full_takes) c.in_default.ensures.err ∙ ap (λ (s : State g.row.D.Denot). s.book.full_takes) c.self.view_is
+
+pub returns-in-Err-clause-takes : goal.returns-in-Err-clause-takes
+returns-in-Err-clause-takes g c =
+    let i = c.self.inside in
+    let v = c.root-version.result.generation in
+    let plan : c.plan_commit.new.book ≡ retired_all v i.retired.items i.book = c.in-Ok.ensures.retired ∙ ap (λ (r : List ℕ). retired_all v r i.book) c.deref-2.ensures.value in
+    ap (λ (b : Book). b.full_takes) (c.undo_to.ensures ∙ (λ j. undone (c.mark-mark.ensures j) (plan j)) ∙ back_all v i.retired.items i.book) ∙ ap (λ (s : State g.row.D.Denot). s.book.full_takes) c.self.view_is
+
+pub returns-clause-takes : goal.returns-clause-takes
+returns-clause-takes g c =
+    let i = c.self.inside in
+    let v = c.root-version.result.generation in
+    let plan : c.plan_commit.new.book ≡ retired_all v i.retired.items i.book = c.in-Ok.ensures.retired ∙ ap (λ (r : List ℕ). retired_all v r i.book) c.deref-2.ensures.value in
+    ap (λ (b : Book). b.full_takes) (c.commit-2.ensures ∙ ap (committed c.root.result.generation) plan) ∙ all_full v i.retired.items i.book ∙ ap (λ (s : State g.row.D.Denot). s.book.full_takes) c.self.view_is

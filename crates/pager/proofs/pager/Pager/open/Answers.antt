@@ -1,5 +1,5 @@
 use Rattle.std.proofs.Common.{arith}
-use Rattle.pager.proofs.OpenLemmas.{kept_opened, opened_so}
+use Rattle.pager.proofs.OpenLemmas.{kept_opened, limit_opened, opened_so}
 use Rattle.pager.proofs.RefusalLemmas.{refused_walking}
 use Rattle.pager.proofs.pager.Pager.open.Goals as goal
 
@@ -12,6 +12,11 @@ pub returns-clause-opened : goal.returns-clause-opened
 returns-clause-opened g c =
     opened_so g.D.Disk.history c.args.disk c.in-Ok.store c.free_pages.new.self c.in-Ok-free_pages.book c.min.result (omega arith) c.in-Ok.ensures.opened c.free_pages.ensures.looks.reads c.in-Ok-free_pages.ensures.finds
     c.new-2.result.items c.new-3.result.items c.new-2.ensures.items c.new-3.ensures.items
+
+pub returns-clause-limit : goal.returns-clause-limit
+returns-clause-limit g c =
+    limit_opened g.D.Disk.history c.args.disk c.in-Ok.store c.free_pages.new.self c.in-Ok-free_pages.book c.min.result (omega arith) c.in-Ok.ensures.opened c.free_pages.ensures.looks.reads c.in-Ok-free_pages.ensures.finds
+    c.args.limit c.min.ensures
 
 pub returns-in-Err-free_pages-clause-refused : goal.returns-in-Err-free_pages-clause-refused
 returns-in-Err-free_pages-clause-refused g c =

@@ -1,27 +1,26 @@
-use Rattle.std.proofs.Common.{◌≡◌, ◌+◌, ◌∙◌, refl, ap, arith}
-use Rattle.roots.specs.Chain.{first_of}
+use Rattle.std.proofs.Common.{arith, ◌+◌, true, ◌≡◌}
 use Rattle.roots.specs.declared.root.Root.{Root}
-use Rattle.roots.proofs.CommittingLemmas.{was_stopped, is_last, cut, done}
+use Rattle.roots.specs.Turn.{next_root}
+use Rattle.roots.proofs.MovesLemmas.{is_last, failed, done, root_is}
 use Rattle.roots.proofs.store.Store.commit.Goals as goal
 
-pub returns-then-self : goal.returns-then-self
-returns-then-self g c = was_stopped g.D.Disk.history c.args.self.now c.args.pages c.requires.sound c.requires.written c.if-self.true
+pub returns-then-self-2-clause-moves : goal.returns-then-self-2-clause-moves
+returns-then-self-2-clause-moves g c before live committed after pages turn =
+    is_last g.D.Disk.history c.args.self.now (next_root c.args.self.now.root c.args.made.now c.args.tree) live pages before after committed
 
-pub returns-then-self-2 : goal.returns-then-self-2
-returns-then-self-2 g c = is_last g.D.Disk.history c.args.self.now c.args.pages c.requires.sound c.requires.written c.if-self.false (omega arith)
-
-pub returns-in-Ok : goal.returns-in-Ok
-returns-in-Ok g c =
+pub returns-in-Ok-clause-moves : goal.returns-in-Ok-clause-moves
+returns-in-Ok-clause-moves g c before live committed after pages turn =
     let s = c.args.self.now in
-    let root : Root = record { generation = s.root.generation + 1; tree = c.first-tree.result; pages = c.greater-count.result } in
-    let tree : c.first-tree.result ≡ first_of c.args.pages.pages.items = c.first-tree.ensures ∙ ap first_of c.deref.ensures.value in
-    done g.D.Disk.history s c.args.pages c.requires.sound c.requires.written c.replace.new.disk root c.sector.result c.if-self.false refl tree c.greater-count.ensures.greater (omega arith)
-    c.sector.ensures c.replace.ensures.on c.replace.ensures.any_moment c.in-Ok.ensures.synced c.in-Ok.ensures.reads
+    let root : Root = record { generation = s.root.generation + 1; tree = c.args.tree; pages = c.greater.result } in
+    let is : root ≡ next_root s.root c.args.made.now c.args.tree = root_is s.root c.args.made.now c.args.tree c.greater.result c.end_of.result c.greater.ensures (c.end_of.ensures turn.inside) in
+    done g.D.Disk.history s c.write_commit.new.disk root (next_root s.root c.args.made.now c.args.tree) pages before after live committed is
+    (c.in-Ok.ensures.moves s.root before live committed.keeps after pages turn is (omega arith))
 
-pub returns-in-Err : goal.returns-in-Err
-returns-in-Err g c =
+pub returns-in-Err-clause-moves : goal.returns-in-Err-clause-moves
+returns-in-Err-clause-moves g c before live committed after pages turn =
     let s = c.args.self.now in
-    let root : Root = record { generation = s.root.generation + 1; tree = c.first-tree.result; pages = c.greater-count.result } in
-    let tree : c.first-tree.result ≡ first_of c.args.pages.pages.items = c.first-tree.ensures ∙ ap first_of c.deref.ensures.value in
-    cut g.D.Disk.history s c.args.pages c.requires.sound c.requires.written c.replace.new.disk root c.sector.result c.if-self.false refl tree c.greater-count.ensures.greater (omega arith)
-    c.sector.ensures c.replace.ensures.on c.replace.ensures.any_moment c.in-Err.ensures.failed
+    let root : Root = record { generation = s.root.generation + 1; tree = c.args.tree; pages = c.greater.result } in
+    let next = next_root s.root c.args.made.now c.args.tree in
+    let is : root ≡ next = root_is s.root c.args.made.now c.args.tree c.greater.result c.end_of.result c.greater.ensures (c.end_of.ensures turn.inside) in
+    failed g.D.Disk.history s (record s { disk = c.write_commit.new.disk; stopped = true }) root next pages before after c.in-Err.field-0
+    (c.in-Err.ensures.moves s.root before live committed.keeps after pages turn is (omega arith))

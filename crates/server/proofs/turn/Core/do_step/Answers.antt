@@ -34,32 +34,31 @@ returns-else-is_err-clause-does g c =
     })
 
 pub returns-in-Err-Memory-clause-disk : goal.returns-in-Err-Memory-clause-disk
-returns-in-Err-Memory-clause-disk g c = unmoved g.D.Disk.history c.args.self.now c.feed.new.self c.requires.sound c.feed.ensures.disk c.feed.ensures.store
+returns-in-Err-Memory-clause-disk g c = unmoved g.D.Disk.history c.args.self.now c.feed.new.self c.requires.sound c.feed.ensures.disk
 
 pub returns-in-Err-Closed-clause-does : goal.returns-in-Err-Closed-clause-does
-returns-in-Err-Closed-clause-does g c = bytes_on c.args.step.now c.in-Bytes.id c.in-Bytes.chunk c.args.out.now (instant_of g.D.Disk.history c.args.self.now) (instant_of g.D.Disk.history c.feed.new.self) c.in-Bytes.is (c.in-Err-Closed.ensures.fed (λ e. absurd cc) ∙ ap (fed (state c.args.self.now) c.in-Bytes.id) c.deref.ensures.value) (same_moment g.D.Disk.history c.args.self.now c.feed.new.self c.feed.ensures.disk c.feed.ensures.store)
+returns-in-Err-Closed-clause-does g c = bytes_on c.args.step.now c.in-Bytes.id c.in-Bytes.chunk c.args.out.now (instant_of g.D.Disk.history c.args.self.now) (instant_of g.D.Disk.history c.feed.new.self) c.in-Bytes.is (c.in-Err-Closed.ensures.fed (λ e. absurd cc) ∙ ap (fed (state c.args.self.now) c.in-Bytes.id) c.deref.ensures.value) (same_moment g.D.Disk.history c.args.self.now c.feed.new.self c.feed.ensures.file)
 
 pub returns-in-Err-Closed-clause-disk : goal.returns-in-Err-Closed-clause-disk
-returns-in-Err-Closed-clause-disk g c = unmoved g.D.Disk.history c.args.self.now c.feed.new.self c.requires.sound c.feed.ensures.disk c.feed.ensures.store
+returns-in-Err-Closed-clause-disk g c = unmoved g.D.Disk.history c.args.self.now c.feed.new.self c.requires.sound c.feed.ensures.disk
 
 pub returns-in-Ok-clause-does : goal.returns-in-Ok-clause-does
-returns-in-Ok-clause-does g c = bytes_on c.args.step.now c.in-Bytes.id c.in-Bytes.chunk c.args.out.now (instant_of g.D.Disk.history c.args.self.now) (instant_of g.D.Disk.history c.feed.new.self) c.in-Bytes.is (c.in-Ok.ensures.fed (λ e. absurd cc) ∙ ap (fed (state c.args.self.now) c.in-Bytes.id) c.deref.ensures.value) (same_moment g.D.Disk.history c.args.self.now c.feed.new.self c.feed.ensures.disk c.feed.ensures.store)
+returns-in-Ok-clause-does g c = bytes_on c.args.step.now c.in-Bytes.id c.in-Bytes.chunk c.args.out.now (instant_of g.D.Disk.history c.args.self.now) (instant_of g.D.Disk.history c.feed.new.self) c.in-Bytes.is (c.in-Ok.ensures.fed (λ e. absurd cc) ∙ ap (fed (state c.args.self.now) c.in-Bytes.id) c.deref.ensures.value) (same_moment g.D.Disk.history c.args.self.now c.feed.new.self c.feed.ensures.file)
 
 pub returns-in-Ok-clause-disk : goal.returns-in-Ok-clause-disk
-returns-in-Ok-clause-disk g c = unmoved g.D.Disk.history c.args.self.now c.feed.new.self c.requires.sound c.feed.ensures.disk c.feed.ensures.store
+returns-in-Ok-clause-disk g c = unmoved g.D.Disk.history c.args.self.now c.feed.new.self c.requires.sound c.feed.ensures.disk
 
 pub returns-in-Gone-clause-does : goal.returns-in-Gone-clause-does
-returns-in-Gone-clause-does g c = gone_on c.args.step.now c.in-Gone.id c.args.out.now (instant_of g.D.Disk.history c.args.self.now) (instant_of g.D.Disk.history c.gone.new.self) c.in-Gone.is c.gone.ensures.state (same_moment g.D.Disk.history c.args.self.now c.gone.new.self c.gone.ensures.disk c.gone.ensures.store)
+returns-in-Gone-clause-does g c = gone_on c.args.step.now c.in-Gone.id c.args.out.now (instant_of g.D.Disk.history c.args.self.now) (instant_of g.D.Disk.history c.gone.new.self) c.in-Gone.is c.gone.ensures.state (same_moment g.D.Disk.history c.args.self.now c.gone.new.self c.gone.ensures.file)
 
 pub returns-in-Gone-clause-disk : goal.returns-in-Gone-clause-disk
-returns-in-Gone-clause-disk g c = unmoved g.D.Disk.history c.args.self.now c.gone.new.self c.requires.sound c.gone.ensures.disk c.gone.ensures.store
+returns-in-Gone-clause-disk g c = unmoved g.D.Disk.history c.args.self.now c.gone.new.self c.requires.sound c.gone.ensures.disk
 
 pub returns-then-is_err-clause-disk : goal.returns-then-is_err-clause-disk
 returns-then-is_err-clause-disk g c = record {
   on = c.turn.ensures.on;
   any_moment = c.turn.ensures.any_moment;
   idle = λ stop. (c.turn.ensures.idle stop).1;
-  limit = c.turn.ensures.limit;
 }
 
 pub returns-else-is_err-clause-disk : goal.returns-else-is_err-clause-disk
@@ -67,7 +66,6 @@ returns-else-is_err-clause-disk g c = record {
   on = c.turn.ensures.on;
   any_moment = c.turn.ensures.any_moment;
   idle = λ stop. (c.turn.ensures.idle stop).1;
-  limit = c.turn.ensures.limit;
 }
 
 pub returns-in-Err-clause-disk : goal.returns-in-Err-clause-disk
@@ -75,7 +73,6 @@ returns-in-Err-clause-disk g c = record {
   on = c.turn.ensures.on;
   any_moment = c.turn.ensures.any_moment;
   idle = λ stop. (c.turn.ensures.idle stop).1;
-  limit = c.turn.ensures.limit;
 }
 
 pub returns-then-is_err-clause-running : goal.returns-then-is_err-clause-running

@@ -27,7 +27,12 @@ ascends_fed : (r : Result (Unit {0}) FeedFault) (old new : List Connection) (id 
 ascends_fed (Ok x) old new id bytes h fed same = ap are_ascending (fed (λ e. absurd cc)) ∙ feed_ascends old id bytes h
 ascends_fed (Err e) old new id bytes h fed same = ap are_ascending same ∙ h
 
-pub invariant_of-self-clause-ascending : goal.invariant_of-self-clause-ascending
-invariant_of-self-clause-ascending g c =
-    ascends_fed c.feed_connection.result c.args.self.now.connections.items c.feed_connection.new.connections.items c.args.id c.args.bytes.now
-    c.args.self.now.ascending c.feed_connection.ensures.fed c.feed_connection.ensures.err
+pub returns-clause-sound : goal.returns-clause-sound
+returns-clause-sound g c = record {
+  engine = c.requires.sound.engine;
+  idle = c.requires.sound.idle;
+  rested = c.requires.sound.rested;
+  rests = c.requires.sound.rests;
+  ascending = ascends_fed c.feed_connection.result c.args.self.now.connections.items c.feed_connection.new.connections.items c.args.id c.args.bytes.now
+      c.requires.sound.ascending c.feed_connection.ensures.fed c.feed_connection.ensures.err;
+}

@@ -1,7 +1,14 @@
-use Rattle.std.proofs.Common.{ap, ◌∙◌}
+use Rattle.std.proofs.Common.{ap, sym, ◌∙◌}
+use Rattle.engine.specs.World.{World}
 use Rattle.server.specs.ServerState.{are_ascending}
 use Rattle.server.proofs.Ascending.{drop_ascends}
 use Rattle.server.proofs.turn.Core.gone.Goals as goal
 
-pub invariant_of-self-clause-ascending : goal.invariant_of-self-clause-ascending
-invariant_of-self-clause-ascending g c = ap are_ascending c.end_connection.ensures ∙ drop_ascends c.args.self.now.connections.items c.args.id c.args.self.now.ascending
+pub returns-clause-sound : goal.returns-clause-sound
+returns-clause-sound g c = record {
+  engine = c.gone.ensures.sound;
+  idle = c.gone.ensures.turn_start ∙ c.requires.sound.idle ∙ sym (ap (λ (w : World). w.collections) c.gone.ensures.world);
+  rested = c.gone.ensures.rested c.requires.sound.rested;
+  rests = c.gone.ensures.has_changes ∙ c.requires.sound.rests;
+  ascending = ap are_ascending c.end_connection.ensures ∙ drop_ascends c.args.self.now.connections.items c.args.id c.requires.sound.ascending;
+}

@@ -2,4 +2,16 @@ use Rattle.std.proofs.Common.{rules}
 use Rattle.server.proofs.turn.Core.open.Goals as goal
 
 pub returns-in-Ok-clause-opened : goal.returns-in-Ok-clause-opened
-returns-in-Ok-clause-opened g c = record { engine = c.in-Ok.ensures.opened; alone = search rules }
+returns-in-Ok-clause-opened g c =
+    let opened = c.in-Ok.ensures.opened in
+    record {
+      sound = record {
+        engine = opened.sound;
+        idle = opened.idle;
+        rested = search rules;
+        rests = opened.rests;
+        ascending = search rules;
+      };
+      engine = opened;
+      alone = search rules;
+    }

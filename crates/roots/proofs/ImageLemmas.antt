@@ -1,0 +1,65 @@
+-- What a root's tree reaches decides what an image stands for.
+use Rattle.std.proofs.Common.{◌≡◌, ℕ, ◌*◌, ◌<◌, inl, inr, Bool, true, false, List, [], ◌∷◌, refl, ◌∙◌, ap, arith}
+use Rattle.std.specs.Prelude.{◌&&◌, nat_lt, if◌then◌else◌, is_ok, Err}
+use Rattle.page.specs.History.{Sector, reads}
+use Rattle.page.specs.Crash.{IsDurable, Secures}
+use Rattle.page.specs.Format.{sheet_in}
+use Rattle.page.specs.Page.{IsSectorOf, page_at}
+use Rattle.std.proofs.lemmas.Bool.Decides.{nat_tests}
+use Rattle.page.specs.declared.page_fault.PageFault.TheVariants as faults
+use Rattle.page.proofs.PageSteps.{bytes_from_same}
+use Rattle.btree.specs.Keys.{Each, Entry}
+use Rattle.btree.proofs.ReachLemmas.{Moves, map_moved}
+use Rattle.roots.specs.Root.{root_of}
+use Rattle.roots.specs.Image.{sheet_at, content_in, store_of, HoldsMap, OpensAs, StandsFor, IsOnPages, IsKept}
+use Rattle.roots.specs.declared.root.Root.{Root}
+
+-- a page lies in its sectors alone,
+pub sheet_same : (a b : ℕ → List ℕ) (root : Root) (page : ℕ) → ((k : ℕ) → IsSectorOf page k → b k ≡ a k) → sheet_at b root page ≡ sheet_at a root page
+sheet_same a b root page same =
+    ap (λ (bytes : List ℕ). if nat_lt 0 page && nat_lt page root.pages then sheet_in page root.generation bytes else Err faults.Number)
+    (bytes_from_same a b (8 * page) 8 (λ k le lt. same k (le, lt)))
+
+pub moves_by : (a b : ℕ → List ℕ) (root : Root) (pages : List ℕ) → ((k : ℕ) → IsOnPages pages k → b k ≡ a k) → Each (Moves (store_of (sheet_at a root)) (store_of (sheet_at b root))) pages
+moves_by a b root [] same = tt
+moves_by a b root (page ∷ pages) same =
+    let here : sheet_at b root page ≡ sheet_at a root page = sheet_same a b root page (λ k is. same k (inl is)) in (
+      (λ content at. record { number = at.number; live = ap is_ok here ∙ at.live; holds = ap content_in here ∙ at.holds }),
+      moves_by a b root pages (λ k is. same k (inr is)),
+    )
+
+-- and so does a tree.
+pub holds_same : (a b : ℕ → List ℕ) (root : Root) (pages : List ℕ) (entries : List Entry) → ((k : ℕ) → IsOnPages pages k → b k ≡ a k)
+    → HoldsMap (sheet_at a root) root pages entries → HoldsMap (sheet_at b root) root pages entries
+holds_same a b root pages entries same holds = record {
+  map = map_moved (store_of (sheet_at a root)) (store_of (sheet_at b root)) root.tree pages entries (moves_by a b root pages same) holds.map;
+  once = holds.once;
+}
+
+pub opens_same : (a b : ℕ → List ℕ) (root : Root) → b 0 ≡ a 0 → b 1 ≡ a 1 → OpensAs a root → OpensAs b root
+opens_same a b root even odd opens = (λ i. root_of (even i) (odd i)) ∙ opens
+
+pub stands_by_kept : (a image : ℕ → List ℕ) (root : Root) (pages : List ℕ) (entries : List Entry) → OpensAs a root → HoldsMap (sheet_at a root) root pages entries
+    → ((k : ℕ) → IsKept pages k → image k ≡ a k) → StandsFor image entries
+stands_by_kept a image root pages entries opens holds same = record {
+  root = root;
+  pages = pages;
+  opens = opens_same a image root (same 0 (inl (omega arith))) (same 1 (inl (omega arith))) opens;
+  holds = holds_same a image root pages entries (λ k on. same k (inr on)) holds;
+}
+
+pub secures : (sectors : ℕ → Sector) (root : Root) (pages : List ℕ) (entries : List Entry) → OpensAs (reads sectors) root → HoldsMap (sheet_at (reads sectors) root) root pages entries
+    → ((k : ℕ) → IsKept pages k → IsDurable (sectors k)) → Secures sectors (IsKept pages) (λ image. StandsFor image entries)
+secures sectors root pages entries opens holds durable = record {
+  durable = durable;
+  decides = λ image same. stands_by_kept (reads sectors) image root pages entries opens holds same;
+}
+
+-- a page that is there lies in the file
+pub live_below : (image : ℕ → List ℕ) (root : Root) (n : ℕ) → is_ok (sheet_at image root n) ≡ true → n < root.pages
+live_below image root n is = by_tests (nat_lt 0 n) (nat_lt n root.pages) refl is
+  where
+    by_tests : (some inside : Bool) → nat_lt n root.pages ≡ inside → is_ok (if some && inside then sheet_in n root.generation (page_at image n) else Err faults.Number) ≡ true → n < root.pages
+    by_tests true true test is = grind (arith, nat_tests, test)
+    by_tests true false test is = absurd cc
+    by_tests false inside test is = absurd cc

@@ -1,0 +1,120 @@
+-- Where a caller has the premises of a commit from: pages that stay are read under the next root as before, and pages that were made are there.
+use Rattle.std.proofs.Common.{◌≡◌, ◌≢◌, ℕ, ◌<◌, ◌≤◌, Bool, true, false, List, [], ◌∷◌, drop, refl, ◌∙◌, ap, arith}
+use Rattle.std.specs.Prelude.{◌&&◌, ◌||◌, ◌==◌, not, nat_lt, if◌then◌else◌, slice_index, is_ok, Result, Ok, Err}
+use Rattle.std.specs.List.{AllByRecursion}
+use Rattle.std.proofs.lemmas.Bool.Decides.{nat_tests}
+use Rattle.byteorder.specs.Endian.{little_number}
+use Rattle.outcome.specs.Outcome.{◌>>=◌, unless}
+use Rattle.page.specs.Content.{Content}
+use Rattle.page.specs.Format.{Sheet, content_in, generation_in, sheet_in}
+use Rattle.page.specs.Page.{page_at}
+use Rattle.page.specs.declared.page_fault.PageFault.{PageFault}
+use Rattle.page.specs.declared.page_fault.PageFault.TheVariants as faults
+use Rattle.page.specs.History.{History, now, reads}
+use Rattle.btree.specs.Keys.{Each, Entry}
+use Rattle.btree.specs.Store.{IsAt}
+use Rattle.btree.proofs.ReachLemmas.{Moves, map_moved}
+use Rattle.roots.specs.declared.root.Root.{Root}
+use Rattle.roots.specs.Image.{sheet_at, store_of, content_in as content_of}
+use Rattle.roots.specs.Store.{Keeps}
+use Rattle.roots.specs.Turn.{IsTurn, LieBehind, made_or, next_root}
+use Rattle.roots.proofs.WalkLemmas.{IsFound, found_at}
+
+-- ---- a page under a later root
+
+tested : (k p q r r' : Bool) (rest : Result ℕ PageFault) (x : ℕ) → (r ≡ false → r' ≡ false) → unless k faults.Kind (unless (p || q || r) faults.Number rest) ≡ Ok x
+    → unless k faults.Kind (unless (p || q || r') faults.Number rest) ≡ Ok x
+tested true p q r r' rest x weaker is = absurd cc
+tested false true q r r' rest x weaker is = absurd cc
+tested false false true r r' rest x weaker is = absurd cc
+tested false false false true r' rest x weaker is = absurd cc
+tested false false false false r' rest x weaker is = ap (λ (b : Bool). unless b faults.Number rest) (weaker refl) ∙ is
+
+generation_later : (page old new : ℕ) (bytes : List ℕ) (x : ℕ) → old ≤ new → generation_in page old bytes ≡ Ok x → generation_in page new bytes ≡ Ok x
+generation_later page old new bytes x le is =
+    let born = little_number 8 (drop 8 bytes) in
+    tested (slice_index bytes 0 == 0 || nat_lt 4 (slice_index bytes 0) || not (slice_index bytes 1 == 0)) (not (little_number 4 (drop 4 bytes) == page)) (born == 0) (nat_lt old born) (nat_lt new born) (Ok born) x
+    (λ test. grind (arith, nat_tests, test, le)) is
+
+abbrev with_content : ℕ → List ℕ → Result ℕ PageFault → Result Sheet PageFault
+with_content number bytes found = do
+  born ← found
+  inside ← content_in (slice_index bytes 0) (little_number 2 (drop 2 bytes)) (drop 16 bytes)
+  Ok (record { page = number; generation = born; content = inside })
+
+sheet_later : (page old new : ℕ) (bytes : List ℕ) (sheet : Sheet) → old ≤ new → sheet_in page old bytes ≡ Ok sheet → sheet_in page new bytes ≡ Ok sheet
+sheet_later page old new bytes sheet le is = go (generation_in page old bytes) refl is
+  where
+    go : (found : Result ℕ PageFault) → generation_in page old bytes ≡ found → with_content page bytes found ≡ Ok sheet → sheet_in page new bytes ≡ Ok sheet
+    go (Ok born) at there = ap (with_content page bytes) (generation_later page old new bytes born le at) ∙ there
+    go (Err e) at there = absurd cc
+
+pub still_read : (image : ℕ → List ℕ) (old new : Root) (n : ℕ) (sheet : Sheet) → old.generation ≤ new.generation → old.pages ≤ new.pages → sheet_at image old n ≡ Ok sheet → sheet_at image new n ≡ Ok sheet
+still_read image old new n sheet le more is = by_tests (nat_lt 0 n) (nat_lt n old.pages) refl is
+  where
+    by_tests : (some inside : Bool) → nat_lt n old.pages ≡ inside → (if some && inside then sheet_in n old.generation (page_at image n) else Err faults.Number) ≡ Ok sheet
+        → (if some && nat_lt n new.pages then sheet_in n new.generation (page_at image n) else Err faults.Number) ≡ Ok sheet
+    by_tests true true test there =
+        let inside : nat_lt n new.pages ≡ true = grind (arith, nat_tests, test, more) in
+        ap (λ (b : Bool). if b then sheet_in n new.generation (page_at image n) else Err faults.Number) inside ∙ sheet_later n old.generation new.generation (page_at image n) sheet le there
+    by_tests true false test there = absurd cc
+    by_tests false inside test there = absurd cc
+
+-- ---- pages of a turn
+
+made_other : (made : List Sheet) (n : ℕ) (other : Result Sheet PageFault) → AllByRecursion (λ (m : Sheet). m.page ≢ n) made → made_or made n other ≡ other
+made_other [] n other ne = refl
+made_other (m ∷ ms) n other ne =
+    let test : (m.page == n) ≡ false = grind (arith, nat_tests, ne.0) in
+    ap (λ (b : Bool). if b then Ok m else made_or ms n other) test ∙ made_other ms n other ne.1
+
+-- a page that isn't made stays,
+pub kept_there : (image : ℕ → List ℕ) (old : Root) (made : List Sheet) (tree n : ℕ) (content : Content) → AllByRecursion (λ (m : Sheet). m.page ≢ n) made → IsAt (store_of (sheet_at image old)) n content
+    → IsAt (store_of (λ k. made_or made k (sheet_at image (next_root old made tree) k))) n content
+kept_there image old made tree n content ne at =
+    let found : IsFound (sheet_at image old n) content = found_at (sheet_at image old) n content at.live at.holds in
+    let there : made_or made n (sheet_at image (next_root old made tree) n) ≡ Ok found.sheet =
+    made_other made n (sheet_at image (next_root old made tree) n) ne ∙ still_read image old (next_root old made tree) n found.sheet (omega arith) (omega arith) found.is in
+    record { number = at.number; live = ap is_ok there; holds = ap content_of there ∙ found.holds }
+
+all_behind : (last : ℕ) (made : List Sheet) → LieBehind last made → AllByRecursion (λ (m : Sheet). last < m.page) made
+all_behind last [] lie = tt
+all_behind last (m ∷ ms) lie = (lie.0, weaker m.page ms (all_behind m.page ms lie.1))
+  where
+    weaker : (from : ℕ) (rest : List Sheet) → AllByRecursion (λ (x : Sheet). m.page < x.page) rest → AllByRecursion (λ (x : Sheet). last < x.page) rest
+    weaker from [] all = tt
+    weaker from (x ∷ xs) all = (omega (arith, lie.0, all.0), weaker from xs all.1)
+
+behind_another : (others : ℕ → Result Sheet PageFault) (m : Sheet) (ms xs : List Sheet) → AllByRecursion (λ (x : Sheet). made_or ms x.page (others x.page) ≡ Ok x) xs → AllByRecursion (λ (x : Sheet). m.page < x.page) xs
+    → AllByRecursion (λ (x : Sheet). made_or (m ∷ ms) x.page (others x.page) ≡ Ok x) xs
+behind_another others m ms [] all above = tt
+behind_another others m ms (x ∷ xs) all above =
+    let lower : m.page < x.page = above.0 in
+    let test : (m.page == x.page) ≡ false = grind (arith, nat_tests, lower) in
+    (ap (λ (b : Bool). if b then Ok m else made_or ms x.page (others x.page)) test ∙ all.0, behind_another others m ms xs all.1 above.1)
+
+-- and one that is made is there.
+pub made_there : (others : ℕ → Result Sheet PageFault) (last : ℕ) (made : List Sheet) → LieBehind last made → AllByRecursion (λ (m : Sheet). made_or made m.page (others m.page) ≡ Ok m) made
+made_there others last [] lie = tt
+made_there others last (m ∷ ms) lie =
+    let test : (m.page == m.page) ≡ true = grind (arith, nat_tests) in
+    (ap (λ (b : Bool). if b then Ok m else made_or ms m.page (others m.page)) test, behind_another others m ms ms (made_there others m.page ms lie.1) (all_behind m.page ms lie.1))
+
+-- ---- the premises can be met: what is committed may be committed again
+
+all_kept : (image : ℕ → List ℕ) (root : Root) (pages : List ℕ) → Each (Moves (store_of (sheet_at image root)) (store_of (λ k. made_or [] k (sheet_at image (next_root root [] root.tree) k)))) pages
+all_kept image root [] = tt
+all_kept image root (page ∷ pages) = ((λ content at. kept_there image root [] root.tree page content tt at), all_kept image root pages)
+
+pub same_turn : (h : History) (root : Root) (live : List ℕ) (entries : List Entry) → Keeps h root live entries → IsTurn h root live [] root.tree live entries
+same_turn h root live entries keeps = record {
+  ascending = tt;
+  inside = tt;
+  sheets = tt;
+  free = tt;
+  holds = λ k. record {
+    map = map_moved (store_of (sheet_at (reads (now h)) root)) (store_of (λ n. made_or [] n (sheet_at (reads (now h)) (next_root root [] root.tree) n))) root.tree live entries
+        (all_kept (reads (now h)) root live) (keeps.holds k).map;
+    once = (keeps.holds k).once;
+  };
+}

@@ -1,0 +1,67 @@
+-- What a walk over pages finds: the pages that it reached are those of a tree whose keys rise.
+use Rattle.std.specs.Prelude.{◌≡◌, ◌≢◌, ℕ, ◌<◌, suc, zero, List, [], ◌∷◌, ◌++◌, length, take, drop, map, Option, Some, Result, Ok, Err}
+use Rattle.page.specs.Content.{Arm, Item, Place}
+use Rattle.btree.specs.Keys.{Each, IsBetween, IsWithin, Pair, Rises}
+use Rattle.btree.specs.Store.{IsAt, Store}
+use Rattle.btree.specs.Tree.{Body, HasLinks, IsFan, IsSound, IsWhole, Shows, Twig, arm_of, content_of, item_of, next_of, pages_of, pair_keys, place_of, twig_keys, with_low}
+use Rattle.roots.specs.declared.opening.OpenFault.{OpenFault}
+use Rattle.roots.specs.declared.opening.OpenFault.TheVariants as faults
+
+-- a chain of so many bytes from a page on
+pub record HasFoundChain (s : Store) (first len : ℕ) (before after : List ℕ) : Type 0 where
+  pub links : List ℕ
+  pub value : List ℕ
+  pub has : HasLinks s links value
+  pub next : next_of links ≡ first
+  pub long : length value ≡ len
+  pub reached : after ≡ before ++ links
+
+-- the value that lies at this place
+pub record HasFoundValue (s : Store) (place : Place) (before after : List ℕ) : Type 0 where
+  pub links : List ℕ
+  pub value : List ℕ
+  pub is : place ≡ place_of links value
+  pub has : 0 < length links → HasLinks s links value
+  pub reached : after ≡ before ++ links
+
+-- pairs between the bounds in these cells
+pub record HasFoundPairs (s : Store) (low : List ℕ) (high : Option (List ℕ)) (items : List Item)
+    (before after : List ℕ) : Type 0 where
+  pub pairs : List Pair
+  pub is : items ≡ map item_of pairs
+  pub shown : Shows s zero pairs
+  pub between : Each (IsBetween low high) (pair_keys pairs)
+  pub reached : after ≡ before ++ pages_of zero pairs
+
+-- a part of a tree, between bounds of which the low one is below the high one
+pub record HasFoundPart (s : Store) (page d : ℕ) (low : List ℕ) (high : Option (List ℕ))
+    (before after : List ℕ) : Type 0 where
+  pub body : Body d
+  pub at : IsAt s page (content_of d body)
+  pub shown : Shows s d body
+  pub whole : IsWhole d body
+  pub sound : IsSound d low high body
+  pub within : IsWithin high low
+  pub reached : after ≡ before ++ page ∷ pages_of d body
+
+-- the low key of the first one of some last children, or the high bound where there is none
+abbrev pub bound_of : Option (List ℕ) → List Arm → Option (List ℕ)
+bound_of high [] = high
+bound_of high (arm ∷ arms) = Some arm.key
+
+-- the parts below the first i children of a branch
+pub record HasFoundFan (s : Store) (d : ℕ) (low : List ℕ) (high : Option (List ℕ))
+    (arms : List Arm) (i : ℕ) (before after : List ℕ) : Type 0 where
+  pub twigs : List (Twig (Body d))
+  pub is : take i arms ≡ map arm_of twigs
+  pub shown : Shows s (suc d) twigs
+  pub fan : IsFan (λ from to body. IsWhole d body × IsSound d from to body)
+      (bound_of high (drop i arms)) (with_low low twigs)
+  pub rise : Rises (twig_keys (with_low low twigs))
+  pub within : Each (IsWithin (bound_of high (drop i arms))) (twig_keys (with_low low twigs))
+  pub reached : after ≡ before ++ pages_of (suc d) twigs
+
+-- these pages were reached, below so many levels, or the fault isn't one of the pages
+abbrev pub ReachesDepth : ℕ → List ℕ → List ℕ → List ℕ → Result ℕ OpenFault → Type 0
+ReachesDepth d pages before after (Ok depth) = (depth ≡ d) × (after ≡ before ++ pages)
+ReachesDepth d pages before after (Err fault) = fault ≢ faults.Damaged

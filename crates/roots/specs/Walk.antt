@@ -1,0 +1,100 @@
+-- What a walk over a tree's pages gives: those that it reaches, each once, in the order of its keys.
+use Rattle.std.specs.Prelude.{◌≡◌, ◌≢◌, ℕ, ◌+◌, ◌<◌, ◌≤◌, false, if◌then◌else◌, List, ◌++◌, length, get_or, max, Result, Ok, Err, IfErr, IfOk, OnOk, MatchResult}
+use Rattle.page.specs.History.{History, KeepsWord, now, reads}
+use Rattle.page.specs.Crash.{ReadsOnly}
+use Rattle.page.specs.Format.{Sheet}
+use Rattle.page.specs.ImageView.{sheet_of}
+use Rattle.page.specs.declared.page_image.PageImage.{PageImage}
+use Rattle.btree.specs.Keys.{Entry, times}
+use Rattle.btree.specs.Store.{Store as Pages}
+use Rattle.freelist.specs.Book.{Book, opened}
+use Rattle.roots.specs.Image.{HoldsMap, sheet_at, store_of}
+use Rattle.roots.specs.Store.{IsCommitted, disk_history, durable_root, is_stopped}
+use Rattle.roots.specs.declared.opening.OpenFault.{OpenFault}
+use Rattle.roots.specs.declared.opening.OpenFault.TheVariants as faults
+use Rattle.roots.specs.declared.root.Root.{Root}
+use Rattle.roots.specs.declared.store.Store.{Store}
+use Rattle.roots.specs.declared.walk.Reached.{Reached}
+
+-- a failed read is counted; the other faults are that memory ran out, and that the pages are no tree
+abbrev pub HasCause : History → History → OpenFault → Type 0
+HasCause old new faults.Device = KeepsWord new → old.failures < new.failures
+HasCause old new faults.Memory = Unit {0}
+HasCause old new faults.Damaged = Unit {0}
+HasCause old new faults.NotADatabase = ⊥
+HasCause old new faults.NewerFormat = ⊥
+
+-- calls that only read, and a fault with its cause
+pub record Looks {X : Type 0} (result : Result X OpenFault) (old new : History) : Type 0 where
+  pub reads : ReadsOnly old new
+  pub cause : IfErr result (HasCause old new)
+
+-- the pages that a file with this root has, as its reads give them
+abbrev pub pages_in : History → Root → Pages
+pages_in h root = store_of (sheet_at (reads (now h)) root)
+
+abbrev pub pages_so_far : Reached → List ℕ
+pages_so_far reached = reached.pages.items
+
+-- of so many pages those that were reached are marked, each once
+pub record IsMarked (limit : ℕ) (reached : Reached) : Type 0 where
+  pub count : length reached.seen.items ≡ limit
+  pub marks : (n : ℕ) → times n (pages_so_far reached)
+      ≡ (if get_or reached.seen.items n false then 1 else 0)
+
+-- pages that can be reached beside those so far
+pub record CanReach (limit : ℕ) (reached : Reached) (pages : List ℕ) : Type 0 where
+  pub marked : IsMarked limit reached
+  pub apart : (n : ℕ) → times n (pages_so_far reached) + times n pages ≤ 1
+
+-- these pages were reached, in order, or the fault isn't one of the pages
+abbrev pub Reaches : {X : Type 0} → List ℕ → Reached → Reached → Result X OpenFault → Type 0
+Reaches pages old new (Ok done) = pages_so_far new ≡ pages_so_far old ++ pages
+Reaches pages old new (Err fault) = fault ≢ faults.Damaged
+
+abbrev pub KeepsMarks : {X : Type 0} → Reached → Reached → Result X OpenFault → Type 0
+KeepsMarks old new result = OnOk result ((limit : ℕ) → IsMarked limit old → IsMarked limit new)
+
+-- ---- a page
+
+-- Nothing of the store has changed, and this is the page that its disk holds, or it holds none.
+pub record ReadsSheet {D : Type 0} (history : D → History) (page : ℕ)
+    (result : Result PageImage OpenFault) (old new : Store D) : Type 0 where
+  pub root : durable_root new ≡ durable_root old
+  pub stopped : is_stopped new ≡ is_stopped old
+  pub committed : (live : List ℕ) (entries : List Entry) → IsCommitted history old live entries
+      → IsCommitted history new live entries
+  pub sheet : let image = reads (now (disk_history history old)) in
+      let sheet = sheet_at image (durable_root old) page in
+      KeepsWord (disk_history history new) → MatchResult result
+      (λ image. sheet ≡ Ok (sheet_of image))
+      (λ fault. fault ≡ faults.Damaged → (found : Sheet) → sheet ≡ Ok found → ⊥)
+
+-- ---- the book of a file's pages
+
+-- a book that was opened with some pages in use
+pub record IsBookOf (limit : ℕ) (root : Root) (book : Book) : Type 0 where
+  pub in_use : List ℕ
+  pub is : book ≡ opened in_use (max (max limit root.pages) 1) root.generation
+
+-- the pages are those of a tree that this root names
+abbrev pub HasMapThere : (ℕ → List ℕ) → Root → Type 0
+HasMapThere image root =
+    (pages : List ℕ) × ((entries : List Entry) × HoldsMap (sheet_at image root) root pages entries)
+
+-- Nothing of the store has changed, and the root has a tree; where one is committed, the pages that it reaches are in use, and
+-- the fault isn't one of the pages.
+pub record FindsFree {D : Type 0} (history : D → History) (limit : ℕ)
+    (result : Result Book OpenFault) (old new : Store D) : Type 0 where
+  pub root : durable_root new ≡ durable_root old
+  pub stopped : is_stopped new ≡ is_stopped old
+  pub committed : (live : List ℕ) (entries : List Entry) → IsCommitted history old live entries
+      → IsCommitted history new live entries
+  pub some : IfOk result (IsBookOf limit (durable_root old))
+  pub stands : let image = reads (now (disk_history history old)) in
+      KeepsWord (disk_history history new)
+      → IfOk result (λ book. HasMapThere image (durable_root old))
+  pub book : KeepsWord (disk_history history new) → (live : List ℕ) (entries : List Entry)
+      → IsCommitted history old live entries → let root = durable_root old in
+      MatchResult result (λ book. book ≡ opened live (max limit root.pages) root.generation)
+      (λ fault. fault ≢ faults.Damaged)
