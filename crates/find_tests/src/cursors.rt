@@ -365,6 +365,13 @@ fn an_end_and_a_fault(rt: HostRuntime) -> Result<(), Fail> {
     Ok(())
 }
 
+/// The bytes of a root with another generation.
+fn of_generation(root: &[u8; 512], generation: u64) -> [u8; 512] {
+    let mut bytes = *root;
+    bytes[16..24].copy_from_slice(&generation.to_le_bytes());
+    bytes
+}
+
 /// A database at the greatest generation, where no commit finds another: what one turn with this insert made, with the roots of
 /// the two greatest generations in place of its own.
 fn at_last_generation(alloc: Global, insert: &str) -> Result<Core<MemDisk>, Fail>
@@ -379,10 +386,8 @@ fn at_last_generation(alloc: Global, insert: &str) -> Result<Core<MemDisk>, Fail
     let mut disk = core.into_disk();
     let mut root = [0; 512];
     disk.read(1, &mut root)?;
-    root[16..24].copy_from_slice(&u64::MAX.to_le_bytes());
-    disk.write(1, &root)?;
-    root[16..24].copy_from_slice(&(u64::MAX - 1).to_le_bytes());
-    disk.write(0, &root)?;
+    disk.write(1, &of_generation(&root, u64::MAX))?;
+    disk.write(0, &of_generation(&root, u64::MAX - 1))?;
     match Core::open(alloc, disk, CONFIG) {
         Ok(core) => Ok(core),
         Err(_) => Err(Fail::from("it doesn't open")),

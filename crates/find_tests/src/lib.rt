@@ -4,8 +4,6 @@
 #[cfg(test)]
 mod aggregating;
 #[cfg(test)]
-mod collections;
-#[cfg(test)]
 mod conversation;
 #[cfg(test)]
 mod cursors;
@@ -21,6 +19,8 @@ mod matching;
 mod missing;
 #[cfg(test)]
 mod misused_updates;
+#[cfg(test)]
+mod namespaces;
 #[cfg(test)]
 mod projecting;
 #[cfg(test)]

@@ -1,6 +1,6 @@
 //! Where documents lie in the file: in leaves and in chains, by short keys and by the longest.
 
-ghost use Rattle.std.specs.Prelude.{IfOk};
+ghost use Rattle.std.specs.Prelude.{◌≤◌, IfOk};
 ghost use Rattle.page.specs.Memory.{memory_history};
 ghost use Rattle.server.specs.Durable.{IsSound};
 
@@ -170,7 +170,9 @@ fn long_id(alloc: Global, number: usize, letters: usize) -> Result<Bytes, Fail> 
 
 /// The documents from a number on, each so many numbers behind the one before, in the order of their keys: a digit is
 /// less than a letter, so those of fewer letters come first.
-fn long_ids(alloc: Global, from: usize, step: usize) -> Result<Vec<Bytes>, Fail> {
+fn long_ids(alloc: Global, from: usize, step: usize) -> Result<Vec<Bytes>, Fail>
+    requires { 1 ≤ step }
+{
     let mut documents = Vec::new(alloc);
     for letters in LETTERS {
         for number in (from..EACH).step_by(step) {
