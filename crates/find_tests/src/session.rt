@@ -1,9 +1,5 @@
 //! A server with one connection, asked command by command.
 
-ghost use Rattle.std.specs.Prelude.{IfOk};
-ghost use Rattle.page.specs.Memory.{memory_history};
-ghost use Rattle.server.specs.Durable.{IsSound};
-
 use bson::{Document, Value, decode, encode};
 use by_hand::{Bytes, body_of, frame, refusal};
 use engine::ConnId;
@@ -11,6 +7,7 @@ use notation::{document, value};
 use page::MemDisk;
 use server::{Config, Core};
 use std::alloc::Global;
+use std::marker::Model;
 use std::test::*;
 
 /// A file has at most the pages that the format allows.
@@ -18,33 +15,40 @@ pub const CONFIG: Config = Config {
     max_pages: 1_048_576,
 };
 
+/// A server with one connection, and how often it was asked. To its callers it is that number.
 #[derive(Drop)]
 pub struct Session {
     alloc: Global,
-    pub core: Core<MemDisk>,
+    core: Core<MemDisk>,
     connection: ConnId,
     asked: u32,
 }
 
+impl Model for Session {
+    ghost use Rattle.std.specs.Prelude.{ℕ};
+    ghost use Rattle.page.specs.Memory.{memory_history};
+    ghost use Rattle.server.specs.Durable.{IsSound};
+
+    ghost Value = { ℕ };
+
+    ghost view = { λ a. a.asked };
+
+    ghost invariant = { λ a. IsSound memory_history a.core };
+}
+
 impl Session {
     /// A session over a disk of zeros.
-    pub fn new(alloc: Global) -> Result<Session, Fail>
-        ensures { IfOk result (λ session. IsSound memory_history session.core) }
-    {
+    pub fn new(alloc: Global) -> Result<Session, Fail> {
         Session::over(alloc, MemDisk::new(alloc))
     }
 
     /// A session over a disk.
-    pub fn over(alloc: Global, disk: MemDisk) -> Result<Session, Fail>
-        ensures { IfOk result (λ session. IsSound memory_history session.core) }
-    {
+    pub fn over(alloc: Global, disk: MemDisk) -> Result<Session, Fail> {
         Session::within(alloc, disk, CONFIG)
     }
 
     /// A session over a disk, with a limit of pages.
-    pub fn within(alloc: Global, disk: MemDisk, config: Config) -> Result<Session, Fail>
-        ensures { IfOk result (λ session. IsSound memory_history session.core) }
-    {
+    pub fn within(alloc: Global, disk: MemDisk, config: Config) -> Result<Session, Fail> {
         let connection = ConnId::new(0).ok_or("connection 0")?;
         match Core::open(alloc, disk, config) {
             Ok(core) => Ok(Session {
@@ -58,9 +62,7 @@ impl Session {
     }
 
     /// A session with these documents in `t.c`.
-    pub fn filled(alloc: Global, documents: &str) -> Result<Session, Fail>
-        ensures { IfOk result (λ session. IsSound memory_history session.core) }
-    {
+    pub fn filled(alloc: Global, documents: &str) -> Result<Session, Fail> {
         let mut session = Session::new(alloc)?;
         let insert = format!(in alloc; "{{insert: 'c', documents: {documents}, $db: 't'}}")?;
         if !session.does(&document(alloc, &insert)?)? {
@@ -80,10 +82,7 @@ impl Session {
     }
 
     /// The document that a command is answered with, in a frame with the next reply number.
-    fn ask(&mut self, command: &Document) -> Result<Vec<u8>, Fail>
-        requires { IsSound memory_history self.old.core }
-        ensures { IsSound memory_history self.new.core }
-    {
+    fn ask(&mut self, command: &Document) -> Result<Vec<u8>, Fail> {
         let message = frame(self.alloc, 1_000, 0, &elements(self.alloc, command)?)?;
         self.core.feed(self.connection, &message)?;
         let mut out = self.core.turn()?;
@@ -97,39 +96,27 @@ impl Session {
     }
 
     /// Whether a command is done.
-    pub fn does(&mut self, command: &Document) -> Result<bool, Fail>
-        requires { IsSound memory_history self.old.core }
-        ensures { IsSound memory_history self.new.core }
-    {
+    pub fn does(&mut self, command: &Document) -> Result<bool, Fail> {
         let (reply, _) = decode(self.alloc, &self.ask(command)?)?;
         Ok(matches!(reply.get("ok"), Some(Value::Int32(1))))
     }
 
     /// Whether a command is answered with this document.
-    pub fn answers(&mut self, command: &str, reply: &str) -> Result<bool, Fail>
-        requires { IsSound memory_history self.old.core }
-        ensures { IsSound memory_history self.new.core }
-    {
+    pub fn answers(&mut self, command: &str, reply: &str) -> Result<bool, Fail> {
         let found = self.ask(&document(self.alloc, command)?)?;
         let wanted = encode(self.alloc, &document(self.alloc, reply)?)?;
         Ok(found.as_slice() == wanted.as_slice())
     }
 
     /// Whether a command is refused with this number.
-    pub fn refuses(&mut self, command: &str, code: i32) -> Result<bool, Fail>
-        requires { IsSound memory_history self.old.core }
-        ensures { IsSound memory_history self.new.core }
-    {
+    pub fn refuses(&mut self, command: &str, code: i32) -> Result<bool, Fail> {
         let found = self.ask(&document(self.alloc, command)?)?;
         let wanted = refusal(self.alloc, code).whole()?;
         Ok(found.as_slice() == wanted.as_slice())
     }
 
     /// Whether a find in `t.c` with these fields gives the documents of these numbers.
-    pub fn finds(&mut self, fields: &str, numbers: &str) -> Result<bool, Fail>
-        requires { IsSound memory_history self.old.core }
-        ensures { IsSound memory_history self.new.core }
-    {
+    pub fn finds(&mut self, fields: &str, numbers: &str) -> Result<bool, Fail> {
         let find = format!(in self.alloc; "{{find: 'c', {fields}, $db: 't'}}")?;
         let reply = self.ask(&document(self.alloc, &find)?)?;
         let (reply, _) = decode(self.alloc, &reply)?;
@@ -141,10 +128,7 @@ impl Session {
     pub fn answered_otherwise(
         &mut self,
         script: &[(&'static str, &'static str)],
-    ) -> Result<Option<&'static str>, Fail>
-        requires { IsSound memory_history self.old.core }
-        ensures { IsSound memory_history self.new.core }
-    {
+    ) -> Result<Option<&'static str>, Fail> {
         'script: for (command, reply) in script {
             if !self.answers(command, reply)? {
                 return Ok(Some(*command));
@@ -157,10 +141,7 @@ impl Session {
     pub fn refused_otherwise(
         &mut self,
         cases: &[(&'static str, i32)],
-    ) -> Result<Option<&'static str>, Fail>
-        requires { IsSound memory_history self.old.core }
-        ensures { IsSound memory_history self.new.core }
-    {
+    ) -> Result<Option<&'static str>, Fail> {
         'cases: for (command, code) in cases {
             if !self.refuses(command, *code)? {
                 return Ok(Some(*command));
@@ -173,10 +154,7 @@ impl Session {
     pub fn found_otherwise(
         &mut self,
         cases: &[(&'static str, &'static str)],
-    ) -> Result<Option<&'static str>, Fail>
-        requires { IsSound memory_history self.old.core }
-        ensures { IsSound memory_history self.new.core }
-    {
+    ) -> Result<Option<&'static str>, Fail> {
         'cases: for (fields, numbers) in cases {
             if !self.finds(fields, numbers)? {
                 return Ok(Some(*fields));

@@ -1,8 +1,5 @@
 //! What the disk holds after each turn, byte by byte.
 
-ghost use Rattle.page.specs.Memory.{memory_history};
-ghost use Rattle.server.specs.Durable.{IsSound};
-
 use crate::session::{CONFIG, Session};
 use by_hand::*;
 use page::{Disk, MemDisk};
@@ -16,10 +13,7 @@ const FIRST: [u8; 77] =
     *b"\x0e\0\x14\0\0\0\0\0\0\0\0\0\0\0\x40t.c\0\0\x14\0\0\0\x10n\0\x01\0\0\0\x04x\0\x05\0\0\0\0\0\x11\0\x0e\0\0\0\0\0\0\x01\0\0\0\0\x30\x80\0\0\0\0\0\0\x01\x0e\0\0\0\x10_id\0\x01\0\0\0\0";
 
 /// Inserts a document with this number, and nothing else.
-fn takes(alloc: Global, session: &mut Session, number: i32) -> bool
-    requires { IsSound memory_history session.old.core }
-    ensures { IsSound memory_history session.new.core }
-{
+fn takes(alloc: Global, session: &mut Session, number: i32) -> bool {
     let body = insert_one(alloc, id_document(alloc, number));
     session.answers(&body, &count_reply(alloc, 1))
 }

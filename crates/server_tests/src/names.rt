@@ -1,8 +1,5 @@
 //! Names of databases, collections and fields.
 
-ghost use Rattle.page.specs.Memory.{memory_history};
-ghost use Rattle.server.specs.Durable.{IsSound};
-
 use crate::session::Session;
 use by_hand::*;
 use std::alloc::{AllocError, Global};
@@ -17,10 +14,7 @@ fn repeated(alloc: Global, unit: &str, times: usize) -> Result<String, AllocErro
 }
 
 /// The number that a command is refused with, or 0.
-fn code(session: &mut Session, body: &Bytes) -> i32
-    requires { IsSound memory_history session.old.core }
-    ensures { IsSound memory_history session.new.core }
-{
+fn code(session: &mut Session, body: &Bytes) -> i32 {
     for number in [52, 56, 57, 73] {
         if session.refuses(body, number) {
             return number;

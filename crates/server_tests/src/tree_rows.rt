@@ -1,8 +1,6 @@
 //! Where documents lie in the file: in leaves and in chains, by short keys and by the longest.
 
-ghost use Rattle.std.specs.Prelude.{◌≤◌, IfOk};
-ghost use Rattle.page.specs.Memory.{memory_history};
-ghost use Rattle.server.specs.Durable.{IsSound};
+ghost use Rattle.std.specs.Prelude.{◌≤◌};
 
 use crate::session::Session;
 use crate::tree_file::{File, LEAF, Root, Shape, cell_at, number_at, part};
@@ -188,10 +186,7 @@ pub fn find_all(alloc: Global) -> Bytes {
 }
 
 /// Puts both documents of each number, one a turn, the numbers in another order than theirs.
-fn put_long(rt: &(impl Abort + AllocGlobal), session: &mut Session) -> Result<(), Fail>
-    requires { IsSound memory_history session.old.core }
-    ensures { IsSound memory_history session.new.core }
-{
+fn put_long(rt: &(impl Abort + AllocGlobal), session: &mut Session) -> Result<(), Fail> {
     let alloc = rt.alloc();
     for i in 0..2 * EACH {
         let number = (i / 2).wrapping_mul(37) % EACH;
@@ -206,10 +201,7 @@ fn put_long(rt: &(impl Abort + AllocGlobal), session: &mut Session) -> Result<()
 }
 
 /// Finds each document by its `_id`.
-fn find_long(rt: &(impl Abort + AllocGlobal), session: &mut Session) -> Result<(), Fail>
-    requires { IsSound memory_history session.old.core }
-    ensures { IsSound memory_history session.new.core }
-{
+fn find_long(rt: &(impl Abort + AllocGlobal), session: &mut Session) -> Result<(), Fail> {
     let alloc = rt.alloc();
     for i in 0..2 * EACH {
         let letters = if i % 2 == 0 { 497 } else { 315 };
@@ -224,10 +216,7 @@ fn find_long(rt: &(impl Abort + AllocGlobal), session: &mut Session) -> Result<(
 }
 
 /// Removes both documents of each even number, one a turn.
-fn remove_even(rt: &(impl Abort + AllocGlobal), session: &mut Session) -> Result<(), Fail>
-    requires { IsSound memory_history session.old.core }
-    ensures { IsSound memory_history session.new.core }
-{
+fn remove_even(rt: &(impl Abort + AllocGlobal), session: &mut Session) -> Result<(), Fail> {
     let alloc = rt.alloc();
     for i in 0..EACH {
         let letters = if i % 2 == 0 { 497 } else { 315 };
@@ -245,9 +234,7 @@ fn remove_even(rt: &(impl Abort + AllocGlobal), session: &mut Session) -> Result
 pub fn reopened(
     rt: &(impl Abort + AllocGlobal),
     session: Session,
-) -> Result<(Session, Shape, Root), Fail>
-    ensures { IfOk result (λ r. IsSound memory_history r.0.core) }
-{
+) -> Result<(Session, Shape, Root), Fail> {
     let alloc = rt.alloc();
     let mut file = File::of(alloc, session.into_disk()).ok_or("no root")?;
     let shape = file.shape().ok_or("no tree")?;

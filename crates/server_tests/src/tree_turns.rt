@@ -1,8 +1,5 @@
 //! Documents that come and go, turn by turn: what is found, and what the file has of pages.
 
-ghost use Rattle.page.specs.Memory.{memory_history};
-ghost use Rattle.server.specs.Durable.{IsSound};
-
 use crate::session::Session;
 use crate::tree_file::Shape;
 use crate::tree_rows::{find_all, reopened, sized, text_of};
@@ -32,10 +29,12 @@ fn records(alloc: Global, text: &[u8], present: &[bool]) -> Result<Vec<Bytes>, A
 }
 
 /// Whether a find of everything and a count give these documents.
-fn gives(alloc: Global, text: &[u8], session: &mut Session, present: &[bool]) -> Result<bool, Fail>
-    requires { IsSound memory_history session.old.core }
-    ensures { IsSound memory_history session.new.core }
-{
+fn gives(
+    alloc: Global,
+    text: &[u8],
+    session: &mut Session,
+    present: &[bool],
+) -> Result<bool, Fail> {
     let documents = records(alloc, text, present)?;
     let counted = count_reply(alloc, i32::try_from(documents.len())?);
     let found = batch_reply(alloc, &documents);
@@ -44,19 +43,13 @@ fn gives(alloc: Global, text: &[u8], session: &mut Session, present: &[bool]) ->
 }
 
 /// A turn that puts a document.
-fn puts(alloc: Global, text: &[u8], session: &mut Session, number: usize) -> bool
-    requires { IsSound memory_history session.old.core }
-    ensures { IsSound memory_history session.new.core }
-{
+fn puts(alloc: Global, text: &[u8], session: &mut Session, number: usize) -> bool {
     let body = insert_one(alloc, record(alloc, text, number));
     session.answers(&body, &count_reply(alloc, 1))
 }
 
 /// A turn that removes it.
-fn removes(alloc: Global, session: &mut Session, number: usize) -> bool
-    requires { IsSound memory_history session.old.core }
-    ensures { IsSound memory_history session.new.core }
-{
+fn removes(alloc: Global, session: &mut Session, number: usize) -> bool {
     let id = id_document(alloc, (number % COUNT) as i32);
     let body = delete(alloc, &[delete_statement(alloc, &id, 1)]);
     session.answers(&body, &count_reply(alloc, 1))
@@ -76,10 +69,7 @@ fn put_some(
     session: &mut Session,
     present: &mut [bool],
     turns: std::ops::Range<usize>,
-) -> Result<(), Fail>
-    requires { IsSound memory_history session.old.core }
-    ensures { IsSound memory_history session.new.core }
-{
+) -> Result<(), Fail> {
     for turn in turns {
         let number = turn.wrapping_mul(389) % COUNT;
         assert!(rt; puts(rt.alloc(), text, session, number), "puts {number}");
@@ -101,10 +91,7 @@ fn remove_some(
     session: &mut Session,
     present: &mut [bool],
     pairs: std::ops::Range<usize>,
-) -> Result<(), Fail>
-    requires { IsSound memory_history session.old.core }
-    ensures { IsSound memory_history session.new.core }
-{
+) -> Result<(), Fail> {
     for low in pairs {
         let high = (COUNT - 1).saturating_sub(low);
         assert!(rt; removes(rt.alloc(), session, low), "removes {low}");
@@ -166,9 +153,7 @@ fn dropped(
     text: &[u8],
     mut session: Session,
     pages: u32,
-) -> Result<(), Fail>
-    requires { IsSound memory_history session.core }
-{
+) -> Result<(), Fail> {
     let alloc = rt.alloc();
     assert!(rt; pages <= MOST_PAGES, "{pages} pages");
     assert!(rt; session.answers(&drop_collection(alloc), &drop_reply(alloc)));
@@ -200,10 +185,7 @@ fn put_rising(
     session: &mut Session,
     turns: usize,
     each: usize,
-) -> Result<(), Fail>
-    requires { IsSound memory_history session.old.core }
-    ensures { IsSound memory_history session.new.core }
-{
+) -> Result<(), Fail> {
     let alloc = rt.alloc();
     let text = text_of(alloc)?;
     for turn in 0..turns {
