@@ -14,6 +14,8 @@ mod fields;
 #[cfg(test)]
 mod kept;
 #[cfg(test)]
+mod last_generation;
+#[cfg(test)]
 mod matching;
 #[cfg(test)]
 mod missing;
