@@ -1,12 +1,12 @@
 -- What is found in the tree is what the collections have.
-use Rattle.std.proofs.Common.{◌≡◌, ℕ, zero, suc, ◌+◌, ◌<◌, ◌≤◌, Bool, true, false, List, [], ◌∷◌, ◌++◌, length, map, take, get_or, refl, sym, ◌∙◌, ap, subst, arith, inl, inr, length-append}
+use Rattle.std.proofs.Common.{◌≡◌, ℕ, zero, suc, ◌+◌, ◌<◌, ◌≤◌, true, false, List, [], ◌∷◌, ◌++◌, length, map, take, get_or, refl, sym, ◌∙◌, ap, subst, arith, length-append}
 use Rattle.std.specs.Prelude.{Option, Some, None, is_some, All, Result, Ok, Err}
 use Rattle.std.specs.Option.{option_map}
 use Rattle.std.specs.Global.{Vec}
 use Rattle.std.proofs.lemmas.List.{length-map, take_all}
 use Rattle.std.proofs.lemmas.List.Elements.{All-head, All-tail}
 use Rattle.bson.specs.Spelling.{frame_of, pairs_bytes}
-use Rattle.bson.specs.Tree.{Pairs, Tree}
+use Rattle.bson.specs.Tree.{Pairs}
 use Rattle.value_order.specs.KeyText.{tree_text}
 use Rattle.path.specs.declared.refusal.Refusal.{Refusal}
 use Rattle.btree.specs.Calls.{IsBatch}
@@ -18,7 +18,7 @@ use Rattle.btree.specs.declared.scanning.Range.{Range}
 use Rattle.index.specs.LawfulState.{IsKept, IsStorable}
 use Rattle.index.specs.State.{Collection, find_collection, words}
 use Rattle.index.specs.StateEntries.{catalogue_entry, document_entry, key_under}
-use Rattle.index.specs.StateReads.{catalogue_bytes, find_document}
+use Rattle.index.specs.StateReads.{catalogue_bytes}
 use Rattle.index.proofs.FoundLawLemmas.{found_collection, found_document}
 use Rattle.index.proofs.ListingLaws.{lists_collections}
 use Rattle.index.proofs.ReadLaws.{finds_collection, finds_document}

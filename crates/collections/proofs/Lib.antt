@@ -1,5 +1,6 @@
 pub mod ApplyLemmas
 pub mod CommitLemmas
+pub mod EntryLemmas
 pub mod FoundLemmas
 pub mod LawLemmas
 pub mod MarkLemmas

@@ -1,7 +1,7 @@
 -- What a look-up in the tree says of the collections, and how answers go on from there.
-use Rattle.std.proofs.Common.{◌≡◌, ℕ, false, true, List, [], ◌∷◌, map, length, refl, sym, ◌∙◌, ap, subst, arith, inl, inr, Some, None}
+use Rattle.std.proofs.Common.{◌≡◌, ℕ, false, true, List, [], ◌∷◌, map, refl, sym, ◌∙◌, ap, subst, arith, inl, inr, Some, None}
 use Rattle.std.specs.Prelude.{◌==◌, ◌&&◌, not, is_some, Option, Result, Ok, Err, MatchResult}
-use Rattle.page.specs.History.{History, KeepsWord}
+use Rattle.page.specs.History.{History}
 use Rattle.path.specs.declared.refusal.Refusal.{Refusal}
 use Rattle.path.specs.declared.refusal.Refusal.TheVariants as refusals
 use Rattle.std.specs.Global.{Vec}
@@ -26,7 +26,7 @@ use Rattle.collections.specs.Entries.{ReadsEntries}
 use Rattle.collections.specs.Reading.{IsInTree, LooksUp, OrMemory, ReadsOf}
 use Rattle.collections.specs.Standing.{HasState, IsTurnOf}
 use Rattle.collections.specs.State.{State}
-use Rattle.collections.specs.View.{disk_history, is_changed, is_stopped}
+use Rattle.collections.specs.View.{is_changed, is_stopped}
 use Rattle.collections.proofs.FoundLemmas.{whole_batch}
 use Rattle.collections.proofs.StandingLemmas.{state_stays, tree_same}
 
@@ -74,13 +74,13 @@ module _ {D X : Type 0} (history : D → History) (IsRight : List Entry → X �
   abbrev new : State D
   new = record old { pager = pager }
 
-  unchanged_there : is_changed new ≡ is_changed old
+  pub unchanged_there : is_changed new ≡ is_changed old
   unchanged_there = ap (λ (tree : ℕ). not (old.root == tree)) (tree_same history old.pager pager looks.grows.stays)
 
-  stays_there : (start now : List Collection) → HasState history old start now → HasState history new start now
+  pub stays_there : (start now : List Collection) → HasState history old start now → HasState history new start now
   stays_there start now = state_stays history old new start now looks.grows refl (λ k. (looks.same k).made) (λ k. (looks.same k).retired)
 
-  cause_there : (e : TreeFault) → HasTreeCause (store_of history old.pager) (store_of history pager) e → HasCause history old new (refusal_of e)
+  pub cause_there : (e : TreeFault) → HasTreeCause (store_of history old.pager) (store_of history pager) e → HasCause history old new (refusal_of e)
   cause_there faults.Memory cause = inl refl
   cause_there faults.Device cause = inr (inl (refl, inr cause))
   cause_there faults.Full cause = inr (inr (refl, cause))
@@ -166,7 +166,7 @@ entries_stopped history old stopped = record {
 }
 
 -- a window over all keys
-window_all : (entries : List Entry) → window [] None entries ≡ entries
+pub window_all : (entries : List Entry) → window [] None entries ≡ entries
 window_all [] = refl
 window_all (x ∷ xs) = first x.key ∙ ap (λ (l : List Entry). x ∷ l) (window_all xs)
   where

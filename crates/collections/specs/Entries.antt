@@ -1,10 +1,12 @@
 -- The entries of a turn's tree, whatever they spell.
-use Rattle.std.specs.Prelude.{◌≡◌, ℕ, List, map, Result, MatchResult}
+use Rattle.std.specs.Prelude.{◌≡◌, ◌≤◌, ℕ, List, [], ◌++◌, length, map, Option, Some, None, Result, MatchResult}
+use Rattle.std.specs.Option.{option_map}
 use Rattle.std.specs.Global.{Vec}
 use Rattle.page.specs.History.{History, KeepsWord}
-use Rattle.btree.specs.Keys.{Entry}
+use Rattle.btree.specs.Keys.{Entry, window}
 use Rattle.btree.specs.Reach.{HasMap}
 use Rattle.btree.specs.Scan.{entry_in}
+use Rattle.btree.specs.declared.scanning.Batch.{Batch}
 use Rattle.btree.specs.declared.scanning.Entry.{Entry as OwnEntry}
 use Rattle.index.specs.State.{Collection}
 use Rattle.path.specs.declared.refusal.Refusal.{Refusal}
@@ -29,3 +31,31 @@ pub record ReadsEntries {D : Type 0} (history : D → History) (result : Result 
   pub answers : KeepsWord (disk_history history new) → (entries : List Entry)
       → HasEntries history old entries
       → MatchResult result (λ all. map entry_in all.items ≡ entries) (HasCause history old new)
+
+-- ---- a batch of them
+
+-- those from a key on, or none
+abbrev pub entries_from : Option (List ℕ) → List Entry → List Entry
+entries_from None entries = []
+entries_from (Some key) entries = window key None entries
+
+-- A batch of the entries from a key on, at most so many; the others stand from its next key on.
+pub record AreNextEntries (from : List ℕ) (limit : ℕ) (entries : List Entry) (batch : Batch) : Type 0 where
+  pub is : entries_from (Some from) entries
+      ≡ map entry_in batch.entries.items
+      ++ entries_from (option_map (λ v. v.items) batch.next) entries
+  pub most : length batch.entries.items ≤ limit
+
+-- Entries were read: nothing of the turn changes, its tree stays, and while the disk keeps its word, the answer is right for the
+-- entries that the tree has, or the refusal has its cause.
+pub record ReadsTree {D X : Type 0} (history : D → History) (IsRight : List Entry → X → Type 0)
+    (result : Result X Refusal) (old new : State D) : Type 0 where
+  pub on : GoesFrom history old new
+  pub unchanged : is_changed new ≡ is_changed old
+  pub same : (start now : List Collection) → HasState history old start now
+      → HasState history new start now
+  pub stays : KeepsWord (disk_history history new) → (entries : List Entry)
+      → HasEntries history old entries → HasEntries history new entries
+  pub answers : KeepsWord (disk_history history new) → (entries : List Entry)
+      → HasEntries history old entries
+      → MatchResult result (IsRight entries) (HasCause history old new)

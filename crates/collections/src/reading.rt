@@ -9,7 +9,7 @@ ghost use Rattle.index.specs.LawfulState.{IsKept, IsStorable};
 ghost use Rattle.index.specs.State.{Collection, find_collection};
 ghost use Rattle.index.specs.StateEntries.{catalogue_entry};
 ghost use Rattle.collections.specs.Calls.{Reads};
-ghost use Rattle.collections.specs.Entries.{ReadsEntries};
+ghost use Rattle.collections.specs.Entries.{AreNextEntries, ReadsEntries, ReadsTree};
 ghost use Rattle.collections.specs.Reading.{AreBytesAt, AreEach, IsBatchOf, IsInTree, IsNameOf, IsOfCollection, IsOfDocument, IsPlaceOf, IsValueAt, LooksUp, OrMemory, ReadsOf, name_in, name_of, stored_at};
 
 use crate::applying::refusal_of;
@@ -171,6 +171,24 @@ impl<D: Disk> Collections<D> {
         }
         match all_below(self.alloc, &mut self.pager, self.root) {
             Ok(entries) => Ok(entries),
+            Err(fault) => Err(refusal_of(fault)),
+        }
+    }
+
+    /// Some entries of the turn's tree in ascending order of their keys, from a key on, at most so many, and the key of the next one.
+    pub fn next_entries(&mut self, from: &[u8], limit: usize) -> Result<Batch, Refusal>
+        ensures { ReadsTree D.history (AreNextEntries from.now limit) result self.old self.new }
+    {
+        if self.pager.is_stopped() {
+            return Err(Refusal::StorageFailed);
+        }
+        let range = Range {
+            from,
+            to: None,
+            limit,
+        };
+        match entries_below(self.alloc, &mut self.pager, self.root, range) {
+            Ok(batch) => Ok(batch),
             Err(fault) => Err(refusal_of(fault)),
         }
     }

@@ -7,7 +7,6 @@ use Rattle.std.specs.declared.cmp.Ordering.TheVariants as orders
 use Rattle.std.proofs.lemmas.Bool.{cases_eq, ltb-false}
 use Rattle.std.proofs.lemmas.Grind.{get_or-set_at}
 use Rattle.std.proofs.lemmas.List.{get_or_default, get_or-set_other, length-set}
-use Rattle.std.proofs.lemmas.List.Elements.{All-set}
 use Rattle.std.proofs.lemmas.Slice.Eq.{bytes_eq-Decides}
 use Rattle.bson.specs.Tree.{Tree, scalar, null, document, array, Pairs, no_pairs, pair}
 use Rattle.bson.specs.Lookup.{lookup}
@@ -30,13 +29,11 @@ use Rattle.update.specs.Upserts.{base_of}
 use Rattle.update.specs.UpdateLaws.{keeps_id, gives_stored}
 use Rattle.commands.specs.OutcomeLaws.{step_of, passed}
 use Rattle.commands.specs.Update.{UpdateStatement, IsRead}
-use Rattle.index.specs.State.{Collection}
 use Rattle.engine.specs.Documents.{key_of, key_checked}
-use Rattle.engine.specs.Lawful.{IsStored, IsHeld}
+use Rattle.engine.specs.Lawful.{IsStored}
 use Rattle.index.specs.LawfulState.{IsRising}
-use Rattle.engine.specs.Progress.{with_document_at}
 use Rattle.engine.specs.Update.{spelled, upsert_document}
-use Rattle.engine.specs.Updating.{IsChange}
+use Rattle.engine.specs.Updating.{IsChange, MayBePut}
 use Rattle.engine.proofs.Checked.{id_first-id_first}
 use Rattle.engine.proofs.Ordered.{flipped}
 
@@ -75,8 +72,8 @@ may_be_stored ps a short = record { size = a.size; depth = a.depth; names = a.na
 
 -- ---- a stored document
 
-spells : (d : Pairs) → IsStored d → IsDocument d → Spells (spelled d) d
-spells d stored h = record { lawful = h; spelled = refl; size = omega (arith, stored.size) }
+spells : (d : Pairs) → length (spelled d) ≤ 65535 → IsDocument d → Spells (spelled d) d
+spells d size h = record { lawful = h; spelled = refl; size = omega (arith, size) }
 
 lookup_of : (ps : Pairs) (t : Tree) → id_of ps ≡ Some t → lookup ps id_name ≡ Some t
 lookup_of ps t e = at (lookup ps id_name) e
@@ -94,24 +91,38 @@ module _ (u : Change) (ps qs : Pairs) (read : IsRead u) (stored : IsStored ps) (
   pub kept_stored : IsStored qs
   kept_stored = may_be_stored qs (applied u ps qs e) (subst (λ (t : Tree). length (tree_text t) ≤ 500) (sym kept_key) stored.short)
 
+-- ---- a document and what is made of it
+
+module _ (u : Change) (ps qs : Pairs) (size : length (spelled ps) ≤ 65535) (e : apply u 65535 ps ≡ Ok qs) (d : IsDocument ps) (f : IsDocument qs) where
+  one_document : bytes_eq (spelled ps) (spelled qs) ≡ true → ps ≡ qs
+  one_document same =
+      (one_spelling (spelled ps) (spelled qs) [] [] ps qs (spells ps size d) (spells qs (applied u ps qs e).size f) (ap (λ (bs : List ℕ). bs ++ []) ((bytes_eq-Decides (spelled ps) (spelled qs)).0 same))).0
+
   -- other documents have other bytes
-  pub other_bytes : IsDocument ps → IsDocument qs → ps ≢ qs → bytes_eq (spelled ps) (spelled qs) ≡ false
-  other_bytes d f other = at (bytes_eq (spelled ps) (spelled qs)) refl
+  pub other_bytes : ps ≢ qs → bytes_eq (spelled ps) (spelled qs) ≡ false
+  other_bytes other = at (bytes_eq (spelled ps) (spelled qs)) refl
     where
       at : (b : Bool) → bytes_eq (spelled ps) (spelled qs) ≡ b → b ≡ false
       at false is = refl
-      at true is =
-          let one = one_spelling (spelled ps) (spelled qs) [] [] ps qs (spells ps stored d) (spells qs kept_stored f) (ap (λ (bs : List ℕ). bs ++ []) ((bytes_eq-Decides (spelled ps) (spelled qs)).0 is)) in
-          absurd (other one.0)
+      at true is = absurd (other (one_document is))
 
-  pub is_change : IsDocument qs → bytes_eq (spelled ps) (spelled qs) ≡ false → IsChange u ps qs
-  is_change readable other = record { is = e; differs = other; stored = kept_stored; readable = readable; key = kept_key }
+  pub is_change : bytes_eq (spelled ps) (spelled qs) ≡ false → IsChange u ps qs
+  is_change other = record { is = e; differs = other; readable = f }
 
   -- the same bytes are the same document
-  pub same_document : IsDocument ps → IsDocument qs → bytes_eq (spelled ps) (spelled qs) ≡ true → apply u 65535 ps ≡ Ok ps
-  same_document d f same =
-      let one = one_spelling (spelled ps) (spelled qs) [] [] ps qs (spells ps stored d) (spells qs kept_stored f) (ap (λ (bs : List ℕ). bs ++ []) ((bytes_eq-Decides (spelled ps) (spelled qs)).0 same)) in
-      e ∙ ap (λ (x : Pairs). Ok x) (sym one.0)
+  pub same_document : bytes_eq (spelled ps) (spelled qs) ≡ true → apply u 65535 ps ≡ Ok ps
+  same_document same = e ∙ ap (λ (x : Pairs). Ok x) (sym (one_document same))
+
+pub change_kept : (u : Change) (ps qs : Pairs) → IsRead u → IsStored ps → IsChange u ps qs → IsStored qs × (key_of qs ≡ key_of ps)
+change_kept u ps qs read stored change = (kept_stored u ps qs read stored change.is, kept_key u ps qs read stored change.is)
+
+pub change_puttable : (u : Change) (ps qs : Pairs) → IsChange u ps qs → MayBePut qs
+change_puttable u ps qs change =
+    let a = applied u ps qs change.is in
+    record { lawful = change.readable; size = a.size; depth = a.depth; key = lookup_of qs (key_of qs) a.key }
+
+pub stored_puttable : (d : Pairs) → IsStored d → IsDocument d → MayBePut d
+stored_puttable d stored readable = record { lawful = readable; size = stored.size; depth = stored.depth; key = lookup_of d (key_of d) stored.key }
 
 -- ---- values in their places
 
@@ -156,12 +167,6 @@ rising_set ds i new within same up a b d lt below =
           | inl e ↦ ap key_of (get_or-set_at ds i k new d e within) ∙ same ∙ ap key_of (get_or_default ds i no_pairs d within ∙ ap (λ (j : ℕ). get_or ds j d) (sym e))
           | inr other ↦ ap key_of (get_or-set_other ds i k new d other)
         ]
-
-pub held_changed : (c : Collection) (i : ℕ) (new : Pairs) → IsHeld c → i < length c.documents → key_of new ≡ key_of (get_or c.documents i no_pairs) → IsStored new → IsDocument new → IsHeld (with_document_at i new c)
-held_changed c i new h within key stored readable = record {
-  lawful = record { rising = rising_set c.documents i new within key h.lawful.rising; stored = All-set IsStored c.documents i new stored h.lawful.stored; unindexed = h.lawful.unindexed };
-  readable = record { name = h.readable.name; documents = All-set IsDocument c.documents i new readable h.readable.documents };
-}
 
 -- ---- a document that an upsert makes
 

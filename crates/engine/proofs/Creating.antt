@@ -18,7 +18,7 @@ use Rattle.index.specs.State.{Collection, find_collection, uses, put_collection,
 use Rattle.engine.specs.Lawful.{IsKept, IsLawfulState}
 use Rattle.index.specs.LawfulState.{AreNamedApart, AreNumberedApart}
 use Rattle.engine.specs.Places.{IsThere, collection_at, no_collection}
-use Rattle.engine.specs.Progress.{Stands, is_full}
+use Rattle.engine.specs.Insert.{is_full}
 use Rattle.engine.specs.Create.{created, run_create}
 use Rattle.engine.specs.DropCollection.{dropped, run_drop}
 use Rattle.engine.specs.Refusals.{int, words}
@@ -26,20 +26,6 @@ use Rattle.engine.proofs.Growing.{put_found}
 use Rattle.engine.proofs.Ordered.{without_there}
 
 -- ---- a collection is made
-
-pub created-done : (cs now : List Collection) (name : List ℕ) (at : ℕ) → find_collection cs name ≡ None → Stands name cs now at → created cs name ≡ Ok now
-created-done cs now name at none stands =
-    let new = with_documents cs name [] in
-    let few : nat_le 1000 (length cs) ≡ false = room (nat_le 1000 (length cs)) (ap (λ (o : Option Collection). nat_le 1000 (length cs) && not (is_some o)) (sym none) ∙ stands.room) in
-    let empty : documents_of cs name ≡ [] = ap documents_or_none none in
-    let there : collection_at now at ≡ new = stands.is ∙ ap (with_documents cs name) empty in
-    let put : put_collection new cs ≡ now = stands.puts [] ∙ ap (set now at) (sym there) ∙ set-get_or now at no_collection in
-    ap (λ (o : Option Collection). unless (is_some o) refusals.NamespaceExists (unless (nat_le 1000 (length cs)) refusals.TooMany (Ok (put_collection new cs)))) none
-    ∙ ap (λ (b : Bool). unless b refusals.TooMany (Ok (put_collection new cs))) few ∙ ap (λ (ds : List Collection). Ok ds) put
-  where
-    room : (b : Bool) → (b && true) ≡ false → b ≡ false
-    room true e = absurd cc
-    room false e = refl
 
 pub created-full : (cs : List Collection) (name : List ℕ) (e : Refusal) → find_collection cs name ≡ None → (e ≡ refusals.TooMany) × (is_full cs name ≡ true) → created cs name ≡ Err e
 created-full cs name e none full =

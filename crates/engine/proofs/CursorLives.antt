@@ -27,7 +27,7 @@ use Rattle.engine.specs.World.{World, Cursor, documents_of, with_documents, at_r
 use Rattle.index.specs.State.{Collection, put_collection}
 use Rattle.engine.specs.Documents.{insert_all}
 use Rattle.engine.specs.Refusals.{int, words}
-use Rattle.engine.specs.Progress.{is_full}
+use Rattle.engine.specs.Insert.{is_full}
 use Rattle.engine.specs.Cursors.{batch_of, batch_reply, is_refused, new_cursor, first_batch, is_cursor, no_cursor, cursor_at, advanced}
 use Rattle.engine.specs.GetMore.{batch_len_of, next_batch, run_get_more}
 use Rattle.engine.specs.KillCursors.{is_asked, run_kill_cursors}

@@ -1,12 +1,12 @@
 -- What a delete leaves of documents keeps what was kept of them.
-use Rattle.std.proofs.Common.{◌≡◌, ◌≢◌, ◌⊎◌, inl, inr, ℕ, zero, suc, ◌-◌, ◌<◌, ◌≤◌, Bool, true, false, List, [], ◌∷◌, length, get_or, set, remove, Option, Some, None, refl, sym, ap, subst, ◌∙◌, arith}
+use Rattle.std.proofs.Common.{◌≡◌, ◌⊎◌, inl, inr, ℕ, zero, suc, ◌-◌, ◌<◌, ◌≤◌, Bool, true, false, List, [], ◌∷◌, length, get_or, set, remove, Option, Some, None, refl, sym, ap, subst, ◌∙◌, arith}
 use Rattle.std.specs.Prelude.{not, if◌then◌else◌, All}
 use Rattle.std.specs.List.{AllPairs, filter, position}
 use Rattle.std.specs.Cmp.Lexicographic.{slice_cmp}
 use Rattle.std.specs.Ordering.{nat_cmp}
 use Rattle.std.proofs.lemmas.Cmp.{nat_list_cmp_total}
 use Rattle.std.proofs.lemmas.Map.Lookups.{exact_bytes}
-use Rattle.std.proofs.lemmas.List.{set-get_or, length-set}
+use Rattle.std.proofs.lemmas.List.{length-set}
 use Rattle.std.proofs.lemmas.List.Elements.{All-cons, All-filter, All-set}
 use Rattle.std.proofs.lemmas.List.Kept.{AllPairs-filter}
 use Rattle.std.proofs.lemmas.List.Quantifiers.{all_pairs_remove, position-Some}
@@ -15,18 +15,16 @@ use Rattle.filter.specs.Matches.{matches}
 use Rattle.bson.specs.Lawful.{IsDocument}
 use Rattle.value_order.specs.Order.{compare}
 use Rattle.std.specs.declared.cmp.Ordering.TheVariants as orders
-use Rattle.engine.specs.World.{documents_or_none, documents_of}
 use Rattle.index.specs.State.{Collection, find_collection}
 use Rattle.engine.specs.Documents.{key_of}
 use Rattle.engine.specs.Lawful.{IsStored, IsHeld, IsKept, IsLawfulState}
 use Rattle.index.specs.LawfulState.{AreNamedApart}
 use Rattle.engine.proofs.Ordered.{missing, found, replaced}
 use Rattle.engine.proofs.Located.{Gap, There, located}
-use Rattle.engine.proofs.Rewinding.{apart_set}
+use Rattle.engine.proofs.NamesApart.{apart_set}
 use Rattle.engine.proofs.Numbers.{numbers_set}
 use Rattle.engine.specs.Places.{collection_at, no_collection, IsThere}
 use Rattle.engine.specs.Delete.{deleted_in, without_at, without_first, after_deletion, after_deletions}
-use Rattle.engine.specs.Progress.{Leaves, LeavesAll}
 use Rattle.commands.specs.Delete.{Deletion}
 
 pub All-remove : {X : Type 0} (P : X → Type 0) (xs : List X) (i : ℕ) → All P xs → All P (remove xs i)
@@ -133,51 +131,11 @@ cut_held c deletions h = record {
   readable = record { name = h.readable.name; documents = left_kept IsDocument deletions c.documents h.readable.documents };
 }
 
-module _ (name : List ℕ) (deletions : List Deletion) (cs : List Collection) (at : ℕ) (there : IsThere name cs at) where
-  abbrev here : Collection
-  here = collection_at cs at
-
-  abbrev cut : Collection
-  cut = record here { documents = after_deletions deletions here.documents }
-
-  loses : deleted_in (find_collection cs name) deletions cs ≡ set cs at cut
-  loses = ap (λ (o : Option Collection). deleted_in o deletions cs) there.found ∙ there.replaced cut there.named
-
-  lost : (n : ℕ) → n ≡ length here.documents - length (after_deletions deletions here.documents) → n ≡ length (documents_of cs name) - length (after_deletions deletions (documents_of cs name))
-  lost n e = e ∙ ap (λ (o : Option Collection). length (documents_or_none o) - length (after_deletions deletions (documents_or_none o))) (sym there.found)
-
-  -- the code's names of them
-  module _ (c : Collection) (is : c ≡ here) (before rest : List Pairs) (b : before ≡ c.documents) (r : rest ≡ after_deletions deletions before) (gone : ℕ) (g : gone ≡ length before - length rest) where
-    rest_is : rest ≡ after_deletions deletions here.documents
-    rest_is = r ∙ ap (after_deletions deletions) (b ∙ ap (λ (x : Collection). x.documents) is)
-
-    fewer : gone ≡ length here.documents - length rest
-    fewer = omega (arith, g, ap length b, ap (λ (x : Collection). length x.documents) is)
-
-    gone_is : gone ≡ length here.documents - length (after_deletions deletions here.documents)
-    gone_is = omega (arith, fewer, ap length rest_is)
-
-    pub leaves_rest : IsHeld c → gone ≢ 0 → Leaves name deletions cs at rest gone
-    leaves_rest held some =
-        let kept = cut_held here deletions (subst IsHeld is held) in
-        record {
-          within = there.within;
-          held = subst (λ (ds : List Pairs). IsHeld (record here { documents = ds })) (sym rest_is) kept;
-          is = loses ∙ ap (λ (ds : List Pairs). set cs at (record here { documents = ds })) (sym rest_is);
-          some = some;
-          fewer = fewer;
-          count = lost gone gone_is;
-        }
-
-    pub leaves_all : gone ≡ 0 → LeavesAll name deletions cs
-    leaves_all none =
-        let all = sym gone_is ∙ none in
-        record {
-          is = loses ∙ ap (λ (ds : List Pairs). set cs at (record here { documents = ds })) (left_same deletions here.documents all) ∙ set-get_or cs at no_collection;
-          count = lost 0 (sym all);
-        }
-
--- ---- laws
+-- what a delete makes of the collection that stands there
+loses : (name : List ℕ) (deletions : List Deletion) (cs : List Collection) (at : ℕ) (there : IsThere name cs at) → deleted_in (find_collection cs name) deletions cs ≡ set cs at (record (collection_at cs at) { documents = after_deletions deletions (collection_at cs at).documents })
+loses name deletions cs at there =
+    ap (λ (o : Option Collection). deleted_in o deletions cs) there.found
+    ∙ there.replaced (record (collection_at cs at) { documents = after_deletions deletions (collection_at cs at).documents }) there.named
 
 pub there_at : (cs : List Collection) (name : List ℕ) (i : ℕ) → AreNamedApart cs → i < length cs → ((d : Collection) → slice_cmp nat_cmp (get_or cs i d).name name ≡ orders.Equal) → IsThere name cs i
 there_at cs name i apart within same = record {

@@ -36,7 +36,7 @@ module _ {D : Type 0} (history : D → History) (old new : Engine D) (h : IsSoun
   -- nothing was changed but cursors
   module _ (cursors : CursorTable) where
     abbrev quiet_engine : Engine D
-    quiet_engine = record { alloc = old.alloc; collections = old.collections; cursors = cursors; file = old.file }
+    quiet_engine = record { alloc = old.alloc; cursors = cursors; file = old.file; told = old.told; is_changed = old.is_changed }
 
     pub kept_as_it_is : cursors ≡ record old.cursors { list = map at_rest old.cursors.list } → turn_start old ≡ (world old).collections → has_changes old ≡ false → Commits history (Ok tt) old quiet_engine
     kept_as_it_is made idle rests = record {
@@ -44,10 +44,11 @@ module _ {D : Type 0} (history : D → History) (old new : Engine D) (h : IsSoun
         lawful = h.lawful;
         cursors = subst (λ (t : CursorTable). AreLawfulCursors t.list) (sym made) (rested_lawful old.cursors.list h.cursors);
         before = h.before;
+        quiet = h.quiet;
         file = h.file;
       };
       on = goes_nowhere (disk_history history old);
-      done = ap (world_of old.collections) made;
+      done = ap (world_of old.told.value) made;
       stops = λ e. absurd cc;
       memory = λ e. absurd cc;
       full = λ e. absurd cc;
@@ -77,6 +78,7 @@ module _ {D : Type 0} (history : D → History) (old new : Engine D) (h : IsSoun
       lawful = subst IsLawfulState (sym now_state) h.before;
       cursors = subst (λ (w : World). AreLawfulCursors w.cursors) (sym back) (All-filter (λ (c : Cursor). not c.touched) (λ (c : Cursor). All IsWithin c.rest) (world old).cursors h.cursors);
       before = subst IsLawfulState (sym first_state) h.before;
+      quiet = λ e. ended;
       file = subst (λ (cs : List Collection). HasState history new.file cs (world new).collections) (sym first_state)
           (subst (HasState history new.file (turn_start old)) (sym now_state) (undoes.state (turn_start old) (world old).collections h.file));
     }
@@ -133,6 +135,7 @@ module _ {D : Type 0} (history : D → History) (old new : Engine D) (h : IsSoun
       lawful = subst IsLawfulState (sym now_there) h.lawful;
       cursors = subst (λ (w : World). AreLawfulCursors w.cursors) (sym forth) (rested_lawful (world old).cursors h.cursors);
       before = subst IsLawfulState (sym there) h.lawful;
+      quiet = λ e. ended;
       file = subst (λ (cs : List Collection). HasState history new.file cs (world new).collections) (sym there)
           (subst (HasState history new.file (world old).collections) (sym now_there) file);
     }

@@ -19,7 +19,7 @@ use Rattle.engine.specs.Lawful.{IsStored, IsWithin}
 use Rattle.filter.specs.Sort.{SortField, compare_by, insert_in_order, put_before, sorted, order}
 use Rattle.engine.proofs.Steps.{drop_step}
 use Rattle.commands.specs.Find.{Query}
-use Rattle.engine.specs.Find.{matching, limited, window, selection, query_result, Suffices}
+use Rattle.engine.specs.Find.{matching, limited, window, selection, query_result, given, Suffices}
 
 module _ (P : Pairs → Type 0) (cmp : Pairs → Pairs → Ordering) where
   head_of : (x : Pairs) (xs : List Pairs) → All P (x ∷ xs) → P x
@@ -142,11 +142,15 @@ window-front {X} skip (suc n) xs some = ap (λ (ys : List X). take (suc n) ys) (
 all_taken : (q : Query) (most : ℕ) (ds : List Pairs) → length ds ≤ most → window q.skip q.limit (order q.sort (take most ds)) ≡ window q.skip q.limit (order q.sort ds)
 all_taken q most ds few = ap (λ (es : List Pairs). window q.skip q.limit (order q.sort es)) (take_all most ds few)
 
-pub all_suffice : (q : Query) (count : ℕ) → Suffices q count count
-all_suffice q count ds few = all_taken q count ds few
+-- a list of which fewer than so many were taken has no more
+taken_fewer : (most : ℕ) (ds : List Pairs) → length (take most ds) < most → length ds ≤ most
+taken_fewer most ds few = omega (arith, length-take most ds, few)
 
-pub front_suffices : (q : Query) (count most : ℕ) → q.limit ≢ 0 → (length q.sort == 0) ≡ true → most ≡ min (q.skip + q.limit) (2 ^ 64 - 1) → count < 2 ^ 64 → Suffices q count most
-front_suffices q count most some unordered is small ds few = at (nat_le (q.skip + q.limit) (2 ^ 64 - 1)) refl
+pub all_suffice : (q : Query) → Suffices q (2 ^ 64 - 1)
+all_suffice q ds few = all_taken q (2 ^ 64 - 1) ds (taken_fewer (2 ^ 64 - 1) ds few)
+
+pub front_suffices : (q : Query) (most : ℕ) → q.limit ≢ 0 → (length q.sort == 0) ≡ true → most ≡ min (q.skip + q.limit) (2 ^ 64 - 1) → Suffices q most
+front_suffices q most some unordered is ds few = at (nat_le (q.skip + q.limit) (2 ^ 64 - 1)) refl
   where
     plain : (es : List Pairs) → window q.skip q.limit (order q.sort es) ≡ window q.skip q.limit es
     plain es = ap (λ (xs : List Pairs). window q.skip q.limit xs) (no_sort q.sort es unordered)
@@ -158,20 +162,17 @@ front_suffices q count most some unordered is small ds few = at (nat_le (q.skip 
         plain (take most ds) ∙ ap (λ (n : ℕ). window q.skip q.limit (take n ds)) same ∙ window-front q.skip q.limit ds some ∙ sym (plain ds)
     at false e =
         let over : 2 ^ 64 - 1 < q.skip + q.limit = grind (arith, nat_tests) in
-        all_taken q most ds (omega (arith, is, over, few, small))
+        let greatest : most ≡ 2 ^ 64 - 1 = omega (arith, is, over) in
+        all_taken q most ds (taken_fewer most ds (omega (arith, few, greatest)))
 
-filter_fewer : {X : Type 0} (p : X → Bool) (xs : List X) → length (filter p xs) ≤ length xs
-filter_fewer p [] = omega arith
-filter_fewer p (x ∷ xs) = at (p x) refl (filter_fewer p xs)
-  where
-    at : (b : Bool) → p x ≡ b → length (filter p xs) ≤ length xs → length (filter p (x ∷ xs)) ≤ length (x ∷ xs)
-    at true e later = rw e (omega (arith, later))
-    at false e later = rw e (omega (arith, later))
+-- what was found is enough
+pub given_enough : (q : Query) (most : ℕ) (ds found_so : List Pairs) → Suffices q most → found_so ≡ take most (matching q.filter ds) → length found_so < 2 ^ 64 - 1 → given q found_so ≡ query_result q ds
+given_enough q most ds found_so suffices is few =
+    ap (map (project q.projection)) (ap (λ (es : List Pairs). window q.skip q.limit (order q.sort es)) is ∙ suffices (matching q.filter ds) (omega (arith, ap length is, few)))
 
--- what is found before a sort is enough
-pub enough : (q : Query) (most : ℕ) (ds found_so : List Pairs) → Suffices q (length ds) most → found_so ≡ take most (matching q.filter ds) → window q.skip q.limit (order q.sort found_so) ≡ selection q ds
-enough q most ds found_so suffices is =
-    ap (λ (es : List Pairs). window q.skip q.limit (order q.sort es)) is ∙ suffices (matching q.filter ds) (filter_fewer (matches q.filter) ds)
+-- and within the limits
+pub given_within_limits : (q : Query) (found_so : List Pairs) → All IsWithin found_so → All IsWithin (given q found_so)
+given_within_limits q found_so h = given_within q.projection (window q.skip q.limit (order q.sort found_so)) (window_kept IsWithin q.skip q.limit (order q.sort found_so) (sorted_kept IsWithin _ found_so h))
 
 -- the first that pass, up to so many
 pub passed_front : {X : Type 0} (p : X → Bool) (all : List X) (i : ℕ) (passed : List X) → ArePassed p all i passed → passed ≡ take (length passed) (filter p all)

@@ -12,7 +12,7 @@ use Rattle.index.specs.State.{Collection, by_order, find_collection, put_collect
 use Rattle.outcome.specs.Outcome.{◌>>=◌, or_refused}
 use Rattle.engine.specs.Documents.{key_of, place, checked, insert_one, insert_all}
 use Rattle.update.specs.Stored.{id_first}
-use Rattle.engine.specs.Progress.{is_full, inserted}
+use Rattle.engine.specs.Insert.{is_full, inserted}
 use Rattle.path.specs.declared.refusal.Refusal.{Refusal}
 use Rattle.path.specs.declared.refusal.Refusal.TheVariants as refusals
 use Rattle.commands.specs.OutcomeLaws.{step_of, passed}

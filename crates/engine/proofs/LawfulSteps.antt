@@ -46,7 +46,7 @@ use Rattle.commands.specs.Command.{Command, ping, insert as insert_of, find as f
 use Rattle.engine.specs.Lawful.{IsStored, IsWithin, IsKept, IsLawfulState, IsLawful, AreLawfulCursors}
 use Rattle.index.specs.LawfulState.{IsRising, AreNamedApart, AreNumberedApart}
 use Rattle.engine.specs.Places.{collection_at, no_collection}
-use Rattle.engine.specs.Progress.{is_full, with_document}
+use Rattle.engine.specs.Insert.{is_full}
 use Rattle.engine.specs.Cursors.{items_of_documents, batch_of, cursor_reply, number_after, batch_reply, is_refused, new_cursor, open_cursor, first_batch, is_cursor, no_cursor, cursor_at}
 use Rattle.commands.specs.GetMore.{GetMore}
 use Rattle.commands.specs.KillCursors.{KillCursors}
@@ -67,15 +67,15 @@ use Rattle.engine.proofs.Deleting.{deleted_lawful}
 use Rattle.engine.proofs.Finding.{found_within}
 use Rattle.engine.proofs.Ordered.{Rises, rises_insert, All-inserted, place_gap, place_there, missing, found, added, replaced}
 use Rattle.engine.proofs.Numbers.{unused_unused, number_bounds, numbers_set, numbers_insert}
-use Rattle.engine.proofs.Rewinding.{apart_set}
+use Rattle.engine.proofs.NamesApart.{apart_set}
 use Rattle.engine.proofs.SpelledSizes.{ping-sendable, insert-sendable, drop-sendable, refusal-sendable, batch_items, cursor-sendable, kill-sendable, told_few, hello-sendable}
 
 -- ---- documents
 
-abbrev Kept : List Pairs → Type 0
+abbrev pub Kept : List Pairs → Type 0
 Kept ds = IsRising ds × All IsStored ds
 
-kept_place : (ds : List Pairs) (new : Pairs) (next : List Pairs) → Kept ds → IsStored new → place (key_of new) new ds ≡ Some next → Kept next
+pub kept_place : (ds : List Pairs) (new : Pairs) (next : List Pairs) → Kept ds → IsStored new → place (key_of new) new ds ≡ Some next → Kept next
 kept_place ds new next h stored e = at (located compare_total key_of ds (key_of new) h.0)
   where
     at : Gap compare key_of ds (key_of new) ⊎ There compare key_of ds (key_of new) → Kept next
@@ -84,7 +84,7 @@ kept_place ds new next h stored e = at (located compare_total key_of ds (key_of 
         subst Kept same (rises_insert compare_total key_of ds g.0 new h.0 g.1, All-inserted IsStored ds g.0 new g.1.within h.1 stored)
     at (inr t) = let none = place_there ds t.place (key_of new) new h.0 t.within t.same in absurd cc
 
-kept_one : (ds : List Pairs) (ps : Pairs) (next : List Pairs) → Kept ds → insert_one ds ps ≡ Ok next → Kept next
+pub kept_one : (ds : List Pairs) (ps : Pairs) (next : List Pairs) → Kept ds → insert_one ds ps ≡ Ok next → Kept next
 unfolding insert_one
 kept_one ds ps next h e =
     let s = step_of (checked ps) (λ id. or_refused (place id (id_first ps) ds) refusals.DuplicateKey) next e in
@@ -104,7 +104,7 @@ kept_all ds (ps ∷ rest) next h e =
 
 -- ---- collections
 
-stored_at : (cs : List Collection) (name : List ℕ) → All IsKept cs → Kept (documents_of cs name)
+pub stored_at : (cs : List Collection) (name : List ℕ) → All IsKept cs → Kept (documents_of cs name)
 stored_at [] name h = (λ i j d lt below. absurd (omega arith), λ k d below. absurd (omega arith))
 stored_at (c ∷ cs) name h = at (bytes_eq name c.name) (stored_at cs name (λ k d below. h (suc k) d (omega arith)))
   where
@@ -112,7 +112,7 @@ stored_at (c ∷ cs) name h = at (bytes_eq name c.name) (stored_at cs name (λ k
     at true later = let kept = (h 0 c (omega arith)).lawful in (kept.rising, kept.stored)
     at false later = later
 
-unindexed_at : (cs : List Collection) (name : List ℕ) → All IsKept cs → indexes_or_none (find_collection cs name) ≡ []
+pub unindexed_at : (cs : List Collection) (name : List ℕ) → All IsKept cs → indexes_or_none (find_collection cs name) ≡ []
 unindexed_at [] name h = refl
 unindexed_at (c ∷ cs) name h = at (bytes_eq name c.name) (unindexed_at cs name (λ k d below. h (suc k) d (omega arith)))
   where
@@ -172,35 +172,16 @@ added_lawful new cs h one none fresh room = at (located nat_list_cmp_total (λ (
         }
     at (inr t) = let there = found cs t.place new.name h.apart t.within (t.same no_collection) in absurd cc
 
--- one more document in the collection at a place
-pub grown_lawful : (cs : List Collection) (at : ℕ) (d : Pairs) (grown : Collection) → IsLawfulState cs → at < length cs → with_document (collection_at cs at) d ≡ Ok grown → IsLawfulState (set cs at grown)
-grown_lawful cs at d grown h within e = made (insert_one (collection_at cs at).documents d) refl e
-  where
-    made : (r : Result (List Pairs) Refusal) → insert_one (collection_at cs at).documents d ≡ r → (r >>= (λ stored. Ok (record (collection_at cs at) { documents = stored }))) ≡ Ok grown → IsLawfulState (set cs at grown)
-    made (Err f) is e = absurd cc
-    made (Ok ds) is e =
-        let old = collection_at cs at in
-        let now : record old { documents = ds } ≡ grown = cc in
-        let kept = h.kept at no_collection within in
-        let good = kept_one old.documents d ds (kept.lawful.rising, kept.lawful.stored) is in
-        let one : IsKept grown = subst IsKept now (record { lawful = record { rising = good.0; stored = good.1; unindexed = kept.lawful.unindexed }; short = kept.short; least = kept.least; most = kept.most }) in
-        record {
-          apart = apart_set cs at grown within (ap (λ (x : Collection). x.name) (sym now)) h.apart;
-          numbers = numbers_set cs at grown within (ap (λ (x : Collection). x.number) (sym now)) h.numbers;
-          kept = All-set IsKept cs at grown one h.kept;
-          few = omega (arith, length-set cs at grown, h.few);
-        }
-
 -- ---- one command
 
 -- what running a command comes to: a lawful world, and a reply within the limit
-abbrev Good : Result (World × Pairs) Refusal → Type 0
+abbrev pub Good : Result (World × Pairs) Refusal → Type 0
 Good r = (x : World × Pairs) → r ≡ Ok x → IsLawful x.0 × IsSendable (ok_reply x.1)
 
 good_one : (w : World) (reply : Pairs) → IsLawful w → IsSendable (ok_reply reply) → Good (Ok (w, reply))
 good_one w reply h s x e = let same : (w, reply) ≡ x = cc in subst (λ (y : World × Pairs). IsLawful y.0 × IsSendable (ok_reply y.1)) same (h, s)
 
-good_insert : (w : World) (name : List ℕ) (documents : List Pairs) → IsLawful w → length name ≤ 255 → Good (run_insert w (record { namespace = name; documents = documents }))
+pub good_insert : (w : World) (name : List ℕ) (documents : List Pairs) → IsLawful w → length name ≤ 255 → Good (run_insert w (record { namespace = name; documents = documents }))
 unfolding run_insert
 good_insert w name documents h short = at (is_full w.collections name) refl
   where
@@ -250,7 +231,7 @@ module _ (w : World) (connection : ℕ) (name : List ℕ) (ds : List Pairs) (mos
   abbrev after_opening : Result World Refusal → Result (World × Pairs) Refusal
   after_opening r = r >>= (λ after. Ok (after, first w.next))
 
-  good_batch : IsLawful w → length name ≤ 255 → All IsWithin ds → Good (first_batch w connection name ds n)
+  pub good_batch : IsLawful w → length name ≤ 255 → All IsWithin ds → Good (first_batch w connection name ds n)
   good_batch h short within = at (nat_le (length ds) n)
     where
       small : fits_in (take n ds)
@@ -345,7 +326,7 @@ good_delete w name deletions h =
     let collections = deleted_lawful w.collections name deletions h.collections in
     good_one (record w { collections = deleted_in (find_collection w.collections name) deletions w.collections }) (pair (codes "n") (total n) no_pairs) (record { collections = collections; cursors = h.cursors }) (insert-sendable (min n (2 ^ 31 - 1)))
 
-good_create : (w : World) (name : List ℕ) → IsLawful w → length name ≤ 255 → Good (run_create w (record { namespace = name }))
+pub good_create : (w : World) (name : List ℕ) → IsLawful w → length name ≤ 255 → Good (run_create w (record { namespace = name }))
 unfolding run_create
 good_create w name h short = λ x e.
     let s = step_of (created w.collections name) (λ cs. let r : Result (World × Pairs) Refusal = Ok (record w { collections = cs }, no_pairs) in r) x e in
@@ -422,7 +403,7 @@ statement_lawful name index s u v short read h e =
         let same : updated_to name u changed ≡ v = cc in
         subst (λ (x : Updated). IsLawfulState x.collections) same (changed_lawful u.collections name changed.documents h k.0 k.1)
 
-statements_lawful : (name : List ℕ) (index : ℕ) (ss : List UpdateStatement) (u v : Updated) → length name ≤ 255 → All (λ (s : UpdateStatement). IsRead s.change) ss → IsLawfulState u.collections
+pub statements_lawful : (name : List ℕ) (index : ℕ) (ss : List UpdateStatement) (u v : Updated) → length name ≤ 255 → All (λ (s : UpdateStatement). IsRead s.change) ss → IsLawfulState u.collections
     → run_statements name index ss u ≡ Ok v → IsLawfulState v.collections
 statements_lawful name index [] u v short read h e = let same : u ≡ v = cc in subst (λ (x : Updated). IsLawfulState x.collections) same h
 statements_lawful name index (s ∷ ss) u v short read h e =

@@ -26,7 +26,7 @@ use Rattle.engine.proofs.Deleting.{there_at}
 use Rattle.engine.proofs.Located.{Gap, There, located}
 use Rattle.engine.proofs.Numbers.{numbers_set}
 use Rattle.engine.proofs.Ordered.{missing}
-use Rattle.engine.proofs.Rewinding.{apart_set}
+use Rattle.engine.proofs.NamesApart.{apart_set}
 
 -- ---- documents that are found by the same keys
 

@@ -1,6 +1,6 @@
 -- The names of a database's collections, and that they all go into one batch.
 use Rattle.std.proofs.Common.{◌≡◌, ℕ, zero, suc, ◌+◌, ◌-◌, ◌*◌, ◌<◌, ◌≤◌, Bool, true, false, List, [], ◌∷◌, ◌++◌, length, drop, get_or, map, take, Option, Some, None, Result, Ok, refl, sym, ap, subst, ◌∙◌, append_assoc, length-append, arith}
-use Rattle.std.specs.Prelude.{◌||◌, ◌==◌, nat_eq, nat_le, if◌then◌else◌, codes, option_map, All, MatchOption}
+use Rattle.std.specs.Prelude.{◌||◌, ◌==◌, nat_eq, nat_le, if◌then◌else◌, codes, option_map, string_bytes, All, MatchOption}
 use Rattle.std.specs.Borrow.{Bor}
 use Rattle.std.specs.Fmt.{decimal}
 use Rattle.std.specs.List.{starts_with, AllByRecursion}
@@ -20,7 +20,9 @@ use Rattle.index.specs.State.{Collection}
 use Rattle.engine.specs.Lawful.{IsWithin, IsKept, IsLawfulState}
 use Rattle.engine.specs.View.{with_ok}
 use Rattle.engine.specs.Cursors.{item_size, batch_len, batch_of, cursor_reply, number_after, batch_reply}
-use Rattle.engine.specs.ListCollections.{name_in, with_name, names_in, listed, run_list_collections}
+use Rattle.collections.specs.Reading.{name_of, name_in as name_of_collection}
+use Rattle.collections.specs.declared.reading.Name.{Name}
+use Rattle.engine.specs.ListCollections.{name_in, with_name, names_in, names_behind, listed, run_list_collections}
 use Rattle.engine.specs.Refusals.{words, ok_reply}
 use Rattle.engine.proofs.SpelledSizes.{length-words}
 use Rattle.engine.proofs.Steps.{drop_step}
@@ -36,23 +38,31 @@ name-in front namespace (Some x) h =
     ap (λ (s : List ℕ). let o : Option (List ℕ) = Some s in o) (h.2 ∙ ap (λ (k : ℕ). drop k namespace) h.1.0)
     ∙ ap (λ (b : Bool). if b then Some (drop (length front) namespace) else None) is
 
--- what was listed so far, and what is left of the collections
-abbrev pub Lists : List ℕ → List Collection → ℕ → List Pairs → Type 0
-Lists front cs i ds = map listed (names_in front cs) ≡ ds ++ map listed (names_in front (drop i cs))
+-- what was listed so far, and what is left of the names
+abbrev pub Lists : List ℕ → List Name → ℕ → List Pairs → Type 0
+Lists front ns i ds = map listed (names_behind front (map name_of ns)) ≡ ds ++ map listed (names_behind front (map name_of (drop i ns)))
 
-pub lists-one : (front : List ℕ) (cs : List Collection) (i : ℕ) (c : Collection) (name : List ℕ) (ds next : List Pairs) → i < length cs → c ≡ get_or cs i c → name_in front c.name ≡ Some name
-    → next ≡ ds ++ listed name ∷ [] → Lists front cs i ds → Lists front cs (i + 1) next
-lists-one front cs i c name ds next within is named grown so_far =
-    so_far ∙ ap (λ (xs : List Collection). ds ++ map listed (names_in front xs)) (drop_step cs i c within is)
-    ∙ ap (λ (o : Option (List ℕ)). ds ++ map listed (with_name o (names_in front (drop (i + 1) cs)))) named
-    ∙ sym (append_assoc ds (listed name ∷ []) (map listed (names_in front (drop (i + 1) cs))))
-    ∙ ap (λ (xs : List Pairs). xs ++ map listed (names_in front (drop (i + 1) cs))) (sym grown)
+pub lists-one : (front : List ℕ) (ns : List Name) (i : ℕ) (n : Name) (name : List ℕ) (ds next : List Pairs) → i < length ns → n ≡ get_or ns i n → name_in front (string_bytes n.namespace) ≡ Some name
+    → next ≡ ds ++ listed name ∷ [] → Lists front ns i ds → Lists front ns (i + 1) next
+lists-one front ns i n name ds next within is named grown so_far =
+    so_far ∙ ap (λ (xs : List Name). ds ++ map listed (names_behind front (map name_of xs))) (drop_step ns i n within is)
+    ∙ ap (λ (o : Option (List ℕ)). ds ++ map listed (with_name o (names_behind front (map name_of (drop (i + 1) ns))))) named
+    ∙ sym (append_assoc ds (listed name ∷ []) (map listed (names_behind front (map name_of (drop (i + 1) ns)))))
+    ∙ ap (λ (xs : List Pairs). xs ++ map listed (names_behind front (map name_of (drop (i + 1) ns)))) (sym grown)
 
-pub lists-none : (front : List ℕ) (cs : List Collection) (i : ℕ) (c : Collection) (ds : List Pairs) → i < length cs → c ≡ get_or cs i c → name_in front c.name ≡ None
-    → Lists front cs i ds → Lists front cs (i + 1) ds
-lists-none front cs i c ds within is none so_far =
-    so_far ∙ ap (λ (xs : List Collection). ds ++ map listed (names_in front xs)) (drop_step cs i c within is)
-    ∙ ap (λ (o : Option (List ℕ)). ds ++ map listed (with_name o (names_in front (drop (i + 1) cs)))) none
+pub lists-none : (front : List ℕ) (ns : List Name) (i : ℕ) (n : Name) (ds : List Pairs) → i < length ns → n ≡ get_or ns i n → name_in front (string_bytes n.namespace) ≡ None
+    → Lists front ns i ds → Lists front ns (i + 1) ds
+lists-none front ns i n ds within is none so_far =
+    so_far ∙ ap (λ (xs : List Name). ds ++ map listed (names_behind front (map name_of xs))) (drop_step ns i n within is)
+    ∙ ap (λ (o : Option (List ℕ)). ds ++ map listed (with_name o (names_behind front (map name_of (drop (i + 1) ns))))) none
+
+-- the names that were read are those of the collections
+names_same : (front : List ℕ) (cs : List Collection) → names_behind front (map name_of_collection cs) ≡ names_in front cs
+names_same front [] = refl
+names_same front (c ∷ cs) = ap (with_name (name_in front c.name)) (names_same front cs)
+
+pub listed_same : (front : List ℕ) (ns : List Name) (cs : List Collection) (ds : List Pairs) → map name_of ns ≡ map name_of_collection cs → ds ≡ map listed (names_behind front (map name_of ns)) → ds ≡ map listed (names_in front cs)
+listed_same front ns cs ds read made = made ∙ ap (λ (xs : List (List ℕ × ℕ)). map listed (names_behind front xs)) read ∙ ap (map listed) (names_same front cs)
 
 -- ---- sizes
 

@@ -1,5 +1,5 @@
 -- Documents that a delete takes away: without them, by their `_id`s, the documents before are those that are left.
-use Rattle.std.proofs.Common.{◌≡◌, ℕ, suc, ◌<◌, Bool, true, false, List, [], ◌∷◌, ◌++◌, length, get_or, remove, Option, Some, None, refl, sym, ap, subst, ◌∙◌, arith}
+use Rattle.std.proofs.Common.{◌≡◌, ℕ, suc, ◌<◌, Bool, true, false, List, [], ◌∷◌, ◌++◌, length, get_or, Option, Some, None, refl, ap, ◌∙◌, arith}
 use Rattle.std.specs.Prelude.{not, if◌then◌else◌, All}
 use Rattle.std.specs.List.{filter, position}
 use Rattle.std.specs.declared.cmp.Ordering.TheVariants as orders
@@ -15,7 +15,7 @@ use Rattle.index.specs.State.{Collection}
 use Rattle.engine.specs.Delete.{without_at, after_deletion, after_deletions}
 use Rattle.engine.specs.Documents.{key_of}
 use Rattle.engine.specs.Lawful.{IsHeld}
-use Rattle.engine.specs.Redoing.{without_each, taken_at, taken, all_taken, AreLost}
+use Rattle.engine.specs.Redoing.{without_each, taken_at, taken, all_taken}
 use Rattle.engine.proofs.Deleting.{left_apart, left_kept}
 use Rattle.engine.proofs.EditPlaceLemmas.{goes_first, passes_by, storable, without_place}
 use Rattle.engine.proofs.Ordered.{rises_tail}
@@ -64,7 +64,7 @@ by_taken d ds up = at d.only_first
     at true = taken_place (position (matches d.filter) ds) ds (λ i e. (position-Some (matches d.filter) ds i no_pairs e).0) up
     at false = taken_filter (matches d.filter) ds up
 
-all_lost : (deletions : List Deletion) (ds : List Pairs) → IsRising ds → without_each (all_taken deletions ds) ds ≡ after_deletions deletions ds
+pub all_lost : (deletions : List Deletion) (ds : List Pairs) → IsRising ds → without_each (all_taken deletions ds) ds ≡ after_deletions deletions ds
 all_lost [] ds up = refl
 all_lost (d ∷ rest) ds up =
     without_more (taken d ds) (all_taken rest (after_deletion d ds)) ds
@@ -87,7 +87,7 @@ by_all P d ds h = at d.only_first
 left_all : (P : Pairs → Type 0) (d : Deletion) (ds : List Pairs) → All P ds → All P (after_deletion d ds)
 left_all P d ds h = left_kept P (d ∷ []) ds h
 
-taken_kept : (P : Pairs → Type 0) (deletions : List Deletion) (ds : List Pairs) → All P ds → All P (all_taken deletions ds)
+pub taken_kept : (P : Pairs → Type 0) (deletions : List Deletion) (ds : List Pairs) → All P ds → All P (all_taken deletions ds)
 taken_kept P [] ds h = λ k d below. absurd (omega (arith, below))
 taken_kept P (d ∷ rest) ds h = All-append P (taken d ds) (all_taken rest (after_deletion d ds)) (by_all P d ds h) (taken_kept P rest (after_deletion d ds) (left_all P d ds h))
 
@@ -95,15 +95,3 @@ taken_kept P (d ∷ rest) ds h = All-append P (taken d ds) (all_taken rest (afte
 
 pub are_storable : (c : Collection) → IsHeld c → All IsStorable c.documents
 are_storable c held k d below = storable (get_or c.documents k d) (held.lawful.stored k d below) (held.readable.documents k d below)
-
--- by the code's names of the collection and of the documents
-pub are_lost : (c d : Collection) (deletions : List Deletion) (before removed left : List Pairs) → IsHeld c → c ≡ d → before ≡ c.documents
-    → removed ≡ all_taken deletions before → left ≡ after_deletions deletions before → AreLost removed d.documents left
-are_lost c d deletions before removed left held is b r l =
-    let ds = c.documents in
-    let gone : removed ≡ all_taken deletions ds = r ∙ ap (all_taken deletions) b in
-    let rest : left ≡ after_deletions deletions ds = l ∙ ap (after_deletions deletions) b in
-    subst (λ (x : Collection). AreLost removed x.documents left) is (record {
-      left_is = ap (λ (xs : List Pairs). without_each xs ds) gone ∙ all_lost deletions ds held.lawful.rising ∙ sym rest;
-      storable = subst (λ (xs : List Pairs). All IsStorable xs) (sym gone) (taken_kept IsStorable deletions ds (are_storable c held));
-    })

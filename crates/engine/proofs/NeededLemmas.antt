@@ -1,42 +1,151 @@
 -- Documents that are met one after the other, and those of them that are needed.
-use Rattle.std.proofs.Common.{◌≡◌, ℕ, suc, ◌+◌, ◌<◌, ◌≤◌, Bool, true, false, List, [], ◌∷◌, ◌++◌, length, get_or, take, drop, sym, ap, subst, ◌∙◌, arith}
-use Rattle.std.specs.Prelude.{None, Some, Option, IfSome, cond, nat_eq}
-use Rattle.std.specs.Option.{option_eq}
-use Rattle.std.proofs.lemmas.Bool.{eqb-true}
+use Rattle.std.proofs.Common.{◌≡◌, ℕ, zero, suc, ◌≤◌, Bool, true, false, List, [], ◌∷◌, ◌++◌, length, get_or, take, drop, refl, sym, ap, subst, ◌∙◌, append_assoc, arith}
+use Rattle.std.specs.Prelude.{None, All}
 use Rattle.std.specs.List.{filter}
-use Rattle.std.proofs.Math.Seq.{take-suc}
-use Rattle.std.proofs.lemmas.List.{take_all, take-append-drop, append-nil}
+use Rattle.std.proofs.lemmas.List.{take-append-drop, append-nil}
 use Rattle.std.proofs.lemmas.List.Elements.{filter-append}
 use Rattle.bson.specs.Tree.{Pairs}
-use Rattle.aggregate.specs.Limits.{first_fault}
+use Rattle.aggregate.specs.Limits.{first_fault, limit_fault}
 use Rattle.aggregate.specs.Pipeline.{run}
 use Rattle.aggregate.specs.Stage.{Stage}
 use Rattle.aggregate.specs.Taking.{takes, SufficesTaken, IsEnough}
-use Rattle.aggregate.specs.EnoughLaws.{enough_of_all, enough_by_then}
+use Rattle.aggregate.specs.EnoughLaws.{All-append, All-filter, All-front, Pass, Within, enough_of_all, enough_by_then, fault-within, filter-passes, none_is_enough, passed-filter, within-fault}
 use Rattle.engine.specs.Aggregate.{AreEnough}
+use Rattle.engine.specs.Lawful.{IsLawfulState, IsWithin}
+use Rattle.engine.specs.World.{documents_of}
+use Rattle.index.specs.State.{Collection}
+use Rattle.engine.proofs.Finding.{stored_within}
+use Rattle.engine.proofs.LawfulSteps.{stored_at}
+use Rattle.engine.proofs.Piping.{all_within, none_at_fault}
 
-module _ (p : Pairs → Bool) (ds : List Pairs) (i : ℕ) (d : Pairs) (within : i < length ds) (is : d ≡ get_or ds i d) where
-  one_more : take (i + 1) ds ≡ take i ds ++ d ∷ []
-  one_more =
-      let next : i + 1 ≡ suc i = omega arith in
-      ap (λ (n : ℕ). take n ds) next ∙ take-suc ds i d within ∙ ap (λ (e : Pairs). take i ds ++ e ∷ []) (sym is)
+-- ---- more than enough
 
-  pub met_taken : p d ≡ true → filter p (take (i + 1) ds) ≡ filter p (take i ds) ++ d ∷ []
-  met_taken e = ap (filter p) one_more ∙ filter-append p (take i ds) (d ∷ []) ∙ ap (λ (b : Bool). filter p (take i ds) ++ cond b (d ∷ []) []) e
+module _ (stages : List Stage) where
+  take_less : {X : Type 0} (m n : ℕ) (xs : List X) → m ≤ n → take m (take n xs) ≡ take m xs
+  take_less zero n xs le = refl
+  take_less (suc m) zero xs le = absurd (omega (arith, le))
+  take_less (suc m) (suc n) [] le = refl
+  take_less {X} (suc m) (suc n) (x ∷ xs) le = ap (λ (ys : List X). x ∷ ys) (take_less m n xs (omega (arith, le)))
 
-  pub met_other : p d ≡ false → filter p (take (i + 1) ds) ≡ filter p (take i ds)
-  met_other e = ap (filter p) one_more ∙ filter-append p (take i ds) (d ∷ []) ∙ ap (λ (b : Bool). filter p (take i ds) ++ cond b (d ∷ []) []) e ∙ append-nil (filter p (take i ds))
+  pub suffices_more : (most count : ℕ) → most ≤ count → SufficesTaken stages most → SufficesTaken stages count
+  suffices_more most count le h limit ds fault =
+      let fs = filter (takes stages) ds in
+      let ys = take count fs in
+      let parts : ys ++ drop count fs ≡ fs = take-append-drop count fs in
+      let taken : Pass (takes stages) ys = All-front (λ d. takes stages d ≡ true) ys (drop count fs) (subst (Pass (takes stages)) (sym parts) (filter-passes (takes stages) ds)) in
+      let within : Within limit ys = All-front (λ d. limit_fault limit d ≡ None) ys (drop count fs) (subst (Within limit) (sym parts) (All-filter (λ d. limit_fault limit d ≡ None) (takes stages) ds (fault-within limit ds fault))) in
+      sym (h limit ys (within-fault limit ys within))
+      ∙ ap (λ (xs : List Pairs). run stages limit (take most xs)) (passed-filter (takes stages) ys taken) ∙ ap (run stages limit) (take_less most count fs le) ∙ h limit ds fault
 
-module _ (stages : List Stage) (few ds : List Pairs) (i : ℕ) where
-  pub all_met : length ds ≤ i → IsEnough stages few (filter (takes stages) (take i ds)) → AreEnough stages few ds
-  all_met past h = λ fault. enough_of_all stages 65535 few ds (subst (λ (xs : List Pairs). IsEnough stages few (filter (takes stages) xs)) (take_all i ds past) h) fault
+-- ---- documents as they come
 
-  pub enough_met : SufficesTaken stages (length few) → IsEnough stages few (filter (takes stages) (take i ds)) → AreEnough stages few ds
-  enough_met most h = λ fault.
-      let whole : take i ds ++ drop i ds ≡ ds = take-append-drop i ds in
-      enough_by_then stages 65535 few (take i ds) (drop i ds) h most (subst (λ (xs : List Pairs). first_fault 65535 xs ≡ None) (sym whole) fault)
-      ∙ ap (run stages 65535) whole
+-- of those that came so far these few are enough
+pub record AreTaken (stages : List Stage) (few all left : List Pairs) : Type 0 where
+  pub front : List Pairs
+  pub split : all ≡ front ++ left
+  pub enough : IsEnough stages few (filter (takes stages) front)
 
-pub if_equal : (stages : List Stage) (most : Option ℕ) (count n : ℕ) → true ≡ option_eq nat_eq most (Some count) → count ≡ n → IfSome most (λ m. SufficesTaken stages m) → SufficesTaken stages n
-if_equal stages None count n e same h = absurd cc
-if_equal stages (Some m) count n e same h = subst (λ (k : ℕ). SufficesTaken stages k) (eqb-true m count (sym e) ∙ same) h
+module _ (stages : List Stage) where
+  pub none_taken : (all : List Pairs) → AreTaken stages [] all all
+  none_taken all = record { front = []; split = refl; enough = none_is_enough stages }
+
+  pub batch_taken : (few next batch all left : List Pairs) → ((seen : List Pairs) → IsEnough stages few seen → IsEnough stages next (seen ++ filter (takes stages) batch)) → AreTaken stages few all (batch ++ left) → AreTaken stages next all left
+  batch_taken few next batch all left on h = record {
+    front = h.front ++ batch;
+    split = h.split ∙ sym (append_assoc h.front batch left);
+    enough = subst (IsEnough stages next) (sym (filter-append (takes stages) h.front batch)) (on (filter (takes stages) h.front) h.enough);
+  }
+
+  pub all_taken : (few last all : List Pairs) → ((seen : List Pairs) → IsEnough stages few seen → IsEnough stages last seen) → AreTaken stages few all [] → AreEnough stages last all
+  all_taken few last all on h = λ fault.
+      let whole : h.front ≡ all = sym (append-nil h.front) ∙ sym h.split in
+      enough_of_all stages 65535 last all (subst (λ (xs : List Pairs). IsEnough stages last (filter (takes stages) xs)) whole (on (filter (takes stages) h.front) h.enough)) fault
+
+  pub enough_taken : (few all left : List Pairs) → SufficesTaken stages (length few) → AreTaken stages few all left → AreEnough stages few all
+  enough_taken few all left most h = λ fault.
+      enough_by_then stages 65535 few h.front left h.enough most (subst (λ (xs : List Pairs). first_fault 65535 xs ≡ None) h.split fault) ∙ ap (run stages 65535) (sym h.split)
+
+-- These few are enough of documents within the limits, whichever these are.
+pub record AreOfWithin (stages : List Stage) (few : List Pairs) : Type 0 where
+  pub seen : List Pairs
+  pub enough : IsEnough stages few seen
+  pub within : first_fault 65535 seen ≡ None
+
+module _ (stages : List Stage) where
+  pub none_of_within : AreOfWithin stages []
+  none_of_within = record { seen = []; enough = none_is_enough stages; within = refl }
+
+  pub batch_of_within : (few next batch : List Pairs) → ((seen : List Pairs) → IsEnough stages few seen → IsEnough stages next (seen ++ filter (takes stages) batch)) → All IsWithin batch → AreOfWithin stages few → AreOfWithin stages next
+  batch_of_within few next batch on all h =
+      let taken = filter (takes stages) batch in
+      record {
+        seen = h.seen ++ taken;
+        enough = on h.seen h.enough;
+        within = within-fault 65535 (h.seen ++ taken) (All-append (λ d. limit_fault 65535 d ≡ None) h.seen taken (fault-within 65535 h.seen h.within)
+            (All-filter (λ d. limit_fault 65535 d ≡ None) (takes stages) batch (fault-within 65535 batch (none_at_fault batch all))));
+      }
+
+  pub are_within : (few last : List Pairs) → ((seen : List Pairs) → IsEnough stages few seen → IsEnough stages last seen) → AreOfWithin stages few → All IsWithin last
+  are_within few last on h =
+      let fault : first_fault 65535 (h.seen ++ []) ≡ None = subst (λ (xs : List Pairs). first_fault 65535 xs ≡ None) (sym (append-nil h.seen)) h.within in
+      all_within last (subst (λ (xs : List Pairs). first_fault 65535 xs ≡ None) (append-nil last) ((on h.seen h.enough).same 65535 [] fault).0)
+
+-- of no documents none are enough
+pub none_enough : (stages : List Stage) (ds : List Pairs) → ds ≡ [] → AreEnough stages [] ds
+none_enough stages ds none fault = ap (run stages 65535) (sym none)
+
+-- the documents of lawful collections are within the limits
+pub none_of_lawful : (cs : List Collection) (name : List ℕ) → IsLawfulState cs → first_fault 65535 (documents_of cs name) ≡ None
+none_of_lawful cs name h =
+    let ds = documents_of cs name in
+    none_at_fault ds (λ k d below. stored_within (get_or ds k d) ((stored_at cs name h.kept).1 k d below))
+
+-- ---- more documents, one by one
+
+-- What was enough before is now enough of that and of those that a pipeline takes of all but the ones that are left.
+pub record IsTaking (stages : List Stage) (before all now left : List Pairs) : Type 0 where
+  pub front : List Pairs
+  pub split : all ≡ front ++ left
+  pub enough : (seen : List Pairs) → IsEnough stages before seen → IsEnough stages now (seen ++ filter (takes stages) front)
+
+module _ (stages : List Stage) (before all : List Pairs) where
+  abbrev p : Pairs → Bool
+  p = takes stages
+
+  pub takes_none : IsTaking stages before all before all
+  takes_none = record { front = []; split = refl; enough = λ seen h. subst (IsEnough stages before) (sym (append-nil seen)) h }
+
+  pub takes_one : (x : Pairs) (now left next : List Pairs) → takes stages x ≡ true
+      → ((seen : List Pairs) → IsEnough stages now seen → takes stages x ≡ true → IsEnough stages next (seen ++ x ∷ []))
+      → IsTaking stages before all now (x ∷ left) → IsTaking stages before all next left
+  takes_one x now left next is on h = record {
+    front = h.front ++ x ∷ [];
+    split = h.split ∙ sym (append_assoc h.front (x ∷ []) left);
+    enough = λ seen e. subst (IsEnough stages next) (behind seen) (on (seen ++ filter p h.front) (h.enough seen e) is);
+  }
+    where
+      passes : filter p (x ∷ []) ≡ x ∷ []
+      passes = rw is refl
+
+      behind : (seen : List Pairs) → (seen ++ filter p h.front) ++ x ∷ [] ≡ seen ++ filter p (h.front ++ x ∷ [])
+      behind seen =
+          append_assoc seen (filter p h.front) (x ∷ [])
+          ∙ ap (λ (ys : List Pairs). seen ++ ys) (sym (filter-append p h.front (x ∷ []) ∙ ap (λ (ys : List Pairs). filter p h.front ++ ys) passes))
+
+  pub takes_not : (x : Pairs) (now left : List Pairs) → takes stages x ≡ false → IsTaking stages before all now (x ∷ left) → IsTaking stages before all now left
+  takes_not x now left is h = record {
+    front = h.front ++ x ∷ [];
+    split = h.split ∙ sym (append_assoc h.front (x ∷ []) left);
+    enough = λ seen e. subst (λ (ys : List Pairs). IsEnough stages now (seen ++ ys)) same (h.enough seen e);
+  }
+    where
+      over : filter p (x ∷ []) ≡ []
+      over = rw is refl
+
+      same : filter p h.front ≡ filter p (h.front ++ x ∷ [])
+      same = sym (filter-append p h.front (x ∷ []) ∙ ap (λ (ys : List Pairs). filter p h.front ++ ys) over ∙ append-nil (filter p h.front))
+
+  pub takes_all : (now left : List Pairs) → left ≡ [] → IsTaking stages before all now left → (seen : List Pairs) → IsEnough stages before seen → IsEnough stages now (seen ++ filter (takes stages) all)
+  takes_all now left none h seen e =
+      let whole : h.front ≡ all = sym (append-nil h.front) ∙ ap (λ (ys : List Pairs). h.front ++ ys) (sym none) ∙ sym h.split in
+      subst (λ (ys : List Pairs). IsEnough stages now (seen ++ filter (takes stages) ys)) whole (h.enough seen e)

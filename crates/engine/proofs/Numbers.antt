@@ -130,7 +130,7 @@ numbers_insert (d ∷ ds) (suc i) c h u apart =
 
 -- ---- the number of a collection with new documents
 
-found_kept : (cs : List Collection) (name : List ℕ) (c : Collection) → All IsKept cs → find_collection cs name ≡ Some c → IsKept c
+pub found_kept : (cs : List Collection) (name : List ℕ) (c : Collection) → All IsKept cs → find_collection cs name ≡ Some c → IsKept c
 found_kept [] name c h e = absurd cc
 found_kept (d ∷ ds) name c h e = at (bytes_eq name d.name) e (found_kept ds name c (λ k x below. h (suc k) x (omega arith)))
   where

@@ -1,6 +1,8 @@
 -- What a pipeline makes of stored documents is within the limits of documents that are given.
-use Rattle.std.proofs.Common.{◌≡◌, suc, Bool, true, false, List, [], ◌∷◌, length, get_or, map, ap, ◌∙◌, Option, Some, None, Ok, refl, arith}
-use Rattle.std.specs.Prelude.{nat_lt, if◌then◌else◌, All}
+use Rattle.std.proofs.Common.{◌≡◌, suc, Bool, true, false, List, [], ◌∷◌, length, get_or, map, ap, ◌∙◌, Option, Some, None, Result, Ok, Err, refl, arith}
+use Rattle.std.specs.Prelude.{nat_lt, if◌then◌else◌, All, IfOk}
+use Rattle.std.specs.Global.{Vec}
+use Rattle.outcome.specs.Outcome.{Gives}
 use Rattle.std.proofs.lemmas.Bool.Decides.{nat_tests}
 use Rattle.std.proofs.lemmas.List.Elements.{All-cons, All-head, All-tail}
 use Rattle.bson.specs.Tree.{Pairs}
@@ -39,7 +41,7 @@ is_within d e = at (nat_lt 65535 (length (frame_of (pairs_bytes d)))) (nat_lt 90
     at false true l f e = absurd cc
     at false false l f e = record { size = grind (arith, nat_tests, l); depth = grind (arith, nat_tests, f) }
 
-all_within : (ds : List Pairs) → first_fault 65535 ds ≡ None → All IsWithin ds
+pub all_within : (ds : List Pairs) → first_fault 65535 ds ≡ None → All IsWithin ds
 all_within [] e = λ k x below. absurd (omega (arith, below))
 all_within (d ∷ ds) e = at (limit_fault 65535 d) refl (λ f. all_within ds f) e
   where
@@ -57,3 +59,8 @@ all_stay p ds e = ap (λ (q : Projection). projected q ds) e ∙ each ds
     each : (es : List Pairs) → map (project (false, [])) es ≡ es
     each [] = refl
     each (d ∷ es) = λ i. all_stays d i ∷ each es i
+
+-- so is what it returns that was made of documents within them
+pub outcome_within : (stages : List Stage) (ds : List Pairs) (r : Result (Vec Pairs) Refusal) → All IsWithin ds → Gives refusals.OutOfMemory (λ v. v.items) r (after_pipeline stages 65535 ds) → IfOk r (λ v. All IsWithin v.items)
+outcome_within stages ds (Ok v) h gives = all_within v.items (stays_within stages 65535 ds v.items (none_at_fault ds h) gives)
+outcome_within stages ds (Err e) h gives = tt

@@ -14,7 +14,6 @@ use Rattle.engine.specs.Find.{query_result, matching, window, run_find}
 use Rattle.commands.specs.Delete.{Delete}
 use Rattle.commands.specs.Update.{UpdateStatement}
 use Rattle.engine.specs.Update.{Updated, update_reply, run_update}
-use Rattle.engine.specs.Updating.{RunsAll}
 use Rattle.engine.specs.View.{world_of, with_ok, Runs}
 use Rattle.engine.specs.Delete.{after_deletions, deleted_in, run_delete}
 use Rattle.engine.specs.World.{World, Cursor, CursorTable, documents_of, with_documents}
@@ -30,7 +29,7 @@ use Rattle.commands.specs.GetMore.{GetMore}
 use Rattle.commands.specs.KillCursors.{KillCursors}
 use Rattle.engine.specs.Insert.{run_insert}
 use Rattle.engine.specs.Count.{run_count}
-use Rattle.engine.specs.Progress.{Progress, is_full, inserted}
+use Rattle.engine.specs.Insert.{is_full, inserted}
 use Rattle.path.specs.declared.refusal.Refusal.{Refusal}
 use Rattle.path.specs.declared.refusal.Refusal.TheVariants as refusals
 
@@ -114,6 +113,11 @@ module _ (w : World) (connection : ℕ) (name : List ℕ) (documents : List Pair
   pub refused_batch : n < length documents → is_refused connection w.cursors w.next ≡ true → first_batch w connection name documents n ≡ Err refusals.TooMany
   refused_batch over full = left over ∙ ap after_opening (not_opened full)
 
+-- a batch of as many as were counted
+pub batch_is : (w : World) (connection : ℕ) (name : List ℕ) (most n : ℕ) (gs ds : List Pairs) → gs ≡ ds → n ≡ batch_of most gs → first_batch w connection name ds (batch_of most ds) ≡ first_batch w connection name gs n
+batch_is w connection name most n gs ds is counted =
+    ap (λ (es : List Pairs). first_batch w connection name es (batch_of most es)) (sym is) ∙ ap (first_batch w connection name gs) (sym counted)
+
 module _ (w : World) (connection : ℕ) (name : List ℕ) (query : Query) (most : ℕ) where
   abbrev sought : Find
   sought = record { namespace = name; query = query; batch_size = Some most }
@@ -121,13 +125,12 @@ module _ (w : World) (connection : ℕ) (name : List ℕ) (query : Query) (most 
   abbrev documents : List Pairs
   documents = query_result query (documents_of w.collections name)
 
-  pub run_find-is : (gs : List Pairs) (n : ℕ) → gs ≡ documents → n ≡ batch_of most gs → run_find w connection sought ≡ first_batch w connection name gs n
+  pub run_find-is : (gs : List Pairs) → gs ≡ documents → first_batch w connection name gs (batch_of most gs) ≡ run_find w connection sought
   unfolding run_find
-  run_find-is gs n is counted =
-      ap (λ (ds : List Pairs). first_batch w connection name ds (batch_of most ds)) (sym is) ∙ ap (first_batch w connection name gs) (sym counted)
+  run_find-is gs is = ap (λ (ds : List Pairs). first_batch w connection name ds (batch_of most ds)) is
 
 module _ (w : World) (connection : ℕ) (name : List ℕ) (stages : List Stage) (most : ℕ) where
-  abbrev asked_of : Aggregate
+  abbrev pub asked_of : Aggregate
   asked_of = record { namespace = name; pipeline = stages; batch_size = Some most }
 
   abbrev piped : Result (List Pairs) Refusal
@@ -136,9 +139,9 @@ module _ (w : World) (connection : ℕ) (name : List ℕ) (stages : List Stage) 
   abbrev batched : Result (List Pairs) Refusal → Result (World × Pairs) Refusal
   batched r = r >>= (λ ds. first_batch w connection name ds (batch_of most ds))
 
-  pub run_aggregate-is : (ds : List Pairs) (n : ℕ) → piped ≡ Ok ds → n ≡ batch_of most ds → run_aggregate w connection asked_of ≡ first_batch w connection name ds n
+  pub run_aggregate-is : (ds : List Pairs) → piped ≡ Ok ds → first_batch w connection name ds (batch_of most ds) ≡ run_aggregate w connection asked_of
   unfolding run_aggregate
-  run_aggregate-is ds n is counted = ap batched is ∙ ap (first_batch w connection name ds) (sym counted)
+  run_aggregate-is ds is = sym (ap batched is)
 
   pub run_aggregate-refused : (e : Refusal) → piped ≡ Err e → run_aggregate w connection asked_of ≡ Err e
   unfolding run_aggregate
@@ -181,19 +184,6 @@ pub run_delete-is : (w : World) (c : Delete) (cs : List Collection) (n : ℕ) �
     → n ≡ length (documents_of w.collections c.namespace) - length (after_deletions c.deletions (documents_of w.collections c.namespace)) → run_delete w c ≡ Ok (record w { collections = cs }, pair (codes "n") (total n) no_pairs)
 unfolding run_delete
 run_delete-is w c cs n same e = λ i. Ok (record w { collections = sym same i }, pair (codes "n") (total (sym e i)) no_pairs)
-
--- ---- update
-
-pub run_update-runs : (name : List ℕ) (ss : List UpdateStatement) (cursors : CursorTable) (old next : Progress) (r : Result Pairs Refusal) → RunsAll name ss old next r → IfErr r (λ _. next ≡ old)
-    → Runs (world_of old cursors) (run_update (world_of old cursors) (record { namespace = name; statements = ss })) (world_of next cursors) r
-unfolding run_update
-run_update-runs name ss cursors old next (Ok reply) up same =
-    ap (λ (r : Result Updated Refusal). with_ok (r >>= (λ u. let x : Result (World × Pairs) Refusal = Ok (record (world_of old cursors) { collections = u.collections }, update_reply u) in x))) up.planned
-    ∙ (λ k. Ok (record (world_of old cursors) { collections = up.is k }, sym up.says k))
-run_update-runs name ss cursors old next (Err e) is same = (
-  ap (λ (p : Progress). world_of p cursors) same,
-  λ other. ap (λ (r : Result Updated Refusal). r >>= (λ u. let x : Result (World × Pairs) Refusal = Ok (record (world_of old cursors) { collections = u.collections }, update_reply u) in x)) (is other),
-)
 
 -- what holds of either answer holds
 pub whichever : {X : Type 0} {P : Type 0} (r : Result X Refusal) → IfOk r (λ _. P) → IfErr r (λ _. P) → P

@@ -1,10 +1,10 @@
 -- What commands, and the ends of turns and connections, keep of an engine.
 use Rattle.std.proofs.Common.{◌≡◌, ◌⊎◌, inl, inr, ℕ, false, List, Result, Ok, Err, refl, ap, subst, sym, ◌∙◌}
-use Rattle.std.specs.Prelude.{◌==◌, not, All}
+use Rattle.std.specs.Prelude.{◌==◌, not, All, OnErr}
 use Rattle.std.proofs.lemmas.List.Elements.{All-filter}
 use Rattle.bson.specs.Tree.{Pairs}
 use Rattle.page.specs.History.{History, KeepsWord}
-use Rattle.collections.specs.Calls.{HasWriteCause, IsOfFile}
+use Rattle.collections.specs.Calls.{GoesFrom, HasWriteCause, IsOfFile}
 use Rattle.collections.specs.Standing.{HasState}
 use Rattle.collections.specs.State.{State}
 use Rattle.collections.specs.View.{disk_history}
@@ -13,21 +13,27 @@ use Rattle.index.specs.State.{Collection}
 use Rattle.engine.specs.Lawful.{IsWithin, IsLawfulState, IsLawful}
 use Rattle.engine.specs.Step.{read_and_run, answered, RefusedBeside}
 use Rattle.engine.specs.View.{world, turn_start, with_ok, Runs}
-use Rattle.engine.specs.Durable.{IsSound}
+use Rattle.engine.specs.Durable.{IsSound, file_of, has_changes}
 use Rattle.engine.specs.Writing.{FileCause}
 use Rattle.engine.specs.declared.engine.Engine.{Engine}
+use Rattle.engine.specs.declared.told.Told.{Told}
 use Rattle.engine.specs.Refusals.{refusal_reply}
 use Rattle.outcome.specs.Outcome.{Fails}
+use Rattle.collections.proofs.LawLemmas as laws
+use Rattle.engine.specs.Performing.{DoesPlanned, Performs}
+use Rattle.engine.specs.Known.{Known}
 use Rattle.path.specs.declared.refusal.Refusal.{Refusal}
 use Rattle.path.specs.declared.refusal.Refusal.TheVariants as refusals
 use Rattle.engine.proofs.LawfulSteps.{steps}
 
 -- the file has the collections as the turn began, and a tree of those of now
-pub keeps_sound : {D : Type 0} (history : D → History) (old new : Engine D) → IsSound history old → HasState history new.file (turn_start old) (world new).collections → turn_start new ≡ turn_start old → IsLawful (world new) → IsSound history new
-keeps_sound history old new h file same lawful = record {
+pub keeps_sound : {D : Type 0} (history : D → History) (old new : Engine D) → IsSound history old → HasState history new.file (turn_start old) (world new).collections → turn_start new ≡ turn_start old → IsLawful (world new)
+    → (has_changes new ≡ false → turn_start new ≡ (world new).collections) → IsSound history new
+keeps_sound history old new h file same lawful quiet = record {
   lawful = lawful.collections;
   cursors = lawful.cursors;
   before = subst IsLawfulState (sym same) h.before;
+  quiet = quiet;
   file = subst (λ (cs : List Collection). HasState history new.file cs (world new).collections) (sym same) file;
 }
 
@@ -72,7 +78,44 @@ answers_done w new (Ok x) d h = sym (ap both h)
 pub for_memory : {D : Type 0} (history : D → History) (old new : State D) (planned : World) → FileCause history old new planned refusals.OutOfMemory
 for_memory history old new planned = (inl refl, λ k. inl (inl refl))
 
-pub answers_refused : {D : Type 0} (history : D → History) (file now : State D) (w new : World) (planned : Result (World × Pairs) Refusal) (e : Refusal) → new ≡ w → Fails refusals.OutOfMemory e planned
-    → ((new, refusal_reply e) ≡ answered w planned) ⊎ RefusedBeside (FileCause history file now) w (answered w planned).0 new (refusal_reply e)
-answers_refused history file now w new planned refusals.OutOfMemory same refuses = inr (record { refusal = refusals.OutOfMemory; cause = for_memory history file now (answered w planned).0; same = same; says = refl })
-answers_refused history file now w new planned e same refuses = inl ((λ i. (same i, refusal_reply e)) ∙ ap (answered w) (sym (refuses (λ h. absurd cc))))
+pub answers_refused : {D : Type 0} (history : D → History) (old new : Engine D) (planned : Result (World × Pairs) Refusal) (e : Refusal) → DoesPlanned history planned (Err e) old new
+    → ((world new, refusal_reply e) ≡ answered (world old) planned) ⊎ RefusedBeside (FileCause history (file_of old) (file_of new)) (world old) (answered (world old) planned).0 (world new) (refusal_reply e)
+answers_refused history old new planned e (same, inl is) = inl ((λ i. (same i, refusal_reply e)) ∙ ap (answered (world old)) (sym is))
+answers_refused history old new planned e (same, inr cause) = inr (record { refusal = e; cause = cause; same = same; says = refl })
+
+-- ---- commands that ask the file for nothing
+
+module _ {D : Type 0} (history : D → History) (old new : Engine D) (planned : Result (World × Pairs) Refusal) where
+  -- what memory alone gives is what was planned
+  pub does_planned : (r : Result Pairs Refusal) → Runs (world old) planned (world new) r → DoesPlanned history planned r old new
+  does_planned (Ok reply) runs = runs
+  does_planned (Err refusals.OutOfMemory) runs = (runs.0, inr (for_memory history (file_of old) (file_of new) (answered (world old) planned).0))
+  does_planned (Err e) runs = (runs.0, inl (runs.1 (λ h. absurd cc)))
+
+  pub performs_in_memory : (r : Result Pairs Refusal) → IsSound history old → new.file ≡ old.file → new.told.value ≡ old.told.value → has_changes new ≡ has_changes old → IsLawful (world new) → Runs (world old) planned (world new) r → Performs history planned r old new
+  performs_in_memory r h file told changes lawful runs = record {
+    sound = keeps_sound history old new h
+        (subst (λ (k : Known). HasState history new.file (turn_start old) k.now) (sym told) (subst (λ (f : State D). HasState history f (turn_start old) (world old).collections) (sym file) h.file))
+        (ap (λ (k : Known). k.start) told) lawful
+        (λ rests. ap (λ (k : Known). k.start) told ∙ h.quiet (sym changes ∙ rests) ∙ sym (ap (λ (k : Known). k.now) told));
+    goes = subst (λ (f : State D). GoesFrom history old.file f) (sym file) (laws.goes_from_itself history old.file);
+    start = ap (λ (k : Known). k.start) told;
+    does = λ k. does_planned r runs;
+    refused = either r;
+  }
+    where
+      either : (x : Result Pairs Refusal) → OnErr x (has_changes new ≡ has_changes old)
+      either (Ok reply) = tt
+      either (Err e) = changes
+
+-- the same of a command that was read
+pub performs_told : {D : Type 0} (history : D → History) (old new : Engine D) (connection : ℕ) (body : Pairs) (r : Result Pairs Refusal) → IsSound history old → new.file ≡ old.file → new.told ≡ old.told → has_changes new ≡ has_changes old
+    → Runs (world old) (read_and_run (world old) connection body) (world new) r → Performs history (read_and_run (world old) connection body) r old new
+performs_told history old new connection body r h file told changes runs =
+    performs_in_memory history old new (read_and_run (world old) connection body) r h file (ap (λ (t : Told). t.value) told) changes
+    (runs_lawful (world old) (world new) connection body r (lawful_world history old h) runs) runs
+
+-- what was planned and what was returned, in other words
+pub performs_as : {D : Type 0} (history : D → History) (old new : Engine D) (planned other : Result (World × Pairs) Refusal) (r s : Result Pairs Refusal) → planned ≡ other → r ≡ s → Performs history other s old new → Performs history planned r old new
+performs_as history old new planned other r s is same h =
+    subst (λ (p : Result (World × Pairs) Refusal). Performs history p r old new) (sym is) (subst (λ (x : Result Pairs Refusal). Performs history other x old new) (sym same) h)

@@ -1,95 +1,177 @@
--- Updating document after document of the collection at a place, and statement after statement.
-use Rattle.std.proofs.Common.{◌≡◌, ℕ, suc, ◌+◌, ◌<◌, ◌≤◌, Bool, true, false, List, [], ◌∷◌, ◌++◌, length, take, drop, get_or, set, Option, Result, Ok, Err, refl, sym, ap, subst, ◌∙◌, arith}
-use Rattle.std.specs.Prelude.{not, ◌&&◌, if◌then◌else◌, OnOk}
-use Rattle.std.proofs.lemmas.Grind.{get_or-set_at}
-use Rattle.std.proofs.lemmas.List.{set-set, set-get_or, length-set, take_more, take_more_set, take-append-drop, get_or_default, drop_all, take_all, drop-set-lt}
+-- Updating document after document in memory, and statement after statement.
+use Rattle.std.proofs.Common.{◌≡◌, ℕ, zero, suc, ◌+◌, ◌<◌, ◌≤◌, Bool, true, false, List, [], ◌∷◌, ◌++◌, length, take, drop, get_or, set, Result, Ok, refl, sym, ap, subst, ◌∙◌, arith}
+use Rattle.std.specs.Prelude.{◌^◌, ◌-◌, nat_lt, not, ◌&&◌, if◌then◌else◌, All}
+use Rattle.std.specs.declared.cmp.Ordering.{Ordering}
+use Rattle.std.specs.declared.cmp.Ordering.TheVariants as orders
+use Rattle.std.proofs.lemmas.Cmp.{tied_itself}
+use Rattle.std.proofs.lemmas.List.{set-get_or, length-set, take_more, take_more_set, take-append-drop, get_or_default, drop_all, take_all, drop-set-lt}
+use Rattle.std.proofs.lemmas.List.Elements.{All-append, All-cons, All-set}
 use Rattle.std.proofs.lemmas.Slice.Eq.{bytes_eq-Decides}
+use Rattle.bson.specs.Lawful.{IsDocument}
 use Rattle.bson.specs.Tree.{document, Pairs, no_pairs, Items, no_items, item, append_items}
 use Rattle.filter.specs.Matches.{matches}
-use Rattle.outcome.specs.Outcome.{◌>>=◌, Fails, Gives}
+use Rattle.outcome.specs.Outcome.{◌>>=◌, Fails}
 use Rattle.path.specs.declared.refusal.Refusal.{Refusal}
 use Rattle.path.specs.declared.refusal.Refusal.TheVariants as refusals
+use Rattle.value_order.specs.Order.{compare}
+use Rattle.value_order.specs.TotalLaws.{compare_total}
 use Rattle.update.specs.Update.{Update as Change}
 use Rattle.update.specs.Applying.{apply}
-use Rattle.commands.specs.Update.{UpdateStatement}
-use Rattle.engine.specs.World.{documents_of, documents_or_none}
-use Rattle.index.specs.State.{Collection, find_collection}
-use Rattle.engine.specs.Places.{collection_at, no_collection, IsThere, IsMissing}
-use Rattle.engine.specs.Progress.{Progress, Extends, with_document_at}
-use Rattle.engine.specs.Update.{counted, spelled, Changed, passed_over, changed_to, update_from, changed_in, Updated, updated_to, upsert, run_statement, run_statements}
-use Rattle.engine.specs.Updating.{updated_of, changed_of, HasNone, IsQuiet, document_at, with_documents_at, UpdatesAt, UpdatesMatching, RunsMatching, UpdatesFound, RunsFound}
-use Rattle.engine.specs.declared.updates.Tally.{Tally}
-use Rattle.engine.proofs.Rewinding.{at_place, Extends-refl, Extends-trans}
+use Rattle.commands.specs.Update.{UpdateStatement, IsRead}
+use Rattle.index.specs.Documents.{put_document}
+use Rattle.index.specs.LawfulState.{IsRising, IsStorable}
+use Rattle.index.specs.State.{by_order}
+use Rattle.engine.specs.Documents.{key_of, place}
+use Rattle.engine.specs.Lawful.{IsStored, IsWithin}
+use Rattle.engine.specs.Merging.{Listed, none_changed, listed_to, put_each, run_each, run_listed, upsert_listed}
+use Rattle.engine.specs.Update.{counted, spelled, Changed, passed_over, changed_to, update_from}
+use Rattle.engine.specs.Updating.{changed_of, ChangesAt, document_at, HasInserted, HasNone, HasRun, IsChange, IsRun, IsRunOf, listed_of, MayBePut, RunsOn}
+use Rattle.engine.specs.declared.statements.Run.{Run}
+use Rattle.engine.proofs.Applied.{applied, change_kept, change_puttable, rising_set, stored_puttable}
+use Rattle.engine.proofs.EditPlaceLemmas.{storable}
+use Rattle.engine.proofs.LawfulSteps.{kept_place}
+use Rattle.engine.proofs.Ordered.{flipped}
 use Rattle.engine.proofs.Steps.{drop_step}
+use Rattle.engine.proofs.StoringLemmas.{put_where_placed}
+
+-- ---- runs that go on
+
+pub RunsOn-refl : (r : Run) → All IsWithin r.documents.items → RunsOn r r
+RunsOn-refl r within = record { within = within; puttable = λ h. h; quiet = λ h. (h, refl); keeps = λ from h. h }
+
+pub RunsOn-trans : (a b c : Run) → RunsOn a b → RunsOn b c → RunsOn a c
+RunsOn-trans a b c first later = record {
+  within = later.within;
+  puttable = λ h. later.puttable (first.puttable h);
+  quiet = λ h. let q = later.quiet h in let r = first.quiet q.0 in (r.0, q.1 ∙ r.1);
+  keeps = λ from h. later.keeps from (first.keeps from h);
+}
+
+-- ---- documents that are put
+
+All-more : (P : Pairs → Type 0) (xs : List Pairs) (x : Pairs) → All P xs → P x → All P (xs ++ x ∷ [])
+All-more P xs x h here = All-append P xs (x ∷ []) h (All-cons P x [] here (λ k d below. absurd (omega (arith, below))))
+
+put_each_more : (news : List Pairs) (x : Pairs) (ds : List Pairs) → put_each (news ++ x ∷ []) ds ≡ put_document x (put_each news ds)
+put_each_more [] x ds = refl
+put_each_more (new ∷ rest) x ds = put_each_more rest x (put_document new ds)
+
+rising_rest : (d : Pairs) (ds : List Pairs) → IsRising (d ∷ ds) → IsRising ds
+rising_rest d ds up i j e lt below = up (suc i) (suc j) e (omega (arith, lt)) (omega (arith, below))
+
+-- it goes in the place of the one of its key
+put_in_place : (ds : List Pairs) (i : ℕ) (new : Pairs) → i < length ds → key_of new ≡ key_of (get_or ds i no_pairs) → IsRising ds → put_document new ds ≡ set ds i new
+put_in_place [] i new below same up = absurd (omega (arith, below))
+put_in_place (d ∷ ds) zero new below same up =
+    let tied : compare (key_of new) (key_of d) ≡ orders.Equal = ap (λ t. compare t (key_of d)) same ∙ tied_itself compare_total (key_of d) in
+    ap (λ (r : Ordering). by_order r (new ∷ d ∷ ds) (new ∷ ds) (d ∷ put_document new ds)) tied
+put_in_place (d ∷ ds) (suc i) new below same up =
+    let less : compare (key_of d) (key_of (get_or ds i no_pairs)) ≡ orders.Less = up 0 (suc i) no_pairs (omega arith) (omega (arith, below)) in
+    let more : compare (key_of new) (key_of d) ≡ orders.Greater =
+    ap (λ t. compare t (key_of d)) same ∙ flipped compare_total (key_of d) (key_of (get_or ds i no_pairs)) orders.Less less in
+    ap (λ (r : Ordering). by_order r (new ∷ d ∷ ds) (new ∷ ds) (d ∷ put_document new ds)) more
+    ∙ ap (λ (xs : List Pairs). d ∷ xs) (put_in_place ds i new (omega (arith, below)) same (rising_rest d ds up))
 
 -- ---- one document
 
-module _ (u : Change) (at place : ℕ) (before after : Tally) (p : Progress) (matched : after.matched ≡ counted before.matched) (modified : after.modified ≡ before.modified) (upserted : after.upserted ≡ before.upserted) where
-  abbrev c : Collection
-  c = collection_at p.now at
+some_modified : (n : ℕ) → counted n ≡ 0 → ⊥
+some_modified n e = by (nat_lt n (2 ^ 31 - 1)) refl e
+  where
+    by : (b : Bool) → nat_lt n (2 ^ 31 - 1) ≡ b → (if b then suc n else n) ≡ 0 → ⊥
+    by true is f = absurd (omega (arith, f))
+    by false is f = absurd (let no = sym (ap (λ (k : ℕ). nat_lt k (2 ^ 31 - 1)) f) ∙ is in cc)
 
+module _ (u : Change) (at : ℕ) (old new : Run) (matched : new.tally.matched ≡ counted old.tally.matched) (upserted : new.tally.upserted ≡ old.tally.upserted)
+    (within : All IsWithin old.documents.items) where
   abbrev d : Pairs
-  d = document_at place c
+  d = document_at at old
 
-  pub updates_none : apply u 65535 d ≡ Ok d → UpdatesAt u at place before after p p
-  updates_none is = record {
+  pub changes_none : new.documents.items ≡ old.documents.items → new.news.items ≡ old.news.items → new.tally.modified ≡ old.tally.modified → apply u 65535 d ≡ Ok d → ChangesAt u at old new
+  changes_none same none modified is = record {
     made = d;
     is = is;
-    puts = sym (ap (λ (ds : List Pairs). set p.now at (record c { documents = ds })) (set-get_or c.documents place no_pairs) ∙ set-get_or p.now at no_collection);
+    puts = same ∙ sym (set-get_or old.documents.items at no_pairs);
     matched = matched;
-    modified = modified ∙ ap (λ (b : Bool). if b then before.modified else counted before.modified) (sym ((bytes_eq-Decides (spelled d) (spelled d)).1 refl));
+    modified = modified ∙ ap (λ (b : Bool). if b then old.tally.modified else counted old.tally.modified) (sym ((bytes_eq-Decides (spelled d) (spelled d)).1 refl));
     upserted = upserted;
-    quiet = λ h. ((sym modified ∙ h.0, sym upserted ∙ h.1), refl);
+    on = record {
+      within = subst (All IsWithin) (sym same) within;
+      puttable = λ h. subst (All MayBePut) (sym none) h;
+      quiet = λ h. ((sym modified ∙ h.0, sym upserted ∙ h.1), none);
+      keeps = λ from h. record {
+        puts = ap (λ (xs : List Pairs). put_each xs from) none ∙ h.puts ∙ sym same;
+        rising = subst IsRising (sym same) h.rising;
+        stored = subst (All IsStored) (sym same) h.stored;
+        storable = subst (All IsStorable) (sym none) h.storable;
+      };
+    };
   }
+
+  module _ (there : at < length old.documents.items) (read : IsRead u) (made : Pairs) (change : IsChange u d made) (puts : new.documents.items ≡ set old.documents.items at made)
+      (more : new.news.items ≡ old.news.items ++ made ∷ []) (modified : new.tally.modified ≡ counted old.tally.modified) where
+    is_within : IsWithin made
+    is_within = let a = applied u d made change.is in record { size = a.size; depth = a.depth }
+
+    keeps : (from : List Pairs) → IsRunOf from old → IsRunOf from new
+    keeps from h =
+        let here : IsStored d = h.stored at no_pairs there in
+        let kept = change_kept u d made read here change in
+        let placed : put_document made old.documents.items ≡ set old.documents.items at made = put_in_place old.documents.items at made there kept.1 h.rising in
+        record {
+          puts = ap (λ (xs : List Pairs). put_each xs from) more ∙ put_each_more old.news.items made from ∙ ap (put_document made) h.puts ∙ placed ∙ sym puts;
+          rising = subst IsRising (sym puts) (rising_set old.documents.items at made there kept.1 h.rising);
+          stored = subst (All IsStored) (sym puts) (All-set IsStored old.documents.items at made kept.0 h.stored);
+          storable = subst (All IsStorable) (sym more) (All-more IsStorable old.news.items made h.storable (storable made kept.0 change.readable));
+        }
+
+    pub changes_some : ChangesAt u at old new
+    changes_some = record {
+      made = made;
+      is = change.is;
+      puts = puts;
+      matched = matched;
+      modified = modified ∙ ap (λ (b : Bool). if b then old.tally.modified else counted old.tally.modified) (sym change.differs);
+      upserted = upserted;
+      on = record {
+        within = subst (All IsWithin) (sym puts) (All-set IsWithin old.documents.items at made is_within within);
+        puttable = λ h. subst (All MayBePut) (sym more) (All-more MayBePut old.news.items made h (change_puttable u d made change));
+        quiet = λ h. absurd (some_modified old.tally.modified (sym modified ∙ h.0));
+        keeps = keeps;
+      };
+    }
 
 -- ---- document after document
 
-pub there_count : (p : Progress) (cs : List Collection) (at : ℕ) (x : Collection) (ds : List Pairs) → cs ≡ p.now → at < length p.now → x ≡ get_or cs at x → ds ≡ x.documents
-    → length ds ≡ length (collection_at p.now at).documents
-there_count p cs at x ds same within is are =
-    let there : at < length cs = omega (arith, within, ap length same) in
-    ap length are ∙ ap (λ (y : Collection). length y.documents) (at_place cs at x there is) ∙ ap (λ (us : List Collection). length (collection_at us at).documents) same
-
 -- what the loop has done, up to this place
-pub record Looking (s : UpdateStatement) (at : ℕ) (before after : Tally) (start now : Progress) (found : Bool) (place : ℕ) : Type 0 where
-  pub extends : Extends start now
-  pub within : at < length now.now
-  pub only : now.now ≡ with_documents_at at (collection_at now.now at).documents start.now
-  pub count : length (collection_at now.now at).documents ≡ length (collection_at start.now at).documents
-  pub same : update_from s (changed_of (take place (collection_at now.now at).documents) found after) (drop place (collection_at now.now at).documents)
-      ≡ update_from s (changed_of [] false before) (collection_at start.now at).documents
-  pub none : found ≡ false → (now ≡ start) × (after ≡ before)
-  pub upserted : after.upserted ≡ before.upserted
-  pub quiet : IsQuiet before after start now
+pub record Looking (s : UpdateStatement) (start now : Run) (found : Bool) (at : ℕ) : Type 0 where
+  pub on : RunsOn start now
+  pub count : length now.documents.items ≡ length start.documents.items
+  pub same : update_from s (record (changed_of found now) { documents = take at now.documents.items }) (drop at now.documents.items)
+      ≡ update_from s (none_changed (listed_of start)) start.documents.items
+  pub none : found ≡ false → listed_of now ≡ listed_of start
+  pub upserted : now.tally.upserted ≡ start.tally.upserted
 
-pub begins : (s : UpdateStatement) (at : ℕ) (before : Tally) (start : Progress) → at < length start.now → Looking s at before before start start false 0
-begins s at before start within = record {
-  extends = Extends-refl start;
-  within = within;
-  only = sym (set-get_or start.now at no_collection);
-  count = refl;
-  same = refl;
-  none = λ e. (refl, refl);
-  upserted = refl;
-  quiet = λ h. (h, refl);
-}
+pub begins : (s : UpdateStatement) (start : Run) → All IsWithin start.documents.items → Looking s start start false 0
+begins s start within = record { on = RunsOn-refl start within; count = refl; same = refl; none = λ e. refl; upserted = refl }
 
-module _ (s : UpdateStatement) (at : ℕ) (before after : Tally) (start now : Progress) (found : Bool) (i : ℕ) (far : Looking s at before after start now found i)
-    (below : i < length (collection_at now.now at).documents) where
-  abbrev here : Collection
-  here = collection_at now.now at
+module _ (s : UpdateStatement) (start now : Run) (found : Bool) (i : ℕ) (far : Looking s start now found i) (below : i < length now.documents.items) where
+  abbrev here : List Pairs
+  here = now.documents.items
 
   abbrev at_hand : Pairs
-  at_hand = document_at i here
+  at_hand = document_at i now
+
+  abbrev changed_with : List Pairs → Bool → Run → Changed
+  changed_with ds f r = record (changed_of f r) { documents = ds }
 
   abbrev so_far : Changed
-  so_far = changed_of (take i here.documents) found after
+  so_far = changed_with (take i here) found now
 
-  left : drop i here.documents ≡ at_hand ∷ drop (i + 1) here.documents
-  left = drop_step here.documents i at_hand below (sym (get_or_default here.documents i at_hand no_pairs below))
+  left : drop i here ≡ at_hand ∷ drop (i + 1) here
+  left = drop_step here i at_hand below (sym (get_or_default here i at_hand no_pairs below))
 
   abbrev rest : List Pairs
-  rest = drop (i + 1) here.documents
+  rest = drop (i + 1) here
 
   -- what becomes of the document at hand, and then of the others
   abbrev one_step : Bool → Result Pairs Refusal → Bool → Result Changed Refusal
@@ -98,136 +180,68 @@ module _ (s : UpdateStatement) (at : ℕ) (before after : Tally) (start now : Pr
       (r >>= (λ new. if multi then update_from s (changed_to at_hand new so_far) rest else
       (let last = changed_to at_hand new so_far in Ok (record last { documents = last.documents ++ rest }))))
 
-  looked : one_step (matches s.filter at_hand) (apply s.change 65535 at_hand) s.multi ≡ update_from s (changed_of [] false before) (collection_at start.now at).documents
+  looked : one_step (matches s.filter at_hand) (apply s.change 65535 at_hand) s.multi ≡ update_from s (none_changed (listed_of start)) start.documents.items
   looked = ap (update_from s so_far) (sym left) ∙ far.same
 
   -- it doesn't match
-  pub goes_by : matches s.filter at_hand ≡ false → Looking s at before after start now found (i + 1)
+  pub goes_by : matches s.filter at_hand ≡ false → Looking s start now found (i + 1)
   goes_by other = record {
-    extends = far.extends;
-    within = far.within;
-    only = far.only;
+    on = far.on;
     count = far.count;
-    same = ap (λ (ds : List Pairs). update_from s (changed_of ds found after) rest) (take_more here.documents i no_pairs below)
+    same = ap (λ (ds : List Pairs). update_from s (changed_with ds found now) rest) (take_more here i no_pairs below)
         ∙ sym (ap (λ (b : Bool). one_step b (apply s.change 65535 at_hand) s.multi) other) ∙ looked;
     none = far.none;
     upserted = far.upserted;
-    quiet = far.quiet;
   }
 
   -- it matches, and is refused
   pub refused_one : (e : Refusal) → matches s.filter at_hand ≡ true → Fails refusals.OutOfMemory e (apply s.change 65535 at_hand)
-      → Fails refusals.OutOfMemory e (update_from s (changed_of [] false before) (collection_at start.now at).documents)
+      → Fails refusals.OutOfMemory e (update_from s (none_changed (listed_of start)) start.documents.items)
   refused_one e match is = λ other. sym looked ∙ (λ k. one_step (match k) (is other k) s.multi)
 
   -- it matches, and is changed
-  module _ (t : Tally) (next : Progress) (match : matches s.filter at_hand ≡ true) (up : UpdatesAt s.change at i after t now next) (more : Extends now next) where
-    abbrev new : Collection
-    new = with_document_at i up.made here
+  module _ (next : Run) (match : matches s.filter at_hand ≡ true) (up : ChangesAt s.change i now next) where
+    documents_now : next.documents.items ≡ set here i up.made
+    documents_now = up.puts
 
-    there : collection_at next.now at ≡ new
-    there = ap (λ (cs : List Collection). collection_at cs at) up.puts ∙ get_or-set_at now.now at at new no_collection refl far.within
-
-    documents_now : (collection_at next.now at).documents ≡ set here.documents i up.made
-    documents_now = ap (λ (x : Collection). x.documents) there
-
-    within_start : at < length start.now
-    within_start = omega (arith, far.within, ap length far.only, length-set start.now at (record (collection_at start.now at) { documents = here.documents }))
-
-    here_is : here ≡ record (collection_at start.now at) { documents = here.documents }
-    here_is =
-        ap (λ (cs : List Collection). collection_at cs at) far.only
-        ∙ get_or-set_at start.now at at (record (collection_at start.now at) { documents = here.documents }) no_collection refl within_start
-
-    only_now : next.now ≡ with_documents_at at (collection_at next.now at).documents start.now
-    only_now =
-        up.puts ∙ ap (λ (x : Collection). set now.now at (with_document_at i up.made x)) here_is
-        ∙ ap (λ (cs : List Collection). set cs at (record (collection_at start.now at) { documents = set here.documents i up.made })) far.only
-        ∙ set-set start.now at (record (collection_at start.now at) { documents = here.documents }) (record (collection_at start.now at) { documents = set here.documents i up.made })
-        ∙ ap (λ (ds : List Pairs). with_documents_at at ds start.now) (sym documents_now)
-
-    quiet_now : IsQuiet before t start next
-    quiet_now h = let q = up.quiet h in let r = far.quiet q.0 in (r.0, q.1 ∙ r.1)
-
-    rest_now : drop (i + 1) (set here.documents i up.made) ≡ rest
-    rest_now = drop-set-lt (i + 1) here.documents i up.made (omega arith)
+    rest_now : drop (i + 1) (set here i up.made) ≡ rest
+    rest_now = drop-set-lt (i + 1) here i up.made (omega arith)
 
     -- the documents up to it
-    front_now : take i here.documents ++ up.made ∷ [] ≡ take (i + 1) (set here.documents i up.made)
-    front_now = sym (take_more_set here.documents i up.made below)
+    front_now : take i here ++ up.made ∷ [] ≡ take (i + 1) (set here i up.made)
+    front_now = sym (take_more_set here i up.made below)
 
-    to_changed : changed_to at_hand up.made so_far ≡ changed_of (take (i + 1) (set here.documents i up.made)) true t
+    to_changed : changed_to at_hand up.made so_far ≡ changed_with (take (i + 1) (set here i up.made)) true next
     to_changed = λ k. record { documents = front_now k; found = true; matched = sym up.matched k; modified = sym up.modified k }
 
-    pub goes_on : s.multi ≡ true → Looking s at before t start next true (i + 1)
+    pub goes_on : s.multi ≡ true → Looking s start next true (i + 1)
     goes_on multi = record {
-      extends = Extends-trans start now next far.extends more;
-      within = omega (arith, far.within, ap length up.puts, length-set now.now at new);
-      only = only_now;
-      count = ap length documents_now ∙ length-set here.documents i up.made ∙ far.count;
-      same = ap (λ (ds : List Pairs). update_from s (changed_of (take (i + 1) ds) true t) (drop (i + 1) ds)) documents_now
+      on = RunsOn-trans start now next far.on up.on;
+      count = ap length documents_now ∙ length-set here i up.made ∙ far.count;
+      same = ap (λ (ds : List Pairs). update_from s (changed_with (take (i + 1) ds) true next) (drop (i + 1) ds)) documents_now
           ∙ (λ k. update_from s (sym to_changed k) (rest_now k))
           ∙ sym (λ k. one_step (match k) (up.is k) (multi k)) ∙ looked;
       none = λ e. absurd cc;
       upserted = up.upserted ∙ far.upserted;
-      quiet = quiet_now;
     }
 
-    pub only_first : s.multi ≡ false → UpdatesMatching s at before t start next true
+    pub only_first : s.multi ≡ false → HasRun s start next true
     only_first single = record {
       planned = sym looked ∙ (λ k. one_step (match k) (up.is k) (single k))
           ∙ (λ k. let last = to_changed k in Ok (record last { documents = last.documents ++ sym rest_now k }))
-          ∙ ap (λ (ds : List Pairs). Ok (changed_of ds true t)) (take-append-drop (i + 1) (set here.documents i up.made) ∙ sym documents_now);
-      only = only_now;
+          ∙ ap (λ (ds : List Pairs). Ok (changed_with ds true next)) (take-append-drop (i + 1) (set here i up.made) ∙ sym documents_now);
       none = λ e. absurd cc;
       upserted = up.upserted ∙ far.upserted;
-      quiet = quiet_now;
+      on = RunsOn-trans start now next far.on up.on;
     }
 
 -- no document is left
-pub looked_at_all : (s : UpdateStatement) (at : ℕ) (before after : Tally) (start now : Progress) (found : Bool) (i : ℕ) → Looking s at before after start now found i
-    → length (collection_at now.now at).documents ≤ i → UpdatesMatching s at before after start now found
-looked_at_all s at before after start now found i far whole = record {
-  planned = sym far.same ∙ (λ k. update_from s (changed_of (take_all i (collection_at now.now at).documents whole k) found after) (drop_all i (collection_at now.now at).documents whole k));
-  only = far.only;
+pub looked_at_all : (s : UpdateStatement) (start now : Run) (found : Bool) (i : ℕ) → Looking s start now found i → length now.documents.items ≤ i → HasRun s start now found
+looked_at_all s start now found i far whole = record {
+  planned = sym far.same ∙ (λ k. update_from s (record (changed_of found now) { documents = take_all i now.documents.items whole k }) (drop_all i now.documents.items whole k));
   none = far.none;
   upserted = far.upserted;
-  quiet = far.quiet;
-}
-
--- ---- the documents of a namespace
-
-pub updated_there : (name : List ℕ) (s : UpdateStatement) (at : ℕ) (before after : Tally) (old new : Progress) (found : Bool) → IsThere name old.now at
-    → UpdatesMatching s at before after old new found → UpdatesFound name s before after old new found
-updated_there name s at before after old new found there up =
-    let here = collection_at old.now at in
-    let ds = (collection_at new.now at).documents in
-    let all : documents_of old.now name ≡ here.documents = ap documents_or_none there.found in
-    let put : changed_in (find_collection old.now name) ds old.now ≡ new.now =
-    ap (λ (o : Option Collection). changed_in o ds old.now) there.found ∙ there.replaced (record here { documents = ds }) there.named ∙ sym up.only in
-    record {
-      changed = changed_of ds found after;
-      planned = ap (update_from s (changed_of [] false before)) all ∙ up.planned;
-      said = refl;
-      is = λ k. record { collections = put k; matched = after.matched; modified = after.modified; upserted = sym up.upserted k };
-      none = up.none;
-      quiet = up.quiet;
-    }
-
-pub found_there : (name : List ℕ) (s : UpdateStatement) (at : ℕ) (before after : Tally) (old new : Progress) → IsThere name old.now at → (r : Result Bool Refusal)
-    → RunsMatching s at before after old new r → RunsFound name s before after old new r
-found_there name s at before after old next at_name (Ok found) up = updated_there name s at before after old next found at_name up
-found_there name s at before after old next at_name (Err e) is = λ other.
-    ap (λ (o : Option Collection). update_from s (changed_of [] false before) (documents_or_none o)) at_name.found ∙ is other
-
-pub updated_missing : (name : List ℕ) (s : UpdateStatement) (tally : Tally) (p : Progress) (i : ℕ) → IsMissing name p.now i → UpdatesFound name s tally tally p p false
-updated_missing name s tally p i gone = record {
-  changed = changed_of [] false tally;
-  planned = ap (λ (o : Option Collection). update_from s (changed_of [] false tally) (documents_or_none o)) gone.found;
-  said = refl;
-  is = λ k. record { collections = changed_in (gone.found k) [] p.now; matched = tally.matched; modified = tally.modified; upserted = tally.upserted };
-  none = λ e. (refl, refl);
-  quiet = λ h. (h, refl);
+  on = far.on;
 }
 
 -- ---- a document that is made
@@ -236,47 +250,69 @@ pub some_upserted : (ts us : Items) (i : Pairs) → us ≡ append_items ts (item
 some_upserted no_items us i made none = absurd (let no = sym made ∙ none in cc)
 some_upserted (item t ts) us i made none = absurd (let no = sym made ∙ none in cc)
 
+-- the run after it, whatever it counts
+pub inserts_on : (d : Pairs) (old mid new : Run) → IsStored d → IsDocument d → HasInserted d old mid → new.documents.items ≡ mid.documents.items → new.news.items ≡ mid.news.items
+    → (HasNone new.tally → ⊥) → RunsOn old new
+inserts_on d old mid new stored readable put same none some = record {
+  within = subst (All IsWithin) (sym same) put.within;
+  puttable = λ h. subst (All MayBePut) (sym (none ∙ put.news)) (All-more MayBePut old.news.items d h (stored_puttable d stored readable));
+  quiet = λ h. absurd (some h);
+  keeps = λ from h.
+      let kept = kept_place old.documents.items d mid.documents.items (h.rising, h.stored) stored put.placed in
+      record {
+        puts = ap (λ (xs : List Pairs). put_each xs from) (none ∙ put.news) ∙ put_each_more old.news.items d from ∙ ap (put_document d) h.puts
+            ∙ put_where_placed d old.documents.items mid.documents.items put.placed ∙ sym same;
+        rising = subst IsRising (sym same) kept.0;
+        stored = subst (All IsStored) (sym same) kept.1;
+        storable = subst (All IsStorable) (sym (none ∙ put.news)) (All-more IsStorable old.news.items d h.storable (storable d stored readable));
+      };
+}
+
 -- ---- one statement
 
-module _ (name : List ℕ) (index : ℕ) (s : UpdateStatement) (before after : Tally) (old new : Progress) (found : Bool) (up : UpdatesFound name s before after old new found) where
-  abbrev ran_on : Changed → Result Updated Refusal
-  ran_on changed = if not changed.found && s.upsert then upsert name index s (updated_of old before) else Ok (updated_to name (updated_of old before) changed)
+module _ (index : ℕ) (s : UpdateStatement) (old mid : Run) where
+  abbrev ran_on : Changed → Result Listed Refusal
+  ran_on changed = if not changed.found && s.upsert then upsert_listed index s (listed_of old) else Ok (listed_to (listed_of old) changed)
 
-  abbrev to_run : Bool → Bool → Result Updated Refusal
-  to_run f u = if not f && u then upsert name index s (updated_of old before) else Ok (updated_to name (updated_of old before) up.changed)
+  pub refused_statement : (e : Refusal) → Fails refusals.OutOfMemory e (update_from s (none_changed (listed_of old)) old.documents.items) → Fails refusals.OutOfMemory e (run_listed index s (listed_of old))
+  refused_statement e is other = ap (λ (r : Result Changed Refusal). r >>= ran_on) (is other)
 
-  ran : run_statement name index s (updated_of old before) ≡ to_run found s.upsert
-  ran = ap (λ (r : Result Changed Refusal). r >>= ran_on) up.planned ∙ ap (λ (f : Bool). to_run f s.upsert) up.said
+  module _ (found : Bool) (up : HasRun s old mid found) where
+    ran : run_listed index s (listed_of old) ≡ ran_on (changed_of found mid)
+    ran = ap (λ (r : Result Changed Refusal). r >>= ran_on) up.planned
 
-  -- it is done with the documents that match
-  pub done : (not found && s.upsert) ≡ false → run_statement name index s (updated_of old before) ≡ Ok (updated_of new after)
-  done e = ran ∙ ap (λ (b : Bool). if b then upsert name index s (updated_of old before) else Ok (updated_to name (updated_of old before) up.changed)) e ∙ ap (λ (u : Updated). Ok u) up.is
+    -- it is done with the documents that match
+    pub done : (not found && s.upsert) ≡ false → run_listed index s (listed_of old) ≡ Ok (listed_of mid)
+    done e =
+        ran ∙ ap (λ (b : Bool). if b then upsert_listed index s (listed_of old) else Ok (listed_to (listed_of old) (changed_of found mid))) e
+        ∙ (λ k. Ok (record (listed_of mid) { upserted = sym up.upserted k }))
 
-  -- a document is to be made
-  pub makes : (not found && s.upsert) ≡ true → found ≡ false → run_statement name index s (updated_of old before) ≡ upsert name index s (updated_of new after)
-  makes e none =
-      ran ∙ ap (λ (b : Bool). if b then upsert name index s (updated_of old before) else Ok (updated_to name (updated_of old before) up.changed)) e
-      ∙ (λ k. upsert name index s (updated_of (sym (up.none none).0 k) (sym (up.none none).1 k)))
-
-pub refused_statement : (name : List ℕ) (index : ℕ) (s : UpdateStatement) (before : Tally) (old : Progress) (e : Refusal)
-    → Fails refusals.OutOfMemory e (update_from s (changed_of [] false before) (documents_of old.now name)) → Fails refusals.OutOfMemory e (run_statement name index s (updated_of old before))
-refused_statement name index s before old e is other =
-    ap (λ (r : Result Changed Refusal). r >>= (λ changed. if not changed.found && s.upsert then upsert name index s (updated_of old before) else Ok (updated_to name (updated_of old before) changed))) (is other)
-
-pub quiet_upsert : (r : Result (Unit {0}) Refusal) (before after : Tally) (old next : Progress) → OnOk r (HasNone after → ⊥) → OnOk r (IsQuiet before after old next)
-quiet_upsert (Ok x) before after old next some = λ h. absurd (some h)
-quiet_upsert (Err e) before after old next some = tt
-
-pub Gives-upsert : (r : Result (Unit {0}) Refusal) (planned other : Result Updated Refusal) (u : Updated) → other ≡ planned → Gives refusals.OutOfMemory (λ _. u) r planned → Gives refusals.OutOfMemory (λ _. u) r other
-Gives-upsert r planned other u same h = subst (λ (x : Result Updated Refusal). Gives refusals.OutOfMemory (λ _. u) r x) (sym same) h
+    -- a document is to be made
+    pub makes : (not found && s.upsert) ≡ true → found ≡ false → run_listed index s (listed_of old) ≡ upsert_listed index s (listed_of mid)
+    makes e none =
+        ran ∙ ap (λ (b : Bool). if b then upsert_listed index s (listed_of old) else Ok (listed_to (listed_of old) (changed_of found mid))) e
+        ∙ ap (upsert_listed index s) (sym (up.none none))
 
 -- ---- statement after statement
 
-pub run_one : (name : List ℕ) (i : ℕ) (ss : List UpdateStatement) (s : UpdateStatement) (u : Updated) → i < length ss → s ≡ get_or ss i s
-    → run_statements name i (drop i ss) u ≡ (run_statement name i s u >>= run_statements name (i + 1) (drop (i + 1) ss))
-run_one name i ss s u within is =
+pub run_one : (i : ℕ) (ss : List UpdateStatement) (s : UpdateStatement) (l : Listed) → i < length ss → s ≡ get_or ss i s
+    → run_each i (drop i ss) l ≡ (run_listed i s l >>= run_each (i + 1) (drop (i + 1) ss))
+run_one i ss s l within is =
     let next : suc i ≡ i + 1 = omega arith in
-    ap (λ (xs : List UpdateStatement). run_statements name i xs u) (drop_step ss i s within is) ∙ ap (λ (n : ℕ). run_statement name i s u >>= run_statements name n (drop (i + 1) ss)) next
+    ap (λ (xs : List UpdateStatement). run_each i xs l) (drop_step ss i s within is) ∙ ap (λ (n : ℕ). run_listed i s l >>= run_each n (drop (i + 1) ss)) next
 
-pub run_none : (name : List ℕ) (i : ℕ) (ss : List UpdateStatement) (u : Updated) → length ss ≤ i → run_statements name i (drop i ss) u ≡ Ok u
-run_none name i ss u whole = ap (λ (xs : List UpdateStatement). run_statements name i xs u) (drop_all i ss whole)
+pub run_none : (i : ℕ) (ss : List UpdateStatement) (l : Listed) → length ss ≤ i → run_each i (drop i ss) l ≡ Ok l
+run_none i ss l whole = ap (λ (xs : List UpdateStatement). run_each i xs l) (drop_all i ss whole)
+
+-- what was run from the beginning
+pub ran_from : (start new : Run) (from : List Pairs) → start.documents.items ≡ from → start.news.items ≡ [] → RunsOn start new → IsRun from new
+ran_from start new from same none on = record {
+  puttable = on.puttable (subst (All MayBePut) (sym none) (λ k d below. absurd (omega (arith, below))));
+  quiet = λ h. (on.quiet h).1 ∙ none;
+  keeps = λ up stored. on.keeps from (record {
+    puts = ap (λ (xs : List Pairs). put_each xs from) none ∙ sym same;
+    rising = subst IsRising (sym same) up;
+    stored = subst (All IsStored) (sym same) stored;
+    storable = subst (All IsStorable) (sym none) (λ k d below. absurd (omega (arith, below)));
+  });
+}

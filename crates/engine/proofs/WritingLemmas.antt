@@ -1,110 +1,79 @@
--- What a turn has changed in memory is put into the file.
-use Rattle.std.proofs.Common.{◌≡◌, ◌⊎◌, inl, inr, ℕ, true, false, List, [], length, Result, Ok, Err, refl, sym, ap, subst, ◌∙◌}
+-- Edits are put into the file of an engine.
+use Rattle.std.proofs.Common.{◌≡◌, inl, inr, true, List, Ok, Err, refl, sym, ap, subst}
 use Rattle.page.specs.History.{History, KeepsWord}
 use Rattle.btree.specs.Keys.{Edit}
 use Rattle.path.specs.declared.refusal.Refusal.{Refusal}
 use Rattle.path.specs.declared.refusal.Refusal.TheVariants as refusals
+use Rattle.index.specs.Documents.{IsUnindexed}
 use Rattle.index.specs.State.{Collection}
 use Rattle.index.specs.StateEntries.{Leads}
-use Rattle.index.specs.Documents.{IsUnindexed}
-use Rattle.collections.specs.Calls.{Applies, GoesFrom, HasWriteCause}
-use Rattle.collections.specs.Laws as laws
-use Rattle.collections.specs.Standing.{HasState, IsTurnOf}
+use Rattle.collections.specs.Calls.{Applies}
+use Rattle.collections.specs.Standing.{HasState}
 use Rattle.collections.specs.State.{State}
-use Rattle.collections.specs.View.{disk_history, is_stopped}
-use Rattle.collections.proofs.LawLemmas as lemmas
+use Rattle.collections.proofs.LawLemmas as laws
+use Rattle.engine.specs.Durable.{disk_history, is_stopped, IsRunning, IsSound}
+use Rattle.engine.specs.Known.{Known}
 use Rattle.engine.specs.Lawful.{IsLawfulState}
-use Rattle.engine.specs.Progress.{Progress, Extends}
-use Rattle.engine.specs.Since.{LeadsSince}
-use Rattle.engine.specs.Writing.{Applied, AppliedFrom, Writes}
+use Rattle.engine.specs.View.{world}
+use Rattle.engine.specs.Writing.{Writes}
 use Rattle.engine.specs.declared.engine.Engine.{Engine}
-use Rattle.engine.proofs.Rewinding.{Extends-refl, Extends-same}
+use Rattle.engine.specs.declared.told.Told.{Told}
 
-module _ {D : Type 0} (history : D → History) (mark : ℕ) (now : Progress) where
+module _ {D : Type 0} (history : D → History) (old : Engine D) (h : IsSound history old) where
   -- a file that has stopped takes nothing
-  pub applied_stopped : (file : State D) → is_stopped file ≡ true → Applied history mark now (Err refusals.StorageFailed) file file
-  applied_stopped file stopped = record {
-    goes = lemmas.goes_from_itself history file;
-    kinds = inr (inl refl);
-    from = λ before extends len lawful. record {
-      state = λ start has. has;
-      cause = λ start has k. inl (inr (inl (refl, inl stopped)));
-    };
-  }
-
-  -- there was no memory for the edits
-  pub applied_nothing : (file : State D) → Applied history mark now (Err refusals.OutOfMemory) file file
-  applied_nothing file = record {
-    goes = lemmas.goes_from_itself history file;
-    kinds = inl refl;
-    from = λ before extends len lawful. record {
-      state = λ start has. has;
-      cause = λ start has k. inl (inl refl);
-    };
-  }
-
-  module _ (edits : List Edit) (leads : LeadsSince mark now edits) (old new : State D) (running : is_stopped old ≡ false) where
-    led : GoesFrom history old new → (before : Progress) → Extends before now → mark ≡ length before.changes → IsLawfulState now.now → (start : List Collection) → HasState history old start before.now
-        → KeepsWord (disk_history history new) → Leads edits before.now now.now × IsUnindexed now.now
-    led goes before extends len lawful start has k =
-        let turn : IsTurnOf history old start before.now = has running (goes.frame k).word in
-        leads before extends len turn.now_state lawful
-
-    pub applied : (result : Result (Unit {0}) Refusal) → Applies history edits result old new → Applied history mark now result old new
-    applied (Ok tt) a = record {
-      goes = a.on;
-      kinds = tt;
-      from = λ before extends len lawful. record {
-        state = λ start has still k. let l = led a.on before extends len lawful start has k in a.state start before.now now.now has l.0 l.1 still k;
-        cause = λ start has k. tt;
-      };
-    }
-    applied (Err e) a = record {
-      goes = a.on;
-      kinds = a.kinds;
-      from = λ before extends len lawful. record {
-        state = λ start has still k. let l = led a.on before extends len lawful start has k in a.state start before.now now.now has l.0 l.1 still k;
-        cause = λ start has k. let l = led a.on before extends len lawful start has k in a.cause k start before.now now.now has l.0 l.1;
-      };
-    }
-
-module _ {D : Type 0} (history : D → History) (mark : ℕ) (old : Engine D) where
-  -- nothing had changed since the mark
-  pub wrote_nothing : mark ≡ length old.collections.changes → Writes history mark (Ok tt) old old
-  wrote_nothing is = record {
+  pub writes_stopped : (after : List Collection) → is_stopped old ≡ true → Writes history after (Err refusals.StorageFailed) old old
+  writes_stopped after stopped = record {
+    sound = h;
+    goes = laws.goes_from_itself history old.file;
+    start = refl;
     cursors = refl;
-    goes = lemmas.goes_from_itself history old.file;
-    kinds = tt;
-    ok = refl;
-    idle = λ e. (refl, refl);
-    back = λ before extends len. tt;
-    from = λ before extends len lawful.
-        let same : before ≡ old.collections = Extends-same before old.collections old.collections extends (Extends-refl old.collections) (sym len ∙ is) in
-        record {
-          state = λ start has. subst (λ (p : Progress). HasState history old.file start p.now) same has;
-          cause = λ start has k. tt;
-        };
+    ok = tt;
+    err = (refl, refl);
+    kinds = inr (inl refl);
+    cause = λ k. inl (inr (inl (refl, inl stopped)));
   }
 
-  module _ (some : mark ≡ length old.collections.changes → ⊥) (new : Engine D) (cursors : new.cursors ≡ old.cursors) where
-    pub wrote : Applied history mark old.collections (Ok tt) old.file new.file → new.collections ≡ old.collections → Writes history mark (Ok tt) old new
-    wrote a same = record {
-      cursors = cursors;
-      goes = a.goes;
+  module _ (edits : List Edit) (after : List Collection) (leads : KeepsWord (disk_history history old) → IsRunning old → Leads edits (world old).collections after × IsUnindexed after)
+      (running : IsRunning old) (file : State D) where
+    -- they were put into it
+    pub writes_done : (told : Told) → told.value ≡ record { start = old.told.value.start; now = after } → IsLawfulState after → Applies history edits (Ok tt) old.file file
+        → Writes history after (Ok tt) old (record old { file = file; told = told; is_changed = true })
+    writes_done told is lawful applies = record {
+      sound = record {
+        lawful = subst (λ (k : Known). IsLawfulState k.now) (sym is) lawful;
+        cursors = h.cursors;
+        before = subst (λ (k : Known). IsLawfulState k.start) (sym is) h.before;
+        quiet = λ rests. absurd cc;
+        file = subst (λ (k : Known). HasState history file k.start k.now) (sym is) has;
+      };
+      goes = applies.on;
+      start = ap (λ (k : Known). k.start) is;
+      cursors = refl;
+      ok = ap (λ (k : Known). k.now) is;
+      err = tt;
       kinds = tt;
-      ok = same;
-      idle = λ is. absurd (some is);
-      back = λ before extends len. tt;
-      from = a.from;
+      cause = λ k. tt;
     }
+      where
+        has : HasState history file old.told.value.start after
+        has run k =
+            let l = leads (applies.on.frame k).word running in
+            applies.state old.told.value.start old.told.value.now after h.file l.0 l.1 run k
 
-    pub wrote_back : (e : Refusal) → Applied history mark old.collections (Err e) old.file new.file → Extends new.collections old.collections → length new.collections.changes ≡ mark → Writes history mark (Err e) old new
-    wrote_back e a extended len = record {
-      cursors = cursors;
-      goes = a.goes;
-      kinds = a.kinds;
+    -- nothing of them was
+    pub writes_undone : (e : Refusal) → Applies history edits (Err e) old.file file → Writes history after (Err e) old (record old { file = file })
+    writes_undone e applies = record {
+      sound = record { lawful = h.lawful; cursors = h.cursors; before = h.before; quiet = h.quiet; file = has };
+      goes = applies.on;
+      start = refl;
+      cursors = refl;
       ok = tt;
-      idle = λ is. absurd (some is);
-      back = λ before extends at. Extends-same new.collections before old.collections extended extends (len ∙ at);
-      from = a.from;
+      err = (refl, refl);
+      kinds = applies.kinds;
+      cause = λ k. let l = leads (applies.on.frame k).word running in applies.cause k old.told.value.start old.told.value.now after h.file l.0 l.1;
     }
+      where
+        has : HasState history file old.told.value.start old.told.value.now
+        has run k =
+            let l = leads (applies.on.frame k).word running in
+            applies.state old.told.value.start old.told.value.now after h.file l.0 l.1 run k

@@ -7,7 +7,6 @@ use Rattle.collections.specs.Holding as files
 use Rattle.collections.specs.Standing.{HasState}
 use Rattle.collections.specs.View as views
 use Rattle.engine.specs.Lawful.{IsLawfulState, AreLawfulCursors}
-use Rattle.engine.specs.Progress.{is_changed}
 use Rattle.engine.specs.View.{world, turn_start}
 use Rattle.engine.specs.declared.engine.Engine.{Engine}
 
@@ -26,7 +25,7 @@ disk_history history engine = views.disk_history history (file_of engine)
 
 -- the commands of the running turn have changed something
 abbrev pub has_changes : {D : Type 0} → Engine D → Bool
-has_changes engine = is_changed engine.collections
+has_changes engine = engine.is_changed
 
 -- a write or a sync of the engine's has failed
 abbrev pub is_stopped : {D : Type 0} → Engine D → Bool
@@ -48,4 +47,5 @@ pub record IsSound {D : Type 0} (history : D → History) (engine : Engine D) : 
   pub lawful : IsLawfulState (world engine).collections
   pub cursors : AreLawfulCursors (world engine).cursors
   pub before : IsLawfulState (turn_start engine)
+  pub quiet : has_changes engine ≡ false → turn_start engine ≡ (world engine).collections
   pub file : HasState history (file_of engine) (turn_start engine) (world engine).collections

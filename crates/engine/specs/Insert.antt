@@ -1,14 +1,25 @@
 -- `insert`: all documents are stored, or none.
-use Rattle.std.specs.Prelude.{◌&&◌, not, nat_le, length, codes, Result, Ok, is_some}
+use Rattle.std.specs.Prelude.{◌&&◌, ℕ, Bool, not, nat_le, List, length, codes, Result, Ok, is_some}
 use Rattle.bson.specs.Tree.{Pairs, no_pairs, pair}
 use Rattle.outcome.specs.Outcome.{◌>>=◌, unless}
 use Rattle.path.specs.declared.refusal.Refusal.{Refusal}
 use Rattle.path.specs.declared.refusal.Refusal.TheVariants as refusals
 use Rattle.commands.specs.Insert.{Insert}
 use Rattle.engine.specs.World.{World, documents_of, with_documents}
-use Rattle.index.specs.State.{find_collection, put_collection}
+use Rattle.index.specs.State.{Collection, find_collection, put_collection}
 use Rattle.engine.specs.Documents.{insert_all}
 use Rattle.engine.specs.Refusals.{int}
+
+-- a collection of this name would be one too many
+abbrev pub is_full : List Collection → List ℕ → Bool
+is_full cs name = nat_le 1000 (length cs) && not (is_some (find_collection cs name))
+
+-- the collections with these documents, or the first refusal
+abbrev pub inserted : List Collection → List ℕ → List Pairs → Result (List Collection) Refusal
+inserted cs name documents =
+    unless (is_full cs name) refusals.TooMany (do
+      stored ← insert_all (documents_of cs name) documents
+      Ok (put_collection (with_documents cs name stored) cs))
 
 -- a missing collection is made, where there are not 1,000 yet
 unfoldable pub run_insert : World → Insert → Result (World × Pairs) Refusal

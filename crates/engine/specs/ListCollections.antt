@@ -23,6 +23,11 @@ abbrev pub names_in : List ℕ → List Collection → List (List ℕ)
 names_in front [] = []
 names_in front (c ∷ cs) = with_name (name_in front c.name) (names_in front cs)
 
+-- the same of names that come with numbers
+abbrev pub names_behind : List ℕ → List (List ℕ × ℕ) → List (List ℕ)
+names_behind front [] = []
+names_behind front (n ∷ ns) = with_name (name_in front n.0) (names_behind front ns)
+
 -- what is said of a collection
 abbrev pub listed : List ℕ → Pairs
 listed name =

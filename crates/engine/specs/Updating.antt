@@ -1,118 +1,120 @@
--- What running the statements of an update does to the collections of a turn: clauses of private functions.
-use Rattle.std.specs.Prelude.{◌≡◌, ℕ, Bool, false, List, [], slice_set, slice_index_or, Result, Ok, Err}
+-- What running the statements of an update does to documents in memory: clauses of private functions.
+use Rattle.std.specs.Prelude.{◌≡◌, ◌≤◌, ℕ, suc, Bool, false, List, [], ◌∷◌, ◌++◌, length, insert, slice_set, slice_index_or, codes, Option, Some, None, All, Result, Ok, Err}
 use Rattle.std.specs.Str.{bytes_eq}
 use Rattle.bson.specs.Tree.{Pairs, no_pairs, no_items}
-use Rattle.bson.specs.Lawful.{IsDocument}
-use Rattle.outcome.specs.Outcome.{Fails}
+use Rattle.bson.specs.Lawful.{IsDocument, pairs_levels}
+use Rattle.bson.specs.Lookup.{lookup}
+use Rattle.bson.specs.Spelling.{frame_of, pairs_bytes}
+use Rattle.outcome.specs.Outcome.{Fails, or_refused}
 use Rattle.path.specs.declared.refusal.Refusal.{Refusal}
+use Rattle.path.specs.declared.refusal.Refusal.TheVariants as refusals
 use Rattle.update.specs.Update.{Update as Change}
 use Rattle.update.specs.Applying.{apply}
 use Rattle.commands.specs.Update.{UpdateStatement}
-use Rattle.engine.specs.World.{documents_of}
-use Rattle.index.specs.State.{Collection}
-use Rattle.engine.specs.Refusals.{ok_reply}
-use Rattle.engine.specs.Documents.{key_of}
-use Rattle.engine.specs.Lawful.{IsStored}
-use Rattle.engine.specs.Places.{collection_at}
-use Rattle.engine.specs.Progress.{Progress, with_document_at}
-use Rattle.engine.specs.Update.{counted, spelled, modified_by, Changed, update_from, Updated, updated_to, run_all, update_reply}
-use Rattle.engine.specs.declared.updates.Tally.{Tally}
-use Rattle.path.specs.declared.refusal.Refusal.TheVariants as refusals
+use Rattle.index.specs.LawfulState.{IsRising, IsStorable}
+use Rattle.engine.specs.Documents.{key_of, place}
+use Rattle.engine.specs.Lawful.{IsStored, IsWithin}
+use Rattle.engine.specs.Merging.{Listed, none_changed, put_each}
+use Rattle.engine.specs.Update.{counted, spelled, modified_by, Changed, update_from}
+use Rattle.engine.specs.declared.statements.Run.{Run}
+use Rattle.engine.specs.declared.statements.Tally.{Tally}
 
--- what the statements of an update have come to
-abbrev pub updated_of : Progress → Tally → Updated
-updated_of p t = record {
-  collections = p.now;
-  matched = t.matched;
-  modified = t.modified;
-  upserted = t.upserted;
+-- what the statements have come to
+abbrev pub listed_of : Run → Listed
+listed_of r = record {
+  documents = r.documents.items;
+  matched = r.tally.matched;
+  modified = r.tally.modified;
+  upserted = r.tally.upserted;
 }
 
--- what a statement has made of these documents
-abbrev pub changed_of : List Pairs → Bool → Tally → Changed
-changed_of ds found t =
-    record { documents = ds; found = found; matched = t.matched; modified = t.modified }
+-- what a statement has made of the documents
+abbrev pub changed_of : Bool → Run → Changed
+changed_of found r = record {
+  documents = r.documents.items;
+  found = found;
+  matched = r.tally.matched;
+  modified = r.tally.modified;
+}
 
 -- no document was changed or made
 abbrev pub HasNone : Tally → Type 0
 HasNone t = (t.modified ≡ 0) × (t.upserted ≡ no_items)
 
--- where no document was changed or made, the turn is as it was
-abbrev pub IsQuiet : Tally → Tally → Progress → Progress → Type 0
-IsQuiet before after old new = HasNone after → HasNone before × (new ≡ old)
+abbrev pub document_at : ℕ → Run → Pairs
+document_at i r = slice_index_or r.documents.items i no_pairs
 
-abbrev pub document_at : ℕ → Collection → Pairs
-document_at i c = slice_index_or c.documents i no_pairs
-
--- the collections, where the one at a place has these documents
-abbrev pub with_documents_at : ℕ → List Pairs → List Collection → List Collection
-with_documents_at at ds cs = slice_set cs at (record (collection_at cs at) { documents = ds })
-
--- What an update makes of a stored document, of which the bytes are others then.
+-- What an update makes of a document, of which the bytes are others then.
 pub record IsChange (change : Change) (old new : Pairs) : Type 0 where
   pub is : apply change 65535 old ≡ Ok new
   pub differs : bytes_eq (spelled old) (spelled new) ≡ false
-  pub stored : IsStored new
   pub readable : IsDocument new
-  pub key : key_of new ≡ key_of old
+
+-- A document that may be stored, but for the length of its key text.
+pub record MayBePut (ps : Pairs) : Type 0 where
+  pub lawful : IsDocument ps
+  pub size : length (frame_of (pairs_bytes ps)) ≤ 65535
+  pub depth : suc (pairs_levels ps) ≤ 90
+  pub key : lookup ps (codes "_id") ≡ Some (key_of ps)
+
+-- The documents are those of the beginning with those that were changed and made put among them.
+pub record IsRunOf (from : List Pairs) (r : Run) : Type 0 where
+  pub puts : put_each r.news.items from ≡ r.documents.items
+  pub rising : IsRising r.documents.items
+  pub stored : All IsStored r.documents.items
+  pub storable : All IsStorable r.news.items
+
+-- A run went on.
+pub record RunsOn (old new : Run) : Type 0 where
+  pub within : All IsWithin new.documents.items
+  pub puttable : All MayBePut old.news.items → All MayBePut new.news.items
+  pub quiet : HasNone new.tally → HasNone old.tally × (new.news.items ≡ old.news.items)
+  pub keeps : (from : List Pairs) → IsRunOf from old → IsRunOf from new
 
 -- The document at a place was updated.
-pub record UpdatesAt (change : Change) (at place : ℕ) (before after : Tally)
-    (old new : Progress) : Type 0 where
+pub record ChangesAt (change : Change) (place : ℕ) (old new : Run) : Type 0 where
   pub made : Pairs
-  pub is : apply change 65535 (document_at place (collection_at old.now at)) ≡ Ok made
-  pub puts : new.now
-      ≡ slice_set old.now at (with_document_at place made (collection_at old.now at))
-  pub matched : after.matched ≡ counted before.matched
-  pub modified : after.modified
-      ≡ modified_by (document_at place (collection_at old.now at)) made before.modified
-  pub upserted : after.upserted ≡ before.upserted
-  pub quiet : IsQuiet before after old new
+  pub is : apply change 65535 (document_at place old) ≡ Ok made
+  pub puts : new.documents.items ≡ slice_set old.documents.items place made
+  pub matched : new.tally.matched ≡ counted old.tally.matched
+  pub modified : new.tally.modified
+      ≡ modified_by (document_at place old) made old.tally.modified
+  pub upserted : new.tally.upserted ≡ old.tally.upserted
+  pub on : RunsOn old new
 
--- The documents of the collection at a place that match were updated; one was found, or none.
-pub record UpdatesMatching (s : UpdateStatement) (at : ℕ) (before after : Tally)
-    (old new : Progress) (found : Bool) : Type 0 where
-  pub planned : update_from s (changed_of [] false before) (collection_at old.now at).documents
-      ≡ Ok (changed_of (collection_at new.now at).documents found after)
-  pub only : new.now ≡ with_documents_at at (collection_at new.now at).documents old.now
-  pub none : found ≡ false → (new ≡ old) × (after ≡ before)
-  pub upserted : after.upserted ≡ before.upserted
-  pub quiet : IsQuiet before after old new
+-- The documents that match were updated; one was found, or none.
+pub record HasRun (s : UpdateStatement) (old new : Run) (found : Bool) : Type 0 where
+  pub planned : update_from s (none_changed (listed_of old)) old.documents.items
+      ≡ Ok (changed_of found new)
+  pub none : found ≡ false → listed_of new ≡ listed_of old
+  pub upserted : new.tally.upserted ≡ old.tally.upserted
+  pub on : RunsOn old new
 
-abbrev pub RunsMatching : UpdateStatement → ℕ → Tally → Tally → Progress → Progress
-    → Result Bool Refusal → Type 0
-RunsMatching s at before after old new (Ok found) = UpdatesMatching s at before after old new found
-RunsMatching s at before after old new (Err e) =
+abbrev pub RunsMatching : UpdateStatement → Run → Run → Result Bool Refusal → Type 0
+RunsMatching s old new (Ok found) = HasRun s old new found
+RunsMatching s old new (Err e) =
+    Fails refusals.OutOfMemory e (update_from s (none_changed (listed_of old)) old.documents.items)
+
+-- where a document goes among others, or that one has its `_id`
+abbrev pub IsPlaceOf : Pairs → List Pairs → Option ℕ → Type 0
+IsPlaceOf new ds None = place (key_of new) new ds ≡ None
+IsPlaceOf new ds (Some i) = (i ≤ length ds) × (place (key_of new) new ds ≡ Some (insert ds i new))
+
+-- A document was put among the others.
+pub record HasInserted (d : Pairs) (old new : Run) : Type 0 where
+  pub placed : place (key_of d) d old.documents.items ≡ Some new.documents.items
+  pub news : new.news.items ≡ old.news.items ++ d ∷ []
+  pub within : All IsWithin new.documents.items
+  pub tally : new.tally ≡ old.tally
+
+abbrev pub Inserts : Pairs → Result (Unit {0}) Refusal → Run → Run → Type 0
+Inserts d (Ok _) old new = HasInserted d old new
+Inserts d (Err e) old new =
     Fails refusals.OutOfMemory e
-    (update_from s (changed_of [] false before) (collection_at old.now at).documents)
+    (or_refused (place (key_of d) d old.documents.items) refusals.DuplicateKey)
 
--- The documents of a namespace that match were updated; one was found, or none.
-pub record UpdatesFound (name : List ℕ) (s : UpdateStatement) (before after : Tally)
-    (old new : Progress) (found : Bool) : Type 0 where
-  pub changed : Changed
-  pub planned : update_from s (changed_of [] false before) (documents_of old.now name) ≡ Ok changed
-  pub said : changed.found ≡ found
-  pub is : updated_to name (updated_of old before) changed ≡ updated_of new after
-  pub none : found ≡ false → (new ≡ old) × (after ≡ before)
-  pub quiet : IsQuiet before after old new
-
-abbrev pub RunsFound : List ℕ → UpdateStatement → Tally → Tally → Progress → Progress
-    → Result Bool Refusal → Type 0
-RunsFound name s before after old new (Ok found) = UpdatesFound name s before after old new found
-RunsFound name s before after old new (Err e) =
-    Fails refusals.OutOfMemory e
-    (update_from s (changed_of [] false before) (documents_of old.now name))
-
--- All statements were run.
-pub record UpdatesAll (name : List ℕ) (ss : List UpdateStatement) (old new : Progress)
-    (reply : Pairs) : Type 0 where
-  pub updated : Updated
-  pub planned : run_all name ss old.now ≡ Ok updated
-  pub is : updated.collections ≡ new.now
-  pub says : reply ≡ ok_reply (update_reply updated)
-  pub quiet : updated.modified ≡ 0 → updated.upserted ≡ no_items → new ≡ old
-
-abbrev pub RunsAll : List ℕ → List UpdateStatement → Progress → Progress → Result Pairs Refusal
-    → Type 0
-RunsAll name ss old new (Ok reply) = UpdatesAll name ss old new reply
-RunsAll name ss old new (Err e) = Fails refusals.OutOfMemory e (run_all name ss old.now)
+-- What was run over these documents from the beginning.
+pub record IsRun (from : List Pairs) (r : Run) : Type 0 where
+  pub puttable : All MayBePut r.news.items
+  pub quiet : HasNone r.tally → r.news.items ≡ []
+  pub keeps : IsRising from → All IsStored from → IsRunOf from r

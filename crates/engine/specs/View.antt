@@ -7,7 +7,7 @@ use Rattle.engine.specs.World.{World, CursorTable}
 use Rattle.index.specs.State.{Collection}
 use Rattle.engine.specs.Refusals.{refusal_reply, ok_reply}
 use Rattle.outcome.specs.Outcome.{Fails}
-use Rattle.engine.specs.Progress.{Progress, turn_start_of}
+use Rattle.engine.specs.Known.{Known}
 use Rattle.path.specs.declared.refusal.Refusal.{Refusal}
 use Rattle.engine.specs.declared.reply.Answer.{Answer}
 use Rattle.engine.specs.declared.reply.Answer.TheVariants as answers
@@ -40,17 +40,17 @@ abbrev pub batch_name : BatchKind → List ℕ
 batch_name batches.First = codes "firstBatch"
 batch_name batches.Next = codes "nextBatch"
 
-abbrev pub world_of : Progress → CursorTable → World
-world_of progress cursors =
-    record { collections = progress.now; cursors = cursors.list; next = cursors.next }
+abbrev pub world_of : Known → CursorTable → World
+world_of known cursors =
+    record { collections = known.now; cursors = cursors.list; next = cursors.next }
 
 abbrev pub world : {D : Type 0} → Engine D → World
-world engine = world_of engine.collections engine.cursors
+world engine = world_of engine.told.value engine.cursors
 
 -- The collections as they were at the beginning of the turn. That is all of the start that is kept: what a turn did to cursors
 -- is taken back by what they know of themselves.
 abbrev pub turn_start : {D : Type 0} → Engine D → List Collection
-turn_start engine = turn_start_of engine.collections
+turn_start engine = engine.told.value.start
 
 -- the reply is within the limit of replies: a message without its frame
 abbrev pub IsSendable : Pairs → Type 0

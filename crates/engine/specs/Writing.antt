@@ -1,14 +1,14 @@
 -- What commands do to the file.
-use Rattle.std.specs.Prelude.{◌≡◌, ℕ, List, Result, Ok, IfErr, MatchResult, OnOk, OnErr, length}
+use Rattle.std.specs.Prelude.{◌≡◌, ◌⊎◌, List, Result, Ok, Err, IfErr, OnOk, OnErr}
 use Rattle.page.specs.History.{History, KeepsWord}
 use Rattle.path.specs.declared.refusal.Refusal.{Refusal}
 use Rattle.index.specs.State.{Collection}
 use Rattle.collections.specs.State.{State}
 use Rattle.collections.specs.Calls.{GoesFrom, HasWriteCause, IsOfFile}
-use Rattle.collections.specs.Standing.{HasState}
 use Rattle.collections.specs.View.{disk_history}
-use Rattle.engine.specs.Lawful.{IsLawfulState}
-use Rattle.engine.specs.Progress.{Progress, Extends}
+use Rattle.engine.specs.Durable as durable
+use Rattle.engine.specs.Durable.{file_of, has_changes, IsSound}
+use Rattle.engine.specs.View.{world, turn_start}
 use Rattle.engine.specs.World.{World}
 use Rattle.engine.specs.declared.engine.Engine.{Engine}
 
@@ -18,32 +18,39 @@ abbrev pub FileCause : {D : Type 0} → (D → History) → State D → State D 
 FileCause history old new planned e =
     IsOfFile e × (KeepsWord (disk_history history new) → HasWriteCause history planned.collections old new e)
 
--- What the turn changed since some earlier collections of it was put into the file, or nothing of it, by a cause.
-pub record AppliedFrom {D : Type 0} (history : D → History) (before now : Progress)
-    (result : Result (Unit {0}) Refusal) (old new : State D) : Type 0 where
-  pub state : (start : List Collection) → HasState history old start before.now
-      → MatchResult result (λ _. HasState history new start now.now)
-      (λ _. HasState history new start before.now)
-  pub cause : (start : List Collection) → HasState history old start before.now
-      → KeepsWord (disk_history history new) → IfErr result (HasWriteCause history now.now old new)
-
-pub record Applied {D : Type 0} (history : D → History) (mark : ℕ) (now : Progress)
-    (result : Result (Unit {0}) Refusal) (old new : State D) : Type 0 where
-  pub goes : GoesFrom history old new
-  pub kinds : IfErr result IsOfFile
-  pub from : (before : Progress) → Extends before now → mark ≡ length before.changes
-      → IsLawfulState now.now → AppliedFrom history before now result old new
-
--- The same, and what wasn't put into the file is taken back in memory.
-pub record Writes {D : Type 0} (history : D → History) (mark : ℕ)
+-- Edits that make these collections of those of now were put into the file, or nothing of them.
+pub record Writes {D : Type 0} (history : D → History) (after : List Collection)
     (result : Result (Unit {0}) Refusal) (old new : Engine D) : Type 0 where
+  pub sound : IsSound history new
+  pub goes : GoesFrom history (file_of old) (file_of new)
+  pub start : turn_start new ≡ turn_start old
   pub cursors : new.cursors ≡ old.cursors
-  pub goes : GoesFrom history old.file new.file
+  pub ok : OnOk result ((world new).collections ≡ after)
+  pub err : OnErr result (((world new).collections ≡ (world old).collections)
+      × (has_changes new ≡ has_changes old))
   pub kinds : IfErr result IsOfFile
-  pub ok : OnOk result (new.collections ≡ old.collections)
-  pub idle : mark ≡ length old.collections.changes → (result ≡ Ok tt) × (new ≡ old)
-  pub back : (before : Progress) → Extends before old.collections → mark ≡ length before.changes
-      → OnErr result (new.collections ≡ before)
-  pub from : (before : Progress) → Extends before old.collections → mark ≡ length before.changes
-      → IsLawfulState old.collections.now
-      → AppliedFrom history before old.collections result old.file new.file
+  pub cause : KeepsWord (durable.disk_history history new)
+      → IfErr result (HasWriteCause history after (file_of old) (file_of new))
+
+-- the collections that are planned, or these where a refusal is
+abbrev pub planned_or : List Collection → Result (List Collection) Refusal → List Collection
+planned_or before (Ok after) = after
+planned_or before (Err e) = before
+
+-- The collections became those that were planned, or stayed as they were: the refusal was planned, or it has its cause.
+abbrev pub Becomes : {D : Type 0} → (D → History) → Result (List Collection) Refusal
+    → Result (Unit {0}) Refusal → Engine D → Engine D → Type 0
+Becomes history planned (Ok _) old new = planned ≡ Ok (world new).collections
+Becomes history planned (Err e) old new = ((world new).collections ≡ (world old).collections)
+    × ((planned ≡ Err e)
+    ⊎ HasWriteCause history (planned_or (world old).collections planned) (file_of old) (file_of new) e)
+
+-- The collections were changed. While the disk keeps its word, they became those that were planned, or the change was refused.
+pub record Makes {D : Type 0} (history : D → History) (planned : Result (List Collection) Refusal)
+    (result : Result (Unit {0}) Refusal) (old new : Engine D) : Type 0 where
+  pub sound : IsSound history new
+  pub goes : GoesFrom history (file_of old) (file_of new)
+  pub start : turn_start new ≡ turn_start old
+  pub cursors : new.cursors ≡ old.cursors
+  pub does : KeepsWord (durable.disk_history history new) → Becomes history planned result old new
+  pub refused : OnErr result (has_changes new ≡ has_changes old)

@@ -1,23 +1,32 @@
 //! `aggregate`: what a pipeline makes of the documents of a collection.
 
 ghost use Rattle.std.specs.Prelude.{◌≡◌, ◌≤◌, ◌<◌, true, Some, All, IfOk, List, [], ◌∷◌, ◌++◌, length, drop};
+ghost use Rattle.std.specs.List.{filter};
 ghost use Rattle.bson.specs.Tree.{Pairs};
 ghost use Rattle.outcome.specs.Outcome.{Gives};
 ghost use Rattle.aggregate.specs.Pipeline.{run as after_pipeline};
-ghost use Rattle.commands.specs.View.{documents_at};
-ghost use Rattle.aggregate.specs.Taking.{takes, IsEnough};
+ghost use Rattle.aggregate.specs.Taking.{takes, IsEnough, SufficesTaken};
 ghost use Rattle.aggregate.specs.View.{pipeline_of};
-ghost use Rattle.engine.specs.Lawful.{IsStored};
+ghost use Rattle.collections.specs.Reading.{IsNumbered, ReadsOf};
+ghost use Rattle.commands.specs.View.{documents_at};
 ghost use Rattle.engine.specs.Aggregate.{run_aggregate, AreEnough};
+ghost use Rattle.engine.specs.Cursors.{batch_of, first_batch};
+ghost use Rattle.engine.specs.Durable.{has_changes, IsSound};
+ghost use Rattle.engine.specs.Lawful.{IsWithin};
+ghost use Rattle.engine.specs.Looking.{Looks};
+ghost use Rattle.engine.specs.Performing.{Performs};
 ghost use Rattle.engine.specs.View.{world, IsSendable, Runs};
+ghost use Rattle.engine.specs.World.{documents_of};
 
 use crate::STORED_LIMIT;
 use crate::batch_reply::{BatchKind, batch_reply};
 use crate::connection::ConnId;
 use crate::engine::Engine;
+use crate::looking::next_within;
 use crate::shared_document::SharedDocument;
 use aggregate::Pipeline;
 use bson::{Document, NoMemory, SpelledDocument};
+use collections::Collections;
 use filter::Projection;
 use page::Disk;
 use path::Refusal;
@@ -26,77 +35,126 @@ use std::alloc::Global;
 /// So many documents are kept before those that aren't needed any more are let go.
 const ROOM: usize = 1024;
 
+/// Copies of documents.
+fn copies(alloc: Global, documents: &[&Document]) -> Result<Vec<Document>, NoMemory>
+    ensures { IfOk result (λ v. v.items ≡ documents_at documents.now) }
+{
+    let mut copies = Vec::with_capacity(alloc, documents.len())?;
+    'documents: for document in documents {
+        copies.push(document.copy()?)?;
+    }
+    Ok(copies)
+}
+
+/// Those of documents that are needed still. Where all of them are, none is copied.
+fn only_needed(
+    alloc: Global,
+    pipeline: &Pipeline,
+    these: Vec<Document>,
+) -> Result<Vec<Document>, NoMemory>
+    ensures { (seen : List Pairs) → IsEnough (pipeline_of pipeline.now) these.items seen
+        → IfOk result (λ v. IsEnough (pipeline_of pipeline.now) v.items seen) }
+{
+    let lent = these.iter().collect(alloc)?;
+    let needed = pipeline.still_needed(lent)?;
+    if needed.len() == these.len() {
+        drop(needed);
+        return Ok(these);
+    }
+    copies(alloc, &needed)
+}
+
 /// These documents and one more. Where there are as many as there is room for, those that aren't needed any more are let
 /// go before, and there is room for twice those that are left.
-fn with_one_more<'a>(
+fn with_one_more(
+    alloc: Global,
     pipeline: &Pipeline,
-    mut these: Vec<&'a SharedDocument>,
+    mut these: Vec<Document>,
     room: &mut usize,
-    document: &'a SharedDocument,
-) -> Result<Vec<&'a SharedDocument>, NoMemory>
-    ensures { (seen : List Pairs) → IsEnough (pipeline_of pipeline.now) (documents_at these.entry.items) seen
-        → takes (pipeline_of pipeline.now) document.now ≡ true
-        → IfOk result (λ v. IsEnough (pipeline_of pipeline.now) (documents_at v.items)
-        (seen ++ document.now ∷ [])) }
+    document: Document,
+) -> Result<Vec<Document>, NoMemory>
+    ensures { (seen : List Pairs) → IsEnough (pipeline_of pipeline.now) these.items seen
+        → takes (pipeline_of pipeline.now) document ≡ true
+        → IfOk result (λ v. IsEnough (pipeline_of pipeline.now) v.items (seen ++ document ∷ [])) }
 {
     if these.len() >= *room {
-        these = pipeline.still_needed(these)?;
+        these = only_needed(alloc, pipeline, these)?;
         *room = ROOM.max(these.len().saturating_mul(2));
     }
     these.push(document)?;
     Ok(these)
 }
 
-/// The documents that a pipeline needs: of those that it takes no more than it keeps. Where it sorts them and keeps the first
-/// ones, it never holds many more than these.
-fn needed<'a>(
+/// These documents and those of more that a pipeline takes.
+fn with_more(
     alloc: Global,
     pipeline: &Pipeline,
-    documents: &'a [SharedDocument],
-) -> Result<Vec<&'a SharedDocument>, NoMemory>
-    ensures { IfOk result
-        (λ v. AreEnough (pipeline_of pipeline.now) (documents_at v.items) documents.now) }
+    mut these: Vec<Document>,
+    room: &mut usize,
+    documents: Vec<Document>,
+) -> Result<Vec<Document>, NoMemory>
+    ensures { (seen : List Pairs) → IsEnough (pipeline_of pipeline.now) these.items seen
+        → IfOk result (λ v. IsEnough (pipeline_of pipeline.now) v.items
+        (seen ++ filter (takes (pipeline_of pipeline.now)) documents.items)) }
 {
-    let most = pipeline.most();
-    let mut needed = Vec::new(alloc);
-    let mut room = ROOM;
     'documents: for document in documents {
-        if most == Some(needed.len()) {
-            return Ok(needed);
-        }
-        if pipeline.takes(document.document()) {
-            needed = with_one_more(pipeline, needed, &mut room, document)?;
+        if pipeline.takes(&document) {
+            these = with_one_more(alloc, pipeline, these, room, document)?;
         }
     }
-    pipeline.still_needed(needed)
+    Ok(these)
 }
 
-/// Copies of documents.
-fn copies(alloc: Global, documents: &[&SharedDocument]) -> Result<Vec<Document>, NoMemory>
-    ensures { IfOk result (λ v. v.items ≡ documents_at documents.now) }
+/// Whether so many of those that a pipeline takes are enough.
+fn are_enough(pipeline: &Pipeline, count: usize) -> bool
+    ensures { result ≡ true → SufficesTaken (pipeline_of pipeline.now) count }
 {
-    let mut copies = Vec::with_capacity(alloc, documents.len())?;
-    'documents: for document in documents {
-        copies.push(document.document().copy()?)?;
+    match pipeline.most() {
+        Some(most) => most <= count,
+        None => false,
     }
-    Ok(copies)
+}
+
+/// The documents of the collection of a number in a file that a pipeline needs: of those that it takes no more than it keeps.
+/// Where it sorts them and keeps the first ones, it never holds many more than these.
+fn needed_in<D: Disk>(
+    alloc: Global,
+    file: &mut Collections<D>,
+    number: u32,
+    pipeline: &Pipeline,
+) -> Result<Vec<Document>, Refusal>
+    ensures reads { ReadsOf D.history (λ now c. IsNumbered now c number)
+        (λ now c few. AreEnough (pipeline_of pipeline.now) few.items c.documents)
+        result file.old file.new }
+    ensures within { IfOk result (λ few. All IsWithin few.items) }
+{
+    if file.is_stopped() {
+        return Err(Refusal::StorageFailed);
+    }
+    let mut walk = file.walk(number)?;
+    let mut needed = Vec::new(alloc);
+    let mut room = ROOM;
+    'walk: while !are_enough(pipeline, needed.len()) {
+        let documents = next_within(file, &mut walk)?;
+        if documents.is_empty() {
+            return Ok(only_needed(alloc, pipeline, needed)?);
+        }
+        needed = with_more(alloc, pipeline, needed, &mut room, documents)?;
+    }
+    Ok(needed)
 }
 
 /// What a pipeline makes of documents.
-fn after_pipeline(
-    alloc: Global,
-    pipeline: &Pipeline,
-    documents: &[SharedDocument],
-) -> Result<Vec<Document>, Refusal>
-    requires { All IsStored documents.now }
-    ensures { Gives Refusal.OutOfMemory (λ v. v.items) result
-        (after_pipeline (pipeline_of pipeline.now) 65535 documents.now) }
+fn after_pipeline(pipeline: &Pipeline, documents: Vec<Document>) -> Result<Vec<Document>, Refusal>
+    requires { All IsWithin documents.items }
+    ensures gives { Gives Refusal.OutOfMemory (λ v. v.items) result
+        (after_pipeline (pipeline_of pipeline.now) 65535 documents.items) }
+    ensures within { IfOk result (λ v. All IsWithin v.items) }
 {
-    if let Some(given) = pipeline.run_lent(documents, STORED_LIMIT as u32) {
+    if let Some(given) = pipeline.run_lent(&documents, STORED_LIMIT as u32) {
         return given;
     }
-    let needed = needed(alloc, pipeline, documents)?;
-    pipeline.run(copies(alloc, &needed)?, STORED_LIMIT as u32)
+    pipeline.run(documents, STORED_LIMIT as u32)
 }
 
 /// Passes a document over where some have to be, or moves it to where it can have several owners. It says how many have to be
@@ -134,6 +192,21 @@ fn shared_from(
 }
 
 impl<D: Disk> Engine<D> {
+    /// The documents of a collection that a pipeline needs. A missing collection reads as empty.
+    fn needed(&mut self, namespace: &str, pipeline: &Pipeline) -> Result<Vec<Document>, Refusal>
+        requires { IsSound D.history self.old }
+        ensures looks { Looks D.history
+            (λ now few. AreEnough (pipeline_of pipeline.now) few.items
+            (documents_of now namespace.now))
+            result self.old self.new }
+        ensures within { IfOk result (λ few. All IsWithin few.items) }
+    {
+        let Some(number) = self.number_of(namespace)? else {
+            return Ok(Vec::new(self.alloc));
+        };
+        needed_in(self.alloc, &mut self.file, number, pipeline)
+    }
+
     /// Gives a first batch of what a pipeline makes of a collection's documents. Where others are left, it opens a cursor on
     /// them; `TooMany` where the connection may open none.
     pub(crate) fn aggregate(
@@ -143,20 +216,43 @@ impl<D: Disk> Engine<D> {
         pipeline: &Pipeline,
         most: usize,
     ) -> Result<SpelledDocument, Refusal>
-        requires { length namespace.now ≤ 255 }
-        ensures file { self.new.file ≡ self.old.file }
-        ensures runs { Runs (world self.old)
+        requires short { length namespace.now ≤ 255 }
+        requires sound { IsSound D.history self.old }
+        ensures performs { Performs D.history
             (run_aggregate (world self.old) connection (record {
               namespace = namespace.now;
               pipeline = pipeline_of pipeline.now;
               batch_size = Some most;
             }))
+            result self.old self.new }
+        ensures has_changes { has_changes self.new ≡ has_changes self.old }
+        ensures sendable { IfOk result (λ d. IsSendable d) }
+    {
+        let needed = self.needed(namespace, pipeline)?;
+        let given = after_pipeline(pipeline, needed)?;
+        self.give_all(connection, namespace, given, most)
+    }
+
+    /// Gives a first batch of documents, and opens a cursor on the others.
+    fn give_all(
+        &mut self,
+        connection: ConnId,
+        namespace: &str,
+        given: Vec<Document>,
+        most: usize,
+    ) -> Result<SpelledDocument, Refusal>
+        requires short { length namespace.now ≤ 255 }
+        requires within { All IsWithin given.items }
+        ensures file { self.new.file ≡ self.old.file }
+        ensures told { self.new.told ≡ self.old.told }
+        ensures has_changes { self.new.is_changed ≡ self.old.is_changed }
+        ensures runs { Runs (world self.old)
+            (first_batch (world self.old) connection namespace.now given.items
+            (batch_of most given.items))
             (world self.new) result }
-        ensures collections { self.new.collections ≡ self.old.collections }
         ensures sendable { IfOk result (λ d. IsSendable d) }
     {
         let alloc = self.alloc;
-        let given = after_pipeline(alloc, pipeline, self.collections.documents(namespace))?;
         let whole = Projection::new(alloc);
         let number = self.cursors.next_number(connection);
         let (reply, count) = batch_reply(

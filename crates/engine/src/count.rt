@@ -1,53 +1,101 @@
 //! `count`: how many documents match.
 
-ghost use Rattle.std.specs.Prelude.{◌≡◌, IfOk, length};
-ghost use Rattle.engine.specs.Find.{matching, window};
+ghost use Rattle.std.specs.Prelude.{◌≡◌, IfOk, List, length};
+ghost use Rattle.bson.specs.Tree.{Pairs};
+ghost use Rattle.collections.specs.Reading.{IsNumbered, ReadsOf};
 ghost use Rattle.engine.specs.Count.{run_count};
-ghost use Rattle.engine.specs.View.{world, IsSendable, Runs};
+ghost use Rattle.engine.specs.Durable.{has_changes, IsSound};
+ghost use Rattle.engine.specs.Find.{matching, window};
+ghost use Rattle.engine.specs.Looking.{Looks};
+ghost use Rattle.engine.specs.Performing.{Performs};
+ghost use Rattle.engine.specs.View.{world, IsSendable};
+ghost use Rattle.engine.specs.World.{documents_of};
 
 use crate::engine::Engine;
 use crate::find::matches;
+use crate::looking::BATCH;
 use crate::reply::total_reply;
-use crate::shared_document::SharedDocument;
 use bson::Document;
+use collections::Collections;
 use filter::Filter;
 use page::Disk;
 use path::Refusal;
 
 /// How many documents match a filter.
-fn count_matching(documents: &[SharedDocument], filter: &Filter) -> usize
+fn count_matching(documents: &[Document], filter: &Filter) -> usize
     ensures { result ≡ length (matching filter.now documents.now) }
 {
     documents
         .iter()
-        .filter(|document| matches(filter, document.document()))
+        .filter(|document| matches(filter, document))
         .count()
 }
 
-/// How many documents match a filter, after those that are skipped and up to the limit.
-fn count(documents: &[SharedDocument], filter: &Filter, skip: usize, limit: usize) -> usize
-    ensures { result ≡ length (window skip limit (matching filter.now documents.now)) }
+/// How many of so many are left after those that are skipped and up to the limit; a limit of 0 is none.
+fn within_window(count: usize, skip: usize, limit: usize) -> usize
+    ensures { (ds : List Pairs) → count ≡ length ds → result ≡ length (window skip limit ds) }
 {
-    let rest = count_matching(documents, filter).saturating_sub(skip);
+    let rest = count.saturating_sub(skip);
     if limit == 0 { rest } else { rest.min(limit) }
 }
 
+/// How many documents of the collection of a number in a file match a filter. None of them is kept.
+fn count_in<D: Disk>(
+    file: &mut Collections<D>,
+    number: u32,
+    filter: &Filter,
+) -> Result<usize, Refusal>
+    ensures { ReadsOf D.history (λ now c. IsNumbered now c number)
+        (λ now c count. count ≡ length (matching filter.now c.documents))
+        result file.old file.new }
+{
+    if file.is_stopped() {
+        return Err(Refusal::StorageFailed);
+    }
+    let mut walk = file.walk(number)?;
+    let mut count = 0usize;
+    'walk: loop {
+        let documents = file.next_documents(&mut walk, BATCH)?;
+        if documents.is_empty() {
+            return Ok(count);
+        }
+        count = count.saturating_add(count_matching(&documents, filter));
+    }
+}
+
 impl<D: Disk> Engine<D> {
+    /// How many documents of a collection match a filter. A missing collection reads as empty.
+    fn count_of(&mut self, namespace: &str, filter: &Filter) -> Result<usize, Refusal>
+        requires { IsSound D.history self.old }
+        ensures { Looks D.history
+            (λ now count. count
+            ≡ length (matching filter.now (documents_of now namespace.now)))
+            result self.old self.new }
+    {
+        let Some(number) = self.number_of(namespace)? else {
+            return Ok(0);
+        };
+        count_in(&mut self.file, number, filter)
+    }
+
     /// Counts the documents that match a filter, after those that are skipped and up to the limit.
     pub(crate) fn count(
-        &self,
+        &mut self,
         namespace: &str,
         filter: &Filter,
         skip: usize,
         limit: usize,
     ) -> Result<Document, Refusal>
-        ensures runs { Runs (world self.now)
-            (run_count (world self.now)
+        requires sound { IsSound D.history self.old }
+        ensures performs { Performs D.history
+            (run_count (world self.old)
             (record { namespace = namespace.now; filter = filter.now; skip = skip; limit = limit }))
-            (world self.now) result }
+            result self.old self.new }
+        ensures has_changes { has_changes self.new ≡ has_changes self.old }
         ensures sendable { IfOk result (λ d. IsSendable d) }
     {
-        let number = count(self.collections.documents(namespace), filter, skip, limit);
+        let count = self.count_of(namespace, filter)?;
+        let number = within_window(count, skip, limit);
         Ok(total_reply(self.alloc, number)?)
     }
 }

@@ -1,13 +1,17 @@
 //! `create`: a collection is made.
 
-ghost use Rattle.std.specs.Prelude.{◌≡◌, IfErr, IfOk};
-ghost use Rattle.engine.specs.Create.{run_create};
-ghost use Rattle.engine.specs.View.{world, IsSendable, Runs};
-ghost use Rattle.engine.specs.Progress.{Extends};
+ghost use Rattle.std.specs.Prelude.{◌≡◌, ◌≤◌, IfErr, IfOk, length};
+ghost use Rattle.engine.specs.Create.{created, run_create};
+ghost use Rattle.page.specs.History.{KeepsWord};
+ghost use Rattle.engine.specs.Durable.{disk_history, has_changes, IsSound};
+ghost use Rattle.engine.specs.Performing.{Performs};
+ghost use Rattle.engine.specs.View.{world, IsSendable};
+ghost use Rattle.engine.specs.Writing.{Makes};
 
 use crate::engine::Engine;
 use crate::reply::ping_reply;
 use bson::Document;
+use index::Edits;
 use page::Disk;
 use path::Refusal;
 
@@ -15,19 +19,34 @@ impl<D: Disk> Engine<D> {
     /// Makes an empty collection; `NamespaceExists` where there is one of its name, `TooMany` where it would be one too
     /// many.
     pub(crate) fn create(&mut self, namespace: &str) -> Result<Document, Refusal>
-        ensures file { self.new.file ≡ self.old.file }
-        ensures runs { Runs (world self.old)
+        requires short { length namespace.now ≤ 255 }
+        requires sound { IsSound D.history self.old }
+        ensures performs { Performs D.history
             (run_create (world self.old) (record { namespace = namespace.now }))
-            (world self.new) result }
-        ensures extends { Extends self.old.collections self.new.collections }
-        ensures cursors { self.new.cursors ≡ self.old.cursors }
-        ensures refused { IfErr result (λ _. self.new.collections ≡ self.old.collections) }
-        ensures has_changes { (world self.new).collections ≡ (world self.old).collections
-            → self.new.collections ≡ self.old.collections }
+            result self.old self.new }
+        ensures has_changes { KeepsWord (disk_history D.history self.new)
+            → (world self.new).collections ≡ (world self.old).collections
+            → has_changes self.new ≡ has_changes self.old }
         ensures sendable { IfOk result (λ d. IsSendable d) }
     {
         let reply = ping_reply(self.alloc)?;
-        self.collections.create(namespace)?;
+        self.make_collection(namespace)?;
         Ok(reply)
+    }
+
+    /// Makes an empty collection of a name that none has, and of the least number that none has.
+    fn make_collection(&mut self, namespace: &str) -> Result<(), Refusal>
+        requires short { length namespace.now ≤ 255 }
+        requires sound { IsSound D.history self.old }
+        ensures { Makes D.history (created (world self.old).collections namespace.now)
+            result self.old self.new }
+    {
+        if self.number_of(namespace)?.is_some() {
+            return Err(Refusal::NamespaceExists);
+        }
+        let number = self.new_number()?;
+        let mut edits = Edits::new(self.alloc);
+        edits.put_collection(namespace, number)?;
+        self.write(&edits, &namespace)
     }
 }

@@ -1,20 +1,31 @@
 //! `delete`: what its statements leave of a collection.
 
-ghost use Rattle.std.specs.Prelude.{◌≡◌, ◌++◌, IfErr, IfOk, OnOk};
+ghost use Rattle.std.specs.Prelude.{◌≡◌, [], ◌++◌, IfErr, IfOk, Ok, OnOk};
 ghost use Rattle.std.specs.List.{filter as list_filter, position};
 ghost use Rattle.filter.specs.Matches.{matches};
 ghost use Rattle.engine.specs.Delete.{without_first, after_deletion, after_deletions, run_delete};
+ghost use Rattle.engine.specs.Dropping.{Removes};
+ghost use Rattle.engine.specs.Looking.{Looks};
+ghost use Rattle.engine.specs.Merging.{is_deleted};
 ghost use Rattle.engine.specs.Redoing.{first_taken, taken, all_taken};
-ghost use Rattle.engine.specs.View.{world, IsSendable, Runs};
-ghost use Rattle.engine.specs.Progress.{Extends};
+ghost use Rattle.page.specs.History.{KeepsWord};
+ghost use Rattle.engine.specs.Durable.{disk_history, has_changes, IsSound};
+ghost use Rattle.engine.specs.Performing.{Performs};
+ghost use Rattle.engine.specs.Removing.{IsTaken, deleted};
+ghost use Rattle.engine.specs.Writing.{Makes};
+ghost use Rattle.engine.specs.View.{world, IsSendable};
 
+use crate::by_id::asked_id;
+use crate::documents::id_text;
 use crate::engine::Engine;
 use crate::find::matches;
+use crate::looking::Selects;
 use crate::reply::total_reply;
 use crate::shared_document::SharedDocument;
-use bson::{Document, NoMemory};
+use bson::{Document, NoMemory, Value};
 use commands::Deletion;
 use filter::Filter;
+use index::Edits;
 use page::Disk;
 use path::Refusal;
 use std::alloc::Global;
@@ -105,17 +116,6 @@ pub(crate) struct Left {
     pub(crate) removed: Vec<SharedDocument>,
 }
 
-/// What a delete leaves the collection at a place.
-#[derive(Drop)]
-pub(crate) struct Rest {
-    pub(crate) at: usize,
-    pub(crate) documents: Vec<SharedDocument>,
-    /// The documents that are deleted, in the order of the statements.
-    pub(crate) removed: Vec<SharedDocument>,
-    /// How many documents are deleted.
-    pub(crate) gone: usize,
-}
-
 /// The documents that statements leave, one statement after the other.
 pub(crate) fn after_deletions(
     alloc: Global,
@@ -139,6 +139,52 @@ pub(crate) fn after_deletions(
     })
 }
 
+/// The documents that a statement of a delete matches.
+#[derive(Drop)]
+struct Matched<'a> {
+    deletions: &'a [Deletion],
+}
+
+impl Selects for Matched<'_> {
+    ghost selects = { λ a. is_deleted a.deletions.now };
+
+    fn selects(&self, document: &Document) -> bool {
+        self.deletions
+            .iter()
+            .any(|deletion| matches(&deletion.filter, document))
+    }
+
+    fn asked_id(&self) -> Option<&Value> {
+        match self.deletions {
+            [only] => asked_id(&only.filter),
+            _ => None,
+        }
+    }
+}
+
+/// What a delete takes out of the collection of a number.
+#[derive(Drop)]
+struct Taken {
+    number: u32,
+    removed: Vec<SharedDocument>,
+}
+
+/// Notes that documents are taken out of the collection of a number.
+fn note_removed(
+    alloc: Global,
+    edits: &mut Edits,
+    number: u32,
+    documents: &[SharedDocument],
+) -> Result<(), Refusal>
+    ensures { Removes number documents.now result edits.old edits.new }
+{
+    'documents: for document in documents {
+        let text = id_text(alloc, document.document())?;
+        edits.remove_document(number, &text)?;
+    }
+    Ok(())
+}
+
 impl<D: Disk> Engine<D> {
     /// Deletes documents, statement by statement.
     pub(crate) fn delete(
@@ -146,23 +192,66 @@ impl<D: Disk> Engine<D> {
         namespace: &str,
         deletions: &[Deletion],
     ) -> Result<Document, Refusal>
-        ensures file { self.new.file ≡ self.old.file }
-        ensures runs { Runs (world self.old)
+        requires sound { IsSound D.history self.old }
+        ensures performs { Performs D.history
             (run_delete (world self.old)
             (record { namespace = namespace.now; deletions = deletions.now }))
-            (world self.new) result }
-        ensures extends { Extends self.old.collections self.new.collections }
-        ensures cursors { self.new.cursors ≡ self.old.cursors }
-        ensures refused { IfErr result (λ _. self.new.collections ≡ self.old.collections) }
-        ensures has_changes { (world self.new).collections ≡ (world self.old).collections
-            → self.new.collections ≡ self.old.collections }
+            result self.old self.new }
+        ensures has_changes { KeepsWord (disk_history D.history self.new)
+            → (world self.new).collections ≡ (world self.old).collections
+            → has_changes self.new ≡ has_changes self.old }
         ensures sendable { IfOk result (λ d. IsSendable d) }
     {
-        let Some(rest) = self.collections.without(namespace, deletions)? else {
-            return Ok(total_reply(self.alloc, 0)?);
-        };
-        let reply = total_reply(self.alloc, rest.gone)?;
-        self.collections.keep(rest)?;
+        let taken = self.taken(namespace, deletions)?;
+        let reply = total_reply(self.alloc, taken.removed.len())?;
+        self.remove(namespace, deletions, &taken)?;
         Ok(reply)
+    }
+
+    /// What a delete takes out of the collection of a name. Of its documents those are read that a statement matches.
+    fn taken(&mut self, namespace: &str, deletions: &[Deletion]) -> Result<Taken, Refusal>
+        requires sound { IsSound D.history self.old }
+        ensures { Looks D.history (λ now taken. IsTaken now namespace.now deletions.now taken)
+            result self.old self.new }
+    {
+        let Some(number) = self.number_of(namespace)? else {
+            return Ok(Taken {
+                number: 0,
+                removed: Vec::new(self.alloc),
+            });
+        };
+        let found = self.selected(number, &Matched { deletions }, usize::MAX)?;
+        let left = after_deletions(self.alloc, &found, deletions)?;
+        Ok(Taken {
+            number,
+            removed: left.removed,
+        })
+    }
+
+    /// Takes documents out of the file. Where there are none, nothing is written.
+    fn remove(
+        &mut self,
+        namespace: &str,
+        deletions: &[Deletion],
+        taken: &Taken,
+    ) -> Result<(), Refusal>
+        requires sound { IsSound D.history self.old }
+        requires taken { KeepsWord (disk_history D.history self.old)
+            → IsTaken (world self.old).collections namespace.now deletions.now taken.now }
+        ensures makes { Makes D.history
+            (Ok (deleted (world self.old).collections namespace.now deletions.now))
+            result self.old self.new }
+        ensures has_changes { taken.now.removed.items ≡ []
+            → has_changes self.new ≡ has_changes self.old }
+    {
+        if self.file.is_stopped() {
+            return Err(Refusal::StorageFailed);
+        }
+        if taken.removed.is_empty() {
+            return Ok(());
+        }
+        let mut edits = Edits::new(self.alloc);
+        note_removed(self.alloc, &mut edits, taken.number, &taken.removed)?;
+        self.write(&edits, &(namespace, deletions))
     }
 }

@@ -1,9 +1,10 @@
 //! What is asked of a document that is to be stored, and how it is stored.
 
-ghost use Rattle.std.specs.Prelude.{◌≡◌, ◌≢◌, Ok, Err, IfOk, MatchResult, ◌≤◌, ◌<◌, length};
+ghost use Rattle.std.specs.Prelude.{◌≡◌, ◌≢◌, Ok, Err, IfErr, IfOk, MatchResult, ◌≤◌, ◌<◌, length};
 ghost use Rattle.bson.specs.Lawful.{IsDocument};
 ghost use Rattle.bson.specs.Tree.{scalar, null};
 ghost use Rattle.bson.specs.View.{tree};
+ghost use Rattle.index.specs.LawfulState.{IsStorable};
 ghost use Rattle.engine.specs.Documents.{key_of, checked};
 ghost use Rattle.update.specs.Stored.{id_first};
 ghost use Rattle.value_order.specs.Order.{compare};
@@ -16,7 +17,7 @@ use path::Refusal;
 use std::alloc::Global;
 use std::cmp::Ordering;
 use update::{id_first, id_of, limits_fault, names_fault};
-use value_order::{Direction, KeyFault, KeyPart, compare, key_text};
+use value_order::{Direction, KEY_LIMIT, KeyFault, KeyPart, compare, group_text, key_text};
 
 /// The name of the field that documents are found by, which is stored first.
 pub(crate) const ID: &str = "_id";
@@ -38,6 +39,14 @@ pub(crate) fn compare_ids(a: &Document, b: &Document) -> Ordering
 {
     let none = Value::Null;
     compare(id_or(a, &none), id_or(b, &none))
+}
+
+/// The order of a document by its `_id` and a value.
+pub(crate) fn compare_id(document: &Document, id: &Value) -> Ordering
+    ensures { result ≡ compare (key_of document.now) (tree id.now) }
+{
+    let none = Value::Null;
+    compare(id_or(document, &none), id)
 }
 
 /// Refuses an `_id` whose key text is too long. Those of a fixed length aren't.
@@ -90,4 +99,21 @@ pub(crate) fn stored(alloc: Global, document: &Document) -> Result<Document, Ref
     check_key(alloc, id)?;
     let _levels = copy.levels();
     Ok(copy)
+}
+
+/// The key text of a stored document's `_id`; `StorageFailed` where what was read isn't a document that is stored.
+pub(crate) fn id_text(alloc: Global, document: &Document) -> Result<Vec<u8>, Refusal>
+    ensures text { IfOk result (λ text. text.items ≡ tree_text (key_of document.now)) }
+    ensures short { IfOk result (λ text. length text.items ≤ KEY_LIMIT) }
+    ensures stored { IsStorable document.now
+        → IfErr result (λ e. e ≡ Refusal.OutOfMemory) }
+{
+    let Some(id) = document.get(ID) else {
+        return Err(Refusal::StorageFailed);
+    };
+    let text = group_text(alloc, id)?;
+    if KEY_LIMIT < text.len() {
+        return Err(Refusal::StorageFailed);
+    }
+    Ok(text)
 }

@@ -1,33 +1,105 @@
 //! `drop`: a collection is taken away.
 
-ghost use Rattle.std.specs.Prelude.{◌≡◌, ◌≤◌, IfErr, IfOk, length};
-ghost use Rattle.engine.specs.DropCollection.{run_drop};
-ghost use Rattle.engine.specs.View.{world, IsSendable, Runs};
-ghost use Rattle.engine.specs.Progress.{Extends};
+ghost use Rattle.std.specs.Prelude.{◌≡◌, ◌<◌, ◌≤◌, [], IfErr, IfOk, length, true};
+ghost use Rattle.engine.specs.DropCollection.{dropped, run_drop};
+ghost use Rattle.engine.specs.Dropping.{HasStepped, IsEmptying, IsFilled, IsLeft, Removes};
+ghost use Rattle.engine.specs.Looking.{LooksOf};
+ghost use Rattle.page.specs.History.{KeepsWord};
+ghost use Rattle.engine.specs.Durable.{disk_history, has_changes, IsRunning, IsSound};
+ghost use Rattle.engine.specs.Performing.{Performs};
+ghost use Rattle.engine.specs.View.{world, IsSendable};
+ghost use Rattle.engine.specs.Writing.{Makes};
 
+use crate::documents::id_text;
 use crate::engine::Engine;
+use crate::looking::BATCH;
 use crate::reply::drop_reply;
 use bson::Document;
+use collections::Walk;
+use index::Edits;
 use page::Disk;
 use path::Refusal;
+use std::alloc::Global;
+
+/// Notes that documents are taken out of the collection of a number.
+fn note_removed(
+    alloc: Global,
+    edits: &mut Edits,
+    number: u32,
+    documents: &[Document],
+) -> Result<(), Refusal>
+    ensures { Removes number documents.now result edits.old edits.new }
+{
+    'documents: for document in documents {
+        let text = id_text(alloc, document)?;
+        edits.remove_document(number, &text)?;
+    }
+    Ok(())
+}
 
 impl<D: Disk> Engine<D> {
     /// Takes a collection away with its documents; `NamespaceNotFound` where there is none of its name.
     pub(crate) fn drop_collection(&mut self, namespace: &str) -> Result<Document, Refusal>
-        requires { length namespace.now ≤ 255 }
-        ensures file { self.new.file ≡ self.old.file }
-        ensures runs { Runs (world self.old)
+        requires short { length namespace.now ≤ 255 }
+        requires sound { IsSound D.history self.old }
+        ensures performs { Performs D.history
             (run_drop (world self.old) (record { namespace = namespace.now }))
-            (world self.new) result }
-        ensures extends { Extends self.old.collections self.new.collections }
-        ensures cursors { self.new.cursors ≡ self.old.cursors }
-        ensures refused { IfErr result (λ _. self.new.collections ≡ self.old.collections) }
-        ensures has_changes { (world self.new).collections ≡ (world self.old).collections
-            → self.new.collections ≡ self.old.collections }
+            result self.old self.new }
+        ensures has_changes { KeepsWord (disk_history D.history self.new)
+            → (world self.new).collections ≡ (world self.old).collections
+            → has_changes self.new ≡ has_changes self.old }
         ensures sendable { IfOk result (λ d. IsSendable d) }
     {
         let reply = drop_reply(self.alloc, namespace)?;
-        self.collections.drop_collection(namespace)?;
+        self.remove_collection(namespace)?;
         Ok(reply)
+    }
+
+    /// Takes a collection and its documents out of the file.
+    fn remove_collection(&mut self, namespace: &str) -> Result<(), Refusal>
+        requires short { length namespace.now ≤ 255 }
+        requires sound { IsSound D.history self.old }
+        ensures { Makes D.history (dropped (world self.old).collections namespace.now)
+            result self.old self.new }
+    {
+        let Some(number) = self.number_of(namespace)? else {
+            return Err(Refusal::NamespaceNotFound);
+        };
+        let mut edits = Edits::new(self.alloc);
+        self.note_emptied(&mut edits, number)?;
+        edits.remove_collection(namespace)?;
+        self.write(&edits, &namespace)
+    }
+
+    /// Notes that all documents are taken out of the collection of a number.
+    fn note_emptied(&mut self, edits: &mut Edits, number: u32) -> Result<(), Refusal>
+        requires sound { IsSound D.history self.old }
+        ensures { LooksOf D.history (IsFilled number edits.old)
+            (λ now c _. IsLeft now c edits.new []) result self.old self.new }
+    {
+        if self.file.is_stopped() {
+            return Err(Refusal::StorageFailed);
+        }
+        let mut walk = self.file.walk(number)?;
+        'batches: while self.note_batch(edits, &mut walk, number)? {}
+        Ok(())
+    }
+
+    /// Notes that the next documents of a walk are taken out of their collection: whether there were some.
+    fn note_batch(
+        &mut self,
+        edits: &mut Edits,
+        walk: &mut Walk,
+        number: u32,
+    ) -> Result<bool, Refusal>
+        requires sound { IsSound D.history self.old }
+        requires running { IsRunning self.old }
+        ensures looks { LooksOf D.history (IsEmptying number walk.old edits.old)
+            (HasStepped number walk.new edits.new) result self.old self.new }
+        ensures ends { IfOk result (λ more. more ≡ true → walk.new.left < walk.old.left) }
+    {
+        let batch = self.file.next_documents(walk, BATCH)?;
+        note_removed(self.alloc, edits, number, &batch)?;
+        Ok(!batch.is_empty())
     }
 }

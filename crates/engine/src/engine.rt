@@ -1,24 +1,24 @@
 //! Commands, turn by turn, over a file.
 
-ghost use Rattle.std.specs.Prelude.{◌≡◌, ◌⊎◌, ◌≤◌, Ok, true, false, IfOk, IfErr, length};
+ghost use Rattle.std.specs.Prelude.{◌≡◌, ◌⊎◌, Ok, true, false, IfOk, IfErr};
+ghost use Rattle.page.specs.History.{KeepsWord};
 ghost use Rattle.collections.specs.Calls.{GoesFrom};
 ghost use Rattle.collections.specs.Marks.{Undoes};
 ghost use Rattle.engine.specs.Committing.{Commits};
 ghost use Rattle.engine.specs.Opening.{IsOpened, IsRefused};
+ghost use Rattle.engine.specs.Performing.{Performs};
 ghost use Rattle.engine.specs.World.{are_untouched, after_commit, after_undo, forget};
-ghost use Rattle.engine.specs.View.{world, turn_start, reply_of, answer_of, outcome_of, IsSendable, Runs};
-ghost use Rattle.engine.specs.Lawful.{IsLawfulState};
-ghost use Rattle.engine.specs.Progress.{Extends};
-ghost use Rattle.engine.specs.Step.{Answers, WroteNothing, read_and_run, step};
+ghost use Rattle.engine.specs.View.{world, turn_start, reply_of, answer_of, outcome_of, IsSendable};
+ghost use Rattle.engine.specs.Step.{Answers, WroteNothing, read_and_run};
 ghost use Rattle.engine.specs.Durable.{disk_history, file_of, full_takes_of, generation, has_changes, is_stopped, IsSound};
-ghost use Rattle.engine.specs.Writing.{Applied, FileCause, Writes};
+ghost use Rattle.engine.specs.Writing.{FileCause};
 
 use crate::FIRST_BATCH;
 use crate::connection::ConnId;
 use crate::cursors::Cursors;
 use crate::loading::open_file;
-use crate::memory::Collections;
 use crate::reply::{Answer, built, ping_reply, spelled};
+use crate::told::Told;
 use bson::Document;
 use collections::Collections as FileCollections;
 use commands::Command;
@@ -41,9 +41,11 @@ pub enum Reply {
 #[derive(Drop)]
 pub struct Engine<D: Disk> {
     pub(crate) alloc: Global,
-    pub(crate) collections: Collections,
     pub(crate) cursors: Cursors,
     pub(crate) file: FileCollections<D>,
+    pub(crate) told: Told,
+    /// Whether a command of the turn has changed something.
+    pub(crate) is_changed: bool,
 }
 
 impl<D: Disk> Engine<D> {
@@ -53,15 +55,16 @@ impl<D: Disk> Engine<D> {
         ensures opened { IfOk result (IsOpened D.history disk) }
         ensures refused { IfErr result (λ e. IsRefused D.history disk e.0 e.1) }
     {
-        let (collections, file) = match open_file(alloc, disk, config.limit()) {
+        let (file, told) = match open_file(alloc, disk, config.limit()) {
             Ok(found) => found,
             Err(refused) => return Err(refused),
         };
         Ok(Engine {
             alloc,
-            collections,
             cursors: Cursors::new(alloc),
             file,
+            told,
+            is_changed: false,
         })
     }
 
@@ -79,18 +82,15 @@ impl<D: Disk> Engine<D> {
         self.file.is_stopped()
     }
 
-    /// Reads a command and runs it on what is in memory.
+    /// Reads a command and runs it.
     fn run(&mut self, connection: ConnId, body: &Document) -> Result<Answer, Refusal>
-        requires { IsLawfulState (world self.old).collections }
-        ensures file { self.new.file ≡ self.old.file }
-        ensures runs { Runs (world self.old) (read_and_run (world self.old) connection body.now)
-            (world self.new) (outcome_of result) }
-        ensures extends { Extends self.old.collections self.new.collections }
-        ensures either { (self.new.collections ≡ self.old.collections)
-            ⊎ (self.new.cursors ≡ self.old.cursors) }
-        ensures refused { IfErr result (λ _. self.new.collections ≡ self.old.collections) }
-        ensures has_changes { WroteNothing (world self.old) (Ok body.now) (world self.new)
-            → self.new.collections ≡ self.old.collections }
+        requires sound { IsSound D.history self.old }
+        ensures performs { Performs D.history
+            (read_and_run (world self.old) connection body.now)
+            (outcome_of result) self.old self.new }
+        ensures has_changes { KeepsWord (disk_history D.history self.new)
+            → WroteNothing (world self.old) (Ok body.now) (world self.new)
+            → has_changes self.new ≡ has_changes self.old }
         ensures sendable { IfOk result (λ a. IsSendable (answer_of a)) }
     {
         match Command::read(self.alloc, body)? {
@@ -122,60 +122,23 @@ impl<D: Disk> Engine<D> {
         }
     }
 
-    /// Puts what the turn has changed since a mark into the file. An `Err` takes it back.
-    fn write_since(&mut self, mark: usize) -> Result<(), Refusal>
-        requires { mark ≤ length self.old.collections.changes }
-        ensures { Writes D.history mark result self.old self.new }
-    {
-        if self.collections.mark() == mark {
-            return Ok(());
-        }
-        match self.write(mark) {
-            Ok(()) => Ok(()),
-            Err(refusal) => {
-                self.collections.undo_to(mark);
-                Err(refusal)
-            }
-        }
-    }
-
-    /// Puts what the turn has changed since a mark into the file.
-    fn write(&mut self, mark: usize) -> Result<(), Refusal>
-        requires { mark ≤ length self.old.collections.changes }
-        ensures collections { self.new.collections ≡ self.old.collections }
-        ensures cursors { self.new.cursors ≡ self.old.cursors }
-        ensures writes { Applied D.history mark self.old.collections result self.old.file self.new.file }
-    {
-        if self.file.is_stopped() {
-            return Err(Refusal::StorageFailed);
-        }
-        let edits = self.collections.edits_since(mark)?;
-        self.file.apply(&edits)
-    }
-
     /// Runs a command and answers it. `OutOfMemory` comes in place of another answer where a growth was refused,
     /// `StorageFailed` where the device failed, and `Full` where no page of the file is free.
     pub fn execute(&mut self, connection: ConnId, body: &Document) -> Reply
         requires sound { IsSound D.history self.old }
         ensures sound { IsSound D.history self.new }
         ensures goes { GoesFrom D.history (file_of self.old) (file_of self.new) }
-        ensures running { is_stopped self.new ≡ is_stopped self.old }
-        ensures answers { Answers (FileCause D.history (file_of self.old) (file_of self.new))
+        ensures answers { KeepsWord (disk_history D.history self.new)
+            → Answers (FileCause D.history (file_of self.old) (file_of self.new))
             (world self.old) connection (Ok body.now) (world self.new) (reply_of result) }
         ensures turn_start { turn_start self.new ≡ turn_start self.old }
-        ensures has_changes { WroteNothing (world self.old) (Ok body.now) (world self.new)
+        ensures has_changes { KeepsWord (disk_history D.history self.new)
+            → WroteNothing (world self.old) (Ok body.now) (world self.new)
             → has_changes self.new ≡ has_changes self.old }
-        ensures same { WroteNothing (world self.old) (Ok body.now)
-            (step (world self.old) connection (Ok body.now)).0
-            → file_of self.new ≡ file_of self.old }
         ensures sendable { IsSendable (reply_of result) }
     {
-        let mark = self.collections.mark();
         match self.run(connection, body) {
-            Ok(answer) => match self.write_since(mark) {
-                Ok(()) => Reply::Done(answer),
-                Err(refusal) => Reply::Refused(refusal),
-            },
+            Ok(answer) => Reply::Done(answer),
             Err(refusal) => Reply::Refused(refusal),
         }
     }
@@ -187,7 +150,7 @@ impl<D: Disk> Engine<D> {
         requires sound { IsSound D.history self.old }
         ensures { Commits D.history result self.old self.new }
     {
-        if !self.collections.is_changed() {
+        if !self.is_changed {
             self.cursors.commit();
             return Ok(());
         }
@@ -211,14 +174,15 @@ impl<D: Disk> Engine<D> {
         }
     }
 
-    /// The turn's changes stay in memory.
+    /// The turn's changes stay.
     fn keep(&mut self)
         ensures file { self.new.file ≡ self.old.file }
         ensures world { world self.new ≡ after_commit (world self.old) }
         ensures turn_start { turn_start self.new ≡ (world self.new).collections }
         ensures rests { has_changes self.new ≡ false }
     {
-        self.collections.commit();
+        self.told.keep();
+        self.is_changed = false;
         self.cursors.commit();
     }
 
@@ -230,7 +194,8 @@ impl<D: Disk> Engine<D> {
         ensures rests { has_changes self.new ≡ false }
     {
         self.file.undo();
-        self.collections.undo();
+        self.told.take_back();
+        self.is_changed = false;
         self.cursors.undo();
     }
 
@@ -248,7 +213,7 @@ impl<D: Disk> Engine<D> {
         ensures rested { are_untouched (world self.new).cursors ≡ true }
         ensures quiet { has_changes self.old ≡ false → file_of self.new ≡ file_of self.old }
     {
-        if !self.collections.is_changed() {
+        if !self.is_changed {
             self.cursors.undo();
             return;
         }

@@ -3,16 +3,18 @@
 ghost use Rattle.std.specs.Prelude.{◌≡◌, ◌≢◌, ◌≤◌, ◌<◌, Some, IfOk, IfErr, All, length, map, take};
 ghost use Rattle.filter.specs.Matches.{matches};
 ghost use Rattle.filter.specs.Projection.{project};
+ghost use Rattle.filter.specs.Sort.{order};
 ghost use Rattle.commands.specs.View.{documents_at};
+ghost use Rattle.engine.specs.Cursors.{batch_of, first_batch};
+ghost use Rattle.engine.specs.Durable.{has_changes, IsSound};
+ghost use Rattle.engine.specs.Find.{window, given, run_find, Suffices};
 ghost use Rattle.engine.specs.Lawful.{IsWithin};
-ghost use Rattle.engine.specs.World.{documents_of};
-ghost use Rattle.engine.specs.Find.{matching, window, selection, query_result, run_find, Suffices};
+ghost use Rattle.engine.specs.Performing.{Performs};
 ghost use Rattle.engine.specs.View.{world, IsSendable, Runs};
 
 use crate::batch_reply::{BatchKind, batch_reply};
 use crate::connection::ConnId;
 use crate::engine::Engine;
-use crate::picking::first_matching;
 use crate::shared_document::SharedDocument;
 use bson::{Document, NoMemory, SpelledDocument};
 use commands::Query;
@@ -48,35 +50,29 @@ fn selected<'s, 'a>(query: &Query, ordered: &'s [&'a SharedDocument]) -> &'s [&'
     window(ordered, query.skip, query.limit)
 }
 
-/// How many have to be found among so many documents: all, or none past the limit where nothing is sorted.
-fn enough(query: &Query, count: usize) -> usize
-    ensures { Suffices query.now count result }
+/// So many of the documents that match are enough: all, or none past the limit where nothing is sorted.
+fn enough(query: &Query) -> usize
+    ensures { Suffices query.now result }
 {
     if query.limit == 0 || !query.sort.is_empty() {
-        return count;
+        return usize::MAX;
     }
     query.skip.saturating_add(query.limit)
 }
 
-/// The documents that match, in the order of the sort, as far as they are asked for.
+/// Documents in the order of the sort.
 fn ordered<'a>(
     alloc: Global,
     query: &Query,
     documents: &'a [SharedDocument],
 ) -> Result<Vec<&'a SharedDocument>, NoMemory>
-    ensures { IfOk result (λ v. window query.now.skip query.now.limit (documents_at v.items)
-        ≡ selection query.now documents.now) }
+    ensures { IfOk result (λ v. documents_at v.items ≡ order query.now.sort documents.now) }
 {
-    let found = first_matching(
-        alloc,
-        documents,
-        &query.filter,
-        enough(query, documents.len()),
-    )?;
+    let lent = documents.iter().collect(alloc)?;
     if query.sort.is_empty() {
-        return Ok(found);
+        return Ok(lent);
     }
-    query.sort.order_shared(found)
+    query.sort.order_shared(lent)
 }
 
 /// The documents, with one owner more.
@@ -100,18 +96,42 @@ impl<D: Disk> Engine<D> {
         query: &Query,
         most: usize,
     ) -> Result<SpelledDocument, Refusal>
-        requires { length namespace.now ≤ 255 }
-        ensures file { self.new.file ≡ self.old.file }
-        ensures runs { Runs (world self.old)
+        requires short { length namespace.now ≤ 255 }
+        requires sound { IsSound D.history self.old }
+        ensures performs { Performs D.history
             (run_find (world self.old) connection
             (record { namespace = namespace.now; query = query.now; batch_size = Some most }))
+            result self.old self.new }
+        ensures has_changes { has_changes self.new ≡ has_changes self.old }
+        ensures sendable { IfOk result (λ d. IsSendable d) }
+    {
+        let found = self.matching(namespace, &query.filter, enough(query))?;
+        self.give_found(connection, namespace, query, &found, most)
+    }
+
+    /// Gives a first batch of the documents that match, in the order of the sort and as far as they are asked for, and opens
+    /// a cursor on the others.
+    fn give_found(
+        &mut self,
+        connection: ConnId,
+        namespace: &str,
+        query: &Query,
+        found: &[SharedDocument],
+        most: usize,
+    ) -> Result<SpelledDocument, Refusal>
+        requires short { length namespace.now ≤ 255 }
+        requires within { All IsWithin found.now }
+        ensures file { self.new.file ≡ self.old.file }
+        ensures told { self.new.told ≡ self.old.told }
+        ensures has_changes { self.new.is_changed ≡ self.old.is_changed }
+        ensures runs { Runs (world self.old)
+            (first_batch (world self.old) connection namespace.now (given query.now found.now)
+            (batch_of most (given query.now found.now)))
             (world self.new) result }
-        ensures collections { self.new.collections ≡ self.old.collections }
         ensures sendable { IfOk result (λ d. IsSendable d) }
     {
         let alloc = self.alloc;
-        let documents = self.collections.documents(namespace);
-        let ordered = ordered(alloc, query, documents)?;
+        let ordered = ordered(alloc, query, found)?;
         let selected = selected(query, &ordered);
         let number = self.cursors.next_number(connection);
         let (reply, count) = batch_reply(

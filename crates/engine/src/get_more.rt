@@ -25,7 +25,8 @@ impl<D: Disk> Engine<D> {
             (run_get_more (world self.old) connection
             (record { id = id.now; namespace = namespace.now; batch_size = most }))
             (world self.new) result }
-        ensures collections { self.new.collections ≡ self.old.collections }
+        ensures told { self.new.told ≡ self.old.told }
+        ensures has_changes { self.new.is_changed ≡ self.old.is_changed }
         ensures sendable { IfOk result (λ d. IsSendable d) }
     {
         let Some(at) = self.cursors.place_of(connection, namespace, id) else {

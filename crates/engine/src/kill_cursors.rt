@@ -132,7 +132,8 @@ impl<D: Disk> Engine<D> {
             (run_kill_cursors (world self.old) connection
             (record { namespace = namespace.now; cursors = ids.now }))
             (world self.new) result }
-        ensures collections { self.new.collections ≡ self.old.collections }
+        ensures told { self.new.told ≡ self.old.told }
+        ensures has_changes { self.new.is_changed ≡ self.old.is_changed }
         ensures sendable { IfOk result (λ d. IsSendable d) }
     {
         let told = tell_apart(self.alloc, &self.cursors, connection, namespace, ids)?;

@@ -1,15 +1,18 @@
 //! `listCollections`: the names of a database's collections.
 
 ghost use Rattle.std.specs.Prelude.{◌≡◌, ◌++◌, ◌≤◌, IfOk, length, map, option_map, string_bytes};
-ghost use Rattle.engine.specs.ListCollections.{name_in, names_in, listed, run_list_collections};
-ghost use Rattle.engine.specs.Lawful.{IsLawfulState};
-ghost use Rattle.engine.specs.View.{world, IsSendable, Runs};
+ghost use Rattle.collections.specs.Reading.{name_of};
+ghost use Rattle.engine.specs.ListCollections.{name_in, names_behind, listed, run_list_collections};
+ghost use Rattle.engine.specs.Durable.{has_changes, IsSound};
+ghost use Rattle.engine.specs.Performing.{Performs};
+ghost use Rattle.engine.specs.View.{world, IsSendable};
 
 use crate::batch_reply::{BatchKind, batch_reply};
-use crate::collection::Collection;
 use crate::engine::Engine;
+use crate::looking::are_within;
 use crate::reply::listed_document;
 use bson::{Document, NoMemory, SpelledDocument};
+use collections::Name;
 use filter::Projection;
 use page::Disk;
 use path::Refusal;
@@ -23,16 +26,13 @@ fn name_in<'a>(database: &str, namespace: &'a str) -> Option<&'a str>
 }
 
 /// What is said of the collections whose namespaces begin with this.
-fn listed_in(
-    alloc: Global,
-    database: &str,
-    collections: &[Collection],
-) -> Result<Vec<Document>, NoMemory>
-    ensures { IfOk result (λ v. v.items ≡ map listed (names_in database.now collections.now)) }
+fn listed_in(alloc: Global, database: &str, names: &[Name]) -> Result<Vec<Document>, NoMemory>
+    ensures { IfOk result (λ v. v.items
+        ≡ map listed (names_behind database.now (map name_of names.now))) }
 {
     let mut listed = Vec::new(alloc);
-    'collections: for collection in collections {
-        if let Some(name) = name_in(database, collection.namespace()) {
+    'names: for of in names {
+        if let Some(name) = name_in(database, of.namespace.as_str()) {
             listed.push(listed_document(alloc, name)?)?;
         }
     }
@@ -50,17 +50,22 @@ fn joined(alloc: Global, database: &str, behind: &str) -> Result<String, NoMemor
 
 impl<D: Disk> Engine<D> {
     /// Lists the collections of a database, all in one batch.
-    pub(crate) fn list_collections(&self, database: &str) -> Result<SpelledDocument, Refusal>
+    pub(crate) fn list_collections(&mut self, database: &str) -> Result<SpelledDocument, Refusal>
         requires short { length database.now ≤ 63 }
-        requires lawful { IsLawfulState (world self.now).collections }
-        ensures runs { Runs (world self.now)
-            (run_list_collections (world self.now) (record { database = database.now }))
-            (world self.now) result }
+        requires sound { IsSound D.history self.old }
+        ensures performs { Performs D.history
+            (run_list_collections (world self.old) (record { database = database.now }))
+            result self.old self.new }
+        ensures has_changes { has_changes self.new ≡ has_changes self.old }
         ensures sendable { IfOk result (λ d. IsSendable d) }
     {
         let front = joined(self.alloc, database, ".")?;
         let namespace = joined(self.alloc, database, ".$cmd.listCollections")?;
-        let listed = listed_in(self.alloc, front.as_str(), self.collections.list())?;
+        let names = self.file.names()?;
+        let listed = listed_in(self.alloc, front.as_str(), &names)?;
+        if !are_within(&listed) {
+            return Err(Refusal::StorageFailed);
+        }
         let whole = Projection::new(self.alloc);
         let (reply, _) = batch_reply(
             self.alloc,

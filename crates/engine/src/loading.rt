@@ -1,311 +1,255 @@
-//! Collections are read from the pairs that they are kept as.
+//! The collections of a file that is opened. Each entry of its tree is read once and judged, and none is kept but the names and
+//! the numbers of the collections.
 
-ghost use Rattle.std.specs.Prelude.{◌≡◌, ◌≢◌, ◌⊎◌, ◌≤◌, ◌<◌, ◌^◌, ◌++◌, Some, true, false, [], ◌∷◌, List, ℕ, IfOk, IfErr, IfSome, IfNone, OnOk, OnErr, IsUtf8, All, length, map, drop, string_bytes, Err};
-ghost use Rattle.std.specs.Int.{w32, to_be_bytes};
+ghost use Rattle.std.specs.Prelude.{◌≡◌, ◌≤◌, ◌<◌, ◌^◌, ◌⊎◌, Some, true, [], List, ℕ, IfErr, IfNone, IfOk, IfSome, IsUtf8, MatchResult, OnOk, length, map};
+ghost use Rattle.std.specs.List.{list_all};
 ghost use Rattle.bson.specs.Tree.{Pairs};
-ghost use Rattle.bson.specs.Spelling.{Spells};
-ghost use Rattle.value_order.specs.KeyText.{tree_text};
-ghost use Rattle.btree.specs.Keys.{Entry as MapEntry};
 ghost use Rattle.btree.specs.Scan.{entry_in};
-ghost use Rattle.index.specs.State.{Collection};
-ghost use Rattle.engine.specs.Lawful.{IsReadable, IsLawfulState};
-ghost use Rattle.engine.specs.Refusals.{words};
-ghost use Rattle.engine.specs.Stored.{key_under, catalogue_value, database_entries};
-ghost use Rattle.engine.specs.Loading.{IsReadAs, IsNext, IsOfBytes, IsLoading, unescaped, Adds, AddsEntry, AddsDocument, Loads};
-ghost use Rattle.engine.specs.FileOpening.{IsFileOpened, LoadsFile};
+ghost use Rattle.index.specs.StateEntries.{key_under};
+ghost use Rattle.collections.specs.Reading.{name_of};
+ghost use Rattle.engine.specs.FileOpening.{IsFileOpened, LoadsBatch, LoadsFile};
+ghost use Rattle.engine.specs.Judging.{IsFaultOf, IsLoadingAs, IsName, IsStoredAt, JudgesText, Refuses, RefusesOne, Takes, TakesAll, TakesDocument, TakesName, is_numbered, names_of, stands_behind};
 ghost use Rattle.engine.specs.Opening.{IsRefused};
 
-use crate::MOST_COLLECTIONS;
-use crate::image::image_of;
-use crate::memory::Collections;
-use bson::{BsonFault, Document, NoMemory, Value, decode};
+use crate::documents::ID;
+use crate::told::Told;
+use crate::{MOST_COLLECTIONS, STORED_LIMIT};
+use bson::{Document, NoMemory};
 use btree::Entry;
-use collections::Collections as FileCollections;
+use collections::{Collections as FileCollections, Name};
 use commands::NAMESPACE_LIMIT;
+use index::{catalogue_number, document_in, document_key, namespace_in};
 use page::Disk;
 use path::Refusal;
 use roots::OpenFault;
-use std::alloc::Global;
+use std::alloc::{AllocError, Global};
+use update::{id_of, limits_fault, names_fault};
+use value_order::{Direction, KeyFault, KeyPart, key_text};
 
-/// The string that was escaped so.
-fn unescaped(alloc: Global, text: &[u8]) -> Result<Vec<u8>, NoMemory>
-    ensures { IfOk result (λ name. name.items ≡ unescaped false text.now) }
-{
-    let mut name = Vec::new(alloc);
-    let mut zero = false;
-    'text: for byte in text {
-        if zero {
-            if *byte != 0xff {
-                break;
-            }
-            name.push(0)?;
-            zero = false;
-        } else if *byte == 0 {
-            zero = true;
-        } else {
-            name.push(*byte)?;
-        }
-    }
-    Ok(name)
-}
+/// How many entries are read at a time.
+const BATCH: usize = 64;
 
-/// The name that a text of the catalogue is of.
-fn name_in(alloc: Global, text: &[u8]) -> Result<String, OpenFault>
-    ensures name { (name : List ℕ) → IsUtf8 name → text.now ≡ tree_text (words name)
-        → IsReadAs (λ s. string_bytes s) result name }
-    ensures fault { IfErr result IsOfBytes }
-{
-    let Some((_, escaped)) = text.split_first() else {
-        return Err(OpenFault::Damaged);
-    };
-    match String::from_utf8(unescaped(alloc, escaped)?) {
-        Ok(name) => Ok(name),
-        Err(_) => Err(OpenFault::Damaged),
-    }
-}
-
-/// What bytes that are no document are.
-fn document_fault(fault: BsonFault) -> OpenFault
-    ensures memory { fault ≡ BsonFault.Memory → result ≡ OpenFault.Memory }
-    ensures other { IsOfBytes result }
-{
-    match fault {
-        BsonFault::Memory => OpenFault::Memory,
-        _ => OpenFault::Damaged,
-    }
-}
-
-/// The document that bytes are, all of them.
-fn document_in(alloc: Global, bytes: &[u8]) -> Result<Document, OpenFault>
-    ensures document { (ps : Pairs) → Spells bytes.now ps → IsReadAs (λ d. d) result ps }
-    ensures fault { IfErr result IsOfBytes }
-{
-    match decode(alloc, bytes) {
-        Ok((document, len)) => {
-            if len == bytes.len() {
-                Ok(document)
-            } else {
-                Err(OpenFault::Damaged)
-            }
-        }
-        Err(fault) => Err(document_fault(fault)),
-    }
-}
-
-/// The number that the catalogue says of a collection, where it is one that a collection may have.
-fn number_in(document: &Document) -> Option<u32>
-    ensures some { IfSome result (λ number. (1 ≤ number) × (number ≤ MOST_COLLECTIONS)) }
-    ensures number { (number : ℕ) → 1 ≤ number → number ≤ MOST_COLLECTIONS
-        → document.now ≡ catalogue_value number → result ≡ Some number }
-{
-    match document.get("n") {
-        Some(Value::Int32(number)) => {
-            if *number < 1 || *number > (MOST_COLLECTIONS as i32) {
-                return None;
-            }
-            Some(*number as u32)
-        }
-        _ => None,
-    }
-}
-
-/// A key: the number of a collection, or 0 for the catalogue, and the text behind the index's number.
-#[derive(Clone, Copy)]
-struct Key<'a> {
-    number: u32,
-    text: &'a [u8],
-}
-
-/// The parts of a key.
-fn split_key(key: &[u8]) -> Option<Key<'_>>
+/// The number of the collection that a key stands under, 0 for the catalogue.
+fn number_in(key: &[u8]) -> Option<u32>
     ensures some { (number : ℕ) (text : List ℕ) → number < 2 ^ 32
-        → key.now ≡ key_under number 0 text
-        → IfSome result (λ key. (key.number ≡ number) × (key.text.now ≡ text)) }
+        → key.now ≡ key_under number 0 text → IfSome result (λ n. n ≡ number) }
     ensures none { (number : ℕ) (text : List ℕ) → key.now ≡ key_under number 0 text
         → IfNone result ⊥ }
 {
-    let (number, behind) = key.split_first_chunk::<4>()?;
-    let (_, text) = behind.split_first_chunk::<4>()?;
-    Some(Key {
-        number: u32::from_be_bytes(*number),
-        text,
-    })
+    let (number, _) = key.split_first_chunk::<4>()?;
+    Some(u32::from_be_bytes(*number))
 }
 
-/// What a refusal to store a document makes of the pairs.
-fn stored_fault(refusal: Refusal) -> OpenFault
-    ensures memory { refusal ≡ Refusal.OutOfMemory → result ≡ OpenFault.Memory }
-    ensures other { IsOfBytes result }
+/// Whether a name comes behind another, and has another number.
+fn is_behind(name: &Name, other: &Name) -> bool
+    ensures { result ≡ stands_behind (name_of name.now) (name_of other.now) }
 {
-    match refusal {
-        Refusal::OutOfMemory => OpenFault::Memory,
-        _ => OpenFault::Damaged,
-    }
+    other
+        .namespace
+        .as_str()
+        .cmp(name.namespace.as_str())
+        .is_lt()
+        && other.number != name.number
 }
 
-/// Makes the collection of a pair of the catalogue.
-fn load_entry(
-    alloc: Global,
-    collections: &mut Collections,
-    text: &[u8],
-    value: &[u8],
-) -> Result<(), OpenFault>
-    requires { IsLoading collections.old }
-    ensures loading { OnOk result (IsLoading collections.new) }
-    ensures adds { (pair : MapEntry) (next : List Collection)
-        (adds : AddsEntry collections.old.now pair next)
-        → text.now ≡ tree_text (words adds.new.name) → pair.value ≡ value.now
-        → IsNext result collections.new.now next }
-    ensures fault { IfErr result IsOfBytes }
+/// Whether it is so to each of these names.
+fn is_last(name: &Name, names: &[Name]) -> bool
+    ensures { result ≡ list_all (stands_behind (name_of name.now)) (map name_of names.now) }
 {
-    let catalogue_value = match document_in(alloc, value) {
-        Ok(catalogue_value) => catalogue_value,
-        Err(fault) => return Err(fault),
-    };
-    let Some(number) = number_in(&catalogue_value) else {
-        return Err(OpenFault::Damaged);
-    };
-    let name = match name_in(alloc, text) {
-        Ok(name) => name,
-        Err(fault) => return Err(fault),
-    };
-    if name.len() > NAMESPACE_LIMIT {
-        return Err(OpenFault::Damaged);
-    }
-    match collections.add(name.as_str(), number) {
-        Ok(Some(())) => Ok(()),
-        Ok(None) => Err(OpenFault::Damaged),
-        Err(_) => Err(OpenFault::Memory),
-    }
-}
-
-/// Stores the document of a pair.
-fn load_document(
-    alloc: Global,
-    collections: &mut Collections,
-    number: u32,
-    value: &[u8],
-) -> Result<(), OpenFault>
-    requires { IsLoading collections.old }
-    ensures loading { OnOk result (IsLoading collections.new) }
-    ensures adds { (pair : MapEntry) (next : List Collection)
-        (adds : AddsDocument collections.old.now pair next) → number ≡ adds.number
-        → pair.value ≡ value.now → IsNext result collections.new.now next }
-    ensures fault { IfErr result IsOfBytes }
-{
-    let document = match document_in(alloc, value) {
-        Ok(document) => document,
-        Err(fault) => return Err(fault),
-    };
-    let Some(at) = collections.place_numbered(number) else {
-        return Err(OpenFault::Damaged);
-    };
-    match collections.store(at, &document) {
-        Ok(()) => {
-            collections.commit();
-            Ok(())
-        }
-        Err(refusal) => Err(stored_fault(refusal)),
-    }
-}
-
-/// Reads a pair.
-fn load_pair(
-    alloc: Global,
-    collections: &mut Collections,
-    key: &[u8],
-    value: &[u8],
-) -> Result<(), OpenFault>
-    requires { IsLoading collections.old }
-    ensures loading { OnOk result (IsLoading collections.new) }
-    ensures adds { (next : List Collection)
-        → Adds collections.old.now (record { key = key.now; value = value.now }) next
-        → IsNext result collections.new.now next }
-    ensures fault { IfErr result IsOfBytes }
-{
-    let Some(key) = split_key(key) else {
-        return Err(OpenFault::Damaged);
-    };
-    if key.number == 0 {
-        load_entry(alloc, collections, key.text, value)
-    } else {
-        load_document(alloc, collections, key.number, value)
-    }
-}
-
-/// The collections that these pairs make.
-fn load_pairs(alloc: Global, entries: &[Entry]) -> Result<Collections, OpenFault>
-    ensures loading { IfOk result IsLoading }
-    ensures loads { (last : List Collection) → Loads [] (map entry_in entries.now) last
-        → IsReadAs (λ collections. collections.now) result last }
-    ensures fault { IfErr result IsOfBytes }
-{
-    let mut collections = match Collections::new(alloc) {
-        Ok(collections) => collections,
-        Err(_) => return Err(OpenFault::Memory),
-    };
-    'entries: for entry in entries {
-        match load_pair(alloc, &mut collections, &entry.key, &entry.value) {
-            Ok(()) => {}
-            Err(fault) => return Err(fault),
-        }
-    }
-    Ok(collections)
-}
-
-/// Whether this entry is that one.
-fn is_same(entry: &Entry, other: &Entry) -> bool
-    ensures yes { entry_in entry.now ≡ entry_in other.now → result ≡ true }
-    ensures no { result ≡ true → entry_in entry.now ≡ entry_in other.now }
-{
-    entry.key == other.key && entry.value == other.value
-}
-
-/// Whether these entries are those.
-fn are_same(entries: &[Entry], others: &[Entry]) -> bool
-    ensures yes { map entry_in entries.now ≡ map entry_in others.now → result ≡ true }
-    ensures no { result ≡ true → map entry_in entries.now ≡ map entry_in others.now }
-{
-    if entries.len() != others.len() {
-        return false;
-    }
-    for i in 0..entries.len() {
-        if !is_same(&entries[i], &others[i]) {
+    'each: for other in names {
+        if !is_behind(name, other) {
             return false;
         }
     }
     true
 }
 
-/// The collections that are kept as these entries. They are spelled again and compared, so nothing else passes.
-pub(crate) fn load(alloc: Global, entries: &[Entry]) -> Result<Collections, OpenFault>
-    ensures loading { IfOk result IsLoading }
-    ensures readable { IfOk result (λ collections. All IsReadable collections.now) }
-    ensures entries { IfOk result (λ collections. map entry_in entries.now
-        ≡ database_entries collections.now) }
-    ensures damaged { IfErr result
-        (λ fault. fault ≢ OpenFault.Memory → (collections : List Collection)
-        → IsLawfulState collections → All IsReadable collections
-        → map entry_in entries.now ≡ database_entries collections → ⊥) }
-    ensures fault { IfErr result IsOfBytes }
+/// How long a name is, which is a text.
+fn text_len(name: &str) -> usize
+    ensures len { result ≡ length name.now }
+    ensures text { IsUtf8 name.now }
 {
-    let collections = match load_pairs(alloc, entries) {
-        Ok(collections) => collections,
+    name.len()
+}
+
+/// The collection that an entry of the catalogue is of, where it may follow those of these names.
+fn name_at(alloc: Global, names: &[Name], entry: &Entry) -> Result<Name, OpenFault>
+    ensures { MatchResult result
+        (λ n. IsName (map name_of names.now) (entry_in entry.now) (name_of n))
+        (λ e. IsFaultOf e ((n : List ℕ × ℕ)
+        → IsName (map name_of names.now) (entry_in entry.now) n → ⊥)) }
+{
+    let Some(namespace) = namespace_in(alloc, &entry.key)? else {
+        return Err(OpenFault::Damaged);
+    };
+    let Some(number) = catalogue_number(alloc, &entry.value)? else {
+        return Err(OpenFault::Damaged);
+    };
+    if NAMESPACE_LIMIT < text_len(namespace.as_str()) || MOST_COLLECTIONS <= names.len() {
+        return Err(OpenFault::Damaged);
+    }
+    let name = Name { namespace, number };
+    if !is_last(&name, names) {
+        return Err(OpenFault::Damaged);
+    }
+    Ok(name)
+}
+
+/// Whether one of the names has this number.
+fn is_numbered(names: &[Name], number: u32) -> bool
+    ensures { result ≡ is_numbered (map name_of names.now) number }
+{
+    'each: for name in names {
+        if name.number == number {
+            return true;
+        }
+    }
+    false
+}
+
+/// The text of a document's `_id`, where the document may be stored as it is.
+fn stored_text(alloc: Global, document: &Document) -> Result<Option<Vec<u8>>, NoMemory>
+    ensures { IfOk result (JudgesText document.now) }
+{
+    let _levels = document.levels();
+    if limits_fault(document, STORED_LIMIT).is_some() || names_fault(document).is_some() {
+        return Ok(None);
+    }
+    let Some(0) = document.position(ID) else {
+        return Ok(None);
+    };
+    let Some(id) = id_of(document) else {
+        return Ok(None);
+    };
+    match key_text(alloc, &KeyPart::Value(id), Direction::Ascending) {
+        Ok(text) => Ok(Some(text)),
+        Err(KeyFault::TooLong) => Ok(None),
+        Err(KeyFault::Memory) => Err(AllocError),
+    }
+}
+
+/// The document of an entry of the collection of a number.
+fn document_at(alloc: Global, number: u32, entry: &Entry) -> Result<Document, OpenFault>
+    ensures { MatchResult result (IsStoredAt number (entry_in entry.now))
+        (λ e. IsFaultOf e ((d : Pairs) → IsStoredAt number (entry_in entry.now) d → ⊥)) }
+{
+    let Some(document) = document_in(alloc, &entry.value)? else {
+        return Err(OpenFault::Damaged);
+    };
+    let Some(text) = stored_text(alloc, &document)? else {
+        return Err(OpenFault::Damaged);
+    };
+    let key = document_key(alloc, number, &text)?;
+    if key.as_slice() != entry.key.as_slice() {
+        return Err(OpenFault::Damaged);
+    }
+    Ok(document)
+}
+
+/// Takes the collection of an entry of the catalogue.
+fn take_name(
+    alloc: Global,
+    names: &mut Vec<Name>,
+    told: &mut Told,
+    entry: &Entry,
+) -> Result<(), OpenFault>
+    requires { IsLoadingAs (map name_of names.old.items) told.old.value.now }
+    ensures loading { OnOk result
+        (IsLoadingAs (map name_of names.new.items) told.new.value.now) }
+    ensures takes { OnOk result
+        (TakesName told.old.value.now (entry_in entry.now) told.new.value.now) }
+    ensures err { IfErr result (λ e. IsFaultOf e ((n : List ℕ × ℕ)
+        → IsName (names_of told.old.value.now) (entry_in entry.now) n → ⊥)) }
+{
+    let name = match name_at(alloc, names.as_slice(), entry) {
+        Ok(name) => name,
         Err(fault) => return Err(fault),
     };
-    match image_of(alloc, &collections) {
-        Ok(again) => {
-            if are_same(&again, entries) {
-                Ok(collections)
-            } else {
-                Err(OpenFault::Damaged)
-            }
-        }
+    told.change(&name);
+    match names.push(name) {
+        Ok(()) => Ok(()),
         Err(_) => Err(OpenFault::Memory),
     }
 }
 
-/// What a refusal to read the file's entries is.
+/// Takes the document of an entry of the collection of a number.
+fn take_document(
+    alloc: Global,
+    names: &[Name],
+    told: &mut Told,
+    number: u32,
+    entry: &Entry,
+) -> Result<(), OpenFault>
+    requires loading { IsLoadingAs (map name_of names.now) told.old.value.now }
+    requires least { 1 ≤ number }
+    ensures loading { OnOk result (IsLoadingAs (map name_of names.now) told.new.value.now) }
+    ensures takes { OnOk result
+        (TakesDocument told.old.value.now (entry_in entry.now) told.new.value.now) }
+    ensures err { IfErr result (λ e. IsFaultOf e ((d : Pairs)
+        → is_numbered (names_of told.old.value.now) number ≡ true
+        → IsStoredAt number (entry_in entry.now) d → ⊥)) }
+{
+    if !is_numbered(names, number) {
+        return Err(OpenFault::Damaged);
+    }
+    let document = match document_at(alloc, number, entry) {
+        Ok(document) => document,
+        Err(fault) => return Err(fault),
+    };
+    told.change(&(number, document));
+    Ok(())
+}
+
+/// Takes an entry.
+fn take_entry(
+    alloc: Global,
+    names: &mut Vec<Name>,
+    told: &mut Told,
+    entry: &Entry,
+) -> Result<(), OpenFault>
+    requires { IsLoadingAs (map name_of names.old.items) told.old.value.now }
+    ensures loading { OnOk result
+        (IsLoadingAs (map name_of names.new.items) told.new.value.now) }
+    ensures takes { OnOk result
+        (Takes told.old.value.now (entry_in entry.now) told.new.value.now) }
+    ensures err { IfErr result
+        (λ e. IsFaultOf e (Refuses told.old.value.now (entry_in entry.now))) }
+{
+    let Some(number) = number_in(&entry.key) else {
+        return Err(OpenFault::Damaged);
+    };
+    if number == 0 {
+        take_name(alloc, names, told, entry)
+    } else {
+        take_document(alloc, names.as_slice(), told, number, entry)
+    }
+}
+
+/// Takes entries, one after the other.
+fn take_entries(
+    alloc: Global,
+    names: &mut Vec<Name>,
+    told: &mut Told,
+    entries: &[Entry],
+) -> Result<(), OpenFault>
+    requires { IsLoadingAs (map name_of names.old.items) told.old.value.now }
+    ensures loading { OnOk result
+        (IsLoadingAs (map name_of names.new.items) told.new.value.now) }
+    ensures takes { OnOk result
+        (TakesAll told.old.value.now (map entry_in entries.now) told.new.value.now) }
+    ensures err { IfErr result
+        (λ e. IsFaultOf e (RefusesOne told.old.value.now (map entry_in entries.now))) }
+{
+    'entries: for entry in entries {
+        match take_entry(alloc, names, told, entry) {
+            Ok(()) => {}
+            Err(fault) => return Err(fault),
+        }
+    }
+    Ok(())
+}
+
+/// What a refusal to read entries is.
 fn reading_fault(refusal: Refusal) -> OpenFault
     ensures device { result ≡ OpenFault.Device → refusal ≡ Refusal.StorageFailed }
     ensures kinds { (result ≡ OpenFault.Device) ⊎ (result ≡ OpenFault.Memory) }
@@ -316,36 +260,70 @@ fn reading_fault(refusal: Refusal) -> OpenFault
     }
 }
 
-/// The collections that a file's tree has, with all their documents.
+/// Takes a batch of the file's entries, from a key on, and hands out the key of the next one.
+fn load_batch<D: Disk>(
+    alloc: Global,
+    file: &mut FileCollections<D>,
+    names: &mut Vec<Name>,
+    told: &mut Told,
+    from: &[u8],
+) -> Result<Option<Vec<u8>>, OpenFault>
+    requires { IsLoadingAs (map name_of names.old.items) told.old.value.now }
+    ensures loading { OnOk result
+        (IsLoadingAs (map name_of names.new.items) told.new.value.now) }
+    ensures loads { LoadsBatch D.history from.now result told.old.value.now told.new.value.now
+        file.old file.new }
+{
+    let batch = match file.next_entries(from, BATCH) {
+        Ok(batch) => batch,
+        Err(refusal) => return Err(reading_fault(refusal)),
+    };
+    match take_entries(alloc, names, told, &batch.entries) {
+        Ok(()) => Ok(batch.next),
+        Err(fault) => Err(fault),
+    }
+}
+
+/// Takes all entries of a file, of which nothing is told yet. The bound on batches is none that a file could reach.
 fn load_file<D: Disk>(
     alloc: Global,
     file: &mut FileCollections<D>,
-) -> Result<Collections, OpenFault>
-    ensures { LoadsFile D.history result file.old file.new }
+    told: &mut Told,
+) -> Result<(), OpenFault>
+    requires { told.old.value.now ≡ [] }
+    ensures { LoadsFile D.history result told.new.value.now file.old file.new }
 {
-    let entries = match file.entries() {
-        Ok(entries) => entries,
-        Err(refusal) => return Err(reading_fault(refusal)),
-    };
-    load(alloc, &entries)
+    let mut names = Vec::new(alloc);
+    let mut from = Vec::new(alloc);
+    'batches: for _ in 0..u64::MAX {
+        match load_batch(alloc, file, &mut names, told, &from) {
+            Ok(Some(next)) => from = next,
+            Ok(None) => return Ok(()),
+            Err(fault) => return Err(fault),
+        }
+    }
+    Err(OpenFault::Memory)
 }
 
-/// Opens a disk that a crash may have left, as a file of at most so many pages, or those that it has, and reads all collections
-/// into memory. An `Err` hands the disk back.
+/// Opens a disk that a crash may have left, as a file of at most so many pages, or those that it has. Each entry of its tree is
+/// read once and judged: the file has collections, and nothing else. An `Err` hands the disk back.
 pub(crate) fn open_file<D: Disk>(
     alloc: Global,
     disk: D,
     limit: u32,
-) -> Result<(Collections, FileCollections<D>), (D, OpenFault)>
-    ensures opened { IfOk result (λ r. IsFileOpened D.history disk r.0 r.1) }
+) -> Result<(FileCollections<D>, Told), (D, OpenFault)>
+    ensures opened { IfOk result (λ r. IsFileOpened D.history disk r.1.value r.0) }
     ensures refused { IfErr result (λ e. IsRefused D.history disk e.0 e.1) }
 {
     let mut file = match FileCollections::open(alloc, disk, limit) {
         Ok(file) => file,
         Err((disk, fault)) => return Err((disk, fault)),
     };
-    match load_file(alloc, &mut file) {
-        Ok(collections) => Ok((collections, file)),
-        Err(fault) => Err((file.into_disk(), fault)),
+    let mut told = Told::of(&());
+    match load_file(alloc, &mut file, &mut told) {
+        Ok(()) => {}
+        Err(fault) => return Err((file.into_disk(), fault)),
     }
+    told.keep();
+    Ok((file, told))
 }

@@ -1,398 +1,246 @@
-//! `update`: documents are changed in place, statement by statement; all statements are done, or none.
+//! `update`: documents are changed and made, statement by statement; all statements are done, or none.
 
-ghost use Rattle.std.specs.Prelude.{◌≡◌, ◌≢◌, true, ◌≤◌, ◌<◌, IfOk, OnOk, OnErr, IfErr, IfSome, IfNone, Ok, All, length, false};
-ghost use Rattle.std.specs.Str.{bytes_eq};
-ghost use Rattle.bson.specs.Lawful.{IsDocument, pairs_levels};
-ghost use Rattle.bson.specs.View.{tree, pairs_of};
-ghost use Rattle.filter.specs.Matches.{matches};
-ghost use Rattle.outcome.specs.Outcome.{Fails, Gives};
-ghost use Rattle.update.specs.Applying.{apply};
-ghost use Rattle.update.specs.View.{update_of};
+ghost use Rattle.std.specs.Prelude.{◌≡◌, ◌≢◌, ◌≤◌, ◌++◌, [], true, false, Err, None, IfErr, IfOk, OnOk, All, MatchResult, length};
+ghost use Rattle.std.specs.List.{list_all};
+ghost use Rattle.std.specs.Ordering.{is_eq};
+ghost use Rattle.bson.specs.View.{tree};
+ghost use Rattle.value_order.specs.Order.{compare};
+ghost use Rattle.page.specs.History.{KeepsWord};
 ghost use Rattle.commands.specs.Update.{UpdateStatement, IsRead};
 ghost use Rattle.commands.specs.Command.{update};
+ghost use Rattle.index.specs.LawfulState.{IsStorable};
 ghost use Rattle.engine.specs.Documents.{key_of};
-ghost use Rattle.engine.specs.Lawful.{IsStored, IsHeld};
-ghost use Rattle.engine.specs.Places.{collection_at};
-ghost use Rattle.engine.specs.Refusals.{total, ok_reply};
+ghost use Rattle.engine.specs.Durable.{disk_history, has_changes, IsSound};
+ghost use Rattle.engine.specs.Lawful.{IsWithin};
+ghost use Rattle.engine.specs.Merging.{has_key_of, is_meant_by, is_updated, made_by, made_of, makes_any};
+ghost use Rattle.engine.specs.Performing.{Performs};
+ghost use Rattle.engine.specs.Putting.{BeginsWith, HasNumber, IsFullFor, IsFullWithout, IsMeant, IsUpdate, MeansIn, NotesUpdates, Puts, updated, UpdatesOf};
 ghost use Rattle.engine.specs.Step.{ChangesNone};
-ghost use Rattle.engine.specs.Update.{counted, spelled, upsert_document, upserted_entry, upsert, run_statement, run_statements, counts_reply, run_update};
-ghost use Rattle.engine.specs.Updating.{updated_of, HasNone, IsQuiet, IsChange, UpdatesAt, document_at, RunsMatching, RunsFound, RunsAll};
-ghost use Rattle.engine.specs.View.{world, IsSendable, Runs};
-ghost use Rattle.engine.specs.Progress.{Extends};
+ghost use Rattle.engine.specs.Trying.{Tries};
+ghost use Rattle.engine.specs.Update.{run_all, run_update};
+ghost use Rattle.engine.specs.Updating.{MayBePut};
+ghost use Rattle.engine.specs.View.{world, IsSendable};
+ghost use Rattle.engine.specs.Writing.{Makes};
 
-use crate::documents::check_key;
+use crate::REPLY_LIMIT;
+use crate::by_id::asked_id;
+use crate::documents::{compare_id, compare_ids, id_text};
 use crate::engine::Engine;
 use crate::find::matches;
-use crate::image::spelling;
-use crate::memory::Collections;
-use crate::reply::{add, done, put};
-use crate::{REPLY_LIMIT, STORED_LIMIT};
-use bson::{Array, Document, NoMemory, Pair, Value};
+use crate::looking::Selects;
+use crate::shared_document::SharedDocument;
+use crate::statements::{run_on, update_reply, upsert_document};
+use bson::{Document, NoMemory, Value};
 use commands::UpdateStatement;
-use filter::Filter;
+use index::Edits;
 use page::Disk;
 use path::Refusal;
 use std::alloc::Global;
-use std::cmp::Ordering;
-use update::{Update, id_of, upsert_base};
-use value_order::compare;
 
-/// The greatest count of a reply.
-const MOST_COUNTED: usize = 2_147_483_647;
-
-/// What the statements of an update have come to.
+/// The documents that the statements of an update may mean, and the collection that has them.
 #[derive(Drop)]
-pub(crate) struct Tally {
-    /// How many documents matched or were made.
-    matched: usize,
-    /// How many have other bytes than before.
-    modified: usize,
-    /// What the reply says of each document that was made.
-    upserted: Array,
+pub(crate) struct Meant {
+    number: u32,
+    /// Whether it is missing, and a statement makes a document where none matches.
+    is_new: bool,
+    documents: Vec<SharedDocument>,
 }
 
-/// One more, up to the greatest count of a reply.
-fn counted(number: usize) -> usize
-    ensures { result ≡ counted number }
+/// What an update puts into a collection, and its reply.
+#[derive(Drop)]
+pub(crate) struct Updates {
+    number: u32,
+    /// Whether the collection is made.
+    is_new: bool,
+    /// The documents that were changed or made, one after the other.
+    news: Vec<SharedDocument>,
+    reply: Document,
+}
+
+/// Whether a refusal isn't want of memory, which has to be told.
+fn unless_memory(refusal: Refusal) -> Result<(), Refusal>
+    ensures ok { OnOk result (refusal ≢ Refusal.OutOfMemory) }
+    ensures err { IfErr result (λ e. e ≡ Refusal.OutOfMemory) }
 {
-    if number < MOST_COUNTED {
-        number + 1
-    } else {
-        number
+    match refusal {
+        Refusal::OutOfMemory => Err(Refusal::OutOfMemory),
+        _ => Ok(()),
     }
 }
 
-/// Whether a value of the one is not equal to that in its place in the other. Where none is, the bytes may differ all
-/// the same, in names and in kinds of numbers.
-fn has_other_value(a: &[Pair], b: &[Pair]) -> bool
-    ensures { result ≡ true → pairs_of a.now ≢ pairs_of b.now }
+/// Adds the document that a statement makes where none matches.
+fn add_made(
+    alloc: Global,
+    statement: &UpdateStatement,
+    made: &mut Vec<Document>,
+) -> Result<(), Refusal>
+    ensures ok { OnOk result (made.new.items ≡ made.old.items ++ made_of statement.now) }
+    ensures err { IfErr result (λ e. e ≡ Refusal.OutOfMemory) }
 {
-    'pairs: for (i, first) in a.iter().enumerate() {
-        if b.len() <= i {
-            return false;
-        }
-        let second = &b[i];
-        match compare(&first.value, &second.value) {
-            Ordering::Equal => {}
-            Ordering::Less | Ordering::Greater => return true,
-        }
+    if !statement.upsert {
+        return Ok(());
     }
-    false
-}
-
-/// Whether two documents have the same bytes.
-fn is_same(alloc: Global, a: &Document, b: &Document) -> Result<bool, NoMemory>
-    requires a { length (spelled a.now) ≤ 65535 }
-    requires b { length (spelled b.now) ≤ 65535 }
-    ensures { IfOk result (λ same. same ≡ bytes_eq (spelled a.now) (spelled b.now)) }
-{
-    Ok(spelling(alloc, a)? == spelling(alloc, b)?)
-}
-
-/// What an update makes of a stored document; `None` where that has the same bytes.
-fn changed(alloc: Global, change: &Update, document: &Document) -> Result<Option<Document>, Refusal>
-    requires stored { IsStored document.now }
-    requires readable { IsDocument document.now }
-    requires read { IsRead (update_of change.now) }
-    ensures some { IfOk result
-        (λ found. IfSome found (IsChange (update_of change.now) document.now)) }
-    ensures none { IfOk result (λ found. IfNone found
-        (apply (update_of change.now) 65535 document.now ≡ Ok document.now)) }
-    ensures refused { IfErr result (λ e. Fails Refusal.OutOfMemory e
-        (apply (update_of change.now) 65535 document.now)) }
-{
-    let new = change.apply(document, STORED_LIMIT)?;
-    if has_other_value(document.pairs(), new.pairs()) {
-        return Ok(Some(new));
-    }
-    let same = is_same(alloc, document, &new)?;
-    if same {
-        return Ok(None);
-    }
-    Ok(Some(new))
-}
-
-/// The document that an upsert stores: the filter's equalities, changed as the statement says.
-///
-/// The first of these refusals: what setting an equality refuses; what the update refuses; `KeyTooLong`.
-fn upsert_document(alloc: Global, statement: &UpdateStatement) -> Result<Document, Refusal>
-    ensures gives { Gives Refusal.OutOfMemory (λ d. d) result (upsert_document statement.now) }
-    ensures stored { IfOk result (λ d. IsStored d) }
-    ensures readable { IfOk result (λ d. IsDocument d) }
-{
-    let base = upsert_base(alloc, &statement.filter)?;
-    let new = statement.change.apply(&base, STORED_LIMIT)?;
-    let Some(id) = id_of(&new) else {
-        unreachable!("it may be stored")
+    let document = match upsert_document(alloc, statement) {
+        Ok(document) => document,
+        Err(refusal) => return unless_memory(refusal),
     };
-    check_key(alloc, id)?;
-    let _levels = new.levels();
-    Ok(new)
+    made.push(document)?;
+    Ok(())
 }
 
-/// What the reply says of a document that the statement of an index made.
-fn upserted_entry(alloc: Global, index: usize, document: &Document) -> Result<Document, NoMemory>
-    requires index { index ≤ 1000 }
-    requires stored { IsStored document.now }
-    ensures entry { IfOk result (λ d. d ≡ upserted_entry index (key_of document.now)) }
-    ensures flat { IfOk result (λ d. pairs_levels d ≤ 97) }
+/// The documents that statements make where none matches.
+fn all_made(alloc: Global, statements: &[UpdateStatement]) -> Result<Vec<Document>, Refusal>
+    ensures ok { IfOk result (λ made. made.items ≡ made_by statements.now) }
+    ensures err { IfErr result (λ e. e ≡ Refusal.OutOfMemory) }
 {
-    let Some(id) = id_of(document) else {
-        unreachable!("it is stored")
-    };
-    let mut entry = Document::new(alloc);
-    put(&mut entry, "index", Value::Int32(index as i32))?;
-    put(&mut entry, "_id", id.copy()?)?;
-    Ok(entry)
+    let mut made = Vec::new(alloc);
+    'statements: for statement in statements {
+        add_made(alloc, statement, &mut made)?;
+    }
+    Ok(made)
 }
 
-/// A number of documents in a reply.
-fn total_value(number: usize) -> Value
-    ensures { tree result ≡ total number }
+/// Whether a statement makes a document where none matches.
+fn makes_any(statements: &[UpdateStatement]) -> bool
+    ensures { result ≡ makes_any statements.now }
 {
-    let number = number.min(MOST_COUNTED);
-    Value::Int32(number as i32)
+    statements.iter().any(|statement| statement.upsert)
 }
 
-/// The reply of an update.
-fn update_reply(alloc: Global, tally: Tally) -> Result<Document, NoMemory>
-    ensures { IfOk result (λ d. d
-        ≡ ok_reply (counts_reply tally.matched tally.modified tally.upserted)) }
+/// Whether a statement matches a document.
+fn is_updated(statements: &[UpdateStatement], document: &Document) -> bool
+    ensures { result ≡ is_updated statements.now document.now }
 {
-    let mut reply = Document::new(alloc);
-    put(&mut reply, "n", total_value(tally.matched))?;
-    put(&mut reply, "nModified", total_value(tally.modified))?;
-    if tally.upserted.is_empty() {
-        return done(reply);
-    }
-    put(&mut reply, "upserted", Value::Array(tally.upserted))?;
-    done(reply)
+    statements
+        .iter()
+        .any(|statement| matches(&statement.filter, document))
 }
 
-impl Collections {
-    /// Whether the document at a place of the collection at another matches a filter.
-    fn matches_at(&self, at: usize, place: usize, filter: &Filter) -> bool
-        requires within { at < length self.now.now }
-        requires there { place < length (collection_at self.now.now at).documents }
-        ensures { result ≡ matches filter.now (document_at place (collection_at self.now.now at)) }
-    {
-        let documents = self.list()[at].documents();
-        matches(filter, documents[place].document())
+/// Whether one of these documents has the `_id` of another.
+fn has_id_of(documents: &[Document], other: &Document) -> bool
+    ensures { result ≡ has_key_of documents.now other.now }
+{
+    documents
+        .iter()
+        .any(|document| compare_ids(document, other).is_eq())
+}
+
+/// Whether all of these have an `_id` equal to this.
+fn all_have(made: &[Document], id: &Value) -> bool
+    ensures { result ≡ list_all (λ d. is_eq (compare (key_of d) (tree id.now))) made.now }
+{
+    made.iter().all(|document| compare_id(document, id).is_eq())
+}
+
+/// The documents that a statement matches, and those that have the `_id` of one that is made.
+#[derive(Drop)]
+struct Meaning<'a> {
+    statements: &'a [UpdateStatement],
+    made: &'a [Document],
+}
+
+impl Selects for Meaning<'_> {
+    ghost selects = { λ a. is_meant_by a.statements.now a.made.now };
+
+    fn selects(&self, document: &Document) -> bool {
+        is_updated(self.statements, document) || has_id_of(self.made, document)
     }
 
-    /// What an update makes of the document at a place of the collection at another; `None` where that has the
-    /// same bytes.
-    fn changed_at(
-        &self,
-        at: usize,
-        place: usize,
-        change: &Update,
-    ) -> Result<Option<Document>, Refusal>
-        requires within { at < length self.now.now }
-        requires there { place < length (collection_at self.now.now at).documents }
-        requires read { IsRead (update_of change.now) }
-        ensures held { IfOk result (λ _. IsHeld (collection_at self.now.now at)) }
-        ensures some { IfOk result (λ found. IfSome found
-            (IsChange (update_of change.now) (document_at place (collection_at self.now.now at)))) }
-        ensures none { IfOk result (λ found. IfNone found
-            (apply (update_of change.now) 65535 (document_at place (collection_at self.now.now at))
-            ≡ Ok (document_at place (collection_at self.now.now at)))) }
-        ensures refused { IfErr result (λ e. Fails Refusal.OutOfMemory e
-            (apply (update_of change.now) 65535
-            (document_at place (collection_at self.now.now at)))) }
-    {
-        let documents = self.list()[at].documents();
-        changed(self.alloc(), change, documents[place].document())
-    }
-
-    /// Updates the document at a place of the collection at another.
-    fn update_at(
-        &mut self,
-        at: usize,
-        place: usize,
-        change: &Update,
-        tally: &mut Tally,
-    ) -> Result<(), Refusal>
-        requires within { at < length self.old.now }
-        requires there { place < length (collection_at self.old.now at).documents }
-        requires read { IsRead (update_of change.now) }
-        ensures extends { Extends self.old self.new }
-        ensures updates { OnOk result
-            (UpdatesAt (update_of change.now) at place tally.old tally.new self.old self.new) }
-        ensures refused { IfErr result (λ e. Fails Refusal.OutOfMemory e
-            (apply (update_of change.now) 65535
-            (document_at place (collection_at self.old.now at)))) }
-    {
-        let found = self.changed_at(at, place, change)?;
-        tally.matched = counted(tally.matched);
-        if let Some(new) = found {
-            tally.modified = counted(tally.modified);
-            self.change(at, place, new)?;
-        }
-        Ok(())
-    }
-
-    /// Updates the documents that match, in their order: all of them, or the first. It says whether one matches.
-    fn update_matching(
-        &mut self,
-        at: usize,
-        statement: &UpdateStatement,
-        tally: &mut Tally,
-    ) -> Result<bool, Refusal>
-        requires within { at < length self.old.now }
-        requires read { IsRead statement.now.change }
-        ensures extends { Extends self.old self.new }
-        ensures runs { RunsMatching statement.now at tally.old tally.new self.old self.new result }
-    {
-        let count = self.list()[at].documents().len();
-        let mut found = false;
-        'places: for place in 0..count {
-            if self.matches_at(at, place, &statement.filter) {
-                self.update_at(at, place, &statement.change, tally)?;
-                if !statement.multi {
-                    return Ok(true);
-                }
-                found = true;
-            }
-        }
-        Ok(found)
-    }
-
-    /// Makes a document, as a statement says that no document matches. The collection is made where it is missing;
-    /// `TooMany` where it would be one too many.
-    fn upsert(
-        &mut self,
-        namespace: &str,
-        index: usize,
-        statement: &UpdateStatement,
-        tally: &mut Tally,
-    ) -> Result<(), Refusal>
-        requires index { index ≤ 1000 }
-        ensures extends { Extends self.old self.new }
-        ensures gives { Gives Refusal.OutOfMemory (λ _. updated_of self.new tally.new) result
-            (upsert namespace.now index statement.now (updated_of self.old tally.old)) }
-        ensures some { OnOk result (HasNone tally.new → ⊥) }
-    {
-        let at = self.find_or_make(namespace)?;
-        let alloc = self.alloc();
-        let document = upsert_document(alloc, statement)?;
-        let entry = upserted_entry(alloc, index, &document)?;
-        add(&mut tally.upserted, Value::Document(entry))?;
-        self.put(at, document)?;
-        tally.matched = counted(tally.matched);
-        Ok(())
-    }
-
-    /// Updates the documents of a namespace that match. A missing collection has none.
-    fn update_found(
-        &mut self,
-        namespace: &str,
-        statement: &UpdateStatement,
-        tally: &mut Tally,
-    ) -> Result<bool, Refusal>
-        requires read { IsRead statement.now.change }
-        ensures extends { Extends self.old self.new }
-        ensures runs { RunsFound namespace.now statement.now tally.old tally.new
-            self.old self.new result }
-    {
-        match self.place_of(namespace) {
-            Ok(at) => self.update_matching(at, statement, tally),
-            Err(_) => Ok(false),
-        }
-    }
-
-    /// Runs the statement of an index.
-    fn run_statement(
-        &mut self,
-        namespace: &str,
-        index: usize,
-        statement: &UpdateStatement,
-        tally: &mut Tally,
-    ) -> Result<(), Refusal>
-        requires index { index ≤ 1000 }
-        requires read { IsRead statement.now.change }
-        ensures extends { Extends self.old self.new }
-        ensures gives { Gives Refusal.OutOfMemory (λ _. updated_of self.new tally.new) result
-            (run_statement namespace.now index statement.now (updated_of self.old tally.old)) }
-        ensures quiet { OnOk result (IsQuiet tally.old tally.new self.old self.new) }
-    {
-        let found = self.update_found(namespace, statement, tally)?;
-        if found {
-            return Ok(());
-        }
-        if statement.upsert {
-            return self.upsert(namespace, index, statement, tally);
-        }
-        Ok(())
-    }
-
-    /// Runs statements, up to the first that is refused.
-    fn run_statements(
-        &mut self,
-        namespace: &str,
-        statements: &[UpdateStatement],
-        tally: &mut Tally,
-    ) -> Result<(), Refusal>
-        requires few { length statements.now ≤ 1000 }
-        requires read { All (λ (s : UpdateStatement). IsRead s.change) statements.now }
-        ensures extends { Extends self.old self.new }
-        ensures gives { Gives Refusal.OutOfMemory (λ _. updated_of self.new tally.new) result
-            (run_statements namespace.now 0 statements.now (updated_of self.old tally.old)) }
-        ensures quiet { OnOk result (IsQuiet tally.old tally.new self.old self.new) }
-    {
-        'statements: for (index, statement) in statements.iter().enumerate() {
-            self.run_statement(namespace, index, statement, tally)?;
-        }
-        Ok(())
-    }
-
-    /// Runs statements, and makes the reply; `BSONObjectTooLarge` where that is too long, as the `_id`s of many documents
-    /// that were made can make it.
-    fn update_each(
-        &mut self,
-        namespace: &str,
-        statements: &[UpdateStatement],
-    ) -> Result<Document, Refusal>
-        requires few { length statements.now ≤ 1000 }
-        requires read { All (λ (s : UpdateStatement). IsRead s.change) statements.now }
-        ensures extends { Extends self.old self.new }
-        ensures runs { RunsAll namespace.now statements.now self.old self.new result }
-        ensures sendable { IfOk result (λ d. IsSendable d) }
-    {
-        let alloc = self.alloc();
-        let mut tally = Tally {
-            matched: 0,
-            modified: 0,
-            upserted: Array::new(alloc),
+    fn asked_id(&self) -> Option<&Value> {
+        let [only] = self.statements else {
+            return None;
         };
-        self.run_statements(namespace, statements, &mut tally)?;
-        let reply = update_reply(alloc, tally)?;
-        if REPLY_LIMIT < reply.encoded_len() {
-            return Err(Refusal::BSONObjectTooLarge);
+        let id = asked_id(&only.filter)?;
+        if all_have(self.made, id) {
+            Some(id)
+        } else {
+            None
         }
-        Ok(reply)
     }
+}
 
-    /// Runs statements, all or none.
-    fn update(
-        &mut self,
-        namespace: &str,
-        statements: &[UpdateStatement],
-    ) -> Result<Document, Refusal>
-        requires few { length statements.now ≤ 1000 }
-        requires read { All (λ (s : UpdateStatement). IsRead s.change) statements.now }
-        ensures runs { RunsAll namespace.now statements.now self.old self.new result }
-        ensures extends { Extends self.old self.new }
-        ensures err { IfErr result (λ _. self.new ≡ self.old) }
-        ensures sendable { IfOk result (λ d. IsSendable d) }
-    {
-        let mark = self.mark();
-        let outcome = self.update_each(namespace, statements);
-        if outcome.is_err() {
-            self.undo_to(mark);
-        }
-        outcome
+/// Runs statements over the documents that they may mean, and makes the reply; `BSONObjectTooLarge` where that is too long, as
+/// the `_id`s of many documents that were made can make it.
+fn updates_of(
+    alloc: Global,
+    meant: Meant,
+    statements: &[UpdateStatement],
+) -> Result<Updates, Refusal>
+    requires few { length statements.now ≤ 1000 }
+    requires within { All IsWithin meant.documents.items }
+    requires read { All (λ (s : UpdateStatement). IsRead s.change) statements.now }
+    ensures planned { UpdatesOf statements.now meant result }
+    ensures puttable { IfOk result (λ u. All MayBePut u.news.items) }
+    ensures number { IfOk result (λ u. (u.number ≡ meant.number) × (u.is_new ≡ meant.is_new)) }
+    ensures sendable { IfOk result (λ u. IsSendable u.reply) }
+{
+    let ran = run_on(alloc, meant.documents, statements)?;
+    let reply = update_reply(alloc, ran.tally)?;
+    if REPLY_LIMIT < reply.encoded_len() {
+        return Err(Refusal::BSONObjectTooLarge);
     }
+    Ok(Updates {
+        number: meant.number,
+        is_new: meant.is_new,
+        news: ran.news,
+        reply,
+    })
+}
+
+/// Notes that documents are put into the collection of a number, one after the other.
+fn note_put(
+    alloc: Global,
+    edits: &mut Edits,
+    number: u32,
+    documents: &[SharedDocument],
+) -> Result<(), Refusal>
+    requires { All MayBePut documents.now }
+    ensures { Puts number documents.now result edits.old edits.new }
+{
+    'documents: for document in documents {
+        let text = id_text(alloc, document.document())?;
+        edits.put_document(number, &text, document.document())?;
+    }
+    Ok(())
+}
+
+/// The edits that make the collection of an update where it is new.
+fn first_edits(alloc: Global, namespace: &str, updates: &Updates) -> Result<Edits, NoMemory>
+    requires short { length namespace.now ≤ 255 }
+    requires number { HasNumber updates.now.is_new updates.now.number }
+    ensures { IfOk result (BeginsWith updates.now.is_new namespace.now updates.now.number) }
+{
+    let mut edits = Edits::new(alloc);
+    if !updates.is_new {
+        return Ok(edits);
+    }
+    edits.put_collection(namespace, updates.number)?;
+    Ok(edits)
+}
+
+/// The edits of an update.
+fn edits_of(alloc: Global, namespace: &str, updates: &Updates) -> Result<Edits, Refusal>
+    requires short { length namespace.now ≤ 255 }
+    requires number { HasNumber updates.now.is_new updates.now.number }
+    requires puttable { All MayBePut updates.now.news.items }
+    ensures { All IsStorable updates.now.news.items
+        → MatchResult result (NotesUpdates namespace.now updates.now)
+        (λ e. e ≡ Refusal.OutOfMemory) }
+{
+    let mut edits = first_edits(alloc, namespace, updates)?;
+    note_put(alloc, &mut edits, updates.number, &updates.news)?;
+    Ok(edits)
+}
+
+/// Whether an update changes nothing.
+fn are_none(updates: &Updates) -> bool
+    ensures all { result ≡ true → (updates.now.news.items ≡ []) × (updates.now.is_new ≡ false) }
+    ensures some { result ≡ false → updates.now.is_new ≡ false → updates.now.news.items ≢ [] }
+{
+    if updates.is_new {
+        return false;
+    }
+    updates.news.is_empty()
 }
 
 impl<D: Disk> Engine<D> {
@@ -403,20 +251,122 @@ impl<D: Disk> Engine<D> {
         statements: &[UpdateStatement],
     ) -> Result<Document, Refusal>
         requires few { length statements.now ≤ 1000 }
+        requires short { length namespace.now ≤ 255 }
         requires read { All (λ (s : UpdateStatement). IsRead s.change) statements.now }
-        ensures file { self.new.file ≡ self.old.file }
-        ensures runs { Runs (world self.old)
+        requires sound { IsSound D.history self.old }
+        ensures performs { Performs D.history
             (run_update (world self.old)
             (record { namespace = namespace.now; statements = statements.now }))
-            (world self.new) result }
-        ensures extends { Extends self.old.collections self.new.collections }
-        ensures cursors { self.new.cursors ≡ self.old.cursors }
-        ensures refused { IfErr result (λ _. self.new.collections ≡ self.old.collections) }
-        ensures has_changes { ChangesNone (world self.old)
+            result self.old self.new }
+        ensures has_changes { KeepsWord (disk_history D.history self.new)
+            → (world self.new).collections ≡ (world self.old).collections
+            → ChangesNone (world self.old)
             (update (record { namespace = namespace.now; statements = statements.now }))
-            → IfOk result (λ _. self.new.collections ≡ self.old.collections) }
+            → has_changes self.new ≡ has_changes self.old }
         ensures sendable { IfOk result (λ d. IsSendable d) }
     {
-        self.collections.update(namespace, statements)
+        let updates = self.updated(namespace, statements)?;
+        self.put_updates(namespace, statements, &updates)?;
+        Ok(updates.reply)
+    }
+
+    /// What an update puts into the collection of a name, and its reply.
+    fn updated(
+        &mut self,
+        namespace: &str,
+        statements: &[UpdateStatement],
+    ) -> Result<Updates, Refusal>
+        requires few { length statements.now ≤ 1000 }
+        requires read { All (λ (s : UpdateStatement). IsRead s.change) statements.now }
+        requires sound { IsSound D.history self.old }
+        ensures tries { Tries D.history
+            (IsUpdate (world self.old).collections namespace.now statements.now)
+            (λ e. run_all namespace.now statements.now (world self.old).collections ≡ Err e)
+            result self.old self.new }
+        ensures puttable { IfOk result (λ u. All MayBePut u.news.items) }
+        ensures number { IfOk result (λ u. HasNumber u.is_new u.number) }
+        ensures sendable { IfOk result (λ u. IsSendable u.reply) }
+    {
+        let meant = self.meant(namespace, statements)?;
+        updates_of(self.alloc, meant, statements)
+    }
+
+    /// The documents that statements may mean in the collection of a name. One walk reads them. `TooMany` where the collection
+    /// is missing, and making it for a document that a statement makes would be one too many.
+    fn meant(&mut self, namespace: &str, statements: &[UpdateStatement]) -> Result<Meant, Refusal>
+        requires sound { IsSound D.history self.old }
+        ensures tries { Tries D.history
+            (IsMeant (world self.old).collections namespace.now statements.now)
+            (IsFullFor (world self.old).collections namespace.now statements.now)
+            result self.old self.new }
+        ensures within { IfOk result (λ m. All IsWithin m.documents.items) }
+        ensures number { IfOk result (λ m. HasNumber m.is_new m.number) }
+    {
+        let Some(number) = self.number_of(namespace)? else {
+            return self.meant_in_none(statements);
+        };
+        let made = all_made(self.alloc, statements)?;
+        let meaning = Meaning {
+            statements,
+            made: &made,
+        };
+        let documents = self.selected(number, &meaning, usize::MAX)?;
+        Ok(Meant {
+            number,
+            is_new: false,
+            documents,
+        })
+    }
+
+    /// No documents, in a collection that is missing.
+    fn meant_in_none(&mut self, statements: &[UpdateStatement]) -> Result<Meant, Refusal>
+        requires sound { IsSound D.history self.old }
+        ensures tries { Tries D.history
+            (MeansIn None (world self.old).collections statements.now)
+            (IsFullWithout (world self.old).collections statements.now)
+            result self.old self.new }
+        ensures none { IfOk result (λ m. m.documents.items ≡ []) }
+        ensures number { IfOk result (λ m. HasNumber m.is_new m.number) }
+    {
+        if !makes_any(statements) {
+            return Ok(Meant {
+                number: 0,
+                is_new: false,
+                documents: Vec::new(self.alloc),
+            });
+        }
+        let number = self.new_number()?;
+        Ok(Meant {
+            number,
+            is_new: true,
+            documents: Vec::new(self.alloc),
+        })
+    }
+
+    /// Puts what an update changes and makes into the file. Where that is nothing, nothing is written.
+    fn put_updates(
+        &mut self,
+        namespace: &str,
+        statements: &[UpdateStatement],
+        updates: &Updates,
+    ) -> Result<(), Refusal>
+        requires short { length namespace.now ≤ 255 }
+        requires read { All (λ (s : UpdateStatement). IsRead s.change) statements.now }
+        requires sound { IsSound D.history self.old }
+        requires puttable { All MayBePut updates.now.news.items }
+        requires number { HasNumber updates.now.is_new updates.now.number }
+        requires is { KeepsWord (disk_history D.history self.old)
+            → IsUpdate (world self.old).collections namespace.now statements.now updates.now }
+        ensures makes { Makes D.history
+            (updated namespace.now statements.now (world self.old).collections)
+            result self.old self.new }
+        ensures has_changes { updates.now.news.items ≡ [] → updates.now.is_new ≡ false
+            → has_changes self.new ≡ has_changes self.old }
+    {
+        if are_none(updates) {
+            return Ok(());
+        }
+        let edits = edits_of(self.alloc, namespace, updates)?;
+        self.write(&edits, &(namespace, statements))
     }
 }

@@ -4,6 +4,8 @@
 #[cfg(test)]
 mod aggregating;
 #[cfg(test)]
+mod by_id;
+#[cfg(test)]
 mod conversation;
 #[cfg(test)]
 mod cursors;

@@ -51,8 +51,7 @@ one_served beside old new (Ok (Some x)) n r w w' reply ok given now h a f = reco
 
 -- a message that changes nothing wrote nothing
 pub one_quiet : (P : Type 0) (beside other : World → Refusal → Type 0) (weaker : (planned : World) (r : Refusal) → beside planned r → other planned r) (old new : Connection) (front : Front) (n : ℕ) (r : Request) (w w' : World) (reply : Pairs) → IsTaken old front (takes.Call n r) new → IsAnswer beside w old.id r w' reply
-    → ((read : Result Pairs BsonFault) → Gives bson_faults.Memory (λ d. d) r.body read → WroteNothing w read w' → WroteNothing w read (step w old.id read).0 → P) → ChangeNothing other w (call_at old front) → P
+    → ((read : Result Pairs BsonFault) → Gives bson_faults.Memory (λ d. d) r.body read → WroteNothing w read w' → P) → ChangeNothing other w (call_at old front) → P
 one_quiet P beside other weaker old new (Ok None) n r w w' reply h a use_it quiet = absurd h
 one_quiet P beside other weaker old new (Err e) n r w w' reply h a use_it quiet = absurd h
 one_quiet P beside other weaker old new (Ok (Some x)) n r w w' reply h a use_it quiet = use_it (body_of x.0) h.1.body (quiet w' reply (answers_weaker beside other weaker w _ _ w' reply (a (body_of x.0) h.1.body))).0
-    (quiet (step w old.id (body_of x.0)).0 (step w old.id (body_of x.0)).1 (inl refl)).0

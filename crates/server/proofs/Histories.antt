@@ -90,12 +90,12 @@ adds_nothing out = record { replies = sym (append-nil (frames_in out.replies.ite
 pub bytes_on : (step : Step) (id : ℕ) (chunk : Vec ℕ Global) (out : DriveOut) (a b : Instant) → step ≡ steps.Bytes id chunk
     → b.state ≡ fed a.state id chunk.items → b.moment ≡ a.moment → Goes a step out out b
 bytes_on step id chunk out a b is new same =
-    subst (λ (s : Step). Goes a s out out b) (sym is) (record { frames = []; happens = (refl, refl, new); moment = same; adds = adds_nothing out })
+    subst (λ (s : Step). Goes a s out out b) (sym is) (record { frames = []; happens = λ k. (refl, refl, new); moment = same; adds = adds_nothing out })
 
 pub gone_on : (step : Step) (id : ℕ) (out : DriveOut) (a b : Instant) → step ≡ steps.Gone id
     → b.state ≡ ended a.state id → b.moment ≡ a.moment → Goes a step out out b
 gone_on step id out a b is new same =
-    subst (λ (s : Step). Goes a s out out b) (sym is) (record { frames = []; happens = (refl, refl, new); moment = same; adds = adds_nothing out })
+    subst (λ (s : Step). Goes a s out out b) (sym is) (record { frames = []; happens = λ k. (refl, refl, new); moment = same; adds = adds_nothing out })
 
 last_moment-append : (first : Moment) (ends more : List TurnEnd) → last_moment first (ends ++ more) ≡ last_moment (last_moment first ends) more
 last_moment-append first [] more = refl
@@ -108,7 +108,7 @@ last_collections-append first (e ∷ later) more = last_collections-append e.col
 -- What the loop over the steps keeps: so many steps were done, and it has not stopped.
 pub record SoFar {D : Type 0} (history : D → History) (first : Core D) (all : List Step) (i : ℕ) (out : DriveOut) (now : Core D) : Type 0 where
   pub ends : List TurnEnd
-  pub happens : Happens (moment_of history first) (state first) (take i all) (frames_in out.replies.items) ends (state now)
+  pub happens : KeepsWord (disk_history history now) → Happens (moment_of history first) (state first) (take i all) (frames_in out.replies.items) ends (state now)
   pub moment : moment_of history now ≡ last_moment (moment_of history first) ends
   pub counted : out.turns ≡ turns_in (take i all)
   pub bound : out.turns ≤ i
@@ -123,7 +123,7 @@ pub record SoFar {D : Type 0} (history : D → History) (first : Core D) (all : 
 pub starts : {D : Type 0} (history : D → History) (first : Core D) (all : List Step) (out : DriveOut) → out.replies.items ≡ [] → out.turns ≡ 0 → out.stopped ≡ None → IsSound history first → SoFar history first all 0 out first
 starts history first all out nothing none goes sound = record {
   ends = [];
-  happens = (ap frames_in nothing, refl, refl);
+  happens = λ k. (ap frames_in nothing, refl, refl);
   moment = refl;
   counted = none;
   bound = omega (arith, none);
@@ -142,18 +142,18 @@ starts history first all out nothing none goes sound = record {
 pub ends : {D : Type 0} (history : D → History) (first : Core D) (all : List Step) (i : ℕ) (out : DriveOut) (now : Core D) → length all ≤ i → SoFar history first all i out now → Drives history first all out now
 ends history first all i out now whole s =
     let every : take i all ≡ all = take_all i all whole in
-    let same : collections_of now ≡ last_collections (collections_of first) s.ends = collections_after (take i all) (moment_of history first) (state first) (state now) (frames_in out.replies.items) s.ends s.happens in
+    let same : KeepsWord (disk_history history now) → collections_of now ≡ last_collections (collections_of first) s.ends = λ k. collections_after (take i all) (moment_of history first) (state first) (state now) (frames_in out.replies.items) s.ends (s.happens k) in
     record {
       given = frames_in out.replies.items;
       ends = s.ends;
       happens = subst (λ (stop : Option (ℕ × DriveFault)). Ends (instant_of history first) (is_stopped first) all stop (frames_in out.replies.items) s.ends (instant_of history now)) (sym s.runs)
-          (subst (λ (steps : List Step). Happens (moment_of history first) (state first) steps (frames_in out.replies.items) s.ends (state now)) every s.happens);
+          (λ k. subst (λ (steps : List Step). Happens (moment_of history first) (state first) steps (frames_in out.replies.items) s.ends (state now)) every (s.happens k));
       frames = refl;
       bytes = λ _. refl;
       turns = s.counted ∙ ap turns_in every ∙ sym (ap (λ (stop : Option (ℕ × DriveFault)). turns_done stop all) s.runs);
       on = s.on;
       in_order = s.in_order;
-      at_end = λ running goes. subst (λ (x : List Collection). LeavesNow (disk_history history now) (λ image. Holds image x)) same (holds_now history now s.sound (s.running ∙ running));
+      at_end = λ running goes k image is. subst (Holds image) (same k) (holds_now history now s.sound (s.running ∙ running) k image is);
       at_stop = λ running k image is. inr (holds_now history now s.sound (s.running ∙ running) k image is);
       idle = s.idle;
       running = λ _. s.running;
@@ -164,8 +164,8 @@ module _ {D : Type 0} (history : D → History) (first : Core D) (all : List Ste
   taken : take (i + 1) all ≡ take i all ++ step ∷ []
   taken = take_more all i step within ∙ ap (λ (y : Step). take i all ++ y ∷ []) (sym is)
 
-  same_now : collections_of now ≡ last_collections (collections_of first) s.ends
-  same_now = collections_after (take i all) (moment_of history first) (state first) (state now) (frames_in old.replies.items) s.ends s.happens
+  same_now : KeepsWord (disk_history history now) → collections_of now ≡ last_collections (collections_of first) s.ends
+  same_now k = collections_after (take i all) (moment_of history first) (state first) (state now) (frames_in old.replies.items) s.ends (s.happens k)
 
   idle_on : (last : Core D) → GoesSafely history now last → is_stopped first ≡ true → disk_history history last ≡ disk_history history first
   idle_on last safe stop = safe.idle (s.running ∙ stop) ∙ s.idle stop
@@ -175,7 +175,7 @@ module _ {D : Type 0} (history : D → History) (first : Core D) (all : List Ste
       → LeavesInOrder (disk_history history last) (clock_of history first) (collections_of first) s.ends (collections_of last)
   order_on last safe running keeps =
       in_order_on (disk_history history now) (disk_history history last) (clock_of history first) (collections_of first) s.ends (collections_of now) (collections_of last)
-      safe.on keeps same_now (safe.any_moment (s.running ∙ running)) (s.in_order running (safe.on.kept keeps))
+      safe.on keeps (same_now (safe.on.kept keeps)) (safe.any_moment (s.running ∙ running)) (s.in_order running (safe.on.kept keeps))
 
   -- what a crash leaves up to the end of a turn that answered
   order_turned : (last : Core D) → GoesSafely history now last → (IsRunning first → LeavesNow (disk_history history last) (λ image. Holds image (collections_of last)))
@@ -183,7 +183,7 @@ module _ {D : Type 0} (history : D → History) (first : Core D) (all : List Ste
       → LeavesInOrder (disk_history history last) (clock_of history first) (collections_of first) (s.ends ++ end_at (instant_of history last) ∷ []) (collections_of last)
   order_turned last safe holds running keeps =
       in_order_turned (disk_history history now) (disk_history history last) (clock_of history first) (collections_of first) s.ends (collections_of now) (end_at (instant_of history last)) refl
-      safe.on keeps same_now (safe.any_moment (s.running ∙ running)) (holds running keeps) (s.in_order running (safe.on.kept keeps))
+      safe.on keeps (same_now (safe.on.kept keeps)) (safe.any_moment (s.running ∙ running)) (holds running keeps) (s.in_order running (safe.on.kept keeps))
 
   -- by the step: a turn has one end more, another none
   order_by : (x : Step) (last : Core D) (new : DriveOut) → Goes (instant_of history now) x old new (instant_of history last) → GoesSafely history now last
@@ -199,14 +199,14 @@ module _ {D : Type 0} (history : D → History) (first : Core D) (all : List Ste
   pub step_on : (new : DriveOut) (last : Core D) → Goes (instant_of history now) step old new (instant_of history last) → IsSound history last → GoesSafely history now last → is_stopped last ≡ is_stopped now → SoFar history first all (i + 1) new last
   step_on new last goes sound safe same =
       let more : List TurnEnd = ends_of step (instant_of history last) in
-      let next : Happens (last_moment (moment_of history first) s.ends) (state now) (step ∷ []) goes.frames more (state last) =
-      subst (λ (at : Moment). Happens at (state now) (step ∷ []) goes.frames more (state last)) s.moment goes.happens in
-      let happens : Happens (moment_of history first) (state first) (take (i + 1) all) (frames_in old.replies.items ++ goes.frames) (s.ends ++ more) (state last) =
-      subst (λ (xs : List Step). Happens (moment_of history first) (state first) xs (frames_in old.replies.items ++ goes.frames) (s.ends ++ more) (state last)) (sym taken)
-      (happens_on (take i all) (step ∷ []) (moment_of history first) (state first) (state now) (state last) (frames_in old.replies.items) goes.frames s.ends more s.happens next) in
+      let next : KeepsWord (disk_history history last) → Happens (last_moment (moment_of history first) s.ends) (state now) (step ∷ []) goes.frames more (state last) =
+      λ k. subst (λ (at : Moment). Happens at (state now) (step ∷ []) goes.frames more (state last)) s.moment (goes.happens k) in
+      let happens : KeepsWord (disk_history history last) → Happens (moment_of history first) (state first) (take (i + 1) all) (frames_in old.replies.items ++ goes.frames) (s.ends ++ more) (state last) =
+      λ k. subst (λ (xs : List Step). Happens (moment_of history first) (state first) xs (frames_in old.replies.items ++ goes.frames) (s.ends ++ more) (state last)) (sym taken)
+      (happens_on (take i all) (step ∷ []) (moment_of history first) (state first) (state now) (state last) (frames_in old.replies.items) goes.frames s.ends more (s.happens (safe.on.kept k)) (next k)) in
       record {
         ends = s.ends ++ more;
-        happens = subst (λ (fs : Frames). Happens (moment_of history first) (state first) (take (i + 1) all) fs (s.ends ++ more) (state last)) (sym goes.adds.replies) happens;
+        happens = λ k. subst (λ (fs : Frames). Happens (moment_of history first) (state first) (take (i + 1) all) fs (s.ends ++ more) (state last)) (sym goes.adds.replies) (happens k);
         moment = goes.moment ∙ ap (λ (at : Moment). last_moment at more) s.moment ∙ sym (last_moment-append (moment_of history first) s.ends more);
         counted = omega (arith, s.counted, goes.adds.counted, ap turns_in taken, turns_in-append (take i all) (step ∷ []));
         bound = omega (arith, s.bound, goes.adds.counted, one_at_most step);
@@ -229,8 +229,8 @@ module _ {D : Type 0} (history : D → History) (first : Core D) (all : List Ste
     kept : frames_in new.replies.items ≡ frames_in old.replies.items
     kept = adds.replies ∙ append-nil (frames_in old.replies.items)
 
-    before : Happens (moment_of history first) (state first) (take i all) (frames_in new.replies.items) s.ends (state now)
-    before = subst (λ (fs : Frames). Happens (moment_of history first) (state first) (take i all) fs s.ends (state now)) (sym kept) s.happens
+    before : KeepsWord (disk_history history now) → Happens (moment_of history first) (state first) (take i all) (frames_in new.replies.items) s.ends (state now)
+    before k = subst (λ (fs : Frames). Happens (moment_of history first) (state first) (take i all) fs s.ends (state now)) (sym kept) (s.happens k)
 
     at : (x : Step) → step ≡ x → slice_get all i ≡ Some x
     at x e = slice_get_read all (length all) i step refl within is ∙ ap (λ (y : Step). some y) e
@@ -241,20 +241,20 @@ module _ {D : Type 0} (history : D → History) (first : Core D) (all : List Ste
   -- a step that changed nothing
   module _ (last : Core D) (sound : IsSound history last) (safe : GoesSafely history now last) (same : state last ≡ state now) (runs : is_stopped last ≡ is_stopped now) where
     end_same : IsRunning first → LeavesNow (disk_history history last) (λ image. Holds image (last_collections (collections_of first) s.ends))
-    end_same running = subst (λ (x : List Collection). LeavesNow (disk_history history last) (λ image. Holds image x)) (ap (λ (x : ServerState). x.world.collections) same ∙ same_now) (holds_now history last sound (runs ∙ s.running ∙ running))
+    end_same running k image is = subst (Holds image) (ap (λ (x : ServerState). x.world.collections) same ∙ same_now (safe.on.kept k)) (holds_now history last sound (runs ∙ s.running ∙ running) k image is)
 
   stop_now : (last : Core D) → GoesSafely history now last → IsRunning first → LeavesNow (disk_history history last) (HoldsEither (last_collections (collections_of first) s.ends) (collections_of last))
   stop_now last safe running k image here = ⊎_elim
-      (λ holds. inl (subst (Holds image) same_now holds))
+      (λ holds. inl (subst (Holds image) (same_now (safe.on.kept k)) holds))
       (λ holds. inr holds)
       (leaves_now (disk_history history now) (disk_history history last) (HoldsEither (collections_of now) (collections_of last)) safe.on (safe.any_moment (s.running ∙ running)) k image here)
 
   -- a turn that handed out nothing, from the moment of the last one that answered
-  failed_turn : (fault : TurnFault) (last : Core D) → TurnFails (IsCaused (moment_of history now) (moment_of history last)) (state now) fault (is_stopped now) (state last)
-      → TurnFails (IsCaused (last_moment (moment_of history first) s.ends) (moment_of history last)) (state now) fault (is_stopped first) (state last)
+  failed_turn : (fault : TurnFault) (last : Core D) → TurnFails (KeepsWord (disk_history history last)) (IsCaused (moment_of history now) (moment_of history last)) (state now) fault (is_stopped now) (state last)
+      → TurnFails (KeepsWord (disk_history history last)) (IsCaused (last_moment (moment_of history first) s.ends) (moment_of history last)) (state now) fault (is_stopped first) (state last)
   failed_turn fault last fails =
-      subst (λ (m : Moment). TurnFails (IsCaused m (moment_of history last)) (state now) fault (is_stopped first) (state last)) s.moment
-      (subst (λ (b : Bool). TurnFails (IsCaused (moment_of history now) (moment_of history last)) (state now) fault b (state last)) s.running fails)
+      subst (λ (m : Moment). TurnFails (KeepsWord (disk_history history last)) (IsCaused m (moment_of history last)) (state now) fault (is_stopped first) (state last)) s.moment
+      (subst (λ (b : Bool). TurnFails (KeepsWord (disk_history history last)) (IsCaused (moment_of history now) (moment_of history last)) (state now) fault b (state last)) s.running fails)
 
   pub stops_at : (fault : DriveFault) (new : DriveOut) (last : Core D) → Does (instant_of history now) step old (Err fault) (is_stopped now) new (instant_of history last) → IsSound history last → GoesSafely history now last
       → (failing fault ≢ failing (stops.Turn turns.Stopped) → is_stopped last ≡ is_stopped now)
@@ -263,7 +263,7 @@ module _ {D : Type 0} (history : D → History) (first : Core D) (all : List Ste
   stops_at (stops.Feed feeds.Memory) new last does sound safe runs cause = record {
     given = frames_in new.replies.items;
     ends = s.ends;
-    happens = ((does.0.0, does.0.1, at new 0 does.1 _ does.0.2), subst (λ (x : ServerState). Happens (moment_of history first) (state first) (take i all) (frames_in new.replies.items) s.ends x) (sym does.2) (before new 0 does.1));
+    happens = ((does.0.0, does.0.1, at new 0 does.1 _ does.0.2), λ k. subst (λ (x : ServerState). Happens (moment_of history first) (state first) (take i all) (frames_in new.replies.items) s.ends x) (sym does.2) (before new 0 does.1 (safe.on.kept k)));
     frames = refl;
     bytes = λ _. refl;
     turns = omega (arith, does.1.counted, s.counted);
@@ -279,13 +279,13 @@ module _ {D : Type 0} (history : D → History) (first : Core D) (all : List Ste
   stops_at (stops.Turn turns.Memory) new last does sound safe runs cause = record {
     given = frames_in new.replies.items;
     ends = s.ends;
-    happens = (at new 0 does.1 _ does.0, record { before = state now; happens = before new 0 does.1; turn = failed_turn turns.Memory last does.2 });
+    happens = (at new 0 does.1 _ does.0, record { before = state now; happens = λ k. before new 0 does.1 (safe.on.kept k); turn = failed_turn turns.Memory last does.2 });
     frames = refl;
     bytes = λ _. refl;
     turns = omega (arith, does.1.counted, s.counted);
     on = goes_further (disk_history history first) (disk_history history now) (disk_history history last) s.on safe.on;
     in_order = order_on last safe;
-    at_end = λ running goes. end_same last sound safe (subst (λ (b : Bool). TurnFails (IsCaused (moment_of history now) (moment_of history last)) (state now) turns.Memory b (state last)) (s.running ∙ running) does.2) (runs (λ e. absurd cc)) running;
+    at_end = λ running goes. end_same last sound safe (subst (λ (b : Bool). TurnFails (KeepsWord (disk_history history last)) (IsCaused (moment_of history now) (moment_of history last)) (state now) turns.Memory b (state last)) (s.running ∙ running) does.2) (runs (λ e. absurd cc)) running;
     at_stop = stop_now last safe;
     idle = idle_on last safe;
     running = λ _. runs (λ e. absurd cc) ∙ s.running;
@@ -294,7 +294,7 @@ module _ {D : Type 0} (history : D → History) (first : Core D) (all : List Ste
   stops_at (stops.Turn turns.Stopped) new last does sound safe runs cause = record {
     given = frames_in new.replies.items;
     ends = s.ends;
-    happens = (at new 0 does.1 _ does.0, record { before = state now; happens = before new 0 does.1; turn = failed_turn turns.Stopped last does.2 });
+    happens = (at new 0 does.1 _ does.0, record { before = state now; happens = λ k. before new 0 does.1 (safe.on.kept k); turn = failed_turn turns.Stopped last does.2 });
     frames = refl;
     bytes = λ _. refl;
     turns = omega (arith, does.1.counted, s.counted);
@@ -322,8 +322,8 @@ module _ {D : Type 0} (history : D → History) (first : Core D) (all : List Ste
             before = state now;
             earlier = s.ends;
             lost = does.lost;
-            happens = before new 1 does.adds;
-            turn = subst (λ (m : Moment). Turns (IsCaused m (moment_of history last)) (RoomRanOut m) (state now) does.lost (state last)) s.moment does.turn;
+            happens = λ k. before new 1 does.adds (safe.on.kept k);
+            turn = λ k. subst (λ (m : Moment). Turns (IsCaused m (moment_of history last)) (RoomRanOut m) (state now) does.lost (state last)) s.moment (does.turn k);
             counted = refl;
           },
         );

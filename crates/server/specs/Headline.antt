@@ -1,5 +1,5 @@
 -- The headline. For every list of steps, in whatever chunks the bytes come and however connections interleave, what the server
--- hands out is a history's output: these frames, in this order, and so these bytes for each connection. A run goes on to the end
+-- hands out, as long as its disk keeps its word, is a history's output: these frames, in this order, and so these bytes for each connection. A run goes on to the end
 -- of its steps, or stops at one of them, for want of memory or because the device failed. Bytes that found no memory, and a turn
 -- that took no message, changed nothing; where the frames of a turn found no memory the turn is done, and what is missing is that
 -- turn's replies and no other; a turn in which the device failed handed out nothing.
@@ -14,7 +14,7 @@ use Rattle.page.specs.Crash.{GoesOn, LeavesNow}
 use Rattle.engine.specs.Durable.{Holds}
 use Rattle.server.specs.ServerState.{ServerState}
 use Rattle.server.specs.Turn.{Out, Turns, TurnFails}
-use Rattle.server.specs.Moment.{TurnEnd, Instant, end_at, last_collections, last_moment, HoldsEither, LeavesInOrder}
+use Rattle.server.specs.Moment.{TurnEnd, Instant, HasKeptWord, end_at, last_collections, last_moment, HoldsEither, LeavesInOrder}
 use Rattle.server.specs.Causes.{IsCaused}
 use Rattle.server.specs.History.{Happens, RoomRanOut, bytes_to, turns_in}
 use Rattle.server.specs.View.{frames_in}
@@ -46,8 +46,8 @@ pub record LosesTurn (first : Instant) (done : List Step) (given : List (ℕ × 
   pub before : ServerState
   pub earlier : List TurnEnd
   pub lost : Out
-  pub happens : Happens first.moment first.state done given earlier before
-  pub turn : Turns (IsCaused (last_moment first.moment earlier) last.moment)
+  pub happens : HasKeptWord last → Happens first.moment first.state done given earlier before
+  pub turn : HasKeptWord last → Turns (IsCaused (last_moment first.moment earlier) last.moment)
       (RoomRanOut (last_moment first.moment earlier)) before lost last.state
   pub counted : ends ≡ earlier ++ end_at last ∷ []
 
@@ -56,17 +56,18 @@ pub record FailsTurn (first : Instant) (was_stopped : Bool) (done : List Step)
     (given : List (ℕ × List ℕ)) (ends : List TurnEnd) (fault : TurnFault)
     (last : Instant) : Type 0 where
   pub before : ServerState
-  pub happens : Happens first.moment first.state done given ends before
-  pub turn : TurnFails (IsCaused (last_moment first.moment ends) last.moment) before fault
-      was_stopped last.state
+  pub happens : HasKeptWord last → Happens first.moment first.state done given ends before
+  pub turn : TurnFails (HasKeptWord last) (IsCaused (last_moment first.moment ends) last.moment)
+      before fault was_stopped last.state
 
--- How a run ends, by the step and the fault at which it stopped, if it did.
+-- How a run ends, by the step and the fault at which it stopped, if it did; and, where the disk has kept its word, its history.
 abbrev pub Ends : Instant → Bool → List Step → Option (ℕ × DriveFault) → List (ℕ × List ℕ)
     → List TurnEnd → Instant → Type 0
 Ends first was_stopped all None given ends last =
-    Happens first.moment first.state all given ends last.state
+    HasKeptWord last → Happens first.moment first.state all given ends last.state
 Ends first was_stopped all (Some (i, stops.Feed feeds.Memory)) given ends last =
-    BytesStandAt i all × Happens first.moment first.state (take i all) given ends last.state
+    BytesStandAt i all
+    × (HasKeptWord last → Happens first.moment first.state (take i all) given ends last.state)
 Ends first was_stopped all (Some (i, stops.Feed feeds.Closed)) given ends last = ⊥
 Ends first was_stopped all (Some (i, stops.Turn fault)) given ends last =
     TurnStandsAt i all × FailsTurn first was_stopped (take i all) given ends fault last

@@ -1,6 +1,6 @@
 -- A moment of a server: whether its disk had kept its word, the disk's clock, how often the device had failed and a page was asked
 -- for and none was free, and the number of the last commit.
-use Rattle.std.specs.Prelude.{◌⊎◌, ℕ, Bool, ◌≤◌, List, [], ◌∷◌}
+use Rattle.std.specs.Prelude.{◌⊎◌, ℕ, Bool, IsTrue, ◌≤◌, List, [], ◌∷◌}
 use Rattle.page.specs.History.{History, IsImage}
 use Rattle.index.specs.State.{Collection}
 use Rattle.engine.specs.Durable.{Holds}
@@ -17,6 +17,10 @@ pub record Moment : Type 0 where
 pub record Instant : Type 0 where
   pub moment : Moment
   pub state : ServerState
+
+-- the disk had kept its word until then
+abbrev pub HasKeptWord : Instant → Type 0
+HasKeptWord at = IsTrue at.moment.keeps_word
 
 -- The end of a turn that answered: when it was, and the collections then.
 pub record TurnEnd : Type 0 where

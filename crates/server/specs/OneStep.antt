@@ -2,7 +2,7 @@
 use Rattle.std.specs.Prelude.{◌≡◌, Bool, ℕ, ◌+◌, List, [], ◌∷◌, ◌++◌, Result, Ok, Err, Vec}
 use Rattle.std.specs.Global.{Global}
 use Rattle.server.specs.Turn.{Out, Turns, TurnFails}
-use Rattle.server.specs.Moment.{TurnEnd, Instant, end_at, last_moment}
+use Rattle.server.specs.Moment.{TurnEnd, Instant, HasKeptWord, end_at, last_moment}
 use Rattle.server.specs.Causes.{IsCaused}
 use Rattle.server.specs.History.{Happens, RoomRanOut, turns_in}
 use Rattle.server.specs.View.{frames_in}
@@ -27,7 +27,8 @@ ends_of (steps.Gone id) last = []
 
 pub record Goes (first : Instant) (step : Step) (old new : DriveOut) (last : Instant) : Type 0 where
   pub frames : List (ℕ × List ℕ)
-  pub happens : Happens first.moment first.state (step ∷ []) frames (ends_of step last) last.state
+  pub happens : HasKeptWord last
+      → Happens first.moment first.state (step ∷ []) frames (ends_of step last) last.state
   pub moment : last.moment ≡ last_moment first.moment (ends_of step last)
   pub adds : Adds frames (turns_in (step ∷ [])) old new
 
@@ -36,8 +37,8 @@ pub record Loses (first : Instant) (step : Step) (old new : DriveOut)
     (last : Instant) : Type 0 where
   pub is : step ≡ steps.Turn
   pub lost : Out
-  pub turn : Turns (IsCaused first.moment last.moment) (RoomRanOut first.moment)
-      first.state lost last.state
+  pub turn : HasKeptWord last → Turns (IsCaused first.moment last.moment)
+      (RoomRanOut first.moment) first.state lost last.state
   pub adds : Adds [] 1 old new
 
 -- By the result, and whether the server had stopped before the step.
@@ -50,5 +51,6 @@ Does first step old (Err (stops.Feed feeds.Memory)) was_stopped new last =
 Does first step old (Err (stops.Feed feeds.Closed)) was_stopped new last = ⊥
 Does first step old (Err (stops.Turn fault)) was_stopped new last =
     (step ≡ steps.Turn) × Adds [] 0 old new
-    × TurnFails (IsCaused first.moment last.moment) first.state fault was_stopped last.state
+    × TurnFails (HasKeptWord last) (IsCaused first.moment last.moment) first.state fault
+    was_stopped last.state
 Does first step old (Err (stops.Gather)) was_stopped new last = Loses first step old new last

@@ -1,11 +1,11 @@
 -- A server as the loops over sockets see it.
 use Rattle.std.specs.Prelude.{◌≡◌, ◌⊎◌, ℕ, List, [], map}
-use Rattle.page.specs.History.{History}
+use Rattle.page.specs.History.{History, KeepsWord}
 use Rattle.server.specs.Turn.{Out, Turns, TurnFails}
 use Rattle.server.specs.Causes.{IsCaused}
 use Rattle.server.specs.History.{RoomRanOut}
 use Rattle.server.specs.View.{state}
-use Rattle.server.specs.Durable.{moment_of, is_stopped}
+use Rattle.server.specs.Durable.{disk_history, moment_of, is_stopped}
 use Rattle.server.specs.declared.turn.Core.{Core}
 use Rattle.server.specs.declared.turn.TurnFault.TheVariants as turns
 
@@ -13,7 +13,8 @@ use Rattle.server.specs.declared.turn.TurnFault.TheVariants as turns
 pub record TurnGives {D : Type 0} (history : D → History) (old : Core D)
     (replies : List (ℕ × List ℕ)) (closed : List ℕ) (new : Core D) : Type 0 where
   pub out : Out
-  pub turns : Turns (IsCaused (moment_of history old) (moment_of history new))
+  pub turns : KeepsWord (disk_history history new)
+      → Turns (IsCaused (moment_of history old) (moment_of history new))
       (RoomRanOut (moment_of history old)) (state old) out (state new)
   pub replies_are : replies ≡ out.replies
   pub closed_are : closed ≡ map (λ c. c.0) out.closed
@@ -23,7 +24,8 @@ pub record TurnWaits {D : Type 0} (history : D → History) (old : Core D)
     (replies : List (ℕ × List ℕ)) (closed : List ℕ) (new : Core D) : Type 0 where
   pub nothing : replies ≡ []
   pub none : closed ≡ []
-  pub fails : TurnFails (IsCaused (moment_of history old) (moment_of history new)) (state old)
+  pub fails : TurnFails (KeepsWord (disk_history history new))
+      (IsCaused (moment_of history old) (moment_of history new)) (state old)
       turns.Memory (is_stopped old) (state new)
 
 abbrev pub IsAnswered : {D : Type 0} → (D → History) → Core D → List (ℕ × List ℕ) → List ℕ → Core D → Type 0

@@ -187,12 +187,14 @@ pub record Cut (beside : World → Refusal → Type 0) (state new : ServerState)
       ≡ record { world = after_commit last; connections = connections_taken state.connections }
 
 -- A turn that answers no messages, by its fault and whether the server had stopped before. A server that had stopped changes
--- nothing. One that had not stops where the turn is cut, and changes nothing where memory runs out before a message is taken.
-abbrev pub TurnFails : (World → Refusal → Type 0) → ServerState → TurnFault → Bool → ServerState → Type 0
-TurnFails beside state turns.Stopped true new = new ≡ state
-TurnFails beside state turns.Stopped false new = Cut beside state new
-TurnFails beside state turns.Memory true new = ⊥
-TurnFails beside state turns.Memory false new = new ≡ state
+-- nothing. One that had not stops where the turn is cut, while the disk kept its word, and changes nothing where memory runs out
+-- before a message is taken.
+abbrev pub TurnFails : Type 0 → (World → Refusal → Type 0) → ServerState → TurnFault → Bool
+    → ServerState → Type 0
+TurnFails kept beside state turns.Stopped true new = new ≡ state
+TurnFails kept beside state turns.Stopped false new = kept → Cut beside state new
+TurnFails kept beside state turns.Memory true new = ⊥
+TurnFails kept beside state turns.Memory false new = new ≡ state
 
 -- a message or a fault stands at the front of the open connection
 abbrev pub is_waiting_in : Option Connection → Bool

@@ -2,6 +2,7 @@
 use Rattle.std.specs.Prelude.{◌≡◌, ◌≢◌, ◌⊎◌, ◌<◌, true, Result, Err, IfOk, IfErr, OnOk}
 use Rattle.page.specs.History.{History, KeepsWord}
 use Rattle.page.specs.Crash.{GoesOn, LeavesOnly, LeavesNow}
+use Rattle.collections.specs.Calls.{GoesFrom}
 use Rattle.engine.specs.Durable.{Holds}
 use Rattle.server.specs.Turn.{Turns, TurnFails, ChangesNothing}
 use Rattle.server.specs.Moment.{HoldsEither}
@@ -17,12 +18,13 @@ use Rattle.server.specs.declared.turn.TurnFault.TheVariants as turn_faults
 pub record TakesTurn {D : Type 0} (history : D → History) (old : Core D)
     (result : Result TurnOut TurnFault) (new : Core D) : Type 0 where
   pub sound : IsSound history new
-  -- it is done, or undone, or it answers no message
-  pub turns : IfOk result (λ out.
-      Turns (IsCaused (moment_of history old) (moment_of history new))
+  -- while the disk keeps its word, it is done, or undone; or it answers no message
+  pub turns : IfOk result (λ out. KeepsWord (disk_history history new)
+      → Turns (IsCaused (moment_of history old) (moment_of history new))
       (RoomRanOut (moment_of history old)) (state old) (out_of out) (state new))
   pub fails : IfErr result (λ fault.
-      TurnFails (IsCaused (moment_of history old) (moment_of history new)) (state old) fault
+      TurnFails (KeepsWord (disk_history history new))
+      (IsCaused (moment_of history old) (moment_of history new)) (state old) fault
       (is_stopped old) (state new))
   pub on : GoesOn (disk_history history old) (disk_history history new)
   -- a crash at any moment of the call leaves the collections as they were before the turn or as they are after it
@@ -40,5 +42,6 @@ pub record TakesTurn {D : Type 0} (history : D → History) (old : Core D)
   pub device : result ≡ Err turn_faults.Stopped → KeepsWord (disk_history history new)
       → (is_stopped old ≡ true)
       ⊎ ((disk_history history old).failures < (disk_history history new).failures)
-  -- where its messages change nothing, it makes no call of the disk, and its file stays as it is
-  pub quiet : ChangesNothing OfAnyCause (state old) → file_of new ≡ file_of old
+  -- where its messages change nothing, it only reads the disk, and takes no page into its tree or out of it
+  pub quiet : KeepsWord (disk_history history new) → ChangesNothing OfAnyCause (state old)
+      → GoesFrom history (file_of old) (file_of new)

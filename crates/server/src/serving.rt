@@ -14,7 +14,7 @@ ghost use Rattle.bson.specs.Tree.{Pairs};
 ghost use Rattle.outcome.specs.Outcome.{Gives};
 ghost use Rattle.bson.specs.declared.fault.BsonFault.{BsonFault};
 ghost use Rattle.bson.specs.declared.fault.BsonFault.TheVariants as bson_faults;
-ghost use Rattle.engine.specs.Step.{step, WroteNothing};
+ghost use Rattle.engine.specs.Step.{WroteNothing};
 ghost use Rattle.server.specs.Turn.{front_of, connections_taken, taken_at, call_at, calls, refused_frames, forget_all, ChangeNothing};
 ghost use Rattle.server.specs.Taking.{Serves, IsAnswer, EndsTurn, BreaksTurn};
 ghost use Rattle.server.specs.View.{frames_in};
@@ -73,16 +73,16 @@ fn answer<D: Disk>(engine: &mut Engine<D>, id: ConnId, request: &Request) -> Rep
     ensures sound { IsSound D.history engine.new }
     ensures goes { GoesFrom D.history (file_of engine.old) (file_of engine.new) }
     ensures running { is_stopped engine.new ≡ is_stopped engine.old }
-    ensures answer { IsAnswer (IsCaused (engine_moment D.history engine.old)
+    ensures answer { KeepsWord (disk_history D.history engine.new)
+        → IsAnswer (IsCaused (engine_moment D.history engine.old)
         (engine_moment D.history engine.new)) (world engine.old) id request.now (world engine.new)
         (reply_of result) }
     ensures turn_start { turn_start engine.new ≡ turn_start engine.old }
-    ensures quiet { (read : Result Pairs BsonFault)
+    ensures quiet { KeepsWord (disk_history D.history engine.new)
+        → (read : Result Pairs BsonFault)
         → Gives bson_faults.Memory (λ d. d) request.now.body read
         → WroteNothing (world engine.old) read (world engine.new)
-        → WroteNothing (world engine.old) read (step (world engine.old) id read).0
-        → (has_changes engine.new ≡ has_changes engine.old)
-        × (file_of engine.new ≡ file_of engine.old) }
+        → has_changes engine.new ≡ has_changes engine.old }
     ensures sendable { IsSendable (reply_of result) }
 {
     match &request.body {
@@ -103,16 +103,17 @@ fn serve_connection<D: Disk>(
     ensures sound { IsSound D.history engine.new }
     ensures goes { GoesFrom D.history (file_of engine.old) (file_of engine.new) }
     ensures running { is_stopped engine.new ≡ is_stopped engine.old }
-    ensures serves { Serves (IsCaused (engine_moment D.history engine.old)
+    ensures serves { KeepsWord (disk_history D.history engine.new)
+        → Serves (IsCaused (engine_moment D.history engine.old)
         (engine_moment D.history engine.new))
         (call_at connection.old (front_of connection.old)) (world engine.old) (world engine.new)
         result (frames_in frames.old.items) (frames_in frames.new.items) }
     ensures connection { connection.new ≡ taken_at connection.old (front_of connection.old) }
     ensures turn_start { turn_start engine.new ≡ turn_start engine.old }
-    ensures quiet { ChangeNothing OfAnyCause (world engine.old)
+    ensures quiet { KeepsWord (disk_history D.history engine.new)
+        → ChangeNothing OfAnyCause (world engine.old)
         (call_at connection.old (front_of connection.old))
-        → (has_changes engine.new ≡ has_changes engine.old)
-        × (file_of engine.new ≡ file_of engine.old) }
+        → has_changes engine.new ≡ has_changes engine.old }
 {
     let id = connection.id;
     let Taken::Call(number, request) = take_call(connection) else {
@@ -139,14 +140,15 @@ fn serve_connections<D: Disk>(
     ensures sound { IsSound D.history engine.new }
     ensures goes { GoesFrom D.history (file_of engine.old) (file_of engine.new) }
     ensures running { is_stopped engine.new ≡ is_stopped engine.old }
-    ensures serves { Serves (IsCaused (engine_moment D.history engine.old)
+    ensures serves { KeepsWord (disk_history D.history engine.new)
+        → Serves (IsCaused (engine_moment D.history engine.old)
         (engine_moment D.history engine.new)) (calls connections.old) (world engine.old)
         (world engine.new) result (frames_in frames.old.items) (frames_in frames.new.items) }
     ensures connections { connections.new ≡ connections_taken connections.old }
     ensures turn_start { turn_start engine.new ≡ turn_start engine.old }
-    ensures quiet { ChangeNothing OfAnyCause (world engine.old) (calls connections.old)
-        → (has_changes engine.new ≡ has_changes engine.old)
-        × (file_of engine.new ≡ file_of engine.old) }
+    ensures quiet { KeepsWord (disk_history D.history engine.new)
+        → ChangeNothing OfAnyCause (world engine.old) (calls connections.old)
+        → has_changes engine.new ≡ has_changes engine.old }
 {
     let mut all = true;
     'connections: for connection in connections.iter_mut() {
@@ -171,11 +173,13 @@ pub(crate) fn run_messages<D: Disk>(
     requires refusals { frames_in refusals.items
         ≡ refused_frames OutOfMemory connections.old.items }
     ensures sound { IsSound D.history engine.new }
-    ensures settles { IfSome result (λ given. EndsTurn
+    ensures settles { IfSome result (λ given. KeepsWord (disk_history D.history engine.new)
+        → EndsTurn
         (IsCaused (engine_moment D.history engine.old) (engine_moment D.history engine.new))
         (RoomRanOut (engine_moment D.history engine.old))
         (world engine.old) connections.old.items (frames_in given.items) (world engine.new)) }
-    ensures breaks { result ≡ None → BreaksTurn
+    ensures breaks { result ≡ None → KeepsWord (disk_history D.history engine.new)
+        → BreaksTurn
         (IsCaused (engine_moment D.history engine.old) (engine_moment D.history engine.new))
         (world engine.old) connections.old.items (world engine.new) }
     ensures connections { connections.new.items ≡ connections_taken connections.old.items }
@@ -191,8 +195,9 @@ pub(crate) fn run_messages<D: Disk>(
     ensures device { result ≡ None → KeepsWord (disk_history D.history engine.new)
         → (disk_history D.history engine.old).failures
         < (disk_history D.history engine.new).failures }
-    ensures quiet { ChangeNothing OfAnyCause (world engine.old) (calls connections.old.items)
-        → file_of engine.new ≡ file_of engine.old }
+    ensures quiet { KeepsWord (disk_history D.history engine.new)
+        → ChangeNothing OfAnyCause (world engine.old) (calls connections.old.items)
+        → GoesFrom D.history (file_of engine.old) (file_of engine.new) }
 {
     let mut replies = Vec::new(*connections.allocator());
     if !serve_connections(engine, connections, &mut replies) {

@@ -1,11 +1,14 @@
 use Rattle.std.proofs.Common.{subst, sym}
 use Rattle.commands.specs.Find.{Query}
 use Rattle.engine.specs.Find.{Suffices}
-use Rattle.engine.proofs.Finding.{front_suffices}
+use Rattle.engine.proofs.Finding.{all_suffice, front_suffices}
 use Rattle.engine.proofs.find.enough.Goals as goal
 
 pub returns : goal.returns
 returns c =
     let opened : Query = record { filter = c.query.inside.filter; sort = c.query.inside.sort; skip = c.query.inside.skip; limit = c.query.inside.limit; projection = c.query.inside.projection } in
-    subst (λ (q : Query). Suffices q c.args.count c.saturating_add.result) c.query.view_is
-    (front_suffices opened c.args.count c.saturating_add.result c.if-query-eq0.false (sym c.if-not-is_empty.ensures) c.saturating_add.ensures c.ranges.count.fits)
+    subst (λ (q : Query). Suffices q c.saturating_add.result) c.query.view_is
+    (front_suffices opened c.saturating_add.result c.if-query-eq0.false (sym c.if-not-is_empty.ensures) c.saturating_add.ensures)
+
+pub returns-then-query-eq0 : goal.returns-then-query-eq0
+returns-then-query-eq0 c = all_suffice c.args.query.now

@@ -7,7 +7,7 @@ use Rattle.bson.specs.declared.fault.BsonFault.TheVariants as bson_faults
 use Rattle.engine.proofs.SpelledSizes.{refusal-sendable}
 use Rattle.engine.specs.View.{world, reply_of}
 use Rattle.engine.specs.Durable.{file_of}
-use Rattle.engine.specs.Step.{step, Answers, WroteNothing}
+use Rattle.engine.specs.Step.{Answers, WroteNothing}
 use Rattle.engine.specs.Writing.{FileCause}
 use Rattle.collections.proofs.LawLemmas.{goes_from_itself}
 use Rattle.server.specs.Causes.{IsCaused}
@@ -20,17 +20,17 @@ pub returns-in-Err-clause-sendable : goal.returns-in-Err-clause-sendable
 returns-in-Err-clause-sendable g c = refusal-sendable c.body_refusal.result
 
 pub returns-in-Ok-clause-answer : goal.returns-in-Ok-clause-answer
-returns-in-Ok-clause-answer g c read gives =
+returns-in-Ok-clause-answer g c k read gives =
     let same : read ≡ Ok c.in-Ok.document = subst (λ body. Gives bson_faults.Memory (λ d. d) body read) c.in-Ok.is gives in
     let history = g.D.Disk.history in
     let old = c.args.engine.now in
     let new = c.execute.new.self in
     answers_weaker (FileCause history (file_of old) (file_of new)) (IsCaused (engine_moment history old) (engine_moment history new)) (file_caused history old new c.requires.running)
     (world old) c.args.id read (world new) (reply_of c.execute.result)
-    (subst (λ (r : Result Pairs BsonFault). Answers (FileCause history (file_of old) (file_of new)) (world old) c.args.id r (world new) (reply_of c.execute.result)) (sym same) c.execute.ensures.answers)
+    (subst (λ (r : Result Pairs BsonFault). Answers (FileCause history (file_of old) (file_of new)) (world old) c.args.id r (world new) (reply_of c.execute.result)) (sym same) (c.execute.ensures.answers k))
 
 pub returns-in-Err-clause-answer : goal.returns-in-Err-clause-answer
-returns-in-Err-clause-answer g c read gives =
+returns-in-Err-clause-answer g c k read gives =
     let moment = engine_moment g.D.Disk.history c.args.engine.now in
     refused_body (IsCaused moment moment) (λ planned. inl refl) (world c.args.engine.now) c.args.id c.in-Err.fault c.body_refusal.result read c.body_refusal.ensures.memory c.body_refusal.ensures.other
     (subst (λ body. Gives bson_faults.Memory (λ d. d) body read) c.in-Err.is gives)
@@ -39,8 +39,7 @@ pub returns-in-Err-clause-goes : goal.returns-in-Err-clause-goes
 returns-in-Err-clause-goes g c = goes_from_itself g.D.Disk.history (file_of c.args.engine.now)
 
 pub returns-in-Ok-clause-quiet : goal.returns-in-Ok-clause-quiet
-returns-in-Ok-clause-quiet g c = λ read gives wrote planned.
+returns-in-Ok-clause-quiet g c = λ k read gives wrote.
     let same : read ≡ Ok c.in-Ok.document = subst (λ body. Gives bson_faults.Memory (λ d. d) body read) c.in-Ok.is gives in
     let nothing = subst (λ (r : Result Pairs BsonFault). WroteNothing (world c.args.engine.now) r (world c.execute.new.self)) same wrote in
-    let at_all = subst (λ (r : Result Pairs BsonFault). WroteNothing (world c.args.engine.now) r (step (world c.args.engine.now) c.args.id r).0) same planned in
-    (c.execute.ensures.has_changes nothing, c.execute.ensures.same at_all)
+    c.execute.ensures.has_changes k nothing

@@ -7,7 +7,10 @@ use Rattle.engine.specs.View.{world, turn_start}
 use Rattle.engine.specs.World.{after_undo}
 use Rattle.index.specs.State.{Collection}
 use Rattle.op_msg.specs.Request.{respelled}
-use Rattle.engine.specs.Durable.{disk_history}
+use Rattle.page.specs.History.{KeepsWord}
+use Rattle.collections.specs.Calls.{GoesFrom}
+use Rattle.collections.specs.State.{State}
+use Rattle.engine.specs.Durable.{disk_history, file_of}
 use Rattle.server.specs.declared.connection.Connection.{Connection}
 use Rattle.server.specs.Causes.{OfAnyCause}
 use Rattle.server.specs.Turn.{ChangeNothing, calls, frames_of, refused_frames}
@@ -28,18 +31,19 @@ say_full-requires g c =
     subst HaveRoom (sym same) (refused_room c.args.connections.now.items)
 
 pub returns-then-not-serve_connections-clause-settles : goal.returns-then-not-serve_connections-clause-settles
-returns-then-not-serve_connections-clause-settles g c =
+returns-then-not-serve_connections-clause-settles g c = λ k.
     let history = g.D.Disk.history in
     let e0 = c.args.engine.now in
     let e1 = c.serve_connections.new.engine in
     let e2 = c.undo_turn.new.self in
     let serve = c.serve_connections.ensures in
+    let serves = serve.serves (subst KeepsWord c.undo_turn.ensures.disk k) in
     let taken : c.deref_mut.result.now ≡ c.args.connections.now.items = search rules in
     let after = on_follows history e1 e2 (on_same (disk_history history e1) (disk_history history e2) c.undo_turn.ensures.disk) (λ _. c.undo_turn.ensures.takes) in
-    let ran = runs_over history e0 e1 e2 serve.goes after c.deref_mut.result.now c.args.connections.now.items taken serve.serves.replies serve.serves.runs in
+    let ran = runs_over history e0 e1 e2 serve.goes after c.deref_mut.result.now c.args.connections.now.items taken serves.replies serves.runs in
     let before : turn_start e1 ≡ (world e0).collections = serve.turn_start ∙ c.requires.idle in
     record {
-      replies = serve.serves.replies;
+      replies = serves.replies;
       last = world e1;
       runs = ran;
       ends = inr (inl c.requires.refusals, c.undo_turn.ensures.world ∙ ap (λ (cs : List Collection). after_undo cs (world e1)) before);
@@ -64,59 +68,64 @@ returns-then-not-serve_connections-clause-any_moment g c =
     unwritten history e0 e1 e2 c.requires.sound c.requires.running c.requires.idle serve.goes c.undo_turn.ensures.disk
 
 pub returns-then-not-serve_connections-clause-quiet : goal.returns-then-not-serve_connections-clause-quiet
-returns-then-not-serve_connections-clause-quiet g c nothing =
+returns-then-not-serve_connections-clause-quiet g c k nothing =
+    let D = g.row.D.Denot in
+    let serve = c.serve_connections.ensures in
     let taken : c.deref_mut.result.now ≡ c.args.connections.now.items = search rules in
-    let same = c.serve_connections.ensures.quiet (subst (λ (ls : List Connection). ChangeNothing OfAnyCause (world c.args.engine.now) (calls ls)) (sym taken) nothing) in
-    c.undo_turn.ensures.quiet (same.0 ∙ c.requires.rests) ∙ same.1
+    let same = serve.quiet (subst KeepsWord c.undo_turn.ensures.disk k) (subst (λ (ls : List Connection). ChangeNothing OfAnyCause (world c.args.engine.now) (calls ls)) (sym taken) nothing) in
+    subst (λ (f : State D). GoesFrom g.D.Disk.history (file_of c.args.engine.now) f) (sym (c.undo_turn.ensures.quiet (same ∙ c.requires.rests))) serve.goes
 
 pub returns-in-Ok-clause-settles : goal.returns-in-Ok-clause-settles
-returns-in-Ok-clause-settles g c =
+returns-in-Ok-clause-settles g c = λ k.
     let history = g.D.Disk.history in
     let e0 = c.args.engine.now in
     let e1 = c.serve_connections.new.engine in
     let e2 = c.commit_turn.new.self in
     let serve = c.serve_connections.ensures in
+    let serves = serve.serves (c.commit_turn.ensures.on.kept k) in
     let taken : c.deref_mut.result.now ≡ c.args.connections.now.items = search rules in
     let after = on_follows history e1 e2 c.commit_turn.ensures.on (λ _. c.commit_turn.ensures.takes) in
-    let ran = runs_over history e0 e1 e2 serve.goes after c.deref_mut.result.now c.args.connections.now.items taken serve.serves.replies serve.serves.runs in
-    let same = ap (λ (ls : List Connection). frames_of (calls ls) serve.serves.replies) taken in
+    let ran = runs_over history e0 e1 e2 serve.goes after c.deref_mut.result.now c.args.connections.now.items taken serves.replies serves.runs in
+    let same = ap (λ (ls : List Connection). frames_of (calls ls) serves.replies) taken in
     let none : c.new-replies.result.items ≡ [] = search rules in
-    let given : List (ℕ × Vec ℕ Global) → List (ℕ × List ℕ) = λ vs. frames_in vs ++ frames_of (calls c.deref_mut.result.now) serve.serves.replies in
+    let given : List (ℕ × Vec ℕ Global) → List (ℕ × List ℕ) = λ vs. frames_in vs ++ frames_of (calls c.deref_mut.result.now) serves.replies in
     record {
-      replies = serve.serves.replies;
+      replies = serves.replies;
       last = world e1;
       runs = ran;
-      ends = inl (serve.serves.frames (search rules) ∙ ap given none ∙ same, c.in-Ok.ensures.done);
+      ends = inl (serves.frames (search rules) ∙ ap given none ∙ same, c.in-Ok.ensures.done);
     }
 
 pub returns-in-Err-Memory-clause-settles : goal.returns-in-Err-Memory-clause-settles
-returns-in-Err-Memory-clause-settles g c =
+returns-in-Err-Memory-clause-settles g c = λ k.
     let history = g.D.Disk.history in
     let e0 = c.args.engine.now in
     let e1 = c.serve_connections.new.engine in
     let e2 = c.commit_turn.new.self in
     let serve = c.serve_connections.ensures in
+    let serves = serve.serves (c.commit_turn.ensures.on.kept k) in
     let taken : c.deref_mut.result.now ≡ c.args.connections.now.items = search rules in
     let after = on_follows history e1 e2 c.commit_turn.ensures.on (λ _. c.commit_turn.ensures.takes) in
-    let ran = runs_over history e0 e1 e2 serve.goes after c.deref_mut.result.now c.args.connections.now.items taken serve.serves.replies serve.serves.runs in
+    let ran = runs_over history e0 e1 e2 serve.goes after c.deref_mut.result.now c.args.connections.now.items taken serves.replies serves.runs in
     let before : turn_start e1 ≡ (world e0).collections = serve.turn_start ∙ c.requires.idle in
     record {
-      replies = serve.serves.replies;
+      replies = serves.replies;
       last = world e1;
       runs = ran;
       ends = inr (inl c.requires.refusals, c.in-Err-Memory.ensures.memory (ap failed c.in-Err-Memory.field-0-is) ∙ ap (λ (cs : List Collection). after_undo cs (world e1)) before);
     }
 
 pub returns-in-Err-Full-clause-settles : goal.returns-in-Err-Full-clause-settles
-returns-in-Err-Full-clause-settles g c =
+returns-in-Err-Full-clause-settles g c = λ k.
     let history = g.D.Disk.history in
     let e0 = c.args.engine.now in
     let e1 = c.serve_connections.new.engine in
     let e2 = c.commit_turn.new.self in
     let serve = c.serve_connections.ensures in
+    let serves = serve.serves (c.commit_turn.ensures.on.kept k) in
     let taken : c.deref_mut.result.now ≡ c.args.connections.now.items = search rules in
     let after = on_follows history e1 e2 c.commit_turn.ensures.on (λ _. c.commit_turn.ensures.takes) in
-    let ran = runs_over history e0 e1 e2 serve.goes after c.deref_mut.result.now c.args.connections.now.items taken serve.serves.replies serve.serves.runs in
+    let ran = runs_over history e0 e1 e2 serve.goes after c.deref_mut.result.now c.args.connections.now.items taken serves.replies serves.runs in
     let before : turn_start e1 ≡ (world e0).collections = serve.turn_start ∙ c.requires.idle in
     let connections = c.args.connections.now.items in
     let new = c.say_full.new.frames in
@@ -128,24 +137,25 @@ returns-in-Err-Full-clause-settles g c =
     let long : length new ≡ c.args.refusals.len = search rules in
     let full = c.in-Err-Full.ensures.full (ap failed c.in-Err-Full.field-0-is) in
     record {
-      replies = serve.serves.replies;
+      replies = serves.replies;
       last = world e1;
       runs = ran;
       ends = inr (inr (ap frames_in (whole new _ c.args.refusals.len long) ∙ given, sym (goes_generation history e0 e1 serve.goes) ∙ full.1), full.0 ∙ ap (λ (cs : List Collection). after_undo cs (world e1)) before);
     }
 
 pub returns-in-Err-Device-clause-breaks : goal.returns-in-Err-Device-clause-breaks
-returns-in-Err-Device-clause-breaks g c _ =
+returns-in-Err-Device-clause-breaks g c _ k =
     let history = g.D.Disk.history in
     let e0 = c.args.engine.now in
     let e1 = c.serve_connections.new.engine in
     let e2 = c.commit_turn.new.self in
     let serve = c.serve_connections.ensures in
+    let serves = serve.serves (c.commit_turn.ensures.on.kept k) in
     let taken : c.deref_mut.result.now ≡ c.args.connections.now.items = search rules in
     let after = on_follows history e1 e2 c.commit_turn.ensures.on (λ _. c.commit_turn.ensures.takes) in
-    let ran = runs_over history e0 e1 e2 serve.goes after c.deref_mut.result.now c.args.connections.now.items taken serve.serves.replies serve.serves.runs in
+    let ran = runs_over history e0 e1 e2 serve.goes after c.deref_mut.result.now c.args.connections.now.items taken serves.replies serves.runs in
     record {
-      replies = serve.serves.replies;
+      replies = serves.replies;
       last = world e1;
       runs = ran;
       ends = (c.in-Err-Device.ensures.stops (ap failed c.in-Err-Device.field-0-is)).0;
@@ -174,10 +184,12 @@ returns-in-Ok-clause-running g c =
     c.in-Ok.ensures.running (λ e. absurd cc) ∙ c.serve_connections.ensures.running
 
 pub returns-in-Ok-clause-quiet : goal.returns-in-Ok-clause-quiet
-returns-in-Ok-clause-quiet g c nothing =
+returns-in-Ok-clause-quiet g c k nothing =
+    let D = g.row.D.Denot in
+    let serve = c.serve_connections.ensures in
     let taken : c.deref_mut.result.now ≡ c.args.connections.now.items = search rules in
-    let same = c.serve_connections.ensures.quiet (subst (λ (ls : List Connection). ChangeNothing OfAnyCause (world c.args.engine.now) (calls ls)) (sym taken) nothing) in
-    (c.commit_turn.ensures.quiet (same.0 ∙ c.requires.rests)).1 ∙ same.1
+    let same = serve.quiet (c.commit_turn.ensures.on.kept k) (subst (λ (ls : List Connection). ChangeNothing OfAnyCause (world c.args.engine.now) (calls ls)) (sym taken) nothing) in
+    subst (λ (f : State D). GoesFrom g.D.Disk.history (file_of c.args.engine.now) f) (sym (c.commit_turn.ensures.quiet (same ∙ c.requires.rests)).1) serve.goes
 
 pub returns-in-Err-Memory-clause-on : goal.returns-in-Err-Memory-clause-on
 returns-in-Err-Memory-clause-on g c =
@@ -202,10 +214,12 @@ returns-in-Err-Memory-clause-running g c =
     c.in-Err-Memory.ensures.running (λ e. absurd cc) ∙ c.serve_connections.ensures.running
 
 pub returns-in-Err-Memory-clause-quiet : goal.returns-in-Err-Memory-clause-quiet
-returns-in-Err-Memory-clause-quiet g c nothing =
+returns-in-Err-Memory-clause-quiet g c k nothing =
+    let D = g.row.D.Denot in
+    let serve = c.serve_connections.ensures in
     let taken : c.deref_mut.result.now ≡ c.args.connections.now.items = search rules in
-    let same = c.serve_connections.ensures.quiet (subst (λ (ls : List Connection). ChangeNothing OfAnyCause (world c.args.engine.now) (calls ls)) (sym taken) nothing) in
-    (c.commit_turn.ensures.quiet (same.0 ∙ c.requires.rests)).1 ∙ same.1
+    let same = serve.quiet (c.commit_turn.ensures.on.kept k) (subst (λ (ls : List Connection). ChangeNothing OfAnyCause (world c.args.engine.now) (calls ls)) (sym taken) nothing) in
+    subst (λ (f : State D). GoesFrom g.D.Disk.history (file_of c.args.engine.now) f) (sym (c.commit_turn.ensures.quiet (same ∙ c.requires.rests)).1) serve.goes
 
 pub returns-in-Err-Full-clause-on : goal.returns-in-Err-Full-clause-on
 returns-in-Err-Full-clause-on g c =
@@ -230,10 +244,12 @@ returns-in-Err-Full-clause-running g c =
     c.in-Err-Full.ensures.running (λ e. absurd cc) ∙ c.serve_connections.ensures.running
 
 pub returns-in-Err-Full-clause-quiet : goal.returns-in-Err-Full-clause-quiet
-returns-in-Err-Full-clause-quiet g c nothing =
+returns-in-Err-Full-clause-quiet g c k nothing =
+    let D = g.row.D.Denot in
+    let serve = c.serve_connections.ensures in
     let taken : c.deref_mut.result.now ≡ c.args.connections.now.items = search rules in
-    let same = c.serve_connections.ensures.quiet (subst (λ (ls : List Connection). ChangeNothing OfAnyCause (world c.args.engine.now) (calls ls)) (sym taken) nothing) in
-    (c.commit_turn.ensures.quiet (same.0 ∙ c.requires.rests)).1 ∙ same.1
+    let same = serve.quiet (c.commit_turn.ensures.on.kept k) (subst (λ (ls : List Connection). ChangeNothing OfAnyCause (world c.args.engine.now) (calls ls)) (sym taken) nothing) in
+    subst (λ (f : State D). GoesFrom g.D.Disk.history (file_of c.args.engine.now) f) (sym (c.commit_turn.ensures.quiet (same ∙ c.requires.rests)).1) serve.goes
 
 pub returns-in-Err-Device-clause-on : goal.returns-in-Err-Device-clause-on
 returns-in-Err-Device-clause-on g c =
@@ -254,10 +270,12 @@ returns-in-Err-Device-clause-any_moment g c =
     moved history e0 e1 e2 c.requires.sound c.requires.running c.requires.idle serve.goes c.commit_turn.ensures.on serve.turn_start (c.in-Err-Device.ensures.stops (ap failed c.in-Err-Device.field-0-is)).0 (c.commit_turn.ensures.any_moment (serve.running ∙ c.requires.running))
 
 pub returns-in-Err-Device-clause-quiet : goal.returns-in-Err-Device-clause-quiet
-returns-in-Err-Device-clause-quiet g c nothing =
+returns-in-Err-Device-clause-quiet g c k nothing =
+    let D = g.row.D.Denot in
+    let serve = c.serve_connections.ensures in
     let taken : c.deref_mut.result.now ≡ c.args.connections.now.items = search rules in
-    let same = c.serve_connections.ensures.quiet (subst (λ (ls : List Connection). ChangeNothing OfAnyCause (world c.args.engine.now) (calls ls)) (sym taken) nothing) in
-    (c.commit_turn.ensures.quiet (same.0 ∙ c.requires.rests)).1 ∙ same.1
+    let same = serve.quiet (c.commit_turn.ensures.on.kept k) (subst (λ (ls : List Connection). ChangeNothing OfAnyCause (world c.args.engine.now) (calls ls)) (sym taken) nothing) in
+    subst (λ (f : State D). GoesFrom g.D.Disk.history (file_of c.args.engine.now) f) (sym (c.commit_turn.ensures.quiet (same ∙ c.requires.rests)).1) serve.goes
 
 pub returns-in-Err-Device-clause-stops : goal.returns-in-Err-Device-clause-stops
 returns-in-Err-Device-clause-stops g c _ =

@@ -13,27 +13,27 @@ use Rattle.server.proofs.ConnectionServed.{one_served, one_quiet, nothing_served
 use Rattle.server.proofs.serving.serve_connection.Goals as goal
 
 pub returns-then-request-clause-serves : goal.returns-then-request-clause-serves
-returns-then-request-clause-serves g c =
+returns-then-request-clause-serves g c = λ k.
     let given = frames_in c.args.frames.now.items in
     let connection = c.args.connection.now in
     let r = c.in-Call.request in
-    one_served (IsCaused (engine_moment g.D.Disk.history c.args.engine.now) (engine_moment g.D.Disk.history c.answer-reply.new.engine)) connection c.take_call.new.connection (front_of connection) c.in-Call.number r (world c.args.engine.now) (world c.answer-reply.new.engine) (reply_of c.answer-reply.result) true given given c.in-Call.ensures.taken c.answer-reply.ensures.answer
+    one_served (IsCaused (engine_moment g.D.Disk.history c.args.engine.now) (engine_moment g.D.Disk.history c.answer-reply.new.engine)) connection c.take_call.new.connection (front_of connection) c.in-Call.number r (world c.args.engine.now) (world c.answer-reply.new.engine) (reply_of c.answer-reply.result) true given given c.in-Call.ensures.taken (c.answer-reply.ensures.answer k)
     (λ e. sym (append-nil given) ∙ ap (λ (b : Bool). given ++ frame_unless b connection.id c.in-Call.number r.request_id (reply_of c.answer-reply.result)) (sym c.if-request.true))
 
 pub returns-clause-serves : goal.returns-clause-serves
-returns-clause-serves g c =
+returns-clause-serves g c = λ k.
     let given = frames_in c.args.frames.now.items in
     let connection = c.args.connection.now in
-    one_served (IsCaused (engine_moment g.D.Disk.history c.args.engine.now) (engine_moment g.D.Disk.history c.answer-reply.new.engine)) connection c.take_call.new.connection (front_of connection) c.in-Call.number c.in-Call.request (world c.args.engine.now) (world c.answer-reply.new.engine) (reply_of c.answer-reply.result) false given given c.in-Call.ensures.taken c.answer-reply.ensures.answer
+    one_served (IsCaused (engine_moment g.D.Disk.history c.args.engine.now) (engine_moment g.D.Disk.history c.answer-reply.new.engine)) connection c.take_call.new.connection (front_of connection) c.in-Call.number c.in-Call.request (world c.args.engine.now) (world c.answer-reply.new.engine) (reply_of c.answer-reply.result) false given given c.in-Call.ensures.taken (c.answer-reply.ensures.answer k)
     (λ e. absurd cc)
 
 pub returns-in-Ok-clause-serves : goal.returns-in-Ok-clause-serves
-returns-in-Ok-clause-serves g c =
+returns-in-Ok-clause-serves g c = λ k.
     let given = frames_in c.args.frames.now.items in
     let connection = c.args.connection.now in
     let r = c.in-Call.request in
     let reply = reply_of c.answer-reply.result in
-    one_served (IsCaused (engine_moment g.D.Disk.history c.args.engine.now) (engine_moment g.D.Disk.history c.answer-reply.new.engine)) connection c.take_call.new.connection (front_of connection) c.in-Call.number r (world c.args.engine.now) (world c.answer-reply.new.engine) reply c.is_ok.result given (frames_in c.push.new.self.items) c.in-Call.ensures.taken c.answer-reply.ensures.answer
+    one_served (IsCaused (engine_moment g.D.Disk.history c.args.engine.now) (engine_moment g.D.Disk.history c.answer-reply.new.engine)) connection c.take_call.new.connection (front_of connection) c.in-Call.number r (world c.args.engine.now) (world c.answer-reply.new.engine) reply c.is_ok.result given (frames_in c.push.new.self.items) c.in-Call.ensures.taken (c.answer-reply.ensures.answer k)
     (λ e.
     let put : c.push.new.self.items ≡ c.args.frames.now.items ++ (connection.id, c.in-Ok.bytes) ∷ [] = search rules in
     ap frames_in put ∙ frames_append c.args.frames.now.items ((connection.id, c.in-Ok.bytes) ∷ [])
@@ -41,7 +41,7 @@ returns-in-Ok-clause-serves g c =
     ∙ ap (λ (b : Bool). given ++ frame_unless b connection.id c.in-Call.number r.request_id reply) (sym c.if-request.false))
 
 pub returns-in_default-clause-serves : goal.returns-in_default-clause-serves
-returns-in_default-clause-serves g c =
+returns-in_default-clause-serves g c = λ k.
     nothing_served (IsCaused (engine_moment g.D.Disk.history c.args.engine.now) (engine_moment g.D.Disk.history c.args.engine.now)) c.args.connection.now c.take_call.new.connection (front_of c.args.connection.now) c.take_call.result (world c.args.engine.now) (frames_in c.args.frames.now.items) c.take_call.ensures.taken c.in_default.not-Call
 
 pub returns-in_default-clause-connection : goal.returns-in_default-clause-connection
@@ -57,28 +57,28 @@ pub returns-clause-connection : goal.returns-clause-connection
 returns-clause-connection g c = taken_link c.args.connection.now c.take_call.new.connection (front_of c.args.connection.now) c.take_call.result c.take_call.ensures.taken
 
 pub returns-then-request-clause-quiet : goal.returns-then-request-clause-quiet
-returns-then-request-clause-quiet g c =
+returns-then-request-clause-quiet g c = λ k.
     let connection = c.args.connection.now in
     let old = engine_moment g.D.Disk.history c.args.engine.now in
     let new = engine_moment g.D.Disk.history c.answer-reply.new.engine in
-    one_quiet ((has_changes c.answer-reply.new.engine ≡ has_changes c.args.engine.now) × (file_of c.answer-reply.new.engine ≡ file_of c.args.engine.now)) (IsCaused old new) OfAnyCause (any_cause old new) connection c.take_call.new.connection (front_of connection) c.in-Call.number c.in-Call.request (world c.args.engine.now) (world c.answer-reply.new.engine) (reply_of c.answer-reply.result)
-    c.in-Call.ensures.taken c.answer-reply.ensures.answer c.answer-reply.ensures.quiet
+    one_quiet (has_changes c.answer-reply.new.engine ≡ has_changes c.args.engine.now) (IsCaused old new) OfAnyCause (any_cause old new) connection c.take_call.new.connection (front_of connection) c.in-Call.number c.in-Call.request (world c.args.engine.now) (world c.answer-reply.new.engine) (reply_of c.answer-reply.result)
+    c.in-Call.ensures.taken (c.answer-reply.ensures.answer k) (c.answer-reply.ensures.quiet k)
 
 pub returns-clause-quiet : goal.returns-clause-quiet
-returns-clause-quiet g c =
+returns-clause-quiet g c = λ k.
     let connection = c.args.connection.now in
     let old = engine_moment g.D.Disk.history c.args.engine.now in
     let new = engine_moment g.D.Disk.history c.answer-reply.new.engine in
-    one_quiet ((has_changes c.answer-reply.new.engine ≡ has_changes c.args.engine.now) × (file_of c.answer-reply.new.engine ≡ file_of c.args.engine.now)) (IsCaused old new) OfAnyCause (any_cause old new) connection c.take_call.new.connection (front_of connection) c.in-Call.number c.in-Call.request (world c.args.engine.now) (world c.answer-reply.new.engine) (reply_of c.answer-reply.result)
-    c.in-Call.ensures.taken c.answer-reply.ensures.answer c.answer-reply.ensures.quiet
+    one_quiet (has_changes c.answer-reply.new.engine ≡ has_changes c.args.engine.now) (IsCaused old new) OfAnyCause (any_cause old new) connection c.take_call.new.connection (front_of connection) c.in-Call.number c.in-Call.request (world c.args.engine.now) (world c.answer-reply.new.engine) (reply_of c.answer-reply.result)
+    c.in-Call.ensures.taken (c.answer-reply.ensures.answer k) (c.answer-reply.ensures.quiet k)
 
 pub returns-in-Ok-clause-quiet : goal.returns-in-Ok-clause-quiet
-returns-in-Ok-clause-quiet g c =
+returns-in-Ok-clause-quiet g c = λ k.
     let connection = c.args.connection.now in
     let old = engine_moment g.D.Disk.history c.args.engine.now in
     let new = engine_moment g.D.Disk.history c.answer-reply.new.engine in
-    one_quiet ((has_changes c.answer-reply.new.engine ≡ has_changes c.args.engine.now) × (file_of c.answer-reply.new.engine ≡ file_of c.args.engine.now)) (IsCaused old new) OfAnyCause (any_cause old new) connection c.take_call.new.connection (front_of connection) c.in-Call.number c.in-Call.request (world c.args.engine.now) (world c.answer-reply.new.engine) (reply_of c.answer-reply.result)
-    c.in-Call.ensures.taken c.answer-reply.ensures.answer c.answer-reply.ensures.quiet
+    one_quiet (has_changes c.answer-reply.new.engine ≡ has_changes c.args.engine.now) (IsCaused old new) OfAnyCause (any_cause old new) connection c.take_call.new.connection (front_of connection) c.in-Call.number c.in-Call.request (world c.args.engine.now) (world c.answer-reply.new.engine) (reply_of c.answer-reply.result)
+    c.in-Call.ensures.taken (c.answer-reply.ensures.answer k) (c.answer-reply.ensures.quiet k)
 
 pub returns-in_default-clause-goes : goal.returns-in_default-clause-goes
 returns-in_default-clause-goes g c = goes_from_itself g.D.Disk.history (file_of c.args.engine.now)

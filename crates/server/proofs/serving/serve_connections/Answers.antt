@@ -35,19 +35,20 @@ connections-preserved g c =
       sound = call.ensures.sound;
       goes = goes_further history (file_of c.args.engine.now) (file_of c.connections.engine) (file_of call.new.engine) inv.goes call.ensures.goes;
       running = call.ensures.running ∙ inv.running;
-      serves = subst (λ (cs : List Call). Serves (IsCaused start end) cs (world c.args.engine.now) (world call.new.engine) (c.connections.all && call.result) (frames_in c.args.frames.now.items) (frames_in call.new.frames.items)) more
+      serves = λ k. subst (λ (cs : List Call). Serves (IsCaused start end) cs (world c.args.engine.now) (world call.new.engine) (c.connections.all && call.result) (frames_in c.args.frames.now.items) (frames_in call.new.frames.items)) more
           (serves_on (IsCaused start end) (calls (take i first)) (call_at x (front_of x)) (world c.args.engine.now) (world c.connections.engine) (world call.new.engine) c.connections.all call.result (frames_in c.args.frames.now.items) (frames_in c.connections.frames.items) (frames_in call.new.frames.items)
-          (serves_weaker (IsCaused start middle) (IsCaused start end) (caused_wider start start middle end (follows_itself start) before after) (calls (take i first)) (world c.args.engine.now) (world c.connections.engine) c.connections.all (frames_in c.args.frames.now.items) (frames_in c.connections.frames.items) inv.serves)
-          (serves_weaker (IsCaused middle end) (IsCaused start end) (caused_wider start middle end end before after (follows_itself end)) (call_at x (front_of x)) (world c.connections.engine) (world call.new.engine) call.result (frames_in c.connections.frames.items) (frames_in call.new.frames.items) call.ensures.serves));
+          (serves_weaker (IsCaused start middle) (IsCaused start end) (caused_wider start start middle end (follows_itself start) before after) (calls (take i first)) (world c.args.engine.now) (world c.connections.engine) c.connections.all (frames_in c.args.frames.now.items) (frames_in c.connections.frames.items) (inv.serves (call.ensures.goes.stays.reads.on.kept k)))
+          (serves_weaker (IsCaused middle end) (IsCaused start end) (caused_wider start middle end end before after (follows_itself end)) (call_at x (front_of x)) (world c.connections.engine) (world call.new.engine) call.result (frames_in c.connections.frames.items) (frames_in call.new.frames.items) (call.ensures.serves k)));
       done = ap (λ (m : ℕ). take m (set c.connections.connections i call.new.connection)) next ∙ s.done ∙ ap (λ (m : ℕ). connections_taken (take m first)) (sym next);
       left = ap (λ (m : ℕ). drop m (set c.connections.connections i call.new.connection)) next ∙ s.left ∙ ap (λ (m : ℕ). drop m first) (sym next);
       turn_start = call.ensures.turn_start ∙ inv.turn_start;
-      quiet = λ h.
-          let so_far = inv.quiet h in
+      quiet = λ k h.
+          let so_far = inv.quiet (call.ensures.goes.stays.reads.on.kept k) h in
+          let served = call.ensures.serves k in
           let here : drop i first ≡ x ∷ drop (i + 1) first = drop-cons first i x s.within ∙ (λ j. sym s.same j ∷ drop (sym next j) first) in
-          let rest = subst (ChangeNothing OfAnyCause (world c.connections.engine)) (ap calls here) so_far.2 in
-          let ran = runs_weaker (IsCaused middle end) OfAnyCause (any_cause middle end) (call_at x (front_of x)) (world c.connections.engine) call.ensures.serves.replies (world call.new.engine) call.ensures.serves.runs in
-          let one = quiet_runs OfAnyCause (call_at x (front_of x)) (calls (drop (i + 1) first)) (world c.connections.engine) (world call.new.engine) call.ensures.serves.replies ran rest in
-          let same = call.ensures.quiet (quiet_front OfAnyCause (call_at x (front_of x)) (calls (drop (i + 1) first)) (world c.connections.engine) rest) in
-          (same.0 ∙ so_far.0, same.1 ∙ so_far.1, one.1);
+          let rest = subst (ChangeNothing OfAnyCause (world c.connections.engine)) (ap calls here) so_far.1 in
+          let ran = runs_weaker (IsCaused middle end) OfAnyCause (any_cause middle end) (call_at x (front_of x)) (world c.connections.engine) served.replies (world call.new.engine) served.runs in
+          let one = quiet_runs OfAnyCause (call_at x (front_of x)) (calls (drop (i + 1) first)) (world c.connections.engine) (world call.new.engine) served.replies ran rest in
+          let same = call.ensures.quiet k (quiet_front OfAnyCause (call_at x (front_of x)) (calls (drop (i + 1) first)) (world c.connections.engine) rest) in
+          (same ∙ so_far.0, one.1);
     }

@@ -1,6 +1,7 @@
 use Rattle.std.proofs.Common.{◌≡◌, take, drop}
 use Rattle.engine.specs.View.{world, turn_start}
-use Rattle.engine.specs.Durable.{file_of, has_changes, is_stopped, IsSound}
+use Rattle.page.specs.History.{KeepsWord}
+use Rattle.engine.specs.Durable.{disk_history, file_of, has_changes, is_stopped, IsSound}
 use Rattle.collections.specs.Calls.{GoesFrom}
 use Rattle.server.specs.Causes.{IsCaused, OfAnyCause}
 use Rattle.server.specs.Durable.{engine_moment}
@@ -14,9 +15,9 @@ invariant-connections g l = record {
   sound : IsSound g.D.Disk.history l.engine;
   goes : GoesFrom g.D.Disk.history (file_of l.initial.engine) (file_of l.engine);
   running : is_stopped l.engine ≡ is_stopped l.initial.engine;
-  serves : Serves (IsCaused (engine_moment g.D.Disk.history l.initial.engine) (engine_moment g.D.Disk.history l.engine)) (calls (take l.connection-index l.initial.connections)) (world l.initial.engine) (world l.engine) l.all (frames_in l.initial.frames.items) (frames_in l.frames.items);
+  serves : KeepsWord (disk_history g.D.Disk.history l.engine) → Serves (IsCaused (engine_moment g.D.Disk.history l.initial.engine) (engine_moment g.D.Disk.history l.engine)) (calls (take l.connection-index l.initial.connections)) (world l.initial.engine) (world l.engine) l.all (frames_in l.initial.frames.items) (frames_in l.frames.items);
   done : take l.connection-index l.connections ≡ connections_taken (take l.connection-index l.initial.connections);
   left : drop l.connection-index l.connections ≡ drop l.connection-index l.initial.connections;
   turn_start : turn_start l.engine ≡ turn_start l.initial.engine;
-  quiet : ChangeNothing OfAnyCause (world l.initial.engine) (calls l.initial.connections) → (has_changes l.engine ≡ has_changes l.initial.engine) × (file_of l.engine ≡ file_of l.initial.engine) × ChangeNothing OfAnyCause (world l.engine) (calls (drop l.connection-index l.initial.connections));
+  quiet : KeepsWord (disk_history g.D.Disk.history l.engine) → ChangeNothing OfAnyCause (world l.initial.engine) (calls l.initial.connections) → (has_changes l.engine ≡ has_changes l.initial.engine) × ChangeNothing OfAnyCause (world l.engine) (calls (drop l.connection-index l.initial.connections));
 }

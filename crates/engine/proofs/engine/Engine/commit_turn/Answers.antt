@@ -5,14 +5,13 @@ use Rattle.roots.specs.declared.store.CommitFault.TheVariants as faults
 use Rattle.collections.specs.Committing as files
 use Rattle.collections.specs.Marks.{Undoes}
 use Rattle.collections.specs.State.{State}
-use Rattle.engine.proofs.Rewinding.{never_changed}
 use Rattle.engine.proofs.Ending.{kept_as_it_is, undone_after, committed_now, cut_now}
 use Rattle.engine.proofs.engine.Engine.commit_turn.Goals as goal
 
-pub returns-then-not-is_changed : goal.returns-then-not-is_changed
-returns-then-not-is_changed g c =
-    let rests = sym c.is_changed.ensures ∙ c.if-not-is_changed.true in
-    kept_as_it_is g.D.Disk.history c.args.self.now c.args.self.now c.requires.sound c.commit.new.self c.commit.ensures (never_changed c.args.self.now.collections rests) rests
+pub returns-then-not-self : goal.returns-then-not-self
+returns-then-not-self g c =
+    let rests = c.if-not-self.true in
+    kept_as_it_is g.D.Disk.history c.args.self.now c.args.self.now c.requires.sound c.commit.new.self c.commit.ensures (c.requires.sound.quiet rests) rests
 
 pub returns-in-Ok : goal.returns-in-Ok
 returns-in-Ok g c =
@@ -21,7 +20,7 @@ returns-in-Ok g c =
     let D = g.row.D.Denot in
     let saved = subst (λ (f : State D). files.Commits g.D.Disk.history (Ok tt) old.file f) (sym c.keep.ensures.file)
     (subst (λ (r : Result (Unit {0}) CommitFault). files.Commits g.D.Disk.history r old.file c.commit-2.new.self) c.in-Ok.is c.commit-2.ensures) in
-    committed_now g.D.Disk.history old new c.requires.sound (sym c.is_changed.ensures ∙ c.if-not-is_changed.false) c.keep.ensures.rests c.keep.ensures.world c.keep.ensures.turn_start saved
+    committed_now g.D.Disk.history old new c.requires.sound c.if-not-self.false c.keep.ensures.rests c.keep.ensures.world c.keep.ensures.turn_start saved
 
 pub returns-in-Err-Device : goal.returns-in-Err-Device
 returns-in-Err-Device g c =
@@ -30,7 +29,7 @@ returns-in-Err-Device g c =
     let D = g.row.D.Denot in
     let saved = subst (λ (f : State D). files.Commits g.D.Disk.history (Err faults.Device) old.file f) (sym c.keep-in-Err-Device.ensures.file)
     (subst (λ (r : Result (Unit {0}) CommitFault). files.Commits g.D.Disk.history r old.file c.commit-2.new.self) (c.in-Err-Device.is ∙ ap (λ (e : CommitFault). Err e) c.in-Err-Device.field-0-is) c.commit-2.ensures) in
-    cut_now g.D.Disk.history old new c.requires.sound (sym c.is_changed.ensures ∙ c.if-not-is_changed.false) c.keep-in-Err-Device.ensures.rests c.keep-in-Err-Device.ensures.world c.keep-in-Err-Device.ensures.turn_start saved
+    cut_now g.D.Disk.history old new c.requires.sound c.if-not-self.false c.keep-in-Err-Device.ensures.rests c.keep-in-Err-Device.ensures.world c.keep-in-Err-Device.ensures.turn_start saved
 
 pub returns-in-Err-Memory : goal.returns-in-Err-Memory
 returns-in-Err-Memory g c =
@@ -40,7 +39,7 @@ returns-in-Err-Memory g c =
     let result = c.in-Err-Memory.is ∙ ap (λ (e : CommitFault). Err e) c.in-Err-Memory.field-0-is in
     let undoes = subst (λ (f : State D). Undoes g.D.Disk.history f new.file) (c.commit-2.ensures.memory result) c.take_back.ensures.file in
     undone_after g.D.Disk.history old new c.requires.sound c.take_back.ensures.rests c.take_back.ensures.world c.take_back.ensures.turn_start undoes
-    (sym c.is_changed.ensures ∙ c.if-not-is_changed.false) faults.Memory (λ e. absurd cc) (λ e. absurd cc)
+    c.if-not-self.false faults.Memory (λ e. absurd cc) (λ e. absurd cc)
 
 pub returns-in-Err-Full : goal.returns-in-Err-Full
 returns-in-Err-Full g c =
@@ -50,4 +49,4 @@ returns-in-Err-Full g c =
     let result = c.in-Err-Full.is ∙ ap (λ (e : CommitFault). Err e) c.in-Err-Full.field-0-is in
     let undoes = subst (λ (f : State D). Undoes g.D.Disk.history f new.file) (c.commit-2.ensures.full result).1 c.take_back-in-Err-Full.ensures.file in
     undone_after g.D.Disk.history old new c.requires.sound c.take_back-in-Err-Full.ensures.rests c.take_back-in-Err-Full.ensures.world c.take_back-in-Err-Full.ensures.turn_start undoes
-    (sym c.is_changed.ensures ∙ c.if-not-is_changed.false) faults.Full (λ e. absurd cc) (λ e. (c.commit-2.ensures.full result).0)
+    c.if-not-self.false faults.Full (λ e. absurd cc) (λ e. (c.commit-2.ensures.full result).0)

@@ -1,18 +1,41 @@
-use Rattle.std.proofs.Common.{List, length, Result, Ok, sym, ap, subst, ◌∙◌, min, ◌^◌, ◌-◌}
-use Rattle.bson.specs.Tree.{Pairs}
-use Rattle.engine.specs.World.{World}
-use Rattle.engine.specs.Find.{matching, window}
-use Rattle.path.specs.declared.refusal.Refusal.{Refusal}
+use Rattle.std.proofs.Common.{Ok, ap, sym, subst, ◌∙◌, min, ◌^◌, ◌-◌}
+use Rattle.std.proofs.lemmas.Result.{err_from_is_err_and}
+use Rattle.commands.specs.Count.{Count}
+use Rattle.engine.specs.Count.{run_count}
+use Rattle.engine.specs.Find.{matching}
 use Rattle.engine.specs.View.{world, with_ok, IsSendable}
+use Rattle.engine.specs.World.{documents_of}
+use Rattle.engine.proofs.LookingLemmas.{performs_memory, performs_read, performs_refused, world_same}
 use Rattle.engine.proofs.Running.{run_count-is}
 use Rattle.engine.proofs.SpelledSizes.{insert-sendable}
 use Rattle.engine.proofs.engine.Engine.count.Goals as goal
 
-pub returns-clause-runs : goal.returns-clause-runs
-returns-clause-runs g c =
-    let answer : Pairs → Result (World × Pairs) Refusal = λ d. Ok (world c.args.self.now, d) in
-    let n = c.count-number.ensures ∙ ap (λ (ds : List Pairs). length (window c.args.skip c.args.limit (matching c.args.filter.now ds))) c.documents.ensures.documents in
-    ap with_ok (run_count-is (world c.args.self.now) (record { namespace = c.args.namespace.now; filter = c.args.filter.now; skip = c.args.skip; limit = c.args.limit }) c.count-number.result n) ∙ ap answer (sym c.in_ok-total_reply.ensures)
+pub returns-in_err-count-clause-performs : goal.returns-in_err-count-clause-performs
+returns-in_err-count-clause-performs g c =
+    let w = world c.args.self.now in
+    let asked : Count = record { namespace = c.args.namespace.now; filter = c.args.filter.now; skip = c.args.skip; limit = c.args.limit } in
+    let p = err_from_is_err_and c.from_residual.result c.from_residual.ensures.1 in
+    rw (p.1, p.2) (performs_refused g.D.Disk.history c.args.self.now c.count_of.new.self (run_count w asked) c.in_err-count.field-0.0 c.in_err-count.ensures.reads c.in_err-count.ensures.answers)
+
+pub returns-in_err-total_reply-clause-performs : goal.returns-in_err-total_reply-clause-performs
+returns-in_err-total_reply-clause-performs g c =
+    let w = world c.args.self.now in
+    let asked : Count = record { namespace = c.args.namespace.now; filter = c.args.filter.now; skip = c.args.skip; limit = c.args.limit } in
+    let p = err_from_is_err_and c.from_residual-in_err-total_reply.result c.from_residual-in_err-total_reply.ensures.1 in
+    rw p.1 (performs_memory g.D.Disk.history c.args.self.now c.count_of.new.self (run_count w asked) p.0 p.2 c.in_ok-count.ensures.reads)
+
+pub returns-clause-performs : goal.returns-clause-performs
+returns-clause-performs g c =
+    let history = g.D.Disk.history in
+    let old = c.args.self.now in
+    let new = c.count_of.new.self in
+    let w = world old in
+    let looks = c.in_ok-count.ensures in
+    let asked : Count = record { namespace = c.args.namespace.now; filter = c.args.filter.now; skip = c.args.skip; limit = c.args.limit } in
+    let found = matching c.args.filter.now (documents_of w.collections c.args.namespace.now) in
+    performs_read history old new (run_count w asked) (Ok c.in_ok-total_reply.field-0) looks.reads (λ k.
+    ap with_ok (run_count-is w asked c.within_window-number.result (c.within_window-number.ensures found (looks.answers k)))
+    ∙ (λ i. Ok (sym (world_same history old new looks.reads) i, sym c.in_ok-total_reply.ensures i)))
 
 pub returns-clause-sendable : goal.returns-clause-sendable
-returns-clause-sendable g c = subst IsSendable (sym c.in_ok-total_reply.ensures) (insert-sendable (min c.count-number.result (2 ^ 31 - 1)))
+returns-clause-sendable g c = subst IsSendable (sym c.in_ok-total_reply.ensures) (insert-sendable (min c.within_window-number.result (2 ^ 31 - 1)))

@@ -1,30 +1,78 @@
-use Rattle.std.proofs.Common.{Result, Ok, sym, ap, subst, ◌∙◌, min, ◌^◌, ◌-◌}
-use Rattle.std.specs.Prelude.{IfSome, IfNone}
-use Rattle.bson.specs.Tree.{Pairs}
-use Rattle.engine.specs.World.{World}
-use Rattle.engine.specs.Progress.{Leaves, LeavesAll}
-use Rattle.path.specs.declared.refusal.Refusal.{Refusal}
-use Rattle.engine.specs.View.{world, with_ok, IsSendable}
-use Rattle.engine.proofs.Running.{run_delete-is}
+use Rattle.std.proofs.Common.{◌-◌, ◌^◌, min, List, Ok, Err, ap, sym, subst, ◌∙◌}
+use Rattle.std.proofs.lemmas.Result.{err_from_is_err_and}
+use Rattle.commands.specs.Delete.{Delete}
+use Rattle.index.specs.State.{Collection}
+use Rattle.engine.specs.Delete.{run_delete}
+use Rattle.engine.specs.Durable.{file_of}
+use Rattle.engine.specs.Removing.{IsTaken}
+use Rattle.engine.specs.View.{world, IsSendable}
+use Rattle.engine.specs.Writing.{planned_or}
+use Rattle.engine.proofs.LookingLemmas.{collections_same, performs_memory, performs_refused, word_before}
+use Rattle.engine.proofs.RemovingLemmas.{count_taken, delete_done, delete_refused, makes_on}
 use Rattle.engine.proofs.SpelledSizes.{insert-sendable}
+use Rattle.engine.proofs.TakenLemmas.{nothing_taken}
 use Rattle.engine.proofs.engine.Engine.delete.Goals as goal
 
-pub returns-in_default-clause-runs : goal.returns-in_default-clause-runs
-returns-in_default-clause-runs g c =
-    let w = world c.args.self.now in
-    let all = subst (λ o. IfNone o (LeavesAll c.args.namespace.now c.args.deletions.now w.collections)) c.in_default.is c.in_ok-rest.ensures.none in
-    let answer : Pairs → Result (World × Pairs) Refusal = λ d. Ok (w, d) in
-    ap with_ok (run_delete-is w (record { namespace = c.args.namespace.now; deletions = c.args.deletions.now }) w.collections 0 (sym all.is) all.count) ∙ ap answer (sym c.in_ok-total_reply.ensures)
+pub returns-in_err-taken-clause-performs : goal.returns-in_err-taken-clause-performs
+returns-in_err-taken-clause-performs g c =
+    let old = c.args.self.now in
+    let asked : Delete = record { namespace = c.args.namespace.now; deletions = c.args.deletions.now } in
+    let p = err_from_is_err_and c.from_residual.result c.from_residual.ensures.1 in
+    rw (p.1, p.2) (performs_refused g.D.Disk.history old c.taken.new.self (run_delete (world old) asked) c.in_err-taken.field-0.0 c.in_err-taken.ensures.reads c.in_err-taken.ensures.answers)
 
-pub returns-in_default-clause-sendable : goal.returns-in_default-clause-sendable
-returns-in_default-clause-sendable g c = subst IsSendable (sym c.in_ok-total_reply.ensures) (insert-sendable 0)
+pub returns-in_err-reply-clause-performs : goal.returns-in_err-reply-clause-performs
+returns-in_err-reply-clause-performs g c =
+    let old = c.args.self.now in
+    let asked : Delete = record { namespace = c.args.namespace.now; deletions = c.args.deletions.now } in
+    let p = err_from_is_err_and c.from_residual-in_err-reply.result c.from_residual-in_err-reply.ensures.1 in
+    rw p.1 (performs_memory g.D.Disk.history old c.taken.new.self (run_delete (world old) asked) p.0 p.2 c.in_ok-taken.ensures.reads)
 
-pub returns-clause-runs : goal.returns-clause-runs
-returns-clause-runs g c =
-    let w = world c.args.self.now in
-    let leaves = subst (λ o. IfSome o (λ rest. Leaves c.args.namespace.now c.args.deletions.now w.collections rest.at rest.documents.items rest.gone)) c.in-Some.is c.in_ok-rest.ensures.some in
-    let answer : Pairs → Result (World × Pairs) Refusal = λ d. Ok (record w { collections = c.keep.new.self.now }, d) in
-    ap with_ok (run_delete-is w (record { namespace = c.args.namespace.now; deletions = c.args.deletions.now }) c.keep.new.self.now c.in-Some.rest.gone (c.in_ok-keep.ensures.ok ∙ sym leaves.is) leaves.count) ∙ ap answer (sym c.in_ok-reply.ensures)
+pub remove-requires-clause-sound : goal.remove-requires-clause-sound
+remove-requires-clause-sound g c = c.in_ok-taken.ensures.reads.sound
+
+pub remove-requires-clause-taken : goal.remove-requires-clause-taken
+remove-requires-clause-taken g c =
+    λ k. subst (λ (cs : List Collection). IsTaken cs c.args.namespace.now c.args.deletions.now c.in_ok-taken.taken) (sym (collections_same g.D.Disk.history c.args.self.now c.taken.new.self c.in_ok-taken.ensures.reads)) (c.in_ok-taken.ensures.answers k)
+
+pub returns-in_err-remove-clause-performs : goal.returns-in_err-remove-clause-performs
+returns-in_err-remove-clause-performs g c =
+    let old = c.args.self.now in
+    let name = c.args.namespace.now in
+    let ds = c.args.deletions.now in
+    let e = c.in_err-remove.field-0.0 in
+    let p = err_from_is_err_and c.from_residual-in_err-remove.result c.from_residual-in_err-remove.ensures.1 in
+    rw (p.1, p.2) (delete_refused g.D.Disk.history name ds old c.remove.new.self e (makes_on g.D.Disk.history name ds old c.taken.new.self c.remove.new.self (Err e) c.in_ok-taken.ensures.reads c.in_err-remove.ensures.makes))
+
+pub returns-in_err-remove-clause-has_changes : goal.returns-in_err-remove-clause-has_changes
+returns-in_err-remove-clause-has_changes g c = λ k same. c.in_err-remove.ensures.makes.refused ∙ c.in_ok-taken.ensures.reads.changes
+
+pub returns-clause-performs : goal.returns-clause-performs
+returns-clause-performs g c =
+    let history = g.D.Disk.history in
+    let old = c.args.self.now in
+    let mid = c.taken.new.self in
+    let new = c.remove.new.self in
+    let name = c.args.namespace.now in
+    let ds = c.args.deletions.now in
+    let taken = c.in_ok-taken.taken in
+    let makes = c.in_ok-remove.ensures.makes in
+    delete_done history name ds old new c.len.result c.in_ok-reply.reply c.in_ok-reply.ensures
+    (λ k. c.len.ensures ∙ taken.removed.ok.0 ∙ count_taken (world old).collections name ds taken (c.in_ok-taken.ensures.answers (word_before history (file_of mid) (file_of new) makes.goes k)))
+    (makes_on history name ds old mid new (Ok tt) c.in_ok-taken.ensures.reads makes)
+
+pub returns-clause-has_changes : goal.returns-clause-has_changes
+returns-clause-has_changes g c = λ k same.
+    let history = g.D.Disk.history in
+    let old = c.args.self.now in
+    let mid = c.taken.new.self in
+    let new = c.remove.new.self in
+    let name = c.args.namespace.now in
+    let ds = c.args.deletions.now in
+    let now = (world old).collections in
+    let reads = c.in_ok-taken.ensures.reads in
+    let makes = makes_on history name ds old mid new (Ok tt) reads c.in_ok-remove.ensures.makes in
+    let is = c.in_ok-taken.ensures.answers (word_before history (file_of mid) (file_of new) c.in_ok-remove.ensures.makes.goes k) in
+    c.in_ok-remove.ensures.has_changes (is.removed ∙ nothing_taken name ds now (ap (planned_or now) (makes.does k) ∙ same)) ∙ reads.changes
 
 pub returns-clause-sendable : goal.returns-clause-sendable
-returns-clause-sendable g c = subst IsSendable (sym c.in_ok-reply.ensures) (insert-sendable (min c.in-Some.rest.gone (2 ^ 31 - 1)))
+returns-clause-sendable g c = subst IsSendable (sym c.in_ok-reply.ensures) (insert-sendable (min c.len.result (2 ^ 31 - 1)))

@@ -1,100 +1,42 @@
-use Rattle.std.proofs.Common.{◌≡◌, ◌≤◌, ◌<◌, ◌+◌, ◌-◌, List, [], ◌∷◌, ◌++◌, length, map, drop, false, true, refl, sym, ap, subst, ◌∙◌, arith, length-drop}
-use Rattle.std.specs.Prelude.{All, not}
-use Rattle.std.proofs.lemmas.List.{drop-map, take_all}
-use Rattle.std.proofs.lemmas.List.Elements.{All-drop}
+use Rattle.std.proofs.Common.{◌≡◌, List, ap, sym, subst, ◌∙◌, arith}
+use Rattle.std.specs.Prelude.{All, Some}
+use Rattle.std.proofs.lemmas.Result.{err_from_is_err_and}
 use Rattle.bson.specs.Tree.{Pairs}
-use Rattle.filter.specs.Projection.{project}
-use Rattle.commands.specs.View.{documents_at}
 use Rattle.commands.specs.Find.{Query}
-use Rattle.engine.specs.World.{World, documents_of}
-use Rattle.engine.specs.Cursors.{is_refused, new_cursor}
-use Rattle.engine.specs.Find.{query_result, selection, window}
+use Rattle.engine.specs.Find.{given, query_result, run_find, Suffices}
 use Rattle.engine.specs.Lawful.{IsWithin}
-use Rattle.engine.specs.View.{world_of, world, projected, with_ok}
-use Rattle.engine.proofs.Finding.{found_within}
-use Rattle.engine.proofs.CursorSpelling.{projected_len}
-use Rattle.engine.proofs.CursorSteps.{there_is, there_is_none}
-use Rattle.engine.proofs.Running.{run_find-is, whole_batch, opened_batch, refused_batch, with_cursor}
+use Rattle.engine.specs.View.{world}
+use Rattle.engine.specs.World.{documents_of}
+use Rattle.engine.proofs.Finding.{given_enough, given_within_limits}
+use Rattle.engine.proofs.GivingLemmas.{gives_behind}
+use Rattle.engine.proofs.LookingLemmas.{performs_refused}
+use Rattle.engine.proofs.Running.{run_find-is}
 use Rattle.engine.proofs.engine.Engine.find.Goals as goal
 
-pub batch_reply-requires-clause-within : goal.batch_reply-requires-clause-within
-batch_reply-requires-clause-within g c =
-    let q = c.args.query.now in
-    let ds = c.documents-documents.result.now in
-    let w = world c.args.self.now in
-    let seen = c.selected-selected.result.now in
-    let gs = projected c.query.inside.projection (documents_at seen) in
-    let chosen : documents_at seen ≡ selection q ds = c.selected-selected.ensures ∙ ap (λ xs. window q.skip q.limit (documents_at xs)) c.deref.ensures.value ∙ c.in_ok-ordered.ensures in
-    let found : gs ≡ query_result q ds = ap (map (project c.query.inside.projection)) chosen ∙ ap (λ (x : Query). map (project x.projection) (selection q ds)) c.query.view_is in
-    let given : gs ≡ query_result q (documents_of w.collections c.args.namespace.now) = found ∙ ap (query_result q) c.documents-documents.ensures.documents in
-    subst (λ (es : List Pairs). All IsWithin es) (sym found) (found_within q ds c.documents-documents.ensures.stored)
+pub returns-in_err-found-clause-performs : goal.returns-in_err-found-clause-performs
+returns-in_err-found-clause-performs g c =
+    let old = c.args.self.now in
+    let p = err_from_is_err_and c.from_residual.result c.from_residual.ensures.1 in
+    rw (p.1, p.2) (performs_refused g.D.Disk.history old c.matching.new.self (run_find (world old) c.args.connection (record { namespace = c.args.namespace.now; query = c.args.query.now; batch_size = Some c.args.most }))
+    c.in_err-found.field-0.0 c.in_err-found.ensures.looks.reads c.in_err-found.ensures.looks.answers)
 
-pub returns-then-selected-count-clause-runs : goal.returns-then-selected-count-clause-runs
-returns-then-selected-count-clause-runs g c =
+pub returns-clause-performs : goal.returns-clause-performs
+returns-clause-performs g c =
+    let old = c.args.self.now in
+    let mid = c.matching.new.self in
     let q = c.args.query.now in
-    let ds = c.documents-documents.result.now in
-    let w = world c.args.self.now in
-    let seen = c.selected-selected.result.now in
-    let gs = projected c.query.inside.projection (documents_at seen) in
-    let chosen : documents_at seen ≡ selection q ds = c.selected-selected.ensures ∙ ap (λ xs. window q.skip q.limit (documents_at xs)) c.deref.ensures.value ∙ c.in_ok-ordered.ensures in
-    let found : gs ≡ query_result q ds = ap (map (project c.query.inside.projection)) chosen ∙ ap (λ (x : Query). map (project x.projection) (selection q ds)) c.query.view_is in
-    let given : gs ≡ query_result q (documents_of w.collections c.args.namespace.now) = found ∙ ap (query_result q) c.documents-documents.ensures.documents in
-    let n = c.in_ok-reply.count in
-    let planned = run_find-is w c.args.connection c.args.namespace.now q c.args.most gs n given c.in_ok-reply.ensures.count in
-    let fits : length gs ≤ n = omega (arith, c.if-selected-count.true, projected_len (λ d. d.now) c.query.inside.projection seen) in
-    ap with_ok planned ∙ whole_batch w c.args.connection c.args.namespace.now gs n c.unwrap_or.result c.in_ok-reply.reply fits c.in_ok-reply.ensures.reply
-
-pub returns-then-is_none-clause-runs : goal.returns-then-is_none-clause-runs
-returns-then-is_none-clause-runs g c =
-    let q = c.args.query.now in
-    let ds = c.documents-documents.result.now in
-    let w = world c.args.self.now in
-    let seen = c.selected-selected.result.now in
-    let gs = projected c.query.inside.projection (documents_at seen) in
-    let chosen : documents_at seen ≡ selection q ds = c.selected-selected.ensures ∙ ap (λ xs. window q.skip q.limit (documents_at xs)) c.deref.ensures.value ∙ c.in_ok-ordered.ensures in
-    let found : gs ≡ query_result q ds = ap (map (project c.query.inside.projection)) chosen ∙ ap (λ (x : Query). map (project x.projection) (selection q ds)) c.query.view_is in
-    let given : gs ≡ query_result q (documents_of w.collections c.args.namespace.now) = found ∙ ap (query_result q) c.documents-documents.ensures.documents in
-    let n = c.in_ok-reply.count in
-    let planned = run_find-is w c.args.connection c.args.namespace.now q c.args.most gs n given c.in_ok-reply.ensures.count in
-    let over : n < length gs = omega (arith, c.if-selected-count.false, projected_len (λ d. d.now) c.query.inside.projection seen) in
-    let full = there_is_none c.next_number-number.result (is_refused c.args.connection w.cursors w.next ≡ true) (c.is_none.ensures ∙ ap not c.if-is_none.true) c.next_number-number.ensures.none in
-    (refl, λ _. planned ∙ refused_batch w c.args.connection c.args.namespace.now gs n over full)
-
-pub open-requires-clause-within : goal.open-requires-clause-within
-open-requires-clause-within g c =
-    let q = c.args.query.now in
-    let ds = c.documents-documents.result.now in
-    let w = world c.args.self.now in
-    let seen = c.selected-selected.result.now in
-    let gs = projected c.query.inside.projection (documents_at seen) in
-    let chosen : documents_at seen ≡ selection q ds = c.selected-selected.ensures ∙ ap (λ xs. window q.skip q.limit (documents_at xs)) c.deref.ensures.value ∙ c.in_ok-ordered.ensures in
-    let found : gs ≡ query_result q ds = ap (map (project c.query.inside.projection)) chosen ∙ ap (λ (x : Query). map (project x.projection) (selection q ds)) c.query.view_is in
-    let given : gs ≡ query_result q (documents_of w.collections c.args.namespace.now) = found ∙ ap (query_result q) c.documents-documents.ensures.documents in
-    let left = take_all (length seen - c.in_ok-reply.count) (drop c.in_ok-reply.count seen) (omega (arith, length-drop c.in_ok-reply.count seen)) in
-    let rest : map (project c.in_ok-projection.projection) c.in_ok-rest.rest.items ≡ drop c.in_ok-reply.count gs =
-    (λ i. map (project (c.in_ok-projection.ensures i)) ((c.in_ok-rest.ensures ∙ ap documents_at left) i)) ∙ ap (map (project c.query.inside.projection)) (sym (drop-map (λ d. d.now) c.in_ok-reply.count seen)) ∙ sym (drop-map (project c.query.inside.projection) c.in_ok-reply.count (documents_at seen)) in
-    subst (λ (es : List Pairs). All IsWithin es) (sym rest) (All-drop IsWithin c.in_ok-reply.count gs (subst (λ (es : List Pairs). All IsWithin es) (sym found) (found_within q ds c.documents-documents.ensures.stored)))
-
-pub returns-clause-runs : goal.returns-clause-runs
-returns-clause-runs g c =
-    let q = c.args.query.now in
-    let ds = c.documents-documents.result.now in
-    let w = world c.args.self.now in
-    let seen = c.selected-selected.result.now in
-    let gs = projected c.query.inside.projection (documents_at seen) in
-    let chosen : documents_at seen ≡ selection q ds = c.selected-selected.ensures ∙ ap (λ xs. window q.skip q.limit (documents_at xs)) c.deref.ensures.value ∙ c.in_ok-ordered.ensures in
-    let found : gs ≡ query_result q ds = ap (map (project c.query.inside.projection)) chosen ∙ ap (λ (x : Query). map (project x.projection) (selection q ds)) c.query.view_is in
-    let given : gs ≡ query_result q (documents_of w.collections c.args.namespace.now) = found ∙ ap (query_result q) c.documents-documents.ensures.documents in
-    let n = c.in_ok-reply.count in
-    let planned = run_find-is w c.args.connection c.args.namespace.now q c.args.most gs n given c.in_ok-reply.ensures.count in
-    let left = take_all (length seen - c.in_ok-reply.count) (drop c.in_ok-reply.count seen) (omega (arith, length-drop c.in_ok-reply.count seen)) in
-    let rest : map (project c.in_ok-projection.projection) c.in_ok-rest.rest.items ≡ drop c.in_ok-reply.count gs =
-    (λ i. map (project (c.in_ok-projection.ensures i)) ((c.in_ok-rest.ensures ∙ ap documents_at left) i)) ∙ ap (map (project c.query.inside.projection)) (sym (drop-map (λ d. d.now) c.in_ok-reply.count seen)) ∙ sym (drop-map (project c.query.inside.projection) c.in_ok-reply.count (documents_at seen)) in
-    let over : n < length gs = omega (arith, c.if-selected-count.false, projected_len (λ d. d.now) c.query.inside.projection seen) in
-    let some = c.is_none.ensures ∙ ap not c.if-is_none.false in
-    let number : c.unwrap_or.result ≡ w.next = c.unwrap_or.ensures ∙ there_is c.next_number-number.result (λ k. k ≡ w.next) some c.next_number-number.ensures.some in
-    let free = there_is c.next_number-number.result (λ _. is_refused c.args.connection w.cursors w.next ≡ false) some c.next_number-number.ensures.free in
-    let made : world_of c.args.self.now.collections c.open.new.self ≡ with_cursor w c.args.connection c.args.namespace.now gs n =
-    ap (world_of c.args.self.now.collections) c.in_ok-open.ensures.ok
-    ∙ ap (λ (es : List Pairs). let x : World = record w { cursors = w.cursors ++ new_cursor w.next c.args.connection c.args.namespace.now es ∷ []; next = w.next + 1 } in x) rest in
-    ap with_ok planned ∙ opened_batch w c.args.connection c.args.namespace.now gs n c.unwrap_or.result c.in_ok-reply.reply (world_of c.args.self.now.collections c.open.new.self) over number free made c.in_ok-reply.ensures.reply
+    let w = world old in
+    let found = c.in_ok-found.found in
+    let seen = c.deref.result.now in
+    let documents = documents_of w.collections c.args.namespace.now in
+    let opened : Query = record { filter = c.query.inside.filter; sort = c.query.inside.sort; skip = c.query.inside.skip; limit = c.query.inside.limit; projection = c.query.inside.projection } in
+    let within : All IsWithin seen = subst (λ (ds : List Pairs). All IsWithin ds) (sym c.deref.ensures.value) c.in_ok-found.ensures.within in
+    gives_behind g.D.Disk.history old mid c.give_found.new.self c.in_ok-found.ensures.looks.reads c.give_found.ensures.file (ap (λ t. t.value) c.give_found.ensures.told) c.give_found.ensures.has_changes
+    c.args.connection c.args.namespace.now (given q seen) c.args.most (run_find w c.args.connection (record { namespace = c.args.namespace.now; query = q; batch_size = Some c.args.most })) c.give_found.result
+    c.requires.short (given_within_limits q seen within) c.give_found.ensures.runs
+    (λ k.
+    let same : given q seen ≡ query_result q documents =
+    ap (given q) c.deref.ensures.value
+    ∙ subst (λ (q : Query). given q found.items ≡ query_result q documents) c.query.view_is
+    (given_enough opened c.enough.result documents found.items (subst (λ (q : Query). Suffices q c.enough.result) (sym c.query.view_is) c.enough.ensures) (c.in_ok-found.ensures.looks.answers k) (omega (arith, found.ok.0, found.ok.1, found.small))) in
+    run_find-is w c.args.connection c.args.namespace.now q c.args.most (given q seen) same)

@@ -11,9 +11,10 @@ use Rattle.engine.proofs.engine.Engine.gone.Goals as goal
 pub returns-clause-sound : goal.returns-clause-sound
 returns-clause-sound g c =
     let old = c.args.self.now in
-    let new : Engine g.row.D.Denot = record { alloc = old.alloc; collections = old.collections; cursors = c.forget.new.self; file = old.file } in
+    let new : Engine g.row.D.Denot = record { alloc = old.alloc; cursors = c.forget.new.self; file = old.file; told = old.told; is_changed = old.is_changed } in
     keeps_sound g.D.Disk.history old new c.requires.sound c.requires.sound.file refl
-    (subst (λ (t : CursorTable). IsLawful (world_of old.collections t)) (sym c.forget.ensures) (forgotten_lawful g.D.Disk.history old c.args.connection c.requires.sound))
+    (subst (λ (t : CursorTable). IsLawful (world_of old.told.value t)) (sym c.forget.ensures) (forgotten_lawful g.D.Disk.history old c.args.connection c.requires.sound))
+    c.requires.sound.quiet
 
 pub returns-clause-rested : goal.returns-clause-rested
 returns-clause-rested g c = λ rests.

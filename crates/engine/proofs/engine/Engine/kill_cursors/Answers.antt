@@ -15,7 +15,7 @@ returns-clause-runs g c =
     let asked : KillCursors = record { namespace = c.args.namespace.now; cursors = c.args.ids.now } in
     let left = filter (λ (x : Cursor). not (is_asked c.args.connection c.args.namespace.now c.args.ids.now x)) w.cursors in
     ap with_ok (run_kill_cursors-is w c.args.connection asked left c.in_ok-told.told refl c.in_ok-told.ensures)
-    ∙ (λ i. Ok (world_of c.args.self.now.collections (sym c.kill.ensures i), sym c.in_ok-reply.ensures i))
+    ∙ (λ i. Ok (world_of c.args.self.now.told.value (sym c.kill.ensures i), sym c.in_ok-reply.ensures i))
 
 pub returns-clause-sendable : goal.returns-clause-sendable
 returns-clause-sendable g c =

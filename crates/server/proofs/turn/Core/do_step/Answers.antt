@@ -28,7 +28,7 @@ returns-else-is_err-clause-does g c =
     subst (λ (s : Step). Goes first s c.args.out.now out last) (sym c.in-Turn.is)
     (record {
       frames = frames;
-      happens = one_turn first last (out_of turn) c.in-Ok-turn.ensures.turns;
+      happens = λ k. one_turn first last (out_of turn) (c.in-Ok-turn.ensures.turns k);
       moment = refl;
       adds = record { replies = ap frames_in kept ∙ frames_append c.args.out.now.replies.items turn.replies.items; counted = refl; stopped = refl };
     })

@@ -1,16 +1,20 @@
 use Rattle.std.proofs.Common.{◌≡◌, ap, length, inr, false, true, refl, sym, subst, ◌∙◌, rules}
 use Rattle.std.specs.Prelude.{Bool}
 use Rattle.engine.specs.View.{world}
-use Rattle.engine.specs.Durable.{Holds}
+use Rattle.engine.specs.Durable.{Holds, disk_history}
 use Rattle.server.specs.Causes.{IsCaused}
 use Rattle.server.specs.History.{RoomRanOut}
 use Rattle.server.specs.Moment.{Moment}
-use Rattle.server.specs.Durable.{engine_moment, is_stopped}
+use Rattle.page.specs.History.{KeepsWord}
+use Rattle.collections.specs.Calls.{GoesFrom}
+use Rattle.collections.specs.State.{State}
+use Rattle.collections.proofs.LawLemmas.{goes_from_itself}
+use Rattle.server.specs.Durable.{engine_moment, file_of, is_stopped}
 use Rattle.server.specs.declared.turn.TurnFault.TheVariants as turns
 use Rattle.server.specs.Turn.{Cut, TurnFails, faults, forget_all, connections_taken}
 use Rattle.server.specs.Taking.{EndsTurn, closed_connections, faults_in}
 use Rattle.server.specs.View.{state, frames_in}
-use Rattle.server.specs.ServerState.{are_ascending}
+use Rattle.server.specs.ServerState.{ServerState, are_ascending}
 use Rattle.server.proofs.Ascending.{taken_ascends, after_ascends}
 use Rattle.server.proofs.Images.{engine_holds, stays, forgotten, same_engine_moment}
 use Rattle.server.proofs.ConnectionsServed.{all_closed}
@@ -33,7 +37,7 @@ returns-then-is_stopped g c = record {
   stops = search rules;
   idle = search rules;
   device = search rules;
-  quiet = search rules;
+  quiet = λ _ _. goes_from_itself g.D.Disk.history (file_of c.args.self.now);
 }
 
 pub returns-in_err-refusals : goal.returns-in_err-refusals
@@ -49,7 +53,7 @@ returns-in_err-refusals g c = record {
   stops = search rules;
   idle = search rules;
   device = search rules;
-  quiet = search rules;
+  quiet = λ _ _. goes_from_itself g.D.Disk.history (file_of c.args.self.now);
 }
 
 pub returns-in_default : goal.returns-in_default
@@ -69,14 +73,15 @@ returns-in_default g c =
       turns = search rules;
       fails = let old : Moment = engine_moment history core.engine in
           let new : Moment = engine_moment history c.run_messages.new.engine in
-          let broke = c.in_default.ensures.breaks refl in
-          let cut : Cut (IsCaused old new) (state core) (record { world = world c.run_messages.new.engine; connections = c.run_messages.new.connections.items }) = record {
+          let after : ServerState = record { world = world c.run_messages.new.engine; connections = c.run_messages.new.connections.items } in
+          let kept : Type 0 = KeepsWord (disk_history history c.run_messages.new.engine) in
+          let cut : kept → Cut (IsCaused old new) (state core) after = λ k. let broke = c.in_default.ensures.breaks refl k in record {
             replies = broke.replies;
             last = broke.last;
             runs = broke.runs;
             leaves = λ i. record { world = broke.ends i; connections = ran.connections i };
           } in
-          subst (λ (b : Bool). TurnFails (IsCaused old new) (state core) turns.Stopped b (record { world = world c.run_messages.new.engine; connections = c.run_messages.new.connections.items })) (sym runs) cut;
+          subst (λ (b : Bool). TurnFails kept (IsCaused old new) (state core) turns.Stopped b after) (sym runs) cut;
       on = ran.on;
       any_moment = λ _. ran.any_moment;
       acknowledged = search rules;
@@ -110,9 +115,9 @@ returns g c =
         rests = forgot.has_changes ∙ ran.rests;
         ascending = ap are_ascending left ∙ after_ascends connections c.requires.sound.ascending;
       };
-      turns = let old : Moment = engine_moment history core.engine in
+      turns = λ k. let old : Moment = engine_moment history core.engine in
           let settles = subst (λ (m : Moment). EndsTurn (IsCaused old m) (RoomRanOut old) (world core.engine) connections (frames_in c.in-Some.replies.items) (world c.run_messages.new.engine))
-          (sym (same_engine_moment history c.run_messages.new.engine c.forget_closed.new.engine forgot.file)) c.in-Some.ensures.settles in
+          (sym (same_engine_moment history c.run_messages.new.engine c.forget_closed.new.engine forgot.file)) (c.in-Some.ensures.settles (subst KeepsWord forgot.disk k)) in
           turned (IsCaused old (engine_moment history c.forget_closed.new.engine)) (RoomRanOut old) core (frames_in c.in-Some.replies.items) (world c.run_messages.new.engine) prepared.closed.items (world c.forget_closed.new.engine) _
           settles closes forgets left;
       fails = search rules;
@@ -124,5 +129,5 @@ returns g c =
       stops = search rules;
       idle = λ stopped. absurd (stopped_not (is_stopped core) stopped runs);
       device = search rules;
-      quiet = λ nothing. forgot.file ∙ ran.quiet nothing;
+      quiet = λ k nothing. subst (λ (f : State g.row.D.Denot). GoesFrom history (file_of core) f) (sym forgot.file) (ran.quiet (subst KeepsWord forgot.disk k) nothing);
     }

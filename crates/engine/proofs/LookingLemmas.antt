@@ -1,0 +1,225 @@
+-- What was read of the file was read of the engine, and how calls add up that follow one another.
+use Rattle.std.proofs.Common.{◌≡◌, inl, inr, List, Result, Ok, Err, refl, ap, subst, sym, ◌∙◌, arith}
+use Rattle.std.specs.Prelude.{MatchResult, OnErr}
+use Rattle.std.proofs.lemmas.Bool.{cases_lt}
+use Rattle.bson.specs.Tree.{Pairs}
+use Rattle.page.specs.History.{History, KeepsWord}
+use Rattle.btree.specs.Store.{Frame, HasNoPage}
+use Rattle.btree.proofs.StoreLemmas.{grows_itself, grows_trans}
+use Rattle.path.specs.declared.refusal.Refusal.{Refusal}
+use Rattle.path.specs.declared.refusal.Refusal.TheVariants as refusals
+use Rattle.index.specs.State.{Collection}
+use Rattle.collections.specs.Calls.{GoesFrom, HasCause, HasWriteCause, IsOfFile, Reads}
+use Rattle.collections.specs.Reading.{ReadsOf}
+use Rattle.collections.specs.Standing.{HasState}
+use Rattle.collections.specs.State.{State}
+use Rattle.collections.specs.View.{disk_history, pages_of}
+use Rattle.collections.proofs.StandingLemmas.{stopped_same}
+use Rattle.engine.specs.Durable.{file_of, has_changes, IsSound}
+use Rattle.engine.specs.Known.{Known}
+use Rattle.engine.specs.Lawful.{IsLawfulState, AreLawfulCursors}
+use Rattle.engine.specs.Looking.{Looks, LooksOf, OnlyReads}
+use Rattle.engine.specs.Performing.{DoesPlanned, Performs}
+use Rattle.engine.specs.Step.{answered}
+use Rattle.engine.specs.View.{world, world_of, turn_start, with_ok}
+use Rattle.engine.specs.World.{World, CursorTable}
+use Rattle.engine.specs.Writing.{FileCause}
+use Rattle.engine.specs.declared.engine.Engine.{Engine}
+
+-- ---- a cause between two moments is one between moments around them
+
+pub goes_itself : {D : Type 0} (history : D → History) (c : State D) → GoesFrom history c c
+goes_itself history c = grows_itself (pages_of history c)
+
+pub goes_on : {D : Type 0} (history : D → History) (a b c : State D) → GoesFrom history a b → GoesFrom history b c → GoesFrom history a c
+goes_on history a b c = grows_trans (pages_of history a) (pages_of history b) (pages_of history c)
+
+-- the word that the disk keeps now it kept before
+pub word_before : {D : Type 0} (history : D → History) (a b : State D) → GoesFrom history a b → KeepsWord (disk_history history b) → KeepsWord (disk_history history a)
+word_before history a b goes k = (goes.frame k).word
+
+module _ {D : Type 0} (history : D → History) (a b c d : State D) (early : GoesFrom history a b) (within : GoesFrom history b c) (late : GoesFrom history c d) (k : KeepsWord (disk_history history d)) where
+  third : Frame (pages_of history c) (pages_of history d)
+  third = late.frame k
+
+  second : Frame (pages_of history b) (pages_of history c)
+  second = within.frame third.word
+
+  first : Frame (pages_of history a) (pages_of history b)
+  first = early.frame second.word
+
+  no_page_wider : HasNoPage (pages_of history b) (pages_of history c) → HasNoPage (pages_of history a) (pages_of history d)
+  no_page_wider (inl more) = inl (omega (arith, first.full_takes, more, third.full_takes))
+  no_page_wider (inr most) = elim (cases_lt (pages_of history c).full_takes (pages_of history d).full_takes) [
+    | inl more ↦ inl (omega (arith, first.full_takes, second.full_takes, more))
+    | inr same ↦ inr (omega (arith, most, third.full_takes, same))
+  ]
+
+  pub widen : (e : Refusal) → HasCause history b c e → HasCause history a d e
+  widen e (inl is) = inl is
+  widen e (inr (inl (is, inl stopped))) = inr (inl (is, inl (sym (stopped_same history a.pager b.pager early.stays) ∙ stopped)))
+  widen e (inr (inl (is, inr failed))) = inr (inl (is, inr (omega (arith, first.failures, failed, third.failures))))
+  widen e (inr (inr (is, none))) = inr (inr (is, no_page_wider none))
+
+  pub widen_write : (after : List Collection) (e : Refusal) → HasWriteCause history after b c e → HasWriteCause history after a d e
+  widen_write after e (inl cause) = inl (widen e cause)
+  widen_write after e (inr large) = inr large
+
+-- only what came before is added, or only what came after
+module _ {D : Type 0} (history : D → History) (a b c : State D) (early : GoesFrom history a b) (late : GoesFrom history b c) (k : KeepsWord (disk_history history c)) where
+  pub widen_before : (e : Refusal) → HasCause history b c e → HasCause history a c e
+  widen_before = widen history a b c c early late (goes_itself history c) k
+
+  pub widen_after : (e : Refusal) → HasCause history a b e → HasCause history a c e
+  widen_after = widen history a a b c (goes_itself history a) early late k
+
+-- the refusals that have a cause
+pub of_file : {D : Type 0} (history : D → History) (a b : State D) (e : Refusal) → HasCause history a b e → IsOfFile e
+of_file history a b e (inl is) = inl is
+of_file history a b e (inr (inl x)) = inr (inl x.0)
+of_file history a b e (inr (inr x)) = inr (inr x.0)
+
+-- ---- what was read of the file
+
+module _ {D : Type 0} (history : D → History) (old new : Engine D) (h : IsSound history old) (told : new.told.value ≡ old.told.value) (cursors : new.cursors ≡ old.cursors) (changes : has_changes new ≡ has_changes old) where
+  pub reads_so : GoesFrom history (file_of old) (file_of new) → ((start now : List Collection) → HasState history (file_of old) start now → HasState history (file_of new) start now) → OnlyReads history old new
+  reads_so goes same = record {
+    sound = record {
+      lawful = subst (λ (t : Known). IsLawfulState t.now) (sym told) h.lawful;
+      cursors = subst (λ (t : CursorTable). AreLawfulCursors t.list) (sym cursors) h.cursors;
+      before = subst (λ (t : Known). IsLawfulState t.start) (sym told) h.before;
+      quiet = λ rests. ap (λ (t : Known). t.start) told ∙ h.quiet (sym changes ∙ rests) ∙ sym (ap (λ (t : Known). t.now) told);
+      file = subst (λ (t : Known). HasState history (file_of new) t.start t.now) (sym told) (same (turn_start old) (world old).collections h.file);
+    };
+    goes = goes;
+    told = told;
+    cursors = cursors;
+    changes = changes;
+  }
+
+  pub looks_so : {X : Type 0} (Q : List Collection → X → Type 0) (r : Result X Refusal) → Reads history Q r (file_of old) (file_of new) → Looks history Q r old new
+  looks_so Q r reads = record {
+    reads = reads_so reads.on reads.same;
+    answers = λ k. reads.answers k (turn_start old) (world old).collections h.file;
+  }
+
+  pub looks_so_of : {A X : Type 0} (Is : List Collection → A → Type 0) (Q : List Collection → A → X → Type 0) (r : Result X Refusal) → ReadsOf history Is Q r (file_of old) (file_of new) → LooksOf history Is Q r old new
+  looks_so_of Is Q r reads = record {
+    reads = reads_so reads.on reads.same;
+    answers = λ k asked is. reads.answers k (turn_start old) (world old).collections h.file asked is;
+  }
+
+-- nothing was done
+pub reads_nothing : {D : Type 0} (history : D → History) (old : Engine D) → IsSound history old → OnlyReads history old old
+reads_nothing history old h = reads_so history old old h refl refl refl (goes_itself history (file_of old)) (λ start now has. has)
+
+-- ---- one after the other
+
+module _ {D : Type 0} (history : D → History) (a b : Engine D) (reads : OnlyReads history a b) where
+  pub collections_same : (world b).collections ≡ (world a).collections
+  collections_same = ap (λ (t : Known). t.now) reads.told
+
+  pub world_same : world b ≡ world a
+  world_same = λ i. world_of (reads.told i) (reads.cursors i)
+
+  pub start_same : turn_start b ≡ turn_start a
+  start_same = ap (λ (t : Known). t.start) reads.told
+
+pub reads_trans : {D : Type 0} (history : D → History) (a b c : Engine D) → OnlyReads history a b → OnlyReads history b c → OnlyReads history a c
+reads_trans history a b c first second = record {
+  sound = second.sound;
+  goes = goes_on history (file_of a) (file_of b) (file_of c) first.goes second.goes;
+  told = second.told ∙ first.told;
+  cursors = second.cursors ∙ first.cursors;
+  changes = second.changes ∙ first.changes;
+}
+
+module _ {D X : Type 0} (history : D → History) (P : List Collection → X → Type 0) (old new : Engine D) where
+  -- a refusal is one whatever was looked for
+  pub looks_refused : {Y : Type 0} (Q : List Collection → Y → Type 0) (e : Refusal) → Looks history P (Err e) old new → Looks history Q (Err e) old new
+  looks_refused Q e looks = record { reads = looks.reads; answers = looks.answers }
+
+  -- what is made of an answer, unless memory runs out
+  pub looks_made : {Y : Type 0} (Q : List Collection → Y → Type 0) (x : X) (y : Y) → Looks history P (Ok x) old new → (P (world old).collections x → Q (world old).collections y) → Looks history Q (Ok y) old new
+  looks_made Q x y looks on = record { reads = looks.reads; answers = λ k. on (looks.answers k) }
+
+  pub looks_memory : (e : Refusal) → e ≡ refusals.OutOfMemory → OnlyReads history old new → Looks history P (Err e) old new
+  looks_memory e is reads = record { reads = reads; answers = λ k. inl is }
+
+-- A look behind another: what the first one gave tells what is asked for next.
+module _ {D X A Y : Type 0} (history : D → History) (P : List Collection → X → Type 0) (Is : List Collection → A → Type 0) (Q : List Collection → A → Y → Type 0) (R : List Collection → Y → Type 0) (a b c : Engine D) (x : X) where
+  pub record IsAsked (now : List Collection) : Type 0 where
+    pub asked : A
+    pub is : Is now asked
+    pub right : (y : Y) → Q now asked y → R now y
+
+  pub looks_behind : (r : Result Y Refusal) → Looks history P (Ok x) a b → LooksOf history Is Q r b c → (P (world a).collections x → IsAsked (world a).collections) → Looks history R r a c
+  looks_behind r first second ask = record {
+    reads = reads_trans history a b c first.reads second.reads;
+    answers = λ k.
+        let then = ask (first.answers (word_before history (file_of b) (file_of c) second.reads.goes k)) in
+        let there = subst (λ (now : List Collection). (asked : A) → Is now asked → MatchResult r (Q now asked) (HasCause history (file_of b) (file_of c))) (collections_same history a b first.reads) (second.answers k) in
+        either k r then (there then.asked then.is);
+  }
+    where
+      either : KeepsWord (disk_history history (file_of c)) → (r : Result Y Refusal) (then : IsAsked (world a).collections) → MatchResult r (Q (world a).collections then.asked) (HasCause history (file_of b) (file_of c)) → MatchResult r (R (world a).collections) (HasCause history (file_of a) (file_of c))
+      either k (Ok y) then right = then.right y right
+      either k (Err e) then cause = widen_before history (file_of a) (file_of b) (file_of c) first.reads.goes second.reads.goes k e cause
+
+-- ---- what a command does that reads first
+
+module _ {D : Type 0} (history : D → History) (old new : Engine D) (planned : Result (World × Pairs) Refusal) where
+  -- it was refused, by a cause of its own
+  pub performs_refused : (e : Refusal) → OnlyReads history old new → (KeepsWord (disk_history history (file_of new)) → HasCause history (file_of old) (file_of new) e) → Performs history planned (Err e) old new
+  performs_refused e reads cause = record {
+    sound = reads.sound;
+    goes = reads.goes;
+    start = start_same history old new reads;
+    does = λ k. (world_same history old new reads, inr (of_file history (file_of old) (file_of new) e (cause k), λ k. inl (cause k)));
+    refused = reads.changes;
+  }
+
+  -- all of it was reading
+  pub performs_read : (r : Result Pairs Refusal) → OnlyReads history old new → (KeepsWord (disk_history history (file_of new)) → DoesPlanned history planned r old new) → Performs history planned r old new
+  performs_read r reads does = record {
+    sound = reads.sound;
+    goes = reads.goes;
+    start = start_same history old new reads;
+    does = does;
+    refused = either r;
+  }
+    where
+      either : (x : Result Pairs Refusal) → OnErr x (has_changes new ≡ has_changes old)
+      either (Ok reply) = tt
+      either (Err e) = reads.changes
+
+pub performs_memory : {D : Type 0} (history : D → History) (old new : Engine D) (planned : Result (World × Pairs) Refusal) (e : Refusal) → e ≡ refusals.OutOfMemory → OnlyReads history old new → Performs history planned (Err e) old new
+performs_memory history old new planned e is reads = performs_refused history old new planned e reads (λ k. inl is)
+
+-- What was done behind what was read, where it was planned of the same world.
+module _ {D : Type 0} (history : D → History) (old mid new : Engine D) (reads : OnlyReads history old mid) (there planned : Result (World × Pairs) Refusal) where
+  -- the cause of what came behind, from the beginning
+  cause_wider : (e : Refusal) → GoesFrom history (file_of mid) (file_of new) → FileCause history (file_of mid) (file_of new) (answered (world mid) there).0 e → FileCause history (file_of old) (file_of new) (answered (world mid) there).0 e
+  cause_wider e goes (kind, why) =
+      (kind, λ k. widen_write history (file_of old) (file_of mid) (file_of new) (file_of new) reads.goes goes (goes_itself history (file_of new)) k (answered (world mid) there).0.collections e (why k))
+
+  pub performs_behind : (r : Result Pairs Refusal) → Performs history there r mid new → (KeepsWord (disk_history history (file_of new)) → there ≡ planned) → Performs history planned r old new
+  performs_behind r done same = record {
+    sound = done.sound;
+    goes = goes_on history (file_of old) (file_of mid) (file_of new) reads.goes done.goes;
+    start = done.start ∙ start_same history old mid reads;
+    does = λ k. either r (same k) (done.does k);
+    refused = kept r done.refused;
+  }
+    where
+      kept : (x : Result Pairs Refusal) → OnErr x (has_changes new ≡ has_changes mid) → OnErr x (has_changes new ≡ has_changes old)
+      kept (Ok reply) h = tt
+      kept (Err e) h = h ∙ reads.changes
+
+      either : (x : Result Pairs Refusal) → there ≡ planned → DoesPlanned history there x mid new → DoesPlanned history planned x old new
+      either (Ok reply) is does = ap with_ok (sym is) ∙ does
+      either (Err e) is (unchanged, inl refused) = (unchanged ∙ world_same history old mid reads, inl (sym is ∙ refused))
+      either (Err e) is (unchanged, inr cause) = (
+        unchanged ∙ world_same history old mid reads,
+        inr (subst (λ (w : World). FileCause history (file_of old) (file_of new) w e) ((λ i. (answered (world_same history old mid reads i) (is i)).0)) (cause_wider e done.goes cause)),
+      )

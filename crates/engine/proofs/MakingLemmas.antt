@@ -1,0 +1,137 @@
+-- Commands that change the collections.
+use Rattle.std.proofs.Common.{◌≡◌, ◌⊎◌, inl, inr, List, Result, Ok, Err, refl, sym, ap, subst, ◌∙◌}
+use Rattle.bson.specs.Tree.{Pairs}
+use Rattle.page.specs.History.{History, KeepsWord}
+use Rattle.path.specs.declared.refusal.Refusal.{Refusal}
+use Rattle.path.specs.declared.refusal.Refusal.TheVariants as refusals
+use Rattle.outcome.specs.Outcome.{◌>>=◌}
+use Rattle.btree.specs.Keys.{Edit}
+use Rattle.index.specs.Documents.{IsUnindexed}
+use Rattle.index.specs.State.{Collection}
+use Rattle.index.specs.StateEntries.{Leads}
+use Rattle.collections.specs.Calls.{HasCause, HasWriteCause, IsOfFile}
+use Rattle.collections.proofs.LawLemmas as laws
+use Rattle.engine.specs.Durable.{disk_history, file_of, IsRunning, IsSound}
+use Rattle.engine.specs.Known.{Known}
+use Rattle.engine.specs.Looking.{OnlyReads}
+use Rattle.engine.specs.Performing.{Performs}
+use Rattle.engine.specs.Refusals.{ok_reply}
+use Rattle.engine.specs.Step.{answered}
+use Rattle.engine.specs.View.{world, with_ok}
+use Rattle.engine.specs.World.{World}
+use Rattle.engine.specs.Writing.{FileCause, Makes, planned_or, Writes}
+use Rattle.engine.specs.declared.engine.Engine.{Engine}
+use Rattle.engine.proofs.OnlyReading.{now_same, word_before, write_cause_from}
+use Rattle.engine.proofs.Sound.{for_memory}
+
+-- what is refused by the file is one of its refusals
+of_cause : {D : Type 0} (history : D → History) (after : List Collection) (old new : Engine D) (e : Refusal) → HasWriteCause history after (file_of old) (file_of new) e → IsOfFile e
+of_cause history after old new e (inl (inl memory)) = inl memory
+of_cause history after old new e (inl (inr (inl (is, failed)))) = inr (inl is)
+of_cause history after old new e (inl (inr (inr (is, full)))) = inr (inr is)
+of_cause history after old new e (inr (is, large)) = inr (inr is)
+
+-- where there is a plan, it is what is planned
+pub planned_is : (cs next : List Collection) (planned : Result (List Collection) Refusal) → planned ≡ Ok next → planned ≡ Ok (planned_or cs planned)
+planned_is cs next planned is = is ∙ ap (λ (p : Result (List Collection) Refusal). Ok (planned_or cs p)) (sym is)
+
+-- edits that lead to what is planned
+pub leads_planned : (edits : List Edit) (cs next : List Collection) (planned : Result (List Collection) Refusal) → planned ≡ Ok next → Leads edits cs next × IsUnindexed next
+    → Leads edits cs (planned_or cs planned) × IsUnindexed (planned_or cs planned)
+leads_planned edits cs next planned is led = subst (λ (s : List Collection). Leads edits cs s × IsUnindexed s) (sym (ap (planned_or cs) is)) led
+
+module _ {D : Type 0} (history : D → History) where
+  -- while an engine runs, its collections have no indexes
+  pub unindexed_now : (engine : Engine D) → IsSound history engine → KeepsWord (disk_history history engine) → IsRunning engine → IsUnindexed (world engine).collections
+  unindexed_now engine h k running = (h.file running k).now_state
+
+  -- it was refused before anything was written
+  pub makes_none : (planned : Result (List Collection) Refusal) (old new : Engine D) (e : Refusal) → OnlyReads history old new
+      → (KeepsWord (disk_history history new) → (planned ≡ Err e) ⊎ HasCause history (file_of old) (file_of new) e) → Makes history planned (Err e) old new
+  makes_none planned old new e reads why = record {
+    sound = reads.sound;
+    goes = reads.goes;
+    start = ap (λ (k : Known). k.start) reads.told;
+    cursors = reads.cursors;
+    does = λ k. (now_same history old new reads, elim (why k) [ inl is ↦ inl is | inr cause ↦ inr (inl cause) ]);
+    refused = reads.changes;
+  }
+
+  -- what was read was followed by a write
+  module _ (plan : List Collection → Result (List Collection) Refusal) (old mid new : Engine D) (reads : OnlyReads history old mid) where
+    abbrev after : List Collection
+    after = planned_or (world mid).collections (plan (world mid).collections)
+
+    pub makes_written : (r : Result (Unit {0}) Refusal) → (KeepsWord (disk_history history mid) → plan (world mid).collections ≡ Ok after) → Writes history after r mid new → Makes history (plan (world old).collections) r old new
+    makes_written (Ok tt) plans w = record {
+      sound = w.sound;
+      goes = laws.goes_further history old.file mid.file new.file reads.goes w.goes;
+      start = w.start ∙ ap (λ (k : Known). k.start) reads.told;
+      cursors = w.cursors ∙ reads.cursors;
+      does = λ k. ap plan (sym (now_same history old mid reads)) ∙ plans (word_before history mid.file new.file w.goes k) ∙ ap (λ (cs : List Collection). Ok cs) (sym w.ok);
+      refused = tt;
+    }
+    makes_written (Err e) plans w = record {
+      sound = w.sound;
+      goes = laws.goes_further history old.file mid.file new.file reads.goes w.goes;
+      start = w.start ∙ ap (λ (k : Known). k.start) reads.told;
+      cursors = w.cursors ∙ reads.cursors;
+      does = λ k. (
+        w.err.0 ∙ now_same history old mid reads,
+        inr (write_cause_from history old.file mid.file new.file reads.goes (word_before history mid.file new.file w.goes k) (planned_or (world old).collections (plan (world old).collections)) e
+            (subst (λ (cs : List Collection). HasWriteCause history (planned_or cs (plan cs)) mid.file new.file e) (now_same history old mid reads) (w.cause k))),
+      );
+      refused = w.err.1 ∙ reads.changes;
+    }
+
+-- the collections that are planned, and this reply
+abbrev pub with_reply : World → Pairs → Result (List Collection) Refusal → Result (World × Pairs) Refusal
+with_reply w reply planned = planned >>= (λ cs. Ok (record w { collections = cs }, reply))
+
+module _ {D : Type 0} (history : D → History) (reply : Pairs) (planned : Result (List Collection) Refusal) (run : Result (World × Pairs) Refusal) (old new : Engine D) where
+  -- there was no memory for the reply
+  pub performs_none : IsSound history old → Performs history run (Err refusals.OutOfMemory) old old
+  performs_none h = record {
+    sound = h;
+    goes = laws.goes_from_itself history old.file;
+    start = refl;
+    does = λ k. (refl, inr (for_memory history old.file old.file (answered (world old) run).0));
+    refused = refl;
+  }
+
+  module _ (is : run ≡ with_reply (world old) reply planned) where
+    pub performs_done : (d : Pairs) → d ≡ ok_reply reply → Makes history planned (Ok tt) old new → Performs history run (Ok d) old new
+    performs_done d said makes = record {
+      sound = makes.sound;
+      goes = makes.goes;
+      start = makes.start;
+      does = λ k. ap with_ok (is ∙ ap (with_reply (world old) reply) (makes.does k)) ∙ there;
+      refused = tt;
+    }
+      where
+        there : with_ok (Ok (record (world old) { collections = (world new).collections }, reply)) ≡ Ok (world new, d)
+        there i = Ok (record { collections = (world new).collections; cursors = (sym makes.cursors i).list; next = (sym makes.cursors i).next }, sym said i)
+
+    refused_so : (p : Result (List Collection) Refusal) → (answered (world old) (with_reply (world old) reply p)).0.collections ≡ planned_or (world old).collections p
+    refused_so (Ok cs) = refl
+    refused_so (Err e) = refl
+
+    pub performs_refused : (e : Refusal) → Makes history planned (Err e) old new → Performs history run (Err e) old new
+    performs_refused e makes = record {
+      sound = makes.sound;
+      goes = makes.goes;
+      start = makes.start;
+      does = λ k. let d = makes.does k in (same d.0, why d.1);
+      refused = makes.refused;
+    }
+      where
+        same : (world new).collections ≡ (world old).collections → world new ≡ world old
+        same now i = record { collections = now i; cursors = (makes.cursors i).list; next = (makes.cursors i).next }
+
+        ends : (answered (world old) run).0.collections ≡ planned_or (world old).collections planned
+        ends = ap (λ (r : Result (World × Pairs) Refusal). (answered (world old) r).0.collections) is ∙ refused_so planned
+
+        why : (planned ≡ Err e) ⊎ HasWriteCause history (planned_or (world old).collections planned) (file_of old) (file_of new) e
+            → (run ≡ Err e) ⊎ FileCause history (file_of old) (file_of new) (answered (world old) run).0 e
+        why (inl refused) = inl (is ∙ ap (with_reply (world old) reply) refused)
+        why (inr cause) = inr (of_cause history (planned_or (world old).collections planned) old new e cause, λ k. subst (λ (cs : List Collection). HasWriteCause history cs (file_of old) (file_of new) e) (sym ends) cause)

@@ -1,0 +1,167 @@
+-- The documents that the statements of an update may mean are looked up.
+use Rattle.std.proofs.Common.{◌≡◌, ◌⊎◌, ◌<◌, ◌≤◌, inl, inr, ℕ, Bool, true, false, List, [], length, take, Option, Some, None, Result, Ok, Err, refl, sym, ap, subst, ◌∙◌, arith}
+use Rattle.std.specs.Prelude.{◌^◌, ◌-◌, MatchResult}
+use Rattle.std.specs.Global.{Vec}
+use Rattle.std.specs.List.{filter}
+use Rattle.std.proofs.lemmas.List.{take_all, length-take}
+use Rattle.bson.specs.Tree.{Pairs}
+use Rattle.page.specs.History.{History, KeepsWord}
+use Rattle.path.specs.declared.refusal.Refusal.{Refusal}
+use Rattle.path.specs.declared.refusal.Refusal.TheVariants as refusals
+use Rattle.commands.specs.Update.{UpdateStatement}
+use Rattle.collections.specs.Calls.{HasCause}
+use Rattle.collections.specs.Reading.{IsNumbered}
+use Rattle.index.specs.State.{Collection, find_collection}
+use Rattle.index.proofs.PlaceLemmas.{found_name}
+use Rattle.engine.specs.Durable.{disk_history, file_of, IsSound}
+use Rattle.engine.specs.Looking.{Looks, LooksOf, OnlyReads}
+use Rattle.engine.specs.Merging.{is_meant, makes_any}
+use Rattle.engine.specs.Numbering.{IsNewNumber, IsTooMany}
+use Rattle.engine.specs.Putting.{HasNumber, IsFullFor, IsFullWithout, IsMeant, IsUpdate, MeansIn, UpdatesOf}
+use Rattle.engine.specs.Trying.{Tries}
+use Rattle.engine.specs.Update.{run_all}
+use Rattle.engine.specs.View.{world}
+use Rattle.engine.specs.declared.engine.Engine.{Engine}
+use Rattle.engine.specs.declared.updates.Meant.{Meant}
+use Rattle.engine.specs.declared.updates.Updates.{Updates}
+use Rattle.engine.proofs.LookingLemmas.{looks_behind}
+use Rattle.engine.proofs.NewCollections.{IsNumberOf, none_of, there_of}
+use Rattle.engine.proofs.OnlyReading.{cause_from, now_same, reads_none, reads_on, word_before}
+use Rattle.engine.proofs.PlannedUpdates.{full_refused}
+
+-- ---- a collection that is missing
+
+module _ {D : Type 0} (history : D → History) (ss : List UpdateStatement) (old new : Engine D) where
+  abbrev MeantNone : Result Meant Refusal → Engine D → Type 0
+  MeantNone r last = Tries history (MeansIn None (world old).collections ss) (IsFullWithout (world old).collections ss) r old last
+
+  -- no statement makes a document
+  pub none_meant : (m : Meant) → IsSound history old → m.documents.items ≡ [] → m.is_new ≡ false → makes_any ss ≡ false → MeantNone (Ok m) old
+  none_meant m h none still makes = record {
+    reads = reads_none history old h;
+    answers = λ k. (none, still ∙ sym makes, λ made. absurd (let no = sym still ∙ made in cc));
+  }
+
+  abbrev Numbers : Result ℕ Refusal → Type 0
+  Numbers r = Tries history (IsNewNumber (world old).collections) (IsTooMany (world old).collections) r old new
+
+  -- one does, and the collection gets a number
+  pub new_meant : (m : Meant) (n : ℕ) → Numbers (Ok n) → m.documents.items ≡ [] → m.is_new ≡ true → m.number ≡ n → makes_any ss ≡ true → MeantNone (Ok m) new
+  new_meant m n tries none made numbered makes = record {
+    reads = tries.reads;
+    answers = λ k. let room = tries.answers k in (none, made ∙ sym makes, λ e. (room.0, numbered ∙ room.1));
+  }
+
+  pub none_numbered : (e : Refusal) → Numbers (Err e) → makes_any ss ≡ true → MeantNone (Err e) new
+  none_numbered e tries makes = record {
+    reads = tries.reads;
+    answers = λ k. elim (tries.answers k) [
+      | inl many ↦ inl (many.0, makes, many.1)
+      | inr cause ↦ inr cause
+    ];
+  }
+
+-- ---- of a name
+
+module _ {D : Type 0} (history : D → History) (name : List ℕ) (ss : List UpdateStatement) (old mid : Engine D) where
+  abbrev now : List Collection
+  now = (world old).collections
+
+  abbrev Means : Result Meant Refusal → Engine D → Type 0
+  Means r last = Tries history (IsMeant now name ss) (IsFullFor now name ss) r old last
+
+  pub meant_unread : (e : Refusal) → Looks history (IsNumberOf name) (Err e) old mid → Means (Err e) mid
+  meant_unread e first = record { reads = first.reads; answers = λ k. inr (first.answers k) }
+
+  pub meant_without_memory : (e : Refusal) → e ≡ refusals.OutOfMemory → OnlyReads history old mid → Means (Err e) mid
+  meant_without_memory e is reads = record { reads = reads; answers = λ k. inr (inl is) }
+
+  -- it is missing
+  pub meant_missing : (last : Engine D) → Looks history (IsNumberOf name) (Ok None) old mid → (r : Result Meant Refusal)
+      → Tries history (MeansIn None (world mid).collections ss) (IsFullWithout (world mid).collections ss) r mid last → Means r last
+  meant_missing last first r second = record {
+    reads = reads_on history old mid last first.reads second.reads;
+    answers = λ k. at r (is_none k) k (second.answers k);
+  }
+    where
+      is_none : KeepsWord (disk_history history last) → find_collection now name ≡ None
+      is_none k = none_of now name (first.answers (word_before history (file_of mid) (file_of last) second.reads.goes k))
+
+      same : (world mid).collections ≡ now
+      same = now_same history old mid first.reads
+
+      at : (q : Result Meant Refusal) → find_collection now name ≡ None → KeepsWord (disk_history history last)
+          → MatchResult q (MeansIn None (world mid).collections ss) (λ e. IsFullWithout (world mid).collections ss e ⊎ HasCause history (file_of mid) (file_of last) e)
+          → MatchResult q (IsMeant now name ss) (λ e. IsFullFor now name ss e ⊎ HasCause history (file_of old) (file_of last) e)
+      at (Ok m) none k right =
+          subst (λ (o : Option Collection). MeansIn o now ss m) (sym none) (subst (λ (cs : List Collection). MeansIn None cs ss m) same right)
+      at (Err e) none k (inl full) = inl (none, subst (λ (cs : List Collection). IsFullWithout cs ss e) same full)
+      at (Err e) none k (inr cause) =
+          inr (cause_from history (file_of old) (file_of mid) (file_of last) first.reads.goes (word_before history (file_of mid) (file_of last) second.reads.goes k) e cause)
+
+  -- it is there
+  module _ (number : ℕ) (first : Looks history (IsNumberOf name) (Ok (Some number)) old mid) (select : Pairs → Bool) (selects : (d : Pairs) → select d ≡ is_meant ss d) (last : Engine D) where
+    abbrev Found : List Collection → Collection → Vec Pairs → Type 0
+    Found cs c found = found.items ≡ take (2 ^ 64 - 1) (filter select c.documents)
+
+    abbrev meant_of : Vec Pairs → Meant
+    meant_of found = record { number = number; is_new = false; documents = found }
+
+    same_filter : (ds : List Pairs) → filter select ds ≡ filter (is_meant ss) ds
+    same_filter ds = λ i. filter (λ d. selects d i) ds
+
+    means : (c : Collection) → find_collection now name ≡ Some c → number ≡ c.number → (found : Vec Pairs) → Found now c found → IsMeant now name ss (meant_of found)
+    means c there numbered found is =
+        let few : length found.items < 2 ^ 64 - 1 = omega (arith, found.ok.0, found.ok.1, found.small) in
+        let all : length (filter select c.documents) ≤ 2 ^ 64 - 1 = omega (arith, length-take (2 ^ 64 - 1) (filter select c.documents), few, ap length is) in
+        let same : found.items ≡ filter (is_meant ss) c.documents = is ∙ take_all (2 ^ 64 - 1) (filter select c.documents) all ∙ same_filter c.documents in
+        subst (λ (o : Option Collection). MeansIn o now ss (meant_of found)) (sym there) (refl, sym numbered, same)
+
+    looked : (r : Result (Vec Pairs) Refusal) → LooksOf history (λ cs c. IsNumbered cs c number) Found r mid last → Looks history (λ cs found. IsMeant cs name ss (meant_of found)) r old last
+    looked r second =
+        looks_behind history (IsNumberOf name) (λ cs c. IsNumbered cs c number) Found (λ cs found. IsMeant cs name ss (meant_of found)) old mid last (Some number) r first second (λ p.
+        let t = there_of now name number p in
+        record {
+          asked = t.collection;
+          is = record { found = ap (find_collection now) (sym (found_name now name t.collection t.found)) ∙ t.found; same = sym t.numbered };
+          right = λ found is. means t.collection t.found t.numbered found is;
+        })
+
+    pub meant_there : (found : Vec Pairs) → LooksOf history (λ cs c. IsNumbered cs c number) Found (Ok found) mid last → Means (Ok (meant_of found)) last
+    meant_there found second = let l = looked (Ok found) second in record { reads = l.reads; answers = l.answers }
+
+    pub meant_unselected : (e : Refusal) → LooksOf history (λ cs c. IsNumbered cs c number) Found (Err e) mid last → Means (Err e) last
+    meant_unselected e second = let l = looked (Err e) second in record { reads = l.reads; answers = λ k. inr (l.answers k) }
+
+-- ---- what the statements make of them
+
+module _ {D : Type 0} (history : D → History) (name : List ℕ) (ss : List UpdateStatement) (old mid : Engine D) where
+  abbrev Plans : Result Updates Refusal → Type 0
+  Plans r = Tries history (IsUpdate (world old).collections name ss) (λ e. run_all name ss (world old).collections ≡ Err e) r old mid
+
+  abbrev Meaning : Result Meant Refusal → Type 0
+  Meaning r = Tries history (IsMeant (world old).collections name ss) (IsFullFor (world old).collections name ss) r old mid
+
+  pub updated_unmeant : (e : Refusal) → Meaning (Err e) → Plans (Err e)
+  updated_unmeant e tries = record {
+    reads = tries.reads;
+    answers = λ k. elim (tries.answers k) [
+      | inl full ↦ inl (full_refused (world old).collections name ss e full)
+      | inr cause ↦ inr cause
+    ];
+  }
+
+  pub updated_tries : IsSound history old → (m : Meant) → Meaning (Ok m) → (r : Result Updates Refusal) → UpdatesOf ss m r → Plans r
+  updated_tries h m tries r planned = record {
+    reads = tries.reads;
+    answers = λ k. at r (planned (world old).collections name h.lawful (tries.answers k));
+  }
+    where
+      at : (q : Result Updates Refusal) → MatchResult q (IsUpdate (world old).collections name ss) (λ e. (run_all name ss (world old).collections ≡ Err e) ⊎ (e ≡ refusals.OutOfMemory))
+          → MatchResult q (IsUpdate (world old).collections name ss) (λ e. (run_all name ss (world old).collections ≡ Err e) ⊎ HasCause history (file_of old) (file_of mid) e)
+      at (Ok u) right = right
+      at (Err e) (inl is) = inl is
+      at (Err e) (inr memory) = inr (inl memory)
+
+pub has_number : (m : Meant) (u : Updates) → HasNumber m.is_new m.number → (u.number ≡ m.number) × (u.is_new ≡ m.is_new) → HasNumber u.is_new u.number
+has_number m u h are = λ new. subst (λ (n : ℕ). (1 ≤ n) × (n ≤ 1000)) (sym are.0) (h (sym are.1 ∙ new))

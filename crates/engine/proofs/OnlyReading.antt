@@ -1,0 +1,96 @@
+-- Steps that only read, one after the other.
+use Rattle.std.proofs.Common.{◌≡◌, ◌⊎◌, inl, inr, List, Result, Ok, Err, refl, sym, ap, ◌∙◌, arith}
+use Rattle.std.specs.Prelude.{MatchResult}
+use Rattle.page.specs.History.{History, KeepsWord}
+use Rattle.btree.specs.Store.{HasNoPage}
+use Rattle.path.specs.declared.refusal.Refusal.{Refusal}
+use Rattle.index.specs.State.{Collection}
+use Rattle.collections.specs.Calls.{GoesFrom, HasCause, HasFailed, HasWriteCause}
+use Rattle.collections.specs.Standing.{HasState}
+use Rattle.collections.specs.State.{State}
+use Rattle.collections.specs.View as views
+use Rattle.collections.specs.View.{pages_of}
+use Rattle.collections.proofs.LawLemmas as laws
+use Rattle.collections.proofs.StandingLemmas.{stopped_same}
+use Rattle.engine.specs.Durable.{disk_history, file_of, IsSound}
+use Rattle.engine.specs.Known.{Known}
+use Rattle.engine.specs.Looking.{OnlyReads}
+use Rattle.engine.specs.Trying.{Tries}
+use Rattle.engine.specs.View.{world}
+use Rattle.engine.specs.declared.engine.Engine.{Engine}
+
+module _ {D : Type 0} (history : D → History) where
+  -- ---- what was read
+
+  -- nothing was
+  pub reads_none : (old : Engine D) → IsSound history old → OnlyReads history old old
+  reads_none old h = record { sound = h; goes = laws.goes_from_itself history old.file; told = refl; cursors = refl; changes = refl }
+
+  -- the file was
+  pub reads_file : (old : Engine D) (file : State D) → IsSound history old → GoesFrom history old.file file
+      → ((start now : List Collection) → HasState history old.file start now → HasState history file start now)
+      → OnlyReads history old (record old { file = file })
+  reads_file old file h goes same = record {
+    sound = record {
+      lawful = h.lawful;
+      cursors = h.cursors;
+      before = h.before;
+      quiet = h.quiet;
+      file = same old.told.value.start old.told.value.now h.file;
+    };
+    goes = goes;
+    told = refl;
+    cursors = refl;
+    changes = refl;
+  }
+
+  pub reads_on : (a b c : Engine D) → OnlyReads history a b → OnlyReads history b c → OnlyReads history a c
+  reads_on a b c first later = record {
+    sound = later.sound;
+    goes = laws.goes_further history a.file b.file c.file first.goes later.goes;
+    told = later.told ∙ first.told;
+    cursors = later.cursors ∙ first.cursors;
+    changes = later.changes ∙ first.changes;
+  }
+
+  -- the collections are those of before
+  pub now_same : (a b : Engine D) → OnlyReads history a b → (world b).collections ≡ (world a).collections
+  now_same a b reads = ap (λ (k : Known). k.now) reads.told
+
+  -- ---- causes between two moments are causes between earlier and later ones
+
+  -- the disk kept its word before
+  pub word_before : (a b : State D) → GoesFrom history a b → KeepsWord (views.disk_history history b) → KeepsWord (views.disk_history history a)
+  word_before a b goes k = (goes.frame k).word
+
+  module _ (a b c : State D) (goes : GoesFrom history a b) (k : KeepsWord (views.disk_history history b)) where
+    failed_from : HasFailed history b c → HasFailed history a c
+    failed_from (inl stopped) = inl (sym (stopped_same history a.pager b.pager goes.stays) ∙ stopped)
+    failed_from (inr more) = inr (omega (arith, more, (goes.frame k).failures))
+
+    full_from : HasNoPage (pages_of history b) (pages_of history c) → HasNoPage (pages_of history a) (pages_of history c)
+    full_from (inl more) = inl (omega (arith, more, (goes.frame k).full_takes))
+    full_from (inr most) = inr most
+
+    pub cause_from : (e : Refusal) → HasCause history b c e → HasCause history a c e
+    cause_from e (inl memory) = inl memory
+    cause_from e (inr (inl (is, failed))) = inr (inl (is, failed_from failed))
+    cause_from e (inr (inr (is, full))) = inr (inr (is, full_from full))
+
+    pub write_cause_from : (after : List Collection) (e : Refusal) → HasWriteCause history after b c e → HasWriteCause history after a c e
+    write_cause_from after e (inl cause) = inl (cause_from e cause)
+    write_cause_from after e (inr large) = inr large
+
+  -- ---- what was tried after reads
+
+  module _ {X : Type 0} (IsRight : X → Type 0) (IsRefused : Refusal → Type 0) (a b c : Engine D) (first : OnlyReads history a b) where
+    pub tries_on : (r : Result X Refusal) → Tries history IsRight IsRefused r b c → Tries history IsRight IsRefused r a c
+    tries_on r later = record { reads = reads_on a b c first later.reads; answers = answered r later.answers }
+      where
+        answered : (x : Result X Refusal) → (KeepsWord (disk_history history c) → MatchResult x IsRight (λ e. IsRefused e ⊎ HasCause history (file_of b) (file_of c) e))
+            → KeepsWord (disk_history history c) → MatchResult x IsRight (λ e. IsRefused e ⊎ HasCause history (file_of a) (file_of c) e)
+        answered (Ok x) right k = right k
+        answered (Err e) right k = elim (right k) [
+          | inl refused ↦ inl refused
+          | inr cause ↦ inr (cause_from (file_of a) (file_of b) (file_of c) first.goes (word_before (file_of b) (file_of c) later.reads.goes k) e cause)
+        ]

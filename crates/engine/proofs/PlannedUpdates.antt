@@ -1,0 +1,259 @@
+-- What an update makes of the documents that are meant is what is planned for all of their collection.
+use Rattle.std.proofs.Common.{◌≡◌, ◌≢◌, ◌⊎◌, inl, inr, ℕ, suc, ◌<◌, ◌≤◌, Bool, true, false, List, [], ◌∷◌, length, Option, Some, None, Result, Ok, Err, refl, sym, ap, subst, ◌∙◌, arith}
+use Rattle.std.specs.Prelude.{nat_le, nat_lt, if◌then◌else◌, All}
+use Rattle.std.specs.List.{filter}
+use Rattle.std.specs.declared.cmp.Ordering.TheVariants as orders
+use Rattle.std.proofs.lemmas.Bool.Decides.{nat_tests}
+use Rattle.std.proofs.lemmas.List.Elements.{All-filter}
+use Rattle.std.proofs.lemmas.List.Kept.{AllPairs-filter}
+use Rattle.bson.specs.Tree.{Pairs, no_items}
+use Rattle.value_order.specs.Order.{compare}
+use Rattle.outcome.specs.Outcome.{◌>>=◌, Fails, unless}
+use Rattle.path.specs.declared.refusal.Refusal.{Refusal}
+use Rattle.path.specs.declared.refusal.Refusal.TheVariants as refusals
+use Rattle.commands.specs.Update.{UpdateStatement, IsRead}
+use Rattle.index.specs.LawfulState.{IsRising, IsStorable}
+use Rattle.index.specs.State.{Collection, empty_collection, find_collection, put_collection}
+use Rattle.index.proofs.PlaceLemmas.{found_name}
+use Rattle.index.proofs.StateEditLaws.{put_same}
+use Rattle.engine.specs.Documents.{key_of}
+use Rattle.engine.specs.Lawful.{IsLawfulState, IsStored}
+use Rattle.engine.specs.Merging.{is_meant, Listed, listed_in, makes_any, not_listed, put_each, run_each, upsert_listed}
+use Rattle.engine.specs.Putting.{IsFullFor, IsMeant, IsUpdate, MeansIn, PutsIn}
+use Rattle.engine.specs.Refusals.{ok_reply}
+use Rattle.engine.specs.Update.{counts_reply, judged, not_updated, run_all, run_statements, spelled, Updated, update_reply}
+use Rattle.engine.specs.Updating.{HasNone, IsRun, IsRunOf, listed_of}
+use Rattle.engine.specs.World.{documents_or_none, or_empty, unused}
+use Rattle.engine.specs.declared.statements.Run.{Run}
+use Rattle.engine.specs.declared.updates.Meant.{Meant}
+use Rattle.engine.specs.declared.updates.Updates.{Updates}
+use Rattle.engine.proofs.LawfulSteps.{stored_at}
+use Rattle.engine.proofs.ListedUpdates.{each_full, each_in, each_missing, each_there}
+use Rattle.engine.proofs.MeantDeletions.{or_first, or_second}
+use Rattle.engine.proofs.MeantUpdates.{done_alike, refused_alike}
+
+-- statements that make none do nothing where no document is
+none_made : (i : ℕ) (ss : List UpdateStatement) → makes_any ss ≡ false → run_each i ss (not_listed []) ≡ Ok (not_listed [])
+none_made i [] e = refl
+none_made i (s ∷ ss) e =
+    let first : s.upsert ≡ false = or_first s.upsert (makes_any ss) e in
+    let later : makes_any ss ≡ false = or_second s.upsert (makes_any ss) e in
+    ap (λ (b : Bool). (if b then upsert_listed i s (not_listed []) else Ok (not_listed [])) >>= run_each (suc i) ss) first ∙ none_made (suc i) ss later
+
+ok_once : {X : Type 0} (x y : X) (r : Result X Refusal) → r ≡ Ok x → r ≡ Ok y → x ≡ y
+ok_once x y r first second = cc
+
+no_rising : IsRising []
+no_rising i j d lt below = absurd (omega (arith, below))
+
+no_stored : All IsStored []
+no_stored k d below = absurd (omega (arith, below))
+
+-- What the statements come to, of all the collections.
+pub record Comes (now : List Collection) (name : List ℕ) (ss : List UpdateStatement) (m : Meant) (r : Run) : Type 0 where
+  pub after : Updated
+  pub is : run_statements name 0 ss (not_updated now) ≡ Ok after
+  pub says : update_reply after ≡ counts_reply r.tally.matched r.tally.modified r.tally.upserted
+  pub quiet : after.modified ≡ 0 → after.upserted ≡ no_items → HasNone r.tally
+  pub storable : All IsStorable r.news.items
+  pub puts : PutsIn (find_collection now name) now name m.number m.is_new r.news.items after.collections
+
+module _ (now : List Collection) (name : List ℕ) (ss : List UpdateStatement) (m : Meant) (h : IsLawfulState now) (read : All (λ (s : UpdateStatement). IsRead s.change) ss) where
+  abbrev planned : Result Updated Refusal
+  planned = run_statements name 0 ss (not_updated now)
+
+  abbrev run_of : List Pairs → Result Listed Refusal
+  run_of ds = run_each 0 ss (not_listed ds)
+
+  -- ---- a collection that is there
+
+  module _ (c : Collection) (found : find_collection now name ≡ Some c) (are : m.documents.items ≡ filter (is_meant ss) c.documents) where
+    abbrev among : List Pairs
+    among = filter (is_meant ss) c.documents
+
+    kept : IsRising c.documents × All IsStored c.documents
+    kept = subst (λ (o : Option Collection). IsRising (documents_or_none o) × All IsStored (documents_or_none o)) found (stored_at now name h.kept)
+
+    found_so : find_collection now c.name ≡ Some c
+    found_so = ap (find_collection now) (sym (found_name now name c found)) ∙ found
+
+    begun : not_updated now ≡ listed_in c now (not_listed c.documents)
+    begun k = record { collections = sym (put_same c now h.apart found_so) k; matched = 0; modified = 0; upserted = no_items }
+
+    all_there : planned ≡ each_in c now (run_of c.documents)
+    all_there = (λ k. run_statements (found_name now name c found k) 0 ss (begun k)) ∙ each_there c now 0 ss (not_listed c.documents)
+
+    refused_there : (e : Refusal) → run_of m.documents.items ≡ Err e → planned ≡ Err e
+    refused_there e refused = all_there ∙ ap (each_in c now) (refused_alike ss c.documents read kept.0 kept.1 e (ap run_of (sym are) ∙ refused))
+
+    module _ (numbered : c.number ≡ m.number) (old : m.is_new ≡ false) (r : Run) (is : run_of m.documents.items ≡ Ok (listed_of r)) (run : IsRun m.documents.items r) where
+      up : IsRunOf m.documents.items r
+      up = run.keeps
+          (subst IsRising (sym are) (AllPairs-filter (λ (d e : Pairs). compare (key_of d) (key_of e) ≡ orders.Less) (is_meant ss) c.documents kept.0))
+          (subst (All IsStored) (sym are) (All-filter (is_meant ss) IsStored c.documents kept.1))
+
+      abbrev all_listed : Listed
+      all_listed = record (listed_of r) { documents = put_each r.news.items c.documents }
+
+      listed : run_of c.documents ≡ Ok all_listed
+      listed = done_alike ss c.documents read kept.0 kept.1 r.news.items (listed_of r) (ap run_of (sym are) ∙ is) (ap (put_each r.news.items) (sym are) ∙ up.puts)
+
+      abbrev after_there : Updated
+      after_there = listed_in c now all_listed
+
+      comes_there : Comes now name ss m r
+      comes_there = record {
+        after = after_there;
+        is = all_there ∙ ap (each_in c now) listed;
+        says = refl;
+        quiet = λ none made. (none, made);
+        storable = up.storable;
+        puts = subst (λ (o : Option Collection). PutsIn o now name m.number m.is_new r.news.items after_there.collections) (sym found) (old, numbered, refl);
+      }
+
+  -- ---- a missing one
+
+  module _ (missing : find_collection now name ≡ None) (empty : m.documents.items ≡ []) where
+    abbrev made : Collection
+    made = or_empty name (unused now) None
+
+    up_missing : (r : Run) → IsRun m.documents.items r → IsRunOf m.documents.items r
+    up_missing r run = run.keeps (subst IsRising (sym empty) no_rising) (subst (All IsStored) (sym empty) no_stored)
+
+    -- a statement makes one
+    module _ (makes : makes_any ss ≡ true) (few : length now < 1000) where
+      all_made : planned ≡ each_in made now (run_of [])
+      all_made =
+          let room : nat_le 1000 (length now) ≡ false = grind (arith, nat_tests) in
+          each_missing name now missing 0 ss 0 0 no_items room
+          ∙ ap (λ (b : Bool). if b then each_in made now (run_of []) else Ok (not_updated now)) makes
+
+      refused_new : (e : Refusal) → run_of m.documents.items ≡ Err e → planned ≡ Err e
+      refused_new e refused = all_made ∙ ap (each_in made now) (ap run_of (sym empty) ∙ refused)
+
+      comes_new : (numbered : m.number ≡ unused now) → m.is_new ≡ true → (r : Run) → run_of m.documents.items ≡ Ok (listed_of r) → IsRun m.documents.items r → Comes now name ss m r
+      comes_new numbered new r is run =
+          let up = up_missing r run in
+          let after = listed_in made now (listed_of r) in
+          let put : put_each r.news.items [] ≡ r.documents.items = ap (put_each r.news.items) (sym empty) ∙ up.puts in
+          let same : after.collections ≡ put_collection (record (empty_collection name m.number) { documents = put_each r.news.items [] }) now =
+          λ k. put_collection (record { name = name; number = sym numbered k; documents = sym put k; indexes = [] }) now in
+          record {
+            after = after;
+            is = all_made ∙ ap (each_in made now) (ap run_of (sym empty) ∙ is);
+            says = refl;
+            quiet = λ none made. (none, made);
+            storable = up.storable;
+            puts = subst (λ (o : Option Collection). PutsIn o now name m.number m.is_new r.news.items after.collections) (sym missing)
+                (subst (λ (b : Bool). PutsIn None now name m.number b r.news.items after.collections) (sym new) (few, numbered, same));
+          }
+
+    -- none makes one
+    module _ (makes : makes_any ss ≡ false) where
+      none_done : planned ≡ Ok (not_updated now)
+      none_done = at (nat_le 1000 (length now)) refl
+        where
+          at : (b : Bool) → nat_le 1000 (length now) ≡ b → planned ≡ Ok (not_updated now)
+          at false room = each_missing name now missing 0 ss 0 0 no_items room ∙ ap (λ (b : Bool). if b then each_in made now (run_of []) else Ok (not_updated now)) makes
+          at true full = each_full name now missing 0 ss 0 0 no_items full ∙ ap (λ (b : Bool). if b then Err refusals.TooMany else Ok (not_updated now)) makes
+
+      none_run : run_of m.documents.items ≡ Ok (not_listed [])
+      none_run = ap run_of empty ∙ none_made 0 ss makes
+
+      refused_none : (e : Refusal) → run_of m.documents.items ≡ Err e → planned ≡ Err e
+      refused_none e refused = absurd (let no = sym none_run ∙ refused in cc)
+
+      comes_none : m.is_new ≡ false → (r : Run) → run_of m.documents.items ≡ Ok (listed_of r) → IsRun m.documents.items r → Comes now name ss m r
+      comes_none old r is run =
+          let up = up_missing r run in
+          let same = ok_once (listed_of r) (not_listed []) (run_of m.documents.items) is none_run in
+          let none : HasNone r.tally = (ap (λ (l : Listed). l.modified) same, ap (λ (l : Listed). l.upserted) same) in
+          record {
+            after = not_updated now;
+            is = none_done;
+            says = ap (λ (l : Listed). counts_reply l.matched l.modified l.upserted) (sym same);
+            quiet = λ a b. none;
+            storable = up.storable;
+            puts = subst (λ (o : Option Collection). PutsIn o now name m.number m.is_new r.news.items now) (sym missing)
+                (subst (λ (b : Bool). PutsIn None now name m.number b r.news.items now) (sym old) (run.quiet none, refl));
+          }
+
+  -- ---- either
+
+  pub comes : IsMeant now name ss m → (r : Run) → run_of m.documents.items ≡ Ok (listed_of r) → IsRun m.documents.items r → Comes now name ss m r
+  comes meant r is run = at (find_collection now name) refl meant
+    where
+      missing : find_collection now name ≡ None → MeansIn None now ss m → (b : Bool) → makes_any ss ≡ b → Comes now name ss m r
+      missing none means true makes =
+          let new : m.is_new ≡ true = means.1 ∙ makes in
+          let room = means.2 new in
+          comes_new none means.0 makes room.0 room.1 new r is run
+      missing none means false makes = comes_none none means.0 makes (means.1 ∙ makes) r is run
+
+      at : (o : Option Collection) → find_collection now name ≡ o → MeansIn o now ss m → Comes now name ss m r
+      at (Some c) found means = comes_there c found means.2 means.1 means.0 r is run
+      at None none means = missing none means (makes_any ss) refl
+
+  pub refused : IsMeant now name ss m → (e : Refusal) → run_of m.documents.items ≡ Err e → planned ≡ Err e
+  refused meant e is = at (find_collection now name) refl meant
+    where
+      missing : find_collection now name ≡ None → MeansIn None now ss m → (b : Bool) → makes_any ss ≡ b → planned ≡ Err e
+      missing none means true makes = let room = means.2 (means.1 ∙ makes) in refused_new none means.0 makes room.0 e is
+      missing none means false makes = refused_none none means.0 makes e is
+
+      at : (o : Option Collection) → find_collection now name ≡ o → MeansIn o now ss m → planned ≡ Err e
+      at (Some c) found means = refused_there c found means.2 e is
+      at None none means = missing none means (makes_any ss) refl
+
+-- ---- the reply
+
+abbrev says_run : Run → Pairs
+says_run r = ok_reply (counts_reply r.tally.matched r.tally.modified r.tally.upserted)
+
+-- a reply that is no longer than it may be
+is_judged : (u : Updated) (d : Pairs) → d ≡ ok_reply (update_reply u) → length (spelled d) ≤ 1048555 → judged u ≡ Ok u
+is_judged u d e h =
+    let short : nat_lt 1048555 (length (spelled (ok_reply (update_reply u)))) ≡ false = grind (arith, nat_tests, h, ap (λ (ps : Pairs). length (spelled ps)) e) in
+    ap (λ (b : Bool). unless b refusals.BSONObjectTooLarge (let r : Result Updated Refusal = Ok u in r)) short
+
+too_long : (u : Updated) (d : Pairs) → d ≡ ok_reply (update_reply u) → 1048555 < length (spelled d) → judged u ≡ Err refusals.BSONObjectTooLarge
+too_long u d e h =
+    let long : nat_lt 1048555 (length (spelled (ok_reply (update_reply u)))) ≡ true = grind (arith, nat_tests, h, ap (λ (ps : Pairs). length (spelled ps)) e) in
+    ap (λ (b : Bool). unless b refusals.BSONObjectTooLarge (let r : Result Updated Refusal = Ok u in r)) long
+
+memory_or : (e : Refusal) {P : Type 0} → (e ≢ refusals.OutOfMemory → P) → P ⊎ (e ≡ refusals.OutOfMemory)
+memory_or refusals.OutOfMemory h = inr refl
+memory_or e h = inl (h (λ f. absurd cc))
+
+module _ (ss : List UpdateStatement) (m : Meant) (read : All (λ (s : UpdateStatement). IsRead s.change) ss) (now : List Collection) (name : List ℕ) (h : IsLawfulState now) (meant : IsMeant now name ss m) where
+  -- the statements were refused, or memory ran out
+  pub updates_refused : (e : Refusal) → Fails refusals.OutOfMemory e (run_each 0 ss (not_listed m.documents.items)) → (run_all name ss now ≡ Err e) ⊎ (e ≡ refusals.OutOfMemory)
+  updates_refused e fails = memory_or e (λ other. ap (λ (r : Result Updated Refusal). r >>= judged) (refused now name ss m h read meant e (fails other)))
+
+  module _ (r : Run) (is : run_each 0 ss (not_listed m.documents.items) ≡ Ok (listed_of r)) (run : IsRun m.documents.items r) (reply : Pairs) (said : reply ≡ says_run r) where
+    pub updates_long : 1048555 < length (spelled reply) → run_all name ss now ≡ Err refusals.BSONObjectTooLarge
+    updates_long long =
+        let x = comes now name ss m h read meant r is run in
+        ap (λ (q : Result Updated Refusal). q >>= judged) x.is ∙ too_long x.after reply (said ∙ ap ok_reply (sym x.says)) long
+
+    pub updates_done : (u : Updates) → u.number ≡ m.number → u.is_new ≡ m.is_new → u.news.items ≡ r.news.items → u.reply ≡ reply → length (spelled reply) ≤ 1048555 → IsUpdate now name ss u
+    updates_done u number new news replied short =
+        let x = comes now name ss m h read meant r is run in
+        let says : reply ≡ ok_reply (update_reply x.after) = said ∙ ap ok_reply (sym x.says) in
+        record {
+          after = x.after;
+          planned = ap (λ (q : Result Updated Refusal). q >>= judged) x.is ∙ is_judged x.after reply says short;
+          says = replied ∙ says;
+          quiet = λ none made. news ∙ run.quiet (x.quiet none made);
+          storable = subst (All IsStorable) (sym news) x.storable;
+          puts = subst (λ (n : ℕ). PutsIn (find_collection now name) now name n u.is_new u.news.items x.after.collections) (sym number)
+              (subst (λ (b : Bool). PutsIn (find_collection now name) now name m.number b u.news.items x.after.collections) (sym new)
+              (subst (λ (ds : List Pairs). PutsIn (find_collection now name) now name m.number m.is_new ds x.after.collections) (sym news) x.puts));
+        }
+
+-- a collection for a document that a statement makes would be one too many
+pub full_refused : (now : List Collection) (name : List ℕ) (ss : List UpdateStatement) (e : Refusal) → IsFullFor now name ss e → run_all name ss now ≡ Err e
+full_refused now name ss e (missing, (is, makes, many)) =
+    let full : nat_le 1000 (length now) ≡ true = grind (arith, nat_tests) in
+    ap (λ (r : Result Updated Refusal). r >>= judged)
+    (each_full name now missing 0 ss 0 0 no_items full ∙ ap (λ (b : Bool). if b then Err refusals.TooMany else Ok (not_updated now)) makes ∙ ap (λ (x : Refusal). Err x) (sym is))

@@ -1,0 +1,206 @@
+-- A delete over the file: what it takes out of the collections of an engine.
+use Rattle.std.proofs.Common.{◌≡◌, ◌≢◌, inl, inr, ℕ, ◌-◌, Bool, true, false, List, [], ◌∷◌, ◌++◌, length, Option, Some, None, Result, Ok, Err, refl, sym, ap, subst, ◌∙◌, arith}
+use Rattle.std.specs.Prelude.{All, not, if◌then◌else◌, codes}
+use Rattle.std.specs.List.{filter}
+use Rattle.bson.specs.Tree.{Pairs, pair, no_pairs}
+use Rattle.filter.specs.Matches.{matches}
+use Rattle.page.specs.History.{History, KeepsWord}
+use Rattle.btree.specs.Keys.{Edit}
+use Rattle.path.specs.declared.refusal.Refusal.{Refusal}
+use Rattle.path.specs.declared.refusal.Refusal.TheVariants as refusals
+use Rattle.commands.specs.Delete.{Deletion}
+use Rattle.collections.specs.Calls.{HasCause, HasWriteCause}
+use Rattle.collections.proofs.LawLemmas as laws
+use Rattle.index.specs.Documents.{ChangesDocuments, IsUnindexed}
+use Rattle.index.specs.LawfulState.{IsStorable, AreNamedApart}
+use Rattle.index.specs.State.{Collection, find_collection, put_collection}
+use Rattle.index.specs.StateEntries.{Leads}
+use Rattle.index.proofs.PlaceLemmas.{found_name}
+use Rattle.index.proofs.StateEditLaws.{is_kept, put_same}
+use Rattle.engine.specs.Delete.{after_deletion, after_deletions, deleted_in, run_delete}
+use Rattle.engine.specs.Dropping.{Removes}
+use Rattle.engine.specs.Durable.{disk_history, file_of, IsSound}
+use Rattle.engine.specs.Known.{Known}
+use Rattle.engine.specs.Looking.{Looks, OnlyReads}
+use Rattle.engine.specs.Performing.{Performs}
+use Rattle.engine.specs.Redoing.{without_each, taken, all_taken}
+use Rattle.engine.specs.Refusals.{total, ok_reply}
+use Rattle.engine.specs.Removing.{IsTaken, deleted}
+use Rattle.engine.specs.View.{world}
+use Rattle.engine.specs.World.{World, documents_or_none, documents_of}
+use Rattle.engine.specs.Writing.{Makes, Writes}
+use Rattle.engine.specs.declared.delete.Taken.{Taken}
+use Rattle.engine.specs.declared.engine.Engine.{Engine}
+use Rattle.engine.proofs.Deleting.{left_same}
+use Rattle.engine.proofs.LostLemmas.{all_lost, taken_kept}
+use Rattle.engine.proofs.MakingLemmas.{makes_none, makes_written, performs_done, performs_refused, with_reply}
+use Rattle.engine.proofs.MeantDeletions.{taken_count}
+use Rattle.engine.proofs.OnlyReading.{cause_from, now_same, reads_none, reads_on, word_before, write_cause_from}
+
+-- ---- where edits lead
+
+one_empty : (d : Deletion) → (taken d [] ≡ []) × (after_deletion d [] ≡ [])
+one_empty d = at d.only_first
+  where
+    at : (b : Bool) → ((if b then [] else filter (matches d.filter) []) ≡ []) × ((if b then [] else filter (λ ps. not (matches d.filter ps)) []) ≡ [])
+    at true = (refl, refl)
+    at false = (refl, refl)
+
+pub all_empty : (deletions : List Deletion) → all_taken deletions [] ≡ []
+all_empty [] = refl
+all_empty (d ∷ rest) =
+    let one = one_empty d in
+    ap (λ (xs : List Pairs). xs ++ all_taken rest (after_deletion d [])) one.0 ∙ ap (all_taken rest) one.1 ∙ all_empty rest
+
+module _ (now : List Collection) (name : List ℕ) (deletions : List Deletion) where
+  -- of a missing collection nothing is taken
+  pub taken_none : find_collection now name ≡ None → all_taken deletions (documents_of now name) ≡ []
+  taken_none missing = ap (λ (o : Option Collection). all_taken deletions (documents_or_none o)) missing ∙ all_empty deletions
+
+  module _ (t : Taken) (is : IsTaken now name deletions t) where
+    module _ (c : Collection) (found : find_collection now name ≡ Some c) where
+      removed_is : t.removed.items ≡ all_taken deletions c.documents
+      removed_is = is.removed ∙ ap (λ (o : Option Collection). all_taken deletions (documents_or_none o)) found
+
+      found_so : find_collection now c.name ≡ Some c
+      found_so = ap (find_collection now) (sym (found_name now name c found)) ∙ found
+
+      deleted_is : deleted now name deletions ≡ put_collection (record c { documents = after_deletions deletions c.documents }) now
+      deleted_is = ap (λ (o : Option Collection). deleted_in o deletions now) found
+
+      storable_there : IsUnindexed now → All IsStorable t.removed.items
+      storable_there un =
+          let kept = is_kept now c un found_so in
+          subst (All IsStorable) (sym removed_is) (taken_kept IsStorable deletions c.documents kept.storable)
+
+      leads_there : (edits : List Edit) → IsUnindexed now → ChangesDocuments [] edits t.number (without_each t.removed.items) → Leads edits now (deleted now name deletions) × IsUnindexed (deleted now name deletions)
+      leads_there edits un changes =
+          let kept = is_kept now c un found_so in
+          let left : without_each t.removed.items c.documents ≡ after_deletions deletions c.documents =
+          ap (λ (xs : List Pairs). without_each xs c.documents) removed_is ∙ all_lost deletions c.documents kept.rising in
+          let led = changes now now c (λ entries spells. spells) un found_so (is.numbered c found) in
+          let there : put_collection (record c { documents = without_each t.removed.items c.documents }) now ≡ deleted now name deletions =
+          ap (λ (ds : List Pairs). put_collection (record c { documents = ds }) now) left ∙ sym deleted_is in
+          subst (λ (s : List Collection). Leads edits now s × IsUnindexed s) there led
+
+      same_there : AreNamedApart now → t.removed.items ≡ [] → deleted now name deletions ≡ now
+      same_there apart none =
+          let count = taken_count deletions c.documents in
+          let zero : length c.documents - length (after_deletions deletions c.documents) ≡ 0 = omega (arith, count, ap length (sym removed_is ∙ none)) in
+          deleted_is ∙ ap (λ (ds : List Pairs). put_collection (record c { documents = ds }) now) (left_same deletions c.documents zero) ∙ put_same c now apart found_so
+
+    -- what is taken may be stored
+    pub taken_storable : IsUnindexed now → All IsStorable t.removed.items
+    taken_storable un = at (find_collection now name) refl
+      where
+        at : (o : Option Collection) → find_collection now name ≡ o → All IsStorable t.removed.items
+        at None missing = let none = is.removed ∙ taken_none missing in subst (All IsStorable) (sym none) (λ k d below. absurd (omega (arith, below)))
+        at (Some c) found = storable_there c found un
+
+    -- The edits that remove what is taken lead to what the delete leaves.
+    pub removal_leads : (edits : List Edit) → t.removed.items ≢ [] → IsUnindexed now → Removes t.number t.removed.items (Ok tt) [] edits → Leads edits now (deleted now name deletions) × IsUnindexed (deleted now name deletions)
+    removal_leads edits some un removes = at (find_collection now name) refl
+      where
+        at : (o : Option Collection) → find_collection now name ≡ o → Leads edits now (deleted now name deletions) × IsUnindexed (deleted now name deletions)
+        at None missing = absurd (some (is.removed ∙ taken_none missing))
+        at (Some c) found = leads_there c found edits un (removes (taken_storable un))
+
+    -- Where nothing is taken all is as it was.
+    pub none_deleted : AreNamedApart now → t.removed.items ≡ [] → deleted now name deletions ≡ now
+    none_deleted apart none = at (find_collection now name) refl
+      where
+        at : (o : Option Collection) → find_collection now name ≡ o → deleted now name deletions ≡ now
+        at None missing = ap (λ (o : Option Collection). deleted_in o deletions now) missing
+        at (Some c) found = same_there c found apart none
+
+    -- as many are taken as the reply says
+    pub count_taken : length t.removed.items ≡ length (documents_of now name) - length (after_deletions deletions (documents_of now name))
+    count_taken = ap length is.removed ∙ taken_count deletions (documents_of now name)
+
+-- ---- over engines as values
+
+module _ {D : Type 0} (history : D → History) where
+  -- a refusal of what was looked up before
+  pub looks_refused : {X Y : Type 0} (P : List Collection → X → Type 0) (Q : List Collection → Y → Type 0) (a b : Engine D) (e : Refusal) → Looks history P (Err e) a b → Looks history Q (Err e) a b
+  looks_refused P Q a b e looks = record { reads = looks.reads; answers = looks.answers }
+
+  pub refused_later : {X Y : Type 0} (P : List Collection → X → Type 0) (Q : List Collection → Y → Type 0) (a b c : Engine D) (e : Refusal) → OnlyReads history a b → Looks history P (Err e) b c → Looks history Q (Err e) a c
+  refused_later P Q a b c e first looks = record {
+    reads = reads_on history a b c first looks.reads;
+    answers = λ k. cause_from history (file_of a) (file_of b) (file_of c) first.goes (word_before history (file_of b) (file_of c) looks.reads.goes k) e (looks.answers k);
+  }
+
+  -- the device stopped before
+  pub remove_stopped : (planned : Result (List Collection) Refusal) (old : Engine D) → IsSound history old → (KeepsWord (disk_history history old) → HasCause history (file_of old) (file_of old) refusals.StorageFailed)
+      → Makes history planned (Err refusals.StorageFailed) old old
+  remove_stopped planned old h cause = makes_none history planned old old refusals.StorageFailed (reads_none history old h) (λ k. inr (cause k))
+
+  module _ (name : List ℕ) (deletions : List Deletion) (old : Engine D) where
+    abbrev planned : Engine D → Result (List Collection) Refusal
+    planned engine = Ok (deleted (world engine).collections name deletions)
+
+    -- nothing is taken, and nothing written
+    pub removes_nothing : (t : Taken) → IsSound history old → (KeepsWord (disk_history history old) → IsTaken (world old).collections name deletions t) → t.removed.items ≡ [] → Makes history (planned old) (Ok tt) old old
+    removes_nothing t h is none = record {
+      sound = h;
+      goes = laws.goes_from_itself history old.file;
+      start = refl;
+      cursors = refl;
+      does = λ k. ap (λ (cs : List Collection). Ok cs) (none_deleted (world old).collections name deletions t (is k) h.lawful.apart none);
+      refused = tt;
+    }
+
+    -- what is taken was written
+    pub removes_written : (new : Engine D) (r : Result (Unit {0}) Refusal) → IsSound history old → Writes history (deleted (world old).collections name deletions) r old new → Makes history (planned old) r old new
+    removes_written new r h w = makes_written history (λ cs. Ok (deleted cs name deletions)) old old new (reads_none history old h) r (λ k. refl) w
+
+    -- what was removed behind reads
+    pub makes_on : (mid new : Engine D) (r : Result (Unit {0}) Refusal) → OnlyReads history old mid → Makes history (planned mid) r mid new → Makes history (planned old) r old new
+    makes_on mid new (Ok tt) reads m = record {
+      sound = m.sound;
+      goes = laws.goes_further history old.file mid.file new.file reads.goes m.goes;
+      start = m.start ∙ ap (λ (k : Known). k.start) reads.told;
+      cursors = m.cursors ∙ reads.cursors;
+      does = λ k. ap (λ (cs : List Collection). Ok (deleted cs name deletions)) (sym (now_same history old mid reads)) ∙ m.does k;
+      refused = tt;
+    }
+    makes_on mid new (Err e) reads m = record {
+      sound = m.sound;
+      goes = laws.goes_further history old.file mid.file new.file reads.goes m.goes;
+      start = m.start ∙ ap (λ (k : Known). k.start) reads.told;
+      cursors = m.cursors ∙ reads.cursors;
+      does = λ k.
+          let d = m.does k in (
+            d.0 ∙ now_same history old mid reads,
+            elim d.1 [
+              | inl is ↦ absurd cc
+              | inr cause ↦ inr (write_cause_from history old.file mid.file new.file reads.goes (word_before history mid.file new.file m.goes k) (deleted (world old).collections name deletions) e
+                  (subst (λ (cs : List Collection). HasWriteCause history (deleted cs name deletions) mid.file new.file e) (now_same history old mid reads) cause))
+            ],
+          );
+      refused = m.refused ∙ reads.changes;
+    }
+
+    abbrev run : World → Result (World × Pairs) Refusal
+    run w = run_delete w (record { namespace = name; deletions = deletions })
+
+    abbrev count : ℕ
+    count = length (documents_of (world old).collections name) - length (after_deletions deletions (documents_of (world old).collections name))
+
+    runs : run (world old) ≡ with_reply (world old) (pair (codes "n") (total count) no_pairs) (planned old)
+    unfolding run_delete
+    runs = refl
+
+    pub delete_refused : (new : Engine D) (e : Refusal) → Makes history (planned old) (Err e) old new → Performs history (run (world old)) (Err e) old new
+    delete_refused new e m = performs_refused history (pair (codes "n") (total count) no_pairs) (planned old) (run (world old)) old new runs e m
+
+    -- the reply was made of what was taken
+    pub delete_done : (new : Engine D) (n : ℕ) (d : Pairs) → d ≡ ok_reply (pair (codes "n") (total n) no_pairs) → (KeepsWord (disk_history history new) → n ≡ count) → Makes history (planned old) (Ok tt) old new
+        → Performs history (run (world old)) (Ok d) old new
+    delete_done new n d said many m = record {
+      sound = m.sound;
+      goes = m.goes;
+      start = m.start;
+      does = λ k. (performs_done history (pair (codes "n") (total count) no_pairs) (planned old) (run (world old)) old new runs d (said ∙ ap (λ (x : ℕ). ok_reply (pair (codes "n") (total x) no_pairs)) (many k)) m).does k;
+      refused = tt;
+    }

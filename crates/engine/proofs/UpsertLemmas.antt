@@ -1,0 +1,43 @@
+-- A document that a statement makes where none matches.
+use Rattle.std.proofs.Common.{◌≡◌, ℕ, List, Option, Result, Ok, sym, ap, ◌∙◌}
+use Rattle.bson.specs.Tree.{document, Pairs, no_items, item, append_items}
+use Rattle.bson.specs.Lawful.{IsDocument}
+use Rattle.outcome.specs.Outcome.{◌>>=◌, Fails, or_refused}
+use Rattle.path.specs.declared.refusal.Refusal.{Refusal}
+use Rattle.path.specs.declared.refusal.Refusal.TheVariants as refusals
+use Rattle.commands.specs.Update.{UpdateStatement}
+use Rattle.engine.specs.Documents.{key_of, place}
+use Rattle.engine.specs.Lawful.{IsStored}
+use Rattle.engine.specs.Merging.{Listed, upsert_listed, with_listed}
+use Rattle.engine.specs.Update.{counted, upsert_document, upserted_entry}
+use Rattle.engine.specs.Updating.{HasInserted, listed_of, RunsOn}
+use Rattle.engine.specs.declared.statements.Run.{Run}
+use Rattle.engine.specs.declared.statements.Tally.{Tally}
+use Rattle.engine.proofs.UpdatingLoop.{inserts_on, some_upserted}
+
+module _ (index : ℕ) (s : UpdateStatement) (d : Pairs) (old : Run) (is : upsert_document s ≡ Ok d) where
+  abbrev put_with : Result (List Pairs) Refusal → Result Listed Refusal
+  put_with r = r >>= (λ stored. Ok (with_listed index d stored (listed_of old)))
+
+  made : upsert_listed index s (listed_of old) ≡ put_with (or_refused (place (key_of d) d old.documents.items) refusals.DuplicateKey)
+  made = ap (λ (r : Result Pairs Refusal). r
+      >>= (λ new. or_refused (place (key_of new) new old.documents.items) refusals.DuplicateKey >>= (λ stored. let x : Result Listed Refusal = Ok (with_listed index new stored (listed_of old)) in x))) is
+
+  pub upsert_refused : (e : Refusal) → Fails refusals.OutOfMemory e (or_refused (place (key_of d) d old.documents.items) refusals.DuplicateKey)
+      → Fails refusals.OutOfMemory e (upsert_listed index s (listed_of old))
+  upsert_refused e refused = λ other. made ∙ ap put_with (refused other)
+
+  module _ (mid new : Run) (put : HasInserted d old mid) (documents : new.documents.items ≡ mid.documents.items) (entry : Pairs) (named : entry ≡ upserted_entry index (key_of d))
+      (upserted : new.tally.upserted ≡ append_items mid.tally.upserted (item (document entry) no_items)) where
+    pub upsert_done : new.tally.matched ≡ counted mid.tally.matched → new.tally.modified ≡ mid.tally.modified → upsert_listed index s (listed_of old) ≡ Ok (listed_of new)
+    upsert_done matched modified =
+        let before : mid.tally ≡ old.tally = put.tally in
+        let count : new.tally.matched ≡ counted old.tally.matched = matched ∙ ap (λ (t : Tally). counted t.matched) before in
+        let same : new.tally.modified ≡ old.tally.modified = modified ∙ ap (λ (t : Tally). t.modified) before in
+        let says : new.tally.upserted ≡ append_items old.tally.upserted (item (document (upserted_entry index (key_of d))) no_items) =
+        upserted ∙ (λ k. append_items (before k).upserted (item (document (named k)) no_items)) in
+        made ∙ ap (λ (o : Option (List Pairs)). put_with (or_refused o refusals.DuplicateKey)) put.placed
+        ∙ (λ k. Ok (record { documents = sym documents k; matched = sym count k; modified = sym same k; upserted = sym says k }))
+
+    pub upsert_on : IsStored d → IsDocument d → new.news.items ≡ mid.news.items → RunsOn old new
+    upsert_on stored readable news = inserts_on d old mid new stored readable put documents news (λ none. some_upserted mid.tally.upserted new.tally.upserted entry upserted none.1)

@@ -1,0 +1,8 @@
+use Rattle.std.proofs.Common.{drop}
+use Rattle.commands.specs.View.{documents_at}
+use Rattle.engine.proofs.InsertSteps.{NotesSoFar}
+use Rattle.engine.proofs.engine.Engine.note_documents.Given as goal
+
+abbrev pub invariant-documents : goal.invariant-documents
+invariant-documents g l =
+    NotesSoFar g.D.Disk.history l.target (documents_at l.documents) (documents_at (drop l.document-index l.documents)) l.initial.edits l.edits l.initial.self l.self

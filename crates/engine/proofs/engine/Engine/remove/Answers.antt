@@ -1,0 +1,67 @@
+use Rattle.std.proofs.Common.{inl, inr, List, [], refl, rules, sym, subst, ◌∙◌}
+use Rattle.std.specs.Prelude.{All, Ok}
+use Rattle.std.proofs.lemmas.Result.{err_from_is_err_and}
+use Rattle.btree.specs.Keys.{Edit}
+use Rattle.bson.specs.Tree.{Pairs}
+use Rattle.index.specs.LawfulState.{IsStorable}
+use Rattle.engine.specs.Dropping.{Removes}
+use Rattle.engine.specs.Removing.{deleted}
+use Rattle.engine.specs.View.{world}
+use Rattle.engine.proofs.Deleting.{deleted_lawful}
+use Rattle.engine.proofs.MakingLemmas.{makes_none}
+use Rattle.engine.proofs.OnlyReading.{reads_none}
+use Rattle.engine.proofs.RemovingLemmas.{remove_stopped, removes_nothing, removes_written, removal_leads, taken_storable}
+use Rattle.engine.proofs.WalkingLemmas.{none_there, some_there}
+use Rattle.engine.proofs.engine.Engine.remove.Goals as goal
+
+pub returns-then-is_stopped-clause-makes : goal.returns-then-is_stopped-clause-makes
+returns-then-is_stopped-clause-makes g c =
+    remove_stopped g.D.Disk.history (Ok (deleted (world c.args.self.now).collections c.args.namespace.now c.args.deletions.now)) c.args.self.now c.requires.sound
+    (λ k. inr (inl (refl, inl (sym c.is_stopped.ensures ∙ c.if-is_stopped.true))))
+
+pub returns-then-is_empty-clause-makes : goal.returns-then-is_empty-clause-makes
+returns-then-is_empty-clause-makes g c =
+    removes_nothing g.D.Disk.history c.args.namespace.now c.args.deletions.now c.args.self.now c.args.taken.now c.requires.sound c.requires.taken
+    (none_there c.args.taken.now.removed (sym c.is_empty.ensures ∙ c.if-is_empty.true))
+
+pub returns-in_err-note_removed-clause-makes : goal.returns-in_err-note_removed-clause-makes
+returns-in_err-note_removed-clause-makes g c =
+    let p = err_from_is_err_and c.from_residual.result c.from_residual.ensures.1 in
+    let now = (world c.args.self.now).collections in
+    let name = c.args.namespace.now in
+    let ds = c.args.deletions.now in
+    rw (p.1, p.2) (makes_none g.D.Disk.history (Ok (deleted now name ds)) c.args.self.now c.args.self.now c.in_err-note_removed.field-0.0 (reads_none g.D.Disk.history c.args.self.now c.requires.sound)
+    (λ k.
+    let un = (c.requires.sound.file (sym c.is_stopped.ensures ∙ c.if-is_stopped.false) k).now_state in
+    let kept = subst (All IsStorable) (sym c.deref.ensures.value) (taken_storable now name ds c.args.taken.now (c.requires.taken k) un) in
+    inr (inl (c.in_err-note_removed.ensures kept))))
+
+pub write-requires : goal.write-requires
+write-requires g c κs within =
+    let now = (world c.args.self.now).collections in
+    let name = c.args.namespace.now in
+    let ds = c.args.deletions.now in
+    let taken = c.args.taken.now in
+    let some = some_there taken.removed (sym c.is_empty.ensures ∙ c.if-is_empty.false) in
+    let edits = c.note_removed.new.edits in
+    let from_none : Removes taken.number c.deref.result.now (Ok tt) [] edits = subst (λ (es : List Edit). Removes taken.number c.deref.result.now (Ok tt) es edits) c.new-edits.ensures c.in_ok-note_removed.ensures in
+    let removes : Removes taken.number taken.removed.items (Ok tt) [] edits = subst (λ (ds : List Pairs). Removes taken.number ds (Ok tt) [] edits) c.deref.ensures.value from_none in (
+      search rules,
+      (
+        search rules,
+        (
+          c.requires.sound,
+          (
+            deleted_lawful now name ds c.requires.sound.lawful,
+            λ k running. removal_leads now name ds taken (c.requires.taken k) edits some (c.requires.sound.file running k).now_state removes,
+          ),
+        ),
+      ),
+    )
+
+pub returns-clause-makes : goal.returns-clause-makes
+returns-clause-makes g c =
+    removes_written g.D.Disk.history c.args.namespace.now c.args.deletions.now c.args.self.now c.write.new.self c.write.result c.requires.sound c.write.ensures
+
+pub returns-clause-has_changes : goal.returns-clause-has_changes
+returns-clause-has_changes g c = λ none. absurd (some_there c.args.taken.now.removed (sym c.is_empty.ensures ∙ c.if-is_empty.false) none)

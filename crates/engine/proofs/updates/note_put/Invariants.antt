@@ -1,0 +1,8 @@
+use Rattle.std.proofs.Common.{drop}
+use Rattle.std.specs.Prelude.{All}
+use Rattle.index.specs.LawfulState.{IsStorable}
+use Rattle.engine.proofs.PuttingLemmas.{PutsLeft}
+use Rattle.engine.proofs.updates.note_put.Given as goal
+
+abbrev pub invariant-documents : goal.invariant-documents
+invariant-documents l = All IsStorable l.documents → PutsLeft l.initial.edits l.edits l.number l.documents (drop l.document-index l.documents)

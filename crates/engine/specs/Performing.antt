@@ -1,0 +1,29 @@
+-- What running a command does to an engine.
+use Rattle.std.specs.Prelude.{◌≡◌, ◌⊎◌, ℕ, Result, Ok, Err, OnErr}
+use Rattle.bson.specs.Tree.{Pairs}
+use Rattle.page.specs.History.{History, KeepsWord}
+use Rattle.path.specs.declared.refusal.Refusal.{Refusal}
+use Rattle.collections.specs.Calls.{GoesFrom}
+use Rattle.engine.specs.Durable.{disk_history, file_of, has_changes, IsSound}
+use Rattle.engine.specs.Step.{answered}
+use Rattle.engine.specs.View.{world, turn_start, with_ok}
+use Rattle.engine.specs.World.{World}
+use Rattle.engine.specs.Writing.{FileCause}
+use Rattle.engine.specs.declared.engine.Engine.{Engine}
+
+-- The command did what was planned, or was refused as planned, or by a cause of its own. A refusal leaves the world as it was.
+abbrev pub DoesPlanned : {D : Type 0} → (D → History) → Result (World × Pairs) Refusal
+    → Result Pairs Refusal → Engine D → Engine D → Type 0
+DoesPlanned history planned (Ok reply) old new = with_ok planned ≡ Ok (world new, reply)
+DoesPlanned history planned (Err e) old new = (world new ≡ world old)
+    × ((planned ≡ Err e)
+    ⊎ FileCause history (file_of old) (file_of new) (answered (world old) planned).0 e)
+
+-- A command was run. While the disk keeps its word, it did what was planned, or was refused.
+pub record Performs {D : Type 0} (history : D → History) (planned : Result (World × Pairs) Refusal)
+    (result : Result Pairs Refusal) (old new : Engine D) : Type 0 where
+  pub sound : IsSound history new
+  pub goes : GoesFrom history (file_of old) (file_of new)
+  pub start : turn_start new ≡ turn_start old
+  pub does : KeepsWord (disk_history history new) → DoesPlanned history planned result old new
+  pub refused : OnErr result (has_changes new ≡ has_changes old)

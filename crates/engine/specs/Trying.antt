@@ -1,0 +1,16 @@
+-- What steps of commands do that only read, and may be refused as planned.
+use Rattle.std.specs.Prelude.{◌⊎◌, Result, MatchResult}
+use Rattle.page.specs.History.{History, KeepsWord}
+use Rattle.path.specs.declared.refusal.Refusal.{Refusal}
+use Rattle.collections.specs.Calls.{HasCause}
+use Rattle.engine.specs.Durable.{disk_history, file_of}
+use Rattle.engine.specs.Looking.{OnlyReads}
+use Rattle.engine.specs.declared.engine.Engine.{Engine}
+
+-- The file was read, and nothing else was done. While the disk keeps its word, the answer is right, or the refusal is, or it has
+-- its cause.
+pub record Tries {D X : Type 0} (history : D → History) (IsRight : X → Type 0) (IsRefused : Refusal → Type 0)
+    (result : Result X Refusal) (old new : Engine D) : Type 0 where
+  pub reads : OnlyReads history old new
+  pub answers : KeepsWord (disk_history history new)
+      → MatchResult result IsRight (λ e. IsRefused e ⊎ HasCause history (file_of old) (file_of new) e)
