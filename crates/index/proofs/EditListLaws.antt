@@ -29,7 +29,7 @@ with_below j e (f ∷ fs) under h = by (key_cmp e.key f.key) (with_below j e fs 
     by Equal later = (under, h.1)
     by Greater later = (h.0, later)
 
-with_rises : (e : Edit) (fs : List Edit) → Rises (edit_keys fs) → Rises (edit_keys (with_edit e fs))
+pub with_rises : (e : Edit) (fs : List Edit) → Rises (edit_keys fs) → Rises (edit_keys (with_edit e fs))
 with_rises e [] h = (tt, tt)
 with_rises e (f ∷ fs) h = by (key_cmp e.key f.key) refl (with_rises e fs h.1)
   where
@@ -89,7 +89,7 @@ with_value k e (f ∷ fs) v h = by (key_cmp e.key f.key) refl (with_value k e fs
     by Greater is later = later
 
 -- the edit more is made of the map that the others make
-with_change : (e : Edit) (fs : List Edit) (xs : List Entry) → Rises (edit_keys fs) → Rises (entry_keys xs) → change (with_edit e fs) xs ≡ edit_map e (change fs xs)
+pub with_change : (e : Edit) (fs : List Edit) (xs : List Entry) → Rises (edit_keys fs) → Rises (entry_keys xs) → change (with_edit e fs) xs ≡ edit_map e (change fs xs)
 with_change e fs xs up h =
     one_map (change (with_edit e fs) xs) (change (e ∷ []) (change fs xs)) (rises_change (with_edit e fs) xs h) (rises_change (e ∷ []) (change fs xs) (rises_change fs xs h))
     (λ k. change_value k (with_edit e fs) xs ∙ with_value k e fs (value_at k xs) up

@@ -43,3 +43,5 @@ pub mod BatchLaws
 pub mod ReadingLemmas
 pub mod NotingLemmas
 pub mod ShortKeys
+pub mod ManyEditsLaws
+pub mod LoopLemmas

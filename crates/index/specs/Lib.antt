@@ -23,3 +23,4 @@ pub mod Documents
 pub mod FoundLaws
 pub mod Batches
 pub mod Escaping
+pub mod Indexed

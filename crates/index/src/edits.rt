@@ -105,7 +105,9 @@ impl Edits {
     }
 
     /// The allocator that it takes memory from.
-    pub(crate) fn allocator(&self) -> Global {
+    pub(crate) fn allocator(&self) -> Global
+        ensures { IsEditList self.now }
+    {
         *self.edits.allocator()
     }
 

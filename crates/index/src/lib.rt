@@ -15,6 +15,7 @@ mod entry_keys;
 mod entry_reading;
 mod entry_values;
 pub mod found_laws;
+mod indexed_edits;
 mod keys;
 pub mod laws;
 mod state_edits;

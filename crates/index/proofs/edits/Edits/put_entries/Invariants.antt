@@ -1,0 +1,9 @@
+use Rattle.std.proofs.Common.{drop}
+use Rattle.index.specs.Indexed.{NotesUpTo, entries_at}
+use Rattle.index.specs.StateEntries.{puts}
+use Rattle.index.specs.View.{texts_of}
+use Rattle.index.proofs.edits.Edits.put_entries.Given as goal
+
+abbrev pub invariant-keys : goal.invariant-keys
+invariant-keys l =
+    NotesUpTo l.fn.self (puts (entries_at l.number l.index l.id (texts_of l.keys))) (puts (entries_at l.number l.index l.id (texts_of (drop l.key-index l.keys)))) l.self
