@@ -45,3 +45,4 @@ pub mod NotingLemmas
 pub mod ShortKeys
 pub mod ManyEditsLaws
 pub mod LoopLemmas
+pub mod IndexedLoops
