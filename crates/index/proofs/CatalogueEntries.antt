@@ -71,11 +71,11 @@ spelled_pairs d h = (
   ),
 )
 
-items_lawful : (ds : List Definition) → AllByRecursion IsDefinition ds → IsItems (definition_items ds)
+pub items_lawful : (ds : List Definition) → AllByRecursion IsDefinition ds → IsItems (definition_items ds)
 items_lawful [] h = tt
 items_lawful (d ∷ ds) h = (spelled_pairs d h.0, items_lawful ds h.1)
 
-items_flat : (ds : List Definition) → items_levels (definition_items ds) ≤ 2
+pub items_flat : (ds : List Definition) → items_levels (definition_items ds) ≤ 2
 items_flat [] = omega arith
 items_flat (d ∷ ds) = omega (arith, items_flat ds, key_levels d.fields)
 

@@ -45,7 +45,7 @@ let_through : {X : Type 0} (b : Bool) (r : Refusal) (x : Result X Refusal) (y : 
 let_through true r x y e = absurd cc
 let_through false r x y e = refl
 
-none_any : {X : Type 0} (p : X → Bool) (xs : List X) (x : X) → list_any p xs ≡ false → Among x xs → p x ≡ false
+pub none_any : {X : Type 0} (p : X → Bool) (xs : List X) (x : X) → list_any p xs ≡ false → Among x xs → p x ≡ false
 none_any p [] x e h = absurd h
 none_any p (y ∷ ys) x e (inl f) = ap p f ∙ (or_none (p y) (list_any p ys) e).0
   where
@@ -58,16 +58,18 @@ none_any p (y ∷ ys) x e (inr h) = none_any p ys x (or_last (p y) (list_any p y
     or_last true b g = absurd cc
     or_last false b g = g
 
-encoded_short : (fs : List Field) (d : Pairs) (key : List ℕ) → keys_in fs d ≡ Ok (encoded_keys fs d) → Among key (encoded_keys fs d) → length key ≤ 500
-encoded_short fs d key e there =
-    let within : is_too_long fs d ≡ false =
-    let_through (is_too_long fs d) refusals.KeyTooLong (unless (has_parallel_arrays fs d) refusals.CannotIndexParallelArrays (Ok (encoded_keys fs d))) (encoded_keys fs d) e in
+pub short_within : (fs : List Field) (d : Pairs) (key : List ℕ) → is_too_long fs d ≡ false → Among key (encoded_keys fs d) → length key ≤ 500
+short_within fs d key within there =
     let bytes = map (key_bytes fs) (index_keys fs d) in
     let one = among_map (key_bytes fs) key (index_keys fs d) (test_among bytes key (sym (set_among bytes key) ∙ among_test (encoded_keys fs d) key there)) in
     let short : nat_lt 500 (length (key_bytes fs one.0)) ≡ false = none_any (λ (ks : List Key). nat_lt 500 (length (key_bytes fs ks))) (index_keys fs d) one.0 within one.1 in
     let long : length key ≡ length (key_bytes fs one.0) = ap length one.2 in
     let at_most : length (key_bytes fs one.0) ≤ 500 = grind (arith, nat_tests, short) in
     omega (arith, long, at_most)
+
+encoded_short : (fs : List Field) (d : Pairs) (key : List ℕ) → keys_in fs d ≡ Ok (encoded_keys fs d) → Among key (encoded_keys fs d) → length key ≤ 500
+encoded_short fs d key e there =
+    short_within fs d key (let_through (is_too_long fs d) refusals.KeyTooLong (unless (has_parallel_arrays fs d) refusals.CannotIndexParallelArrays (Ok (encoded_keys fs d))) (encoded_keys fs d) e) there
 
 -- ---- entries
 

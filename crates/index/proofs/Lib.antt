@@ -46,3 +46,4 @@ pub mod ShortKeys
 pub mod ManyEditsLaws
 pub mod LoopLemmas
 pub mod IndexedLoops
+pub mod IndexedLaws

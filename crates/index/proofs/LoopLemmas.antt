@@ -33,3 +33,7 @@ last F g h old all xs k new past so = ends old all (F (drop k xs)) new so (ap F 
 pub on_err : {A E P : Type 0} (r : Result A E) → P → OnErr r P
 on_err (Ok a) p = tt
 on_err (Err e) p = p
+
+pub if_err : {A E P Q : Type 0} (r : Result A E) → (P → Q) → OnErr r P → OnErr r Q
+if_err (Ok a) f h = h
+if_err (Err e) f h = f h

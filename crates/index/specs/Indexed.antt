@@ -9,7 +9,7 @@ use Rattle.index.specs.Definition.{Definition}
 use Rattle.index.specs.EditList.{with_edit}
 use Rattle.index.specs.KeyTexts.{entry_key}
 use Rattle.index.specs.State.{Collection, key_of, put_collection}
-use Rattle.index.specs.StateEntries.{entry_keys, Leads}
+use Rattle.index.specs.StateEntries.{catalogue_entry, put_of, entry_keys, Leads}
 use Rattle.index.specs.StateLaws.{MayBecome, AreAlike}
 
 -- ---- edits one after the other
@@ -84,6 +84,11 @@ ReplacesIn old new number indexes was d =
     → Leads new a (put_collection now b)
 
 -- ---- indexes
+
+-- the put of what the catalogue says of a collection of this name: its number and its indexes
+abbrev pub catalogue_put : List ℕ → ℕ → List Definition → Edit
+catalogue_put name number indexes =
+    put_of (catalogue_entry (record { name = name; number = number; documents = []; indexes = indexes }))
 
 -- So they lead to the state in which the indexes of a collection of this name and number are noted anew.
 abbrev pub NotesIndexesOf : List Edit → List Edit → List ℕ → ℕ → List Definition → Type 0

@@ -16,6 +16,7 @@ mod entry_reading;
 mod entry_values;
 pub mod found_laws;
 mod indexed_edits;
+mod indexed_entries;
 mod keys;
 pub mod laws;
 mod state_edits;

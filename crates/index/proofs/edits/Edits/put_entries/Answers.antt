@@ -1,40 +1,32 @@
-use Rattle.std.proofs.Common.{ℕ, List, [], ◌∷◌, refl, sym, ap, ◌∙◌}
-use Rattle.std.specs.Global.{Vec}
-use Rattle.btree.specs.Keys.{Edit}
-use Rattle.index.specs.EditList.{with_edit}
-use Rattle.index.specs.Indexed.{entries_at, entry_at}
-use Rattle.index.specs.StateEntries.{put_of, puts}
+use Rattle.std.proofs.Common.{ℕ, ◌≤◌, List, length, sym, ap, subst, ◌∙◌}
+use Rattle.btree.specs.Keys.{Entry, Edit}
+use Rattle.index.specs.Indexed.{with_edits, NotesSome}
+use Rattle.index.specs.StateEntries.{index_entries, puts}
 use Rattle.index.specs.View.{texts_of}
-use Rattle.index.proofs.ManyEditsLaws.{stays, noted_goes}
-use Rattle.index.proofs.LoopLemmas.{step, last, on_err}
+use Rattle.index.proofs.LoopLemmas.{if_err}
+use Rattle.index.proofs.NotingLemmas.{on_ok}
+use Rattle.index.proofs.ManyEditsLaws.{noted_goes}
+use Rattle.index.proofs.IndexedLaws.{short_keys, entries_of_one}
 use Rattle.index.proofs.edits.Edits.put_entries.Goals as goal
 
-abbrev all : ℕ → ℕ → List ℕ → List (Vec ℕ) → List Edit
-all number index id keys = puts (entries_at number index id (texts_of keys))
-
-abbrev one : ℕ → ℕ → List ℕ → Vec ℕ → List Edit
-one number index id key = put_of (entry_at number index id key.items) ∷ []
-
-pub keys-preserved : goal.keys-preserved
-keys-preserved c =
-    let n = c.args.number in
-    let i = c.args.index in
-    let id = c.args.id.now in
-    step (all n i id) (one n i id) (record { first = λ x xs. refl; none = refl }) c.args.self.now (all n i id c.args.keys.now) c.args.keys.now c.keys.key-index c.key-item.result c.keys.self c.put_entry.new.self
-    c.keys-test.true c.key-item.is c.keys.invariant (c.in_ok-put_entry.ensures.ok ∙ ap (λ (key : List ℕ). with_edit (put_of (entry_at n i id key)) c.keys.self) c.deref.ensures.value)
-
-pub returns-in_err-put_entry-clause-err : goal.returns-in_err-put_entry-clause-err
-returns-in_err-put_entry-clause-err c =
-    on_err c.from_residual.result
-    (stays c.args.self.now (all c.args.number c.args.index c.args.id.now c.args.keys.now) _ c.put_entry.new.self c.keys.self c.keys.invariant c.in_err-put_entry.ensures.err)
+pub put_keys-requires : goal.put_keys-requires
+put_keys-requires c = record {
+  id = subst (λ (text : List ℕ). length text ≤ 500) (sym c.requires.text) c.requires.storable.short;
+  keys = short_keys c.args.index.now.fields c.args.document.now c.args.keys.now c.requires.keyed;
+}
 
 pub returns-clause-ok : goal.returns-clause-ok
 returns-clause-ok c =
-    let n = c.args.number in
-    let i = c.args.index in
-    let id = c.args.id.now in
-    last (all n i id) (one n i id) (record { first = λ x xs. refl; none = refl }) c.args.self.now (all n i id c.args.keys.now) c.args.keys.now c.keys.key-index c.keys.self c.keys-test.false c.keys.invariant
+    let same = entries_of_one c.args.number c.args.id.now c.args.index.now c.number.result c.args.document.now (texts_of c.args.keys.now) c.number.ensures.number c.requires.keyed c.requires.text in
+    on_ok c.put_keys.result (λ made. made ∙ ap (λ (xs : List Entry). with_edits (puts xs) c.args.self.now) same) c.put_keys.ensures.ok
+
+pub returns-clause-err : goal.returns-clause-err
+returns-clause-err c =
+    let same = entries_of_one c.args.number c.args.id.now c.args.index.now c.number.result c.args.document.now (texts_of c.args.keys.now) c.number.ensures.number c.requires.keyed c.requires.text in
+    if_err c.put_keys.result (λ some. subst (λ (es : List Edit). NotesSome c.args.self.now es c.put_keys.new.self) (ap puts same) some) c.put_keys.ensures.err
 
 pub returns-clause-goes : goal.returns-clause-goes
 returns-clause-goes c =
-    noted_goes (all c.args.number c.args.index c.args.id.now c.args.keys.now) c.args.self.now c.keys.self c.allocator-alloc.ensures.rises (returns-clause-ok c)
+    on_ok c.put_keys.result
+    (λ made. noted_goes (puts (index_entries c.args.number c.args.document.now c.args.index.now)) c.args.self.now c.put_keys.new.self c.allocator-alloc.ensures.rises made)
+    (returns-clause-ok c)

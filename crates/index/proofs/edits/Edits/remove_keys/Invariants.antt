@@ -2,7 +2,7 @@ use Rattle.std.proofs.Common.{drop}
 use Rattle.index.specs.Indexed.{NotesUpTo, entries_at}
 use Rattle.index.specs.StateEntries.{removals}
 use Rattle.index.specs.View.{texts_of}
-use Rattle.index.proofs.edits.Edits.remove_entries.Given as goal
+use Rattle.index.proofs.edits.Edits.remove_keys.Given as goal
 
 abbrev pub invariant-keys : goal.invariant-keys
 invariant-keys l =
