@@ -47,3 +47,4 @@ pub mod ManyEditsLaws
 pub mod LoopLemmas
 pub mod IndexedLoops
 pub mod IndexedLaws
+pub mod CatalogueValues
