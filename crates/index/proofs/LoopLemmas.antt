@@ -1,5 +1,5 @@
 -- A loop that notes the edits of each element of a list.
-use Rattle.std.proofs.Common.{◌≡◌, ℕ, ◌+◌, ◌<◌, ◌≤◌, List, [], ◌∷◌, ◌++◌, length, get_or, drop, Result, Ok, Err, sym, ap, ◌∙◌}
+use Rattle.std.proofs.Common.{◌≡◌, ℕ, zero, suc, ◌+◌, ◌<◌, ◌≤◌, List, [], ◌∷◌, ◌++◌, length, get_or, drop, Result, Ok, Err, refl, sym, ap, ◌∙◌, arith}
 use Rattle.std.specs.Prelude.{OnErr}
 use Rattle.std.proofs.lemmas.List.{at_drop_more, drop_all}
 use Rattle.btree.specs.Keys.{Edit}
@@ -37,3 +37,9 @@ on_err (Err e) p = p
 pub if_err : {A E P Q : Type 0} (r : Result A E) → (P → Q) → OnErr r P → OnErr r Q
 if_err (Ok a) f h = h
 if_err (Err e) f h = f h
+
+-- an element is the same whatever would stand for one that is missing
+pub at_any : {X : Type 0} (xs : List X) (k : ℕ) (d e : X) → k < length xs → get_or xs k d ≡ get_or xs k e
+at_any [] k d e below = absurd (omega (arith, below))
+at_any (x ∷ xs) zero d e below = refl
+at_any (x ∷ xs) (suc k) d e below = at_any xs k d e (omega (arith, below))

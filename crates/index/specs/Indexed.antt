@@ -1,5 +1,6 @@
 -- What puts and removals of the entries of collections with indexes are, and what they make of a state.
 use Rattle.std.specs.Prelude.{◌≡◌, ℕ, List, [], ◌∷◌, ◌++◌, map}
+use Rattle.std.specs.List.{flat_map}
 use Rattle.std.specs.declared.cmp.Ordering.TheVariants.{Equal}
 use Rattle.bson.specs.Tree.{Pairs}
 use Rattle.value_order.specs.Order.{compare}
@@ -9,8 +10,8 @@ use Rattle.index.specs.Definition.{Definition}
 use Rattle.index.specs.EditList.{with_edit}
 use Rattle.index.specs.KeyTexts.{entry_key}
 use Rattle.index.specs.State.{Collection, key_of, put_collection}
-use Rattle.index.specs.StateEntries.{catalogue_entry, put_of, entry_keys, Leads}
-use Rattle.index.specs.StateLaws.{MayBecome, AreAlike}
+use Rattle.index.specs.StateEntries.{catalogue_entry, document_entry, put_of, puts, removals, entry_keys, Leads}
+use Rattle.index.specs.StateLaws.{MayBecome, own_entries, AreAlike}
 
 -- ---- edits one after the other
 
@@ -82,6 +83,13 @@ ReplacesIn old new number indexes was d =
     → c.number ≡ number → c.indexes ≡ indexes → c.documents ≡ front ++ was ∷ back → compare (key_of was) (key_of d) ≡ Equal
     → let now = record c { documents = front ++ d ∷ back } in MayBecome c now b
     → Leads new a (put_collection now b)
+
+-- the edits by which one document replaces another of its `_id`: of each index removals of the entries for keys that only the old one has, the
+-- put of the new one's entry, and puts of the entries for keys that only the new one has
+abbrev pub replacing_in : ℕ → List Definition → Pairs → Pairs → List Edit
+replacing_in number indexes old new =
+    removals (flat_map (own_entries number old new) indexes)
+    ++ puts (document_entry number new ∷ flat_map (own_entries number new old) indexes)
 
 -- ---- indexes
 

@@ -18,7 +18,7 @@ use std::alloc::Global;
 
 impl Edits {
     /// Puts the entry of one key.
-    fn put_entry(
+    pub(crate) fn put_entry(
         &mut self,
         alloc: Global,
         number: u32,
@@ -37,7 +37,7 @@ impl Edits {
     }
 
     /// Removes the entry of one key.
-    fn remove_entry(
+    pub(crate) fn remove_entry(
         &mut self,
         alloc: Global,
         number: u32,

@@ -19,6 +19,7 @@ mod indexed_edits;
 mod indexed_entries;
 mod keys;
 pub mod laws;
+mod replacing_edits;
 mod state_edits;
 pub mod state_laws;
 mod texts;
