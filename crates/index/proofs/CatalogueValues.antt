@@ -28,7 +28,7 @@ behind_none no_items = refl
 behind_none (item t ts) = ap (item t) (behind_none ts)
 
 -- the list from a place on
-from_there : {X : Type 0} (xs : List X) (i : ℕ) (x : X) → i < length xs → x ≡ get_or xs i x → drop i xs ≡ x ∷ drop (i + 1) xs
+pub from_there : {X : Type 0} (xs : List X) (i : ℕ) (x : X) → i < length xs → x ≡ get_or xs i x → drop i xs ≡ x ∷ drop (i + 1) xs
 from_there xs i x below is = at_drop_more (λ ys. ys) xs i x below ∙ ap (λ y. y ∷ drop (i + 1) xs) (sym is)
 
 pub item_more : (ds : List Definition) (i : ℕ) (d : Definition) (vs new : List Value) (v : Value) (whole : Items) → i < length ds → d ≡ get_or ds i d → new ≡ vs ++ v ∷ [] → tree v ≡ document (spelled d)

@@ -48,3 +48,4 @@ pub mod LoopLemmas
 pub mod IndexedLoops
 pub mod IndexedLaws
 pub mod CatalogueValues
+pub mod ReplacingLoops
