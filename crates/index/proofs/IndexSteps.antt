@@ -18,7 +18,7 @@ use Rattle.index.proofs.KeyOfDocument.{among_middle, among_around, among_there, 
 
 -- ---- one more
 
-made : (c : Collection) (i : Definition) → let now = record c { indexes = c.indexes ++ i ∷ [] } in Exchanged [] (catalogue_entry now ∷ entries_in c i) (collection_entries c) (collection_entries now)
+pub made : (c : Collection) (i : Definition) → let now = record c { indexes = c.indexes ++ i ∷ [] } in Exchanged [] (catalogue_entry now ∷ entries_in c i) (collection_entries c) (collection_entries now)
 made c i =
     let now : Collection = record c { indexes = c.indexes ++ i ∷ [] } in
     let of = document_entries c.number c.indexes in

@@ -35,7 +35,7 @@ let_through false false r s x y e = (refl, cc)
 abbrev pub key_lists : List (Vec (Vec ℕ)) → List (List (List ℕ))
 key_lists all = map (λ ks. texts_of ks.items) all
 
-known : (is : List Definition) (d : Pairs) (all : List (List (List ℕ))) → keys_in_all is d ≡ Ok all → (list_any (λ i. is_too_long i.fields d) is ≡ false) × (map (λ i. encoded_keys i.fields d) is ≡ all)
+pub known : (is : List Definition) (d : Pairs) (all : List (List (List ℕ))) → keys_in_all is d ≡ Ok all → (list_any (λ i. is_too_long i.fields d) is ≡ false) × (map (λ i. encoded_keys i.fields d) is ≡ all)
 known is d all e =
     let_through (list_any (λ i. is_too_long i.fields d) is) (list_any (λ i. has_parallel_arrays i.fields d) is) refusals.KeyTooLong refusals.CannotIndexParallelArrays (map (λ i. encoded_keys i.fields d) is) all e
 

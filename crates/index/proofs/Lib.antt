@@ -49,3 +49,6 @@ pub mod IndexedLoops
 pub mod IndexedLaws
 pub mod CatalogueValues
 pub mod ReplacingLoops
+pub mod ReplacingLaws
+pub mod BuildingLaws
+pub mod CatalogueReadLaws

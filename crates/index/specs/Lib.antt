@@ -24,3 +24,5 @@ pub mod FoundLaws
 pub mod Batches
 pub mod Escaping
 pub mod Indexed
+pub mod IndexBuilding
+pub mod CatalogueReading

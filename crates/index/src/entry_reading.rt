@@ -16,7 +16,7 @@ use bson::{BsonFault, Document, NoMemory, Value, decode};
 use std::alloc::{AllocError, Global};
 
 /// The document that bytes spell, all of them.
-fn spelled_document(alloc: Global, bytes: &[u8]) -> Result<Option<Document>, NoMemory>
+pub(crate) fn spelled_document(alloc: Global, bytes: &[u8]) -> Result<Option<Document>, NoMemory>
     ensures reads { IfOk result (λ found. (d : Pairs) → Spells bytes.now d → found ≡ Some d) }
     ensures only { IfOk result (λ found. IfSome found (λ d. Spells bytes.now d)) }
 {

@@ -7,7 +7,9 @@
 
 mod arrays;
 pub mod batch_laws;
+pub mod building_laws;
 mod catalogue;
+mod catalogue_reading;
 mod changes;
 mod definition;
 mod edits;
@@ -24,6 +26,7 @@ mod state_edits;
 pub mod state_laws;
 mod texts;
 
+pub use catalogue_reading::{Catalogued, catalogued};
 pub use changes::{KeyChanges, entry_key};
 pub use definition::{IndexField, IndexSpec};
 pub use edits::Edits;

@@ -127,4 +127,40 @@ impl Edits {
         }
         Ok(())
     }
+
+    /// Puts a document in place of the one of its `_id`, in the collection of a number and of these indexes: its entry, and
+    /// of each index's entries those are removed whose keys only the old one has, and those put whose keys only the new
+    /// one has. Of an index in which the two have the same keys nothing is noted. Where memory runs out the first of these
+    /// edits are noted, and no others.
+    pub fn replace_document(
+        &mut self,
+        number: u32,
+        indexes: &[IndexSpec],
+        id: &[u8],
+        old: &Document,
+        old_keys: &[Vec<Vec<u8>>],
+        document: &Document,
+        keys: &[Vec<Vec<u8>>],
+    ) -> Result<(), NoMemory>
+        requires old_storable { IsStorable old.now }
+        requires storable { IsStorable document.now }
+        requires same { compare (key_of old.now) (key_of document.now) ≡ Equal }
+        requires text { id.now ≡ tree_text (key_of document.now) }
+        requires old_keyed { keys_in_all indexes.now old.now
+            ≡ Ok (map (λ ks. texts_of ks.items) old_keys.now) }
+        requires keyed { keys_in_all indexes.now document.now
+            ≡ Ok (map (λ ks. texts_of ks.items) keys.now) }
+        ensures ok { OnOk result (self.new
+            ≡ with_edits (replacing_in number indexes.now old.now document.now) self.old) }
+        ensures err { OnErr result (NotesSome self.old
+            (replacing_in number indexes.now old.now document.now) self.new) }
+        ensures leads { OnOk result
+            (ReplacesIn self.old self.new number indexes.now old.now document.now) }
+    {
+        let alloc = self.allocator();
+        let changes = changes_in_all(alloc, old_keys, keys)?;
+        self.remove_changes(number, indexes, id, &changes)?;
+        self.put_document(number, id, document)?;
+        self.put_changes(number, indexes, id, &changes)
+    }
 }

@@ -39,7 +39,6 @@ returns-in_err-remove_lost-clause-err c =
 
 pub returns-clause-ok : goal.returns-clause-ok
 returns-clause-ok c =
-    let val : c.deref.result.now ≡ c.index-changes-at.result.removed.items = c.deref.ensures.value ∙ ap (λ (e : KeyChanges). e.removed.items) (sym c.index-changes-at.is) in
     let n = c.args.number in
     let id = c.args.id.now in
     last T removal_of n id c.args.indexes.now c.args.changes.now c.args.self.now (removals (entries_in_all n id c.args.indexes.now (map T c.args.changes.now))) c.indexes.at c.indexes.self c.indexes-test.false c.indexes.invariant

@@ -1,0 +1,5 @@
+use Rattle.index.proofs.BuildingLaws.{go_where_they_lead}
+use Rattle.index.proofs.building_laws.go_where_they_lead.Goals as goal
+
+pub returns : goal.returns
+returns c = go_where_they_lead
