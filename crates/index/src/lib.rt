@@ -26,7 +26,7 @@ mod state_edits;
 pub mod state_laws;
 mod texts;
 
-pub use catalogue_reading::{Catalogued, catalogued};
+pub use catalogue_reading::{Catalogued, catalogue_told};
 pub use changes::{KeyChanges, entry_key};
 pub use definition::{IndexField, IndexSpec};
 pub use edits::Edits;
