@@ -1,14 +1,47 @@
 -- What the catalogue says of a collection with indexes is read back.
-use Rattle.std.proofs.Common.{◌≡◌, ℕ, List, [], ◌∷◌, Option, Some, None, refl, sym, ap, ◌∙◌}
+use Rattle.std.proofs.Common.{◌≡◌, ℕ, ◌+◌, ◌<◌, ◌≤◌, List, [], ◌∷◌, ◌++◌, length, get_or, drop, Option, Some, None, refl, sym, ap, ◌∙◌, append_assoc, append-nil}
 use Rattle.std.specs.List.{AllByRecursion}
 use Rattle.std.specs.Option.{option_and_then, option_map}
-use Rattle.bson.specs.Tree.{Tree, array, Items}
+use Rattle.std.proofs.lemmas.List.{drop_all}
+use Rattle.bson.specs.View.{tree, items_of}
+use Rattle.bson.specs.declared.value.Value.{Value}
 use Rattle.index.specs.Definition.{Definition, IsDefinition}
-use Rattle.index.specs.CatalogueReading.{definitions_in}
+use Rattle.index.specs.CatalogueReading.{item_in, definitions_in}
 use Rattle.index.specs.StateEntries.{definition_items}
 use Rattle.index.proofs.CatalogueLaws.{reads_back}
+use Rattle.index.proofs.CatalogueValues.{from_there}
 
 pub all_back : (ds : List Definition) → AllByRecursion IsDefinition ds → definitions_in (definition_items ds) ≡ Some ds
 all_back [] h = refl
 all_back (d ∷ ds) h =
     ap (option_and_then (λ (e : Definition). option_map (λ es. e ∷ es) (definitions_in (definition_items ds)))) (reads_back d h.0) ∙ ap (option_map (λ es. d ∷ es)) (all_back ds h.1)
+
+-- ---- a loop over values
+
+longer : (got : List Definition) (d : Definition) (rest : Option (List Definition)) → option_map (λ ds. (got ++ d ∷ []) ++ ds) rest ≡ option_map (λ ds. got ++ ds) (option_map (λ ds. d ∷ ds) rest)
+longer got d None = refl
+longer got d (Some ds) = ap (λ (es : List Definition). Some es) (append_assoc got (d ∷ []) ds)
+
+first_read : (vs : List Value) (i : ℕ) (v : Value) (found : Option Definition) → i < length vs → v ≡ get_or vs i v → found ≡ item_in (tree v)
+    → definitions_in (items_of (drop i vs)) ≡ option_and_then (λ d. option_map (λ ds. d ∷ ds) (definitions_in (items_of (drop (i + 1) vs)))) found
+first_read vs i v found below is told =
+    ap (λ (ws : List Value). definitions_in (items_of ws)) (from_there vs i v below is)
+    ∙ ap (option_and_then (λ (d : Definition). option_map (λ ds. d ∷ ds) (definitions_in (items_of (drop (i + 1) vs))))) (sym told)
+
+pub read_more : (vs : List Value) (i : ℕ) (v : Value) (got new : List Definition) (d : Definition) (whole : Option (List Definition)) → i < length vs → v ≡ get_or vs i v → Some d ≡ item_in (tree v) → new ≡ got ++ d ∷ []
+    → option_map (λ ds. got ++ ds) (definitions_in (items_of (drop i vs))) ≡ whole → option_map (λ ds. new ++ ds) (definitions_in (items_of (drop (i + 1) vs))) ≡ whole
+read_more vs i v got new d whole below is told grown so_far =
+    let rest = definitions_in (items_of (drop (i + 1) vs)) in
+    ap (λ (xs : List Definition). option_map (λ ds. xs ++ ds) rest) grown ∙ longer got d rest
+    ∙ sym (ap (option_map (λ (ds : List Definition). got ++ ds)) (first_read vs i v (Some d) below is told)) ∙ so_far
+
+pub read_none : (vs : List Value) (i : ℕ) (v : Value) (got : List Definition) (whole : Option (List Definition)) → i < length vs → v ≡ get_or vs i v → None ≡ item_in (tree v)
+    → option_map (λ ds. got ++ ds) (definitions_in (items_of (drop i vs))) ≡ whole → None ≡ whole
+read_none vs i v got whole below is told so_far =
+    sym (ap (option_map (λ (ds : List Definition). got ++ ds)) (first_read vs i v None below is told)) ∙ so_far
+
+pub read_all : (vs : List Value) (i : ℕ) (got : List Definition) (whole : Option (List Definition)) → length vs ≤ i
+    → option_map (λ ds. got ++ ds) (definitions_in (items_of (drop i vs))) ≡ whole → Some got ≡ whole
+read_all vs i got whole past so_far =
+    ap (λ (xs : List Definition). Some xs) (sym (append-nil got))
+    ∙ sym (ap (λ (ws : List Value). option_map (λ (ds : List Definition). got ++ ds) (definitions_in (items_of ws))) (drop_all i vs past)) ∙ so_far

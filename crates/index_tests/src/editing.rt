@@ -29,7 +29,7 @@ pub fn shown(alloc: Global, edits: &Edits) -> Result<String, Fail> {
 }
 
 /// The text of a document's `_id`, where the document may be stored.
-fn stored_id(alloc: Global, document: &Document) -> Result<Option<Vec<u8>>, NoMemory>
+pub fn stored_id(alloc: Global, document: &Document) -> Result<Option<Vec<u8>>, NoMemory>
     ensures storable { IfOk result (λ found. IfSome found (λ _. IsStorable document.now)) }
     ensures text { IfOk result (λ found. IfSome found
         (λ text. text.items ≡ tree_text (key_of document.now))) }

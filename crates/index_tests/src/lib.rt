@@ -12,6 +12,10 @@ mod edits;
 #[cfg(test)]
 mod growth;
 #[cfg(test)]
+mod indexed;
+#[cfg(test)]
+mod indexing;
+#[cfg(test)]
 mod keys;
 #[cfg(test)]
 mod limits;
