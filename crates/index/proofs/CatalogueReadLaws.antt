@@ -1,13 +1,17 @@
 -- What the catalogue says of a collection with indexes is read back.
-use Rattle.std.proofs.Common.{◌≡◌, ℕ, ◌+◌, ◌<◌, ◌≤◌, List, [], ◌∷◌, ◌++◌, length, get_or, drop, Option, Some, None, refl, sym, ap, ◌∙◌, append_assoc, append-nil}
+use Rattle.std.proofs.Common.{◌≡◌, ℕ, ◌+◌, ◌<◌, ◌≤◌, List, [], ◌∷◌, ◌++◌, length, get_or, drop, Option, Some, None, Result, Ok, Err, codes, refl, sym, ap, ◌∙◌, append_assoc, append-nil}
+use Rattle.std.specs.Prelude.{IfOk}
+use Rattle.std.specs.Global.{Vec}
 use Rattle.std.specs.List.{AllByRecursion}
 use Rattle.std.specs.Option.{option_and_then, option_map}
 use Rattle.std.proofs.lemmas.List.{drop_all}
+use Rattle.bson.specs.Lookup.{lookup}
+use Rattle.bson.specs.Tree.{Tree, array, Pairs, Items, no_items, item}
 use Rattle.bson.specs.View.{tree, items_of}
 use Rattle.bson.specs.declared.value.Value.{Value}
 use Rattle.index.specs.Definition.{Definition, IsDefinition}
 use Rattle.index.specs.CatalogueReading.{item_in, definitions_in}
-use Rattle.index.specs.StateEntries.{definition_items}
+use Rattle.index.specs.StateEntries.{catalogue_value, definition_items}
 use Rattle.index.proofs.CatalogueLaws.{reads_back}
 use Rattle.index.proofs.CatalogueValues.{from_there}
 
@@ -45,3 +49,20 @@ pub read_all : (vs : List Value) (i : ℕ) (got : List Definition) (whole : Opti
 read_all vs i got whole past so_far =
     ap (λ (xs : List Definition). Some xs) (sym (append-nil got))
     ∙ sym (ap (λ (ws : List Value). option_map (λ (ds : List Definition). got ++ ds) (definitions_in (items_of ws))) (drop_all i vs past)) ∙ so_far
+
+-- ---- the indexes in a document of the catalogue
+
+items_of_array : Option Tree → Items
+items_of_array (Some (array ts)) = ts
+items_of_array other = no_items
+
+same_items : (ts us : Items) → Some (array ts) ≡ Some (array us) → ts ≡ us
+unfolding items_of_array
+same_items ts us e = ap items_of_array e
+
+pub indexes_back : {E : Type 0} (r : Result (Option (Vec Definition)) E) (ps : Pairs) (ts : Items) (ws : Items) → IfOk r (λ found. option_map (λ v. v.items) found ≡ definitions_in ws) → ws ≡ ts → lookup ps (codes "x") ≡ Some (array ts)
+    → IfOk r (λ found. (number : ℕ) (is : List Definition) → AllByRecursion IsDefinition is → ps ≡ catalogue_value number is → option_map (λ v. v.items) found ≡ Some is)
+indexes_back (Ok found) ps ts ws h same there = λ number is lawful e.
+    let back : ts ≡ definition_items is = same_items ts (definition_items is) (sym there ∙ ap (λ (qs : Pairs). lookup qs (codes "x")) e) in
+    h ∙ ap definitions_in (same ∙ back) ∙ all_back is lawful
+indexes_back (Err e) ps ts ws h same there = h
