@@ -1,19 +1,27 @@
 -- What the catalogue says of a collection with indexes is read back.
-use Rattle.std.proofs.Common.{◌≡◌, ℕ, ◌+◌, ◌<◌, ◌≤◌, List, [], ◌∷◌, ◌++◌, length, get_or, drop, Option, Some, None, Result, Ok, Err, codes, refl, sym, ap, ◌∙◌, append_assoc, append-nil}
+use Rattle.std.proofs.Common.{◌≡◌, ℕ, Bool, true, false, not, ◌+◌, ◌<◌, ◌≤◌, List, [], ◌∷◌, ◌++◌, length, get_or, drop, Option, Some, None, Result, Ok, Err, codes, refl, sym, ap, subst, unwrap_or, ◌∙◌, append_assoc, append-nil}
 use Rattle.std.specs.Prelude.{IfOk}
+use Rattle.std.proofs.lemmas.Slice.Eq.{bytes_eq-Decides}
+use Rattle.std.specs.Str.{bytes_eq}
 use Rattle.std.specs.Global.{Vec}
 use Rattle.std.specs.List.{AllByRecursion}
 use Rattle.std.specs.Option.{option_and_then, option_map}
 use Rattle.std.proofs.lemmas.List.{drop_all}
 use Rattle.bson.specs.Lookup.{lookup}
 use Rattle.bson.specs.Tree.{Tree, array, Pairs, Items, no_items, item}
+use Rattle.bson.specs.Spelling.{Spells as SpellsDocument}
 use Rattle.bson.specs.View.{tree, items_of}
 use Rattle.bson.specs.declared.value.Value.{Value}
 use Rattle.index.specs.Definition.{Definition, IsDefinition}
 use Rattle.index.specs.CatalogueReading.{item_in, definitions_in}
+use Rattle.index.specs.LawfulState.{IsKept}
+use Rattle.index.specs.State.{Collection}
+use Rattle.index.specs.StateReads.{catalogue_bytes}
 use Rattle.index.specs.StateEntries.{catalogue_value, definition_items}
 use Rattle.index.proofs.CatalogueLaws.{reads_back}
+use Rattle.index.proofs.CatalogueEntries.{value_spells}
 use Rattle.index.proofs.CatalogueValues.{from_there}
+use Rattle.index.proofs.OneStateLaws.{lawful_indexes}
 
 pub all_back : (ds : List Definition) → AllByRecursion IsDefinition ds → definitions_in (definition_items ds) ≡ Some ds
 all_back [] h = refl
@@ -66,3 +74,26 @@ indexes_back (Ok found) ps ts ws h same there = λ number is lawful e.
     let back : ts ≡ definition_items is = same_items ts (definition_items is) (sym there ∙ ap (λ (qs : Pairs). lookup qs (codes "x")) e) in
     h ∙ ap definitions_in (same ∙ back) ∙ all_back is lawful
 indexes_back (Err e) ps ts ws h same there = h
+
+pub same_list : {is js : List Definition} → Some is ≡ Some js → is ≡ js
+same_list {is} e = ap (λ (o : Option (List Definition)). unwrap_or o is) e
+
+-- ---- a collection's
+
+pub kept_spells : (c : Collection) (bytes : List ℕ) → IsKept c → bytes ≡ catalogue_bytes c → SpellsDocument bytes (catalogue_value c.number c.indexes)
+kept_spells c bytes h e =
+    subst (λ (bs : List ℕ). SpellsDocument bs (catalogue_value c.number c.indexes)) (sym e) (value_spells c.number c.indexes h.most h.few (lawful_indexes c.indexes c.documents h.indexes))
+
+pub kept_lawful : (c : Collection) → IsKept c → AllByRecursion IsDefinition c.indexes
+kept_lawful c h = lawful_indexes c.indexes c.documents h.indexes
+
+pub told_pair : {p q : ℕ × List Definition} → Some p ≡ Some q → p ≡ q
+told_pair {p} e = ap (λ (o : Option (ℕ × List Definition)). unwrap_or o p) e
+
+-- bytes that don't differ are equal
+pub same_bytes : (a b : List ℕ) (r : Bool) → r ≡ not (bytes_eq a b) → r ≡ false → a ≡ b
+same_bytes a b r is alike = by (bytes_eq a b) refl
+  where
+    by : (t : Bool) → bytes_eq a b ≡ t → a ≡ b
+    by true e = (bytes_eq-Decides a b).0 e
+    by false e = absurd (let g : true ≡ false = sym (ap not e) ∙ sym is ∙ alike in cc)

@@ -89,7 +89,8 @@ fn parts_told(alloc: Global, document: &Document) -> Result<Option<Catalogued>, 
         × (length e.indexes.items ≤ 16))) }
     ensures parts { IfOk result (λ found. (number : ℕ) (is : List Definition) → 1 ≤ number → number ≤ 1000
         → length is ≤ 16 → AllByRecursion IsDefinition is → document.now ≡ catalogue_value number is
-        → option_map (λ e. (e.number, e.indexes.items)) found ≡ Some (number, is)) }
+        → option_map {U = ℕ × List Definition} (λ e. (e.number, e.indexes.items)) found
+        ≡ Some (number, is)) }
 {
     let Some(number) = number_told(document) else {
         return Ok(None);
@@ -106,7 +107,8 @@ fn parts_told(alloc: Global, document: &Document) -> Result<Option<Catalogued>, 
 /// The number and the indexes of the collection of which the catalogue says this.
 pub fn catalogue_told(alloc: Global, value: &[u8]) -> Result<Option<Catalogued>, NoMemory>
     ensures reads { IfOk result (λ found. (c : Collection) → IsKept c → value.now ≡ catalogue_bytes c
-        → option_map (λ e. (e.number, e.indexes.items)) found ≡ Some (c.number, c.indexes)) }
+        → option_map {U = ℕ × List Definition} (λ e. (e.number, e.indexes.items)) found
+        ≡ Some (c.number, c.indexes)) }
     ensures only { IfOk result (λ found. IfSome found (λ e. (1 ≤ e.number) × (e.number ≤ 1000)
         × (length e.indexes.items ≤ 16)
         × (value.now ≡ frame_of (pairs_bytes (catalogue_value e.number e.indexes.items))))) }
