@@ -48,7 +48,11 @@ fn catalogue_document(
 }
 
 /// The bytes of that.
-pub(crate) fn indexed_bytes(alloc: Global, number: u32, indexes: &[IndexSpec]) -> Result<Vec<u8>, NoMemory>
+pub(crate) fn indexed_bytes(
+    alloc: Global,
+    number: u32,
+    indexes: &[IndexSpec],
+) -> Result<Vec<u8>, NoMemory>
     requires number { number ≤ 1000 }
     requires few { length indexes.now ≤ 16 }
     ensures bytes { IfOk result (λ bytes. bytes.items

@@ -7,6 +7,7 @@ use index::*;
 use std::test::*;
 
 const ON_A: &str = "{i: 1, name: 'a_1', key: {a: 1}, unique: false, multi: false}";
+
 const ON_B: &str = "{i: 2, name: 'b_1', key: {b: 1}, unique: false, multi: false}";
 
 /// The document, and its entry in each index: of `a` 5, of `b` null.
@@ -52,13 +53,15 @@ const REPLACED: &str = "\
 fn replaced(rt: HostRuntime) -> Result<(), Fail> {
     let indexes = indexes_of(rt.alloc(), &[ON_A, ON_B])?;
     let mut edits = Edits::new(rt.alloc());
-    assert!(rt; replace(
-        &mut edits,
-        rt.alloc(),
-        &indexes,
-        "{_id: 7, a: [1, 2, 3], b: 1}",
-        "{_id: 7, a: [4, 3, 2], b: 1}"
-    )?);
+    assert!(rt;
+        replace(
+            &mut edits,
+            rt.alloc(),
+            &indexes,
+            "{_id: 7, a: [1, 2, 3], b: 1}",
+            "{_id: 7, a: [4, 3, 2], b: 1}"
+        )?
+    );
     assert_eq!(rt; shown(rt.alloc(), &edits)?.as_str(), REPLACED);
     Ok(())
 }

@@ -23,9 +23,9 @@ pub put_added-requires : goal.put_added-requires
 put_added-requires c =
     let val : c.deref.result.now ≡ c.index-changes-at.result.added.items = c.deref.ensures.value ∙ ap (λ (e : KeyChanges). e.added.items) (sym c.index-changes-at.is) in
     record {
-  id = c.requires.id;
-  keys = all_at (λ (e : KeyChanges). e.added.items) (λ key. length key.now ≤ 500) c.args.changes.now c.indexes.at c.index-changes-at.result c.deref.result.now c.requires.keys (omega (arith, c.indexes-test.true, c.requires.one_each)) c.index-changes-at.is val;
-}
+      id = c.requires.id;
+      keys = all_at (λ (e : KeyChanges). e.added.items) (λ key. length key.now ≤ 500) c.args.changes.now c.indexes.at c.index-changes-at.result c.deref.result.now c.requires.keys (omega (arith, c.indexes-test.true, c.requires.one_each)) c.index-changes-at.is val;
+    }
 
 pub returns-in_err-put_added-clause-err : goal.returns-in_err-put_added-clause-err
 returns-in_err-put_added-clause-err c =

@@ -23,9 +23,9 @@ pub remove_lost-requires : goal.remove_lost-requires
 remove_lost-requires c =
     let val : c.deref.result.now ≡ c.index-changes-at.result.removed.items = c.deref.ensures.value ∙ ap (λ (e : KeyChanges). e.removed.items) (sym c.index-changes-at.is) in
     record {
-  id = c.requires.id;
-  keys = all_at (λ (e : KeyChanges). e.removed.items) (λ key. length key.now ≤ 500) c.args.changes.now c.indexes.at c.index-changes-at.result c.deref.result.now c.requires.keys (omega (arith, c.indexes-test.true, c.requires.one_each)) c.index-changes-at.is val;
-}
+      id = c.requires.id;
+      keys = all_at (λ (e : KeyChanges). e.removed.items) (λ key. length key.now ≤ 500) c.args.changes.now c.indexes.at c.index-changes-at.result c.deref.result.now c.requires.keys (omega (arith, c.indexes-test.true, c.requires.one_each)) c.index-changes-at.is val;
+    }
 
 pub returns-in_err-remove_lost-clause-err : goal.returns-in_err-remove_lost-clause-err
 returns-in_err-remove_lost-clause-err c =
