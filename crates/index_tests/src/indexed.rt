@@ -4,6 +4,7 @@ use crate::editing::shown;
 use crate::indexing::*;
 use bson::*;
 use index::*;
+use std::alloc::Global;
 use std::test::*;
 
 const ON_A: &str = "{i: 1, name: 'a_1', key: {a: 1}, unique: false, multi: false}";
@@ -97,5 +98,29 @@ fn one_index(rt: HostRuntime) -> Result<(), Fail> {
 0000000200000001308000000000000005308000000000000007:- \
 0000000200000001308000000000000005308000000000000008: "
     );
+    Ok(())
+}
+
+/// The numbers of the collection and of its indexes that the catalogue tells by the value which is noted for these, or 0.
+fn told(alloc: Global, texts: &[&'static str]) -> Result<(u32, usize), Fail> {
+    let indexes = indexes_of(alloc, texts)?;
+    let mut edits = Edits::new(alloc);
+    put_indexes(&mut edits, &indexes)?;
+    let all = edits.tree_edits(alloc)?;
+    for edit in &all {
+        if let Some(value) = edit.value {
+            if let Some(found) = catalogue_told(alloc, value)? {
+                return Ok((found.number, found.indexes.len()));
+            }
+        }
+    }
+    Ok((0, 0))
+}
+
+#[test]
+fn read_back(rt: HostRuntime) -> Result<(), Fail> {
+    assert_eq!(rt; told(rt.alloc(), &[])?, (2, 0));
+    assert_eq!(rt; told(rt.alloc(), &[ON_A])?, (2, 1));
+    assert_eq!(rt; told(rt.alloc(), &[ON_A, ON_B])?, (2, 2));
     Ok(())
 }
