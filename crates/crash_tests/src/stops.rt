@@ -83,17 +83,16 @@ fn make_turn(
     })
 }
 
-/// Documents of these numbers are stored by the turn with this number, after which there are so many changes.
+/// Documents of these numbers, so many, are stored by the turn with this number, after which there are so many changes.
 fn storing_turn(
     alloc: Global,
     number: u32,
     numbers: &[i32],
+    count: i32,
     changes: usize,
 ) -> Result<Turn, AllocError> {
-    let documents = documents(alloc, numbers)?;
-    let message = insert(alloc, &documents);
-    let reply = count_reply(alloc, documents.len() as i32);
-    make_turn(alloc, number, message, reply, changes)
+    let message = insert(alloc, &documents(alloc, numbers)?);
+    make_turn(alloc, number, message, count_reply(alloc, count), changes)
 }
 
 /// Two documents are found, of which the projection leaves `a`.
@@ -113,12 +112,12 @@ fn counting_turn(alloc: Global) -> Result<Turn, AllocError> {
 
 fn make_turns(alloc: Global) -> Result<Vec<Turn>, AllocError> {
     let mut turns = Vec::new(alloc);
-    turns.push(storing_turn(alloc, 1, &[0, 1, 2], 1)?)?;
+    turns.push(storing_turn(alloc, 1, &[0, 1, 2], 3, 1)?)?;
     turns.push(finding_turn(alloc)?)?;
-    turns.push(storing_turn(alloc, 3, &[3], 2)?)?;
+    turns.push(storing_turn(alloc, 3, &[3], 1, 2)?)?;
     turns.push(make_turn(alloc, 4, delete_twice(alloc), count_reply(alloc, 3), 3)?)?;
     turns.push(counting_turn(alloc)?)?;
-    turns.push(storing_turn(alloc, 6, &[0], 4)?)?;
+    turns.push(storing_turn(alloc, 6, &[0], 1, 4)?)?;
     Ok(turns)
 }
 
