@@ -1,5 +1,6 @@
 //! A server stopped at each write and sync, and failed at each call.
 
+ghost use Rattle.std.specs.Prelude.{◌<◌};
 ghost use Rattle.server.specs.Durable.{IsSound};
 
 use by_hand::*;
@@ -82,22 +83,41 @@ fn make_turn(
     })
 }
 
-fn make_turns(alloc: Global) -> Result<Vec<Turn>, AllocError> {
+/// Documents of these numbers, so many, are stored by the turn with this number, after which there are so many changes.
+fn storing_turn(
+    alloc: Global,
+    number: u32,
+    numbers: &[i32],
+    count: i32,
+    changes: usize,
+) -> Result<Turn, AllocError> {
+    let message = insert(alloc, &documents(alloc, numbers)?);
+    make_turn(alloc, number, message, count_reply(alloc, count), changes)
+}
+
+/// Two documents are found, of which the projection leaves `a`.
+fn finding_turn(alloc: Global) -> Result<Turn, AllocError> {
     let rising = [
         Bytes::new(alloc).int32("a", 8),
         Bytes::new(alloc).int32("a", 9),
     ];
-    let three = insert(alloc, &documents(alloc, &[0, 1, 2])?);
-    let one_more = insert(alloc, &documents(alloc, &[3])?);
-    let count_left = count(alloc, &above(alloc, "a", 0));
-    let first_again = insert(alloc, &documents(alloc, &[0])?);
+    make_turn(alloc, 2, query_above(alloc), batch_reply(alloc, &rising), 1)
+}
+
+/// The one that is left is counted.
+fn counting_turn(alloc: Global) -> Result<Turn, AllocError> {
+    let message = count(alloc, &above(alloc, "a", 0));
+    make_turn(alloc, 5, message, count_reply(alloc, 1), 3)
+}
+
+fn make_turns(alloc: Global) -> Result<Vec<Turn>, AllocError> {
     let mut turns = Vec::new(alloc);
-    turns.push(make_turn(alloc, 1, three, count_reply(alloc, 3), 1)?)?;
-    turns.push(make_turn(alloc, 2, query_above(alloc), batch_reply(alloc, &rising), 1)?)?;
-    turns.push(make_turn(alloc, 3, one_more, count_reply(alloc, 1), 2)?)?;
+    turns.push(storing_turn(alloc, 1, &[0, 1, 2], 3, 1)?)?;
+    turns.push(finding_turn(alloc)?)?;
+    turns.push(storing_turn(alloc, 3, &[3], 1, 2)?)?;
     turns.push(make_turn(alloc, 4, delete_twice(alloc), count_reply(alloc, 3), 3)?)?;
-    turns.push(make_turn(alloc, 5, count_left, count_reply(alloc, 1), 3)?)?;
-    turns.push(make_turn(alloc, 6, first_again, count_reply(alloc, 1), 4)?)?;
+    turns.push(counting_turn(alloc)?)?;
+    turns.push(storing_turn(alloc, 6, &[0], 1, 4)?)?;
     Ok(turns)
 }
 
@@ -221,24 +241,40 @@ fn stop_everywhere(rt: HostRuntime) -> Result<(), Fail> {
     Ok(())
 }
 
+/// The disk of a server that is stopped in the turn of a change, between the write of its root and the sync behind it, and how many
+/// changes were acknowledged.
+fn stopped_in(alloc: Global, script: &Script, change: usize) -> Result<(usize, MemDisk), Fail>
+    requires { change < 4 }
+{
+    let stop = 1 + 11 * change as u64 + 8 + 1 + 1;
+    let Ok(mut core) = Core::open(alloc, StopDisk::new(MemDisk::new(alloc), stop), CONFIG) else {
+        return Err(Fail::from("zeros don't open"));
+    };
+    let acknowledged = run_each(&mut core, script)?;
+    Ok((acknowledged, core.into_disk().into_inner()))
+}
+
+/// Whether an image holds so many changes, and again when it is opened a second time.
+fn holds_twice(
+    alloc: Global,
+    script: &Script,
+    image: MemDisk,
+    changes: usize,
+) -> Result<bool, Fail> {
+    let (first, image) = held(alloc, script, image)?;
+    let (second, _) = held(alloc, script, image)?;
+    Ok(first == changes && second == changes)
+}
+
 #[test]
 fn both_subsets(rt: HostRuntime) -> Result<(), Fail> {
     let alloc = rt.alloc();
     let script = make_script(alloc)?;
     for change in 0..CHANGES {
-        // its turn is stopped between the write of its root and the sync behind it
-        let disk = StopDisk::new(MemDisk::new(alloc), 1 + 11 * change as u64 + 8 + 1 + 1);
-        let Ok(mut core) = Core::open(alloc, disk, CONFIG) else {
-            return Err(Fail::from("zeros don't open"));
-        };
-        assert_eq!(rt; run_each(&mut core, &script)?, change);
-        let disk = core.into_disk().into_inner();
-        let (without, again) = held(alloc, &script, disk.image(0)?)?;
-        assert_eq!(rt; without, change);
-        assert_eq!(rt; held(alloc, &script, again)?.0, change);
-        let (with, again) = held(alloc, &script, disk.image(1)?)?;
-        assert_eq!(rt; with, change + 1);
-        assert_eq!(rt; held(alloc, &script, again)?.0, change + 1);
+        let (acknowledged, disk) = stopped_in(alloc, &script, change)?;
+        assert_eq!(rt; acknowledged, change);
+        assert!(rt; holds_twice(alloc, &script, disk.image(0)?, change)?);
+        assert!(rt; holds_twice(alloc, &script, disk.image(1)?, change + 1)?);
     }
     Ok(())
 }

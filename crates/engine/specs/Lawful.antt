@@ -43,7 +43,7 @@ pub record IsReadable (c : Collection) : Type 0 where
   pub name : IsUtf8 c.name
   pub documents : All IsDocument c.documents
 
--- what a collection in memory keeps
+-- what a collection has
 pub record IsHeld (c : Collection) : Type 0 where
   pub lawful : IsCollection c
   pub readable : IsReadable c

@@ -2,7 +2,7 @@
 -- first, and a key text. Under collection 0 and index 0 stands the catalogue, which has for each collection the text of
 -- its namespace, and as value a document of its number `n` and its indexes `x`, of which there are none yet. Under a
 -- collection's number and index 0 stand its documents, each under the text of its `_id`.
-use Rattle.std.specs.Prelude.{ℕ, zero, suc, ◌==◌, if◌then◌else◌, List, [], ◌∷◌, ◌++◌, map, codes}
+use Rattle.std.specs.Prelude.{ℕ, List, ◌++◌, codes}
 use Rattle.std.specs.Int.{w32, to_be_bytes}
 use Rattle.bson.specs.Tree.{Pairs, no_pairs, pair, array, no_items}
 use Rattle.bson.specs.Spelling.{frame_of, pairs_bytes}
@@ -28,18 +28,3 @@ catalogue_entry c = record {
 abbrev pub document_entry : ℕ → Pairs → Entry
 document_entry number ps =
     record { key = key_under number 0 (tree_text (key_of ps)); value = frame_of (pairs_bytes ps) }
-
--- the documents of the collection that has this number
-abbrev pub documents_numbered : ℕ → List Collection → List Pairs
-documents_numbered n [] = []
-documents_numbered n (c ∷ cs) = if c.number == n then c.documents else documents_numbered n cs
-
--- the documents of the collections that have the numbers from 1 to n, in the order of these numbers
-abbrev pub documents_to : ℕ → List Collection → List Entry
-documents_to zero cs = []
-documents_to (suc n) cs =
-    documents_to n cs ++ map (document_entry (suc n)) (documents_numbered (suc n) cs)
-
--- all entries of a database: the catalogue, and then all documents
-unfoldable pub database_entries : List Collection → List Entry
-database_entries cs = map catalogue_entry cs ++ documents_to 1000 cs

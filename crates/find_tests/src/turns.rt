@@ -42,80 +42,132 @@ fn answers(
     }
 }
 
-const INSERT: &str = "{insert: 'c', documents: [{_id: 1}, {_id: 2}, {_id: 3}], $db: 't'}";
+/// The first of these commands that isn't answered with the document beside it.
+fn answered_otherwise(
+    alloc: Global,
+    engine: &mut Engine<MemDisk>,
+    script: &[(&'static str, &'static str)],
+) -> Result<Option<&'static str>, Fail>
+    requires { IsSound memory_history engine.old }
+    ensures { IsSound memory_history engine.new }
+{
+    'script: for (command, reply) in script {
+        if !answers(alloc, engine, command, reply)? {
+            return Ok(Some(*command));
+        }
+    }
+    Ok(None)
+}
+
+/// The same of the engine that opens a disk on which two reads and a sync opened one before, and one commit was made.
+fn answered_otherwise_after(
+    alloc: Global,
+    disk: MemDisk,
+    script: &[(&'static str, &'static str)],
+) -> Result<Option<&'static str>, Fail> {
+    if disk.calls() != 3 + 11 {
+        return Ok(Some("the calls of the device"));
+    }
+    let mut engine = open(alloc, disk)?;
+    answered_otherwise(alloc, &mut engine, script)
+}
 
 const DELETE: &str = "{delete: 'c', deletes: [{q: {_id: {$gt: 1}}, limit: 1}], $db: 't'}";
 
-const FIND: &str = "{find: 'c', $db: 't'}";
+const STORED: [(&str, &str); 2] = [
+    (
+        "{insert: 'c', documents: [{_id: 1}, {_id: 2}, {_id: 3}], $db: 't'}",
+        "{n: 3, ok: 1}",
+    ),
+    (DELETE, "{n: 1, ok: 1}"),
+];
 
-const TWO: &str = "{cursor: {firstBatch: [{_id: 1}, {_id: 3}], id: 0L, ns: 't.c'}, ok: 1}";
+const TWO: [(&str, &str); 1] = [(
+    "{find: 'c', $db: 't'}",
+    "{cursor: {firstBatch: [{_id: 1}, {_id: 3}], id: 0L, ns: 't.c'}, ok: 1}",
+)];
 
 #[test]
 fn a_delete_after_an_insert(rt: HostRuntime) -> Result<(), Fail> {
     let alloc = rt.alloc();
     let mut engine = open(alloc, MemDisk::new(alloc))?;
-    assert!(rt; answers(alloc, &mut engine, INSERT, "{n: 3, ok: 1}")?);
-    assert!(rt; answers(alloc, &mut engine, DELETE, "{n: 1, ok: 1}")?);
-    assert!(rt; answers(alloc, &mut engine, FIND, TWO)?);
+    assert_eq!(rt; answered_otherwise(alloc, &mut engine, &STORED)?, None);
+    assert_eq!(rt; answered_otherwise(alloc, &mut engine, &TWO)?, None);
     assert!(rt; engine.commit_turn().is_ok());
     let disk = engine.into_disk();
-    // two reads and a sync opened it, and there was one commit
-    assert_eq!(rt; disk.calls(), 3 + 11);
-    let mut engine = open(alloc, disk)?;
-    assert!(rt; answers(alloc, &mut engine, FIND, TWO)?);
+    assert_eq!(rt; answered_otherwise_after(alloc, disk, &TWO)?, None);
     Ok(())
 }
+
+// a delete, an insert and a delete of what was inserted
+const TAKEN_BACK: [(&str, &str); 3] = [
+    (DELETE, "{n: 1, ok: 1}"),
+    (
+        "{insert: 'c', documents: [{_id: 2, b: 1}, {_id: 9}], $db: 't'}",
+        "{n: 2, ok: 1}",
+    ),
+    (
+        "{delete: 'c', deletes: [{q: {b: 1}, limit: 0}, {q: {}, limit: 1}], $db: 't'}",
+        "{n: 2, ok: 1}",
+    ),
+];
 
 #[test]
 fn taken_back(rt: HostRuntime) -> Result<(), Fail> {
     let alloc = rt.alloc();
     let mut engine = open(alloc, MemDisk::new(alloc))?;
-    assert!(rt; answers(alloc, &mut engine, INSERT, "{n: 3, ok: 1}")?);
-    assert!(rt; answers(alloc, &mut engine, DELETE, "{n: 1, ok: 1}")?);
+    assert_eq!(rt; answered_otherwise(alloc, &mut engine, &STORED)?, None);
     assert!(rt; engine.commit_turn().is_ok());
-    // a delete, an insert and a delete of what was inserted
-    let more = "{insert: 'c', documents: [{_id: 2, b: 1}, {_id: 9}], $db: 't'}";
-    assert!(rt; answers(alloc, &mut engine, DELETE, "{n: 1, ok: 1}")?);
-    assert!(rt; answers(alloc, &mut engine, more, "{n: 2, ok: 1}")?);
-    let all = "{delete: 'c', deletes: [{q: {b: 1}, limit: 0}, {q: {}, limit: 1}], $db: 't'}";
-    assert!(rt; answers(alloc, &mut engine, all, "{n: 2, ok: 1}")?);
+    assert_eq!(rt; answered_otherwise(alloc, &mut engine, &TAKEN_BACK)?, None);
     engine.undo_turn();
-    assert!(rt; answers(alloc, &mut engine, FIND, TWO)?);
+    assert_eq!(rt; answered_otherwise(alloc, &mut engine, &TWO)?, None);
     // nothing is left to be committed
     assert!(rt; engine.commit_turn().is_ok());
     let disk = engine.into_disk();
-    assert_eq!(rt; disk.calls(), 3 + 11);
-    let mut engine = open(alloc, disk)?;
-    assert!(rt; answers(alloc, &mut engine, FIND, TWO)?);
+    assert_eq!(rt; answered_otherwise_after(alloc, disk, &TWO)?, None);
     Ok(())
 }
 
-const UPDATE: &str =
-    "{update: 'c', updates: [{q: {_id: 2}, u: {$set: {a: 1}}}, {q: {_id: 9}, u: {b: 1}, upsert: true}], $db: 't'}";
+const UPDATED: [(&str, &str); 2] = [
+    (
+        "{insert: 'c', documents: [{_id: 1}, {_id: 2}, {_id: 3}], $db: 't'}",
+        "{n: 3, ok: 1}",
+    ),
+    (
+        "{update: 'c', updates: [{q: {_id: 2}, u: {$set: {a: 1}}}, {q: {_id: 9}, u: {b: 1}, upsert: true}], $db: 't'}",
+        "{n: 2, nModified: 1, upserted: [{index: 1, _id: 9}], ok: 1}",
+    ),
+];
 
-const UPDATED: &str =
-    "{cursor: {firstBatch: [{_id: 1}, {_id: 2, a: 1}, {_id: 3}, {_id: 9, b: 1}], id: 0L, ns: 't.c'}, ok: 1}";
+const MORE: [(&str, &str); 1] = [(
+    "{update: 'c', updates: [{q: {}, u: {$set: {a: 7}}, multi: true}], $db: 't'}",
+    "{n: 4, nModified: 4, ok: 1}",
+)];
+
+const FOUR: [(&str, &str); 1] = [(
+    "{find: 'c', $db: 't'}",
+    "{cursor: {firstBatch: [{_id: 1}, {_id: 2, a: 1}, {_id: 3}, {_id: 9, b: 1}], id: 0L, ns: 't.c'}, ok: 1}",
+)];
+
+// an update that changes no byte writes nothing
+const SAME: [(&str, &str); 1] = [(
+    "{update: 'c', updates: [{q: {_id: 2}, u: {$set: {a: 1}}}], $db: 't'}",
+    "{n: 1, nModified: 0, ok: 1}",
+)];
 
 #[test]
 fn updates_and_their_commits(rt: HostRuntime) -> Result<(), Fail> {
     let alloc = rt.alloc();
     let mut engine = open(alloc, MemDisk::new(alloc))?;
-    let upserted = "{n: 2, nModified: 1, upserted: [{index: 1, _id: 9}], ok: 1}";
-    assert!(rt; answers(alloc, &mut engine, INSERT, "{n: 3, ok: 1}")?);
-    assert!(rt; answers(alloc, &mut engine, UPDATE, upserted)?);
+    assert_eq!(rt; answered_otherwise(alloc, &mut engine, &UPDATED)?, None);
     assert!(rt; engine.commit_turn().is_ok());
     // what is taken back leaves what the turn before stored
-    let more = "{update: 'c', updates: [{q: {}, u: {$set: {a: 7}}, multi: true}], $db: 't'}";
-    assert!(rt; answers(alloc, &mut engine, more, "{n: 4, nModified: 4, ok: 1}")?);
+    assert_eq!(rt; answered_otherwise(alloc, &mut engine, &MORE)?, None);
     engine.undo_turn();
-    assert!(rt; answers(alloc, &mut engine, FIND, UPDATED)?);
-    // an update that changes no byte writes nothing
-    let same = "{update: 'c', updates: [{q: {_id: 2}, u: {$set: {a: 1}}}], $db: 't'}";
-    assert!(rt; answers(alloc, &mut engine, same, "{n: 1, nModified: 0, ok: 1}")?);
+    assert_eq!(rt; answered_otherwise(alloc, &mut engine, &FOUR)?, None);
+    assert_eq!(rt; answered_otherwise(alloc, &mut engine, &SAME)?, None);
     assert!(rt; engine.commit_turn().is_ok());
     let disk = engine.into_disk();
-    assert_eq!(rt; disk.calls(), 3 + 11);
-    let mut engine = open(alloc, disk)?;
-    assert!(rt; answers(alloc, &mut engine, FIND, UPDATED)?);
+    assert_eq!(rt; answered_otherwise_after(alloc, disk, &FOUR)?, None);
     Ok(())
 }

@@ -69,19 +69,23 @@ fn with_key(alloc: Global, count: usize) -> Result<String, Fail> {
     )?)
 }
 
+/// Whether an upsert of a document with a key of so many letters says that it made it.
+fn makes_key(alloc: Global, session: &mut Session, count: usize) -> Result<bool, Fail> {
+    let text = letters(alloc, count)?;
+    let made = format!(in alloc;
+        "{{n: 1, nModified: 0, upserted: [{{index: 0, _id: '{text}'}}], ok: 1}}"
+    )?;
+    let upsert = with_key(alloc, count)?;
+    session.answers(&upsert, &made)
+}
+
 // a text's key has a byte in front and two behind
 #[test]
 fn bytes_of_a_key(rt: HostRuntime) -> Result<(), Fail> {
     let alloc = rt.alloc();
     let mut session = Session::filled(alloc, "[{_id: 1}]")?;
-    let over = with_key(alloc, 498)?;
-    assert!(rt; session.refuses(&over, 9001)?);
+    assert!(rt; session.refuses(&with_key(alloc, 498)?, 9001)?);
     assert!(rt; session.answers("{count: 'd', $db: 't'}", "{n: 0, ok: 1}")?);
-    let most = with_key(alloc, 497)?;
-    let text = letters(alloc, 497)?;
-    let made = format!(in alloc;
-        "{{n: 1, nModified: 0, upserted: [{{index: 0, _id: '{text}'}}], ok: 1}}"
-    )?;
-    assert!(rt; session.answers(&most, &made)?);
+    assert!(rt; makes_key(alloc, &mut session, 497)?);
     Ok(())
 }

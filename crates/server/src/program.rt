@@ -163,30 +163,34 @@ fn run_words<
     }
     let words = read_words(rt.alloc(), words)?;
     let mut core = open(rt, &words)?;
-    match &words.task {
-        Task::Exec => exec(rt.alloc(), &mut core, input, output),
-        Task::Serve(served) => serve(rt, &mut core, served, output),
-        Task::Listen(listened) => listen(rt, &mut core, listened, output),
-        Task::Ask(asked) => ask_all(rt.alloc(), &mut core, asked, input, output),
-        Task::Import(imported) => import_all(
-            rt,
-            rt.alloc(),
-            &mut core,
-            imported,
-            terminal,
-            input,
-            output,
-            errors,
-        ),
-        Task::Export(exported) => export_all(
-            rt,
-            rt.alloc(),
-            &mut core,
-            exported,
-            terminal,
-            output,
-            errors,
-        ),
+    run_task(rt, &mut core, &words.task, terminal, input, output, errors)
+}
+
+/// Runs a program over a file that is open.
+fn run_task<
+    R: AllocGlobal + Clock + Files<File = File> + Net<Listener = TcpListener, Stream = TcpStream>,
+>(
+    rt: &R,
+    core: &mut Core<FileDisk>,
+    task: &Task,
+    terminal: &Terminal,
+    input: &mut impl Read,
+    output: &mut impl Write,
+    errors: &mut impl Write,
+) -> Result<(), ProgramFault>
+    requires sound { IsSound (λ _. unknown_history) core.old }
+    ensures sound { IsSound (λ _. unknown_history) core.new }
+{
+    let alloc = rt.alloc();
+    match task {
+        Task::Exec => exec(alloc, core, input, output),
+        Task::Serve(served) => serve(rt, core, served, output),
+        Task::Listen(listened) => listen(rt, core, listened, output),
+        Task::Ask(asked) => ask_all(alloc, core, asked, input, output),
+        Task::Import(imported) => {
+            import_all(rt, alloc, core, imported, terminal, input, output, errors)
+        }
+        Task::Export(exported) => export_all(rt, alloc, core, exported, terminal, output, errors),
     }
 }
 

@@ -74,23 +74,28 @@ pub(crate) struct Listened {
 /// Parses the words. None is said where they match but a number is out of range.
 pub(crate) fn parse(alloc: Global, words: &[String]) -> Result<Option<Words>, clap::Error> {
     let matches = command(alloc)?.try_get_matches_from(words)?;
+    Ok(words_in(alloc, &matches)?)
+}
+
+/// What the words that match ask for, if their numbers are in range.
+fn words_in(alloc: Global, matches: &ArgMatches<'_>) -> Result<Option<Words>, AllocError> {
     if let Some(exec) = matches.subcommand_matches("exec") {
-        return Ok(words_of(alloc, exec, Some(Task::Exec))?);
+        return words_of(alloc, exec, Some(Task::Exec));
     }
     if let Some(serve) = matches.subcommand_matches("serve") {
-        return Ok(words_of(alloc, serve, served_of(serve))?);
+        return words_of(alloc, serve, served_of(serve));
     }
     if let Some(listen) = matches.subcommand_matches("listen") {
-        return Ok(words_of(alloc, listen, listened_of(listen))?);
+        return words_of(alloc, listen, listened_of(listen));
     }
     if let Some(ask) = matches.subcommand_matches("ask") {
-        return Ok(words_of(alloc, ask, Some(Task::Ask(ask_of(alloc, ask)?)))?);
+        return words_of(alloc, ask, Some(Task::Ask(ask_of(alloc, ask)?)));
     }
     if let Some(import) = matches.subcommand_matches("import") {
-        return Ok(words_of(alloc, import, import_of(alloc, import)?)?);
+        return words_of(alloc, import, import_of(alloc, import)?);
     }
     if let Some(export) = matches.subcommand_matches("export") {
-        return Ok(words_of(alloc, export, export_of(alloc, export)?)?);
+        return words_of(alloc, export, export_of(alloc, export)?);
     }
     Ok(None)
 }
@@ -100,42 +105,52 @@ fn command<'a>(alloc: Global) -> Result<Command<'a>, AllocError> {
     Command::new(alloc, "docpage")
         .subcommand_required(true)
         .subcommand(Command::new(alloc, "exec").arg(file(alloc))?)?
-        .subcommand(
-            Command::new(alloc, "serve")
-                .arg(file(alloc))?
-                .arg(option(alloc, "port").required(true))?
-                .arg(option(alloc, "connections").required(true))?
-                .arg(option(alloc, "turns").required(true))?,
-        )?
-        .subcommand(
-            Command::new(alloc, "listen")
-                .arg(file(alloc))?
-                .arg(option(alloc, "port").required(true))?
-                .arg(option(alloc, "idle-seconds"))?,
-        )?
-        .subcommand(
-            Command::new(alloc, "ask")
-                .arg(file(alloc))?
-                .arg(option(alloc, "db"))?
-                .arg(flag(alloc, "all"))?
-                .arg(flag(alloc, "pretty"))?
-                .arg(
-                    Arg::new(alloc, "COMMAND")
-                        .action(ArgAction::Append)
-                        .num_args(0..),
-                )?,
-        )?
-        .subcommand(
-            Command::new(alloc, "import")
-                .arg(file(alloc))?
-                .arg(namespace(alloc))?,
-        )?
-        .subcommand(
-            Command::new(alloc, "export")
-                .arg(file(alloc))?
-                .arg(namespace(alloc))?
-                .arg(flag(alloc, "canonical"))?,
+        .subcommand(serve_words(alloc)?)?
+        .subcommand(listen_words(alloc)?)?
+        .subcommand(ask_words(alloc)?)?
+        .subcommand(import_words(alloc)?)?
+        .subcommand(export_words(alloc)?)
+}
+
+fn serve_words<'a>(alloc: Global) -> Result<Command<'a>, AllocError> {
+    Command::new(alloc, "serve")
+        .arg(file(alloc))?
+        .arg(option(alloc, "port").required(true))?
+        .arg(option(alloc, "connections").required(true))?
+        .arg(option(alloc, "turns").required(true))
+}
+
+fn listen_words<'a>(alloc: Global) -> Result<Command<'a>, AllocError> {
+    Command::new(alloc, "listen")
+        .arg(file(alloc))?
+        .arg(option(alloc, "port").required(true))?
+        .arg(option(alloc, "idle-seconds"))
+}
+
+fn ask_words<'a>(alloc: Global) -> Result<Command<'a>, AllocError> {
+    Command::new(alloc, "ask")
+        .arg(file(alloc))?
+        .arg(option(alloc, "db"))?
+        .arg(flag(alloc, "all"))?
+        .arg(flag(alloc, "pretty"))?
+        .arg(
+            Arg::new(alloc, "COMMAND")
+                .action(ArgAction::Append)
+                .num_args(0..),
         )
+}
+
+fn import_words<'a>(alloc: Global) -> Result<Command<'a>, AllocError> {
+    Command::new(alloc, "import")
+        .arg(file(alloc))?
+        .arg(namespace(alloc))
+}
+
+fn export_words<'a>(alloc: Global) -> Result<Command<'a>, AllocError> {
+    Command::new(alloc, "export")
+        .arg(file(alloc))?
+        .arg(namespace(alloc))?
+        .arg(flag(alloc, "canonical"))
 }
 
 /// The file of a program.

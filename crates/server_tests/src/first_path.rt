@@ -31,15 +31,20 @@ fn find_reply(alloc: Global) -> Result<Vec<u8>, AllocError> {
     frame(alloc, 3, 9, &batch_reply(alloc, &[id_document(alloc, 1)]))
 }
 
-/// Drives the three frames in chunks of this size, and then four turns: one has no message left.
-fn driven(rt: &HostRuntime, size: usize) -> Result<DriveOut, Fail> {
-    let connection = ConnId::new(0).ok_or("connection 0")?;
+/// The three frames, one behind the other.
+fn frames(rt: &HostRuntime) -> Result<Vec<u8>, Fail> {
     let mut bytes = PING.to_vec(rt.alloc())?;
     bytes.extend_from_slice(&insert_frame(rt.alloc())?)?;
     bytes.extend_from_slice(&find_frame(rt.alloc())?)?;
     if bytes.len() != 180 {
         return Err(Fail::from("other frames"));
     }
+    Ok(bytes)
+}
+
+/// The steps that feed these bytes in chunks of this size, and then make four turns: one has no message left.
+fn steps_of(rt: &HostRuntime, bytes: &[u8], size: usize) -> Result<Vec<Step>, Fail> {
+    let connection = ConnId::new(0).ok_or("connection 0")?;
     let mut steps = Vec::new(rt.alloc());
     for part in bytes.chunks(size.max(1)) {
         steps.push(Step::Bytes(connection, part.to_vec(rt.alloc())?))?;
@@ -47,6 +52,12 @@ fn driven(rt: &HostRuntime, size: usize) -> Result<DriveOut, Fail> {
     for _ in 0..4 {
         steps.push(Step::Turn)?;
     }
+    Ok(steps)
+}
+
+/// What a new server hands out in these steps.
+fn driven(rt: &HostRuntime, size: usize) -> Result<DriveOut, Fail> {
+    let steps = steps_of(rt, &frames(rt)?, size)?;
     let Ok(mut core) = Core::open(rt.alloc(), MemDisk::new(rt.alloc()), CONFIG) else {
         return Err(Fail::from("zeros don't open"));
     };

@@ -1,29 +1,30 @@
 //! `hello`.
 
-ghost use Rattle.page.specs.Memory.{memory_history};
-ghost use Rattle.server.specs.Durable.{IsSound};
-
-use crate::session::{CONFIG, Session};
+use crate::connections::open;
+use crate::session::Session;
 use by_hand::*;
 use engine::ConnId;
-use page::MemDisk;
-use server::*;
+use std::alloc::Global;
 use std::test::*;
+
+/// The connection that a `hello` on this one is answered on, and its frame.
+fn answered(alloc: Global, number: u8) -> Result<(u8, Vec<u8>), Fail> {
+    let connection = ConnId::new(number).ok_or("no connection")?;
+    let mut core = open(alloc)?;
+    core.feed(connection, &frame(alloc, 5, 0, &hello(alloc))?)?;
+    let mut out = core.turn()?;
+    let (id, reply) = out.replies.pop().ok_or("no reply")?;
+    Ok((id.number(), reply))
+}
 
 #[test]
 fn on_connection_3(rt: HostRuntime) -> Result<(), Fail> {
     let alloc = rt.alloc();
-    let connection = ConnId::new(3).ok_or("connection 3")?;
-    let Ok(mut core) = Core::open(alloc, MemDisk::new(alloc), CONFIG) else {
-        return Err(Fail::from("zeros don't open"));
-    };
-    core.feed(connection, &frame(alloc, 5, 0, &hello(alloc))?)?;
-    let out = core.turn()?;
-    let (id, reply) = out.replies.first().ok_or("no reply")?;
-    assert_eq!(rt; id.number(), 3);
+    let (id, reply) = answered(alloc, 3)?;
+    assert_eq!(rt; id, 3);
     assert_eq!(rt; reply.len(), 21 + 122);
     let wanted = frame(alloc, 1, 5, &hello_reply(alloc, 3))?;
-    assert_eq!(rt; reply.as_slice(), wanted.as_slice());
+    assert!(rt; reply.as_slice() == wanted.as_slice());
     Ok(())
 }
 

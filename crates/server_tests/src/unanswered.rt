@@ -109,25 +109,45 @@ fn insert_of(alloc: Global, number: i32) -> Bytes {
     insert_one(alloc, id_document(alloc, number))
 }
 
+/// Two connections insert number 7, and one number 8, which wants no reply, in one turn.
+fn inserts_in_one_turn(alloc: Global, core: &mut Core<MemDisk>) -> Result<TurnOut, Fail>
+    requires { IsSound memory_history core.old }
+    ensures { IsSound memory_history core.new }
+{
+    let third = ConnId::new(2).ok_or("connection 2")?;
+    core.feed(third, &unanswered(alloc, &insert_of(alloc, 8))?)?;
+    let second = ConnId::new(1).ok_or("connection 1")?;
+    core.feed(second, &frame(alloc, 31, 0, &insert_of(alloc, 7))?)?;
+    turn_after(core, 0, &frame(alloc, 30, 0, &insert_of(alloc, 7))?)
+}
+
+/// Whether the one is told that it is stored, and the other that there is one.
+fn one_is_stored(alloc: Global, out: &TurnOut) -> Result<bool, Fail> {
+    let stored = frame(alloc, 1, 30, &count_reply(alloc, 1))?;
+    let refused = frame(alloc, 1, 31, &refusal(alloc, 11000))?;
+    let length = stored.len();
+    let wanted = [(0, stored), (1, refused)];
+    Ok(length == 21 + 20 && out.closed.is_empty() && replies_are(out, &wanted))
+}
+
+/// Whether a find gives both documents.
+fn both_are_found(alloc: Global, core: &mut Core<MemDisk>) -> Result<bool, Fail>
+    requires { IsSound memory_history core.old }
+    ensures { IsSound memory_history core.new }
+{
+    let out = turn_after(core, 2, &frame(alloc, 9, 0, &find(alloc))?)?;
+    let both = [id_document(alloc, 7), id_document(alloc, 8)];
+    let wanted = frame(alloc, 1, 9, &batch_reply(alloc, &both))?;
+    Ok(is_reply(&out, &wanted))
+}
+
 #[test]
 fn three_connections_in_one_turn(rt: HostRuntime) -> Result<(), Fail> {
     let alloc = rt.alloc();
     let mut core = open(alloc)?;
-    let third = ConnId::new(2).ok_or("connection 2")?;
-    let second = ConnId::new(1).ok_or("connection 1")?;
-    core.feed(third, &unanswered(alloc, &insert_of(alloc, 8))?)?;
-    core.feed(second, &frame(alloc, 31, 0, &insert_of(alloc, 7))?)?;
-    let out = turn_after(&mut core, 0, &frame(alloc, 30, 0, &insert_of(alloc, 7))?)?;
-    let wanted = [
-        (0, frame(alloc, 1, 30, &count_reply(alloc, 1))?),
-        (1, frame(alloc, 1, 31, &refusal(alloc, 11000))?),
-    ];
-    assert_eq!(rt; wanted[0].1.len(), 21 + 20);
-    assert!(rt; out.closed.is_empty());
-    assert!(rt; replies_are(&out, &wanted));
-    let out = turn_after(&mut core, 2, &frame(alloc, 9, 0, &find(alloc))?)?;
-    let both = [id_document(alloc, 7), id_document(alloc, 8)];
-    assert!(rt; is_reply(&out, &frame(alloc, 1, 9, &batch_reply(alloc, &both))?));
+    let out = inserts_in_one_turn(alloc, &mut core)?;
+    assert!(rt; one_is_stored(alloc, &out)?);
+    assert!(rt; both_are_found(alloc, &mut core)?);
     // two reads and a sync opened the disk; one commit wrote a page and a root, and synced twice
     assert_eq!(rt; core.into_disk().calls(), 3 + 9 + 2);
     Ok(())
