@@ -52,3 +52,6 @@ pub mod ReplacingLoops
 pub mod ReplacingLaws
 pub mod BuildingLaws
 pub mod CatalogueReadLaws
+pub mod FrontLemmas
+pub mod OtherEditLaws
+pub mod OtherKeyLaws
