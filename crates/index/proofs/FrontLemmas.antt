@@ -1,5 +1,5 @@
 -- Keys that go on from a front, and the range that holds them.
-use Rattle.std.proofs.Common.{◌≡◌, ℕ, zero, suc, ◌+◌, ◌<◌, Bool, true, false, not, ◌&&◌, List, [], ◌∷◌, ◌++◌, length, take, drop, get_or, ◌⊎◌, inl, inr, refl, sym, ap, subst, ◌∙◌, arith}
+use Rattle.std.proofs.Common.{◌≡◌, ℕ, zero, suc, ◌+◌, ◌<◌, ◌≤◌, Bool, true, false, not, ◌&&◌, List, [], ◌∷◌, ◌++◌, length, take, drop, get_or, ◌⊎◌, inl, inr, refl, sym, ap, subst, ◌∙◌, arith}
 use Rattle.std.specs.Prelude.{nat_eq}
 use Rattle.std.specs.List.{starts_with}
 use Rattle.std.specs.Ordering.{nat_cmp, ordering_then, is_lt}
@@ -10,7 +10,7 @@ use Rattle.std.specs.declared.cmp.Ordering.TheVariants.{Less, Equal, Greater}
 use Rattle.std.proofs.lemmas.Bool.{cases_lt}
 use Rattle.std.proofs.lemmas.Bool.Decides.{Decides-eqb}
 use Rattle.std.proofs.lemmas.Cmp.{nat_cmp_total, tied_itself}
-use Rattle.std.proofs.lemmas.List.{drop-append_seam}
+use Rattle.std.proofs.Math.Seq.{drop-append_seam}
 use Rattle.std.proofs.lemmas.Slice.Eq.{bytes_eq-Decides, starts_is}
 use Rattle.btree.specs.Keys.{key_cmp}
 use Rattle.index.specs.OtherKeys.{is_another}
@@ -73,7 +73,7 @@ pub under_end : (front : List ℕ) (at d : ℕ) (rest : List ℕ) → at < lengt
 under_end [] at d rest lt = absurd (omega (arith, lt))
 under_end (b ∷ front) zero d rest lt =
     let next : b < b + 1 = omega arith in
-    ap (λ (o : Ordering). is_lt (ordering_then o (key_cmp (front ++ rest) []))) (nat_cmp_is b (b + 1) Less next)
+    ap (λ (o : Ordering). is_lt (ordering_then o (key_cmp (front ++ rest) []))) (sym (nat_cmp_is b (b + 1) Less next))
 under_end (b ∷ front) (suc at) d rest lt =
     ap is_lt (head_same b (front ++ rest) (take at front ++ (get_or front at d + 1) ∷ [])) ∙ under_end front at d rest (omega (arith, lt))
 
@@ -81,16 +81,16 @@ under_end (b ∷ front) (suc at) d rest lt =
 pub goes_on_between : (front key rest : List ℕ) → is_lt (key_cmp key front) ≡ false → key_cmp key (front ++ rest) ≡ Less → GoesOn front key
 goes_on_between [] key rest above below = record { rest = key; is = refl }
 goes_on_between (b ∷ front) [] rest above below = absurd (let e : true ≡ false = above in cc)
-goes_on_between (b ∷ front) (c ∷ key) rest above below = by (cases_lt c b) (cases_lt b c)
+goes_on_between (b ∷ front) (c ∷ key) rest above below = by (cases_lt c b) (cases_lt b c) (goes_on_between front key rest)
   where
-    by : (c < b) ⊎ (b ≤ c) → (b < c) ⊎ (c ≤ b) → GoesOn (b ∷ front) (c ∷ key)
-    by (inl less) q =
-        absurd (let e : true ≡ false = sym (ap (λ (o : Ordering). is_lt (ordering_then o (key_cmp key front))) (nat_cmp_is c b Less less)) ∙ above in cc)
-    by (inr p) (inl more) =
-        absurd (let e : Greater ≡ Less = sym (ap (λ (o : Ordering). ordering_then o (key_cmp key (front ++ rest))) (nat_cmp_is c b Greater more)) ∙ below in cc)
-    by (inr p) (inr q) =
+    by : (c < b) ⊎ (b ≤ c) → (b < c) ⊎ (c ≤ b) → (is_lt (key_cmp key front) ≡ false → key_cmp key (front ++ rest) ≡ Less → GoesOn front key) → GoesOn (b ∷ front) (c ∷ key)
+    by (inl less) q on =
+        absurd (let e : true ≡ false = ap (λ (o : Ordering). is_lt (ordering_then o (key_cmp key front))) (nat_cmp_is c b Less less) ∙ above in cc)
+    by (inr p) (inl more) on =
+        absurd (let e : Greater ≡ Less = ap (λ (o : Ordering). ordering_then o (key_cmp key (front ++ rest))) (nat_cmp_is c b Greater more) ∙ below in cc)
+    by (inr p) (inr q) on =
         let same : c ≡ b = omega (arith, p, q) in
-        let later = goes_on_between front key rest
+        let later = on
         (sym (ap is_lt (head_same b key front)) ∙ subst (λ (n : ℕ). is_lt (key_cmp (n ∷ key) (b ∷ front)) ≡ false) same above)
         (sym (head_same b key (front ++ rest)) ∙ subst (λ (n : ℕ). key_cmp (n ∷ key) (b ∷ (front ++ rest)) ≡ Less) same below) in
         record { rest = later.rest; is = λ i. same i ∷ later.is i }

@@ -56,12 +56,6 @@ other_text d e hd he other same =
 -- ---- of one index, and a document that has the key
 
 module _ (n : ℕ) (i : Definition) (d : Pairs) (key : List ℕ) (stored : IsStorable d) (keyed : is_among (encoded_keys i.fields d) key ≡ true) where
-  front : List ℕ
-  front = key_under n i.number key
-
-  id : List ℕ
-  id = tree_text (key_of d)
-
   own : IsEncoded i.fields key
   own = encoded_of i.fields d key stored (test_among (encoded_keys i.fields d) key keyed)
 
@@ -69,7 +63,7 @@ module _ (n : ℕ) (i : Definition) (d : Pairs) (key : List ℕ) (stored : IsSto
   has_it e = is_among (encoded_keys i.fields e) key && not (is_eq (compare (key_of d) (key_of e)))
 
   -- a document that has the key, by what its entry's key goes on with
-  has_told : (e : Pairs) (rest : List ℕ) → IsStorable e → Among key (encoded_keys i.fields e) → rest ≡ tree_text (key_of e) → (rest ≡ id → ⊥) → has_it e ≡ true
+  has_told : (e : Pairs) (rest : List ℕ) → IsStorable e → Among key (encoded_keys i.fields e) → rest ≡ tree_text (key_of e) → (rest ≡ tree_text (key_of d) → ⊥) → has_it e ≡ true
   has_told e rest he there is other =
       λ t. among_test (encoded_keys i.fields e) key there t && other_id d e stored he (λ same. other (is ∙ same)) t
 
@@ -155,11 +149,9 @@ puts_told (e ∷ es) x xs h = elim (puts_told es x (edit_map (put_of e) xs) h) [
 
 stays_some : (k : List ℕ) (es : List Entry) (v : List ℕ) → is_some (value_after k (puts es) (Some v)) ≡ true
 stays_some k [] v = refl
-stays_some k (e ∷ es) v = by (is_eq (key_cmp e.key k))
-  where
-    by : (b : Bool) → is_some (value_after k (puts es) (if b then Some e.value else Some v)) ≡ true
-    by true = stays_some k es e.value
-    by false = stays_some k es v
+stays_some k (e ∷ es) v =
+    elim (is_eq (key_cmp e.key k)) as (λ (b : Bool). is_some (value_after k (puts es) (if b then Some e.value else Some v)) ≡ true)
+    [ true ↦ stays_some k es e.value | false ↦ stays_some k es v ]
 
 put_some : (x : Entry) (es : List Entry) (v : Option (List ℕ)) → Among x es → is_some (value_after x.key (puts es) v) ≡ true
 put_some x [] v h = absurd h
