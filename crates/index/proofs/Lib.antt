@@ -55,3 +55,4 @@ pub mod CatalogueReadLaws
 pub mod FrontLemmas
 pub mod OtherEditLaws
 pub mod OtherKeyLaws
+pub mod OtherPutLemmas

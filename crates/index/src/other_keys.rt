@@ -1,6 +1,6 @@
 //! Entries of an index that stand for a key and for another `_id` than a given one.
 
-ghost use Rattle.std.specs.Prelude.{◌≡◌, ◌+◌, ◌<◌, ◌≤◌, ◌++◌, [], ◌∷◌, false, true, IfOk, length, option_map};
+ghost use Rattle.std.specs.Prelude.{◌≡◌, ◌+◌, ◌<◌, ◌≤◌, ◌&&◌, ◌++◌, [], ◌∷◌, false, true, IfOk, is_some, length, option_map};
 ghost use Rattle.std.specs.Ordering.{is_lt};
 ghost use Rattle.std.specs.List.Sorted.{IsPartitionPoint};
 ghost use Rattle.btree.specs.Change.{edit_keys};
@@ -55,6 +55,13 @@ fn count_below(edits: &[OwnEdit], key: &[u8]) -> usize
     edits.partition_point(|edit| edit.key.as_slice().cmp(key).is_lt())
 }
 
+/// Whether an edit puts an entry whose key goes on from this front, and not by this text.
+fn puts_another(edit: &OwnEdit, front: &[u8], id: &[u8]) -> bool
+    ensures { result ≡ (is_some edit.now.value && is_another front.now id.now edit.now.key.items) }
+{
+    edit.value.is_some() && is_another(&edit.key, front, id)
+}
+
 /// Whether one of the edits, which aren't below this front, puts an entry whose key goes on from it and not by this text.
 fn puts_from(edits: &[OwnEdit], front: &[u8], id: &[u8]) -> bool
     requires rises { Rises (edit_keys (edits_in edits.now)) }
@@ -65,7 +72,7 @@ fn puts_from(edits: &[OwnEdit], front: &[u8], id: &[u8]) -> bool
         if !edit.key.starts_with(front) {
             return false;
         }
-        if edit.value.is_some() && is_another(&edit.key, front, id) {
+        if puts_another(edit, front, id) {
             return true;
         }
     }
@@ -77,7 +84,7 @@ impl Edits {
     pub fn puts_other(&self, front: &[u8], id: &[u8]) -> bool
         ensures { result ≡ puts_another front.now id.now self.now }
     {
-        let first = count_below(&self.edits, front);
-        puts_from(&self.edits[first..], front, id)
+        let (_, from) = self.edits.split_at(count_below(&self.edits, front));
+        puts_from(from, front, id)
     }
 }

@@ -1,12 +1,10 @@
-use Rattle.std.proofs.Common.{rules, ◌≡◌, ◌+◌, ◌<◌, ◌≤◌, ◌++◌, [], ◌∷◌, false, true, IfOk, length, option_map, ℕ, ◌-◌, ◌*◌, ◌/◌, ◌%◌, Bool, nat_eq, nat_lt, List, slice_index_or, slice_set, bit_and, bit_or, Fits, w8, w32, w64, Bor, MutBor}
+use Rattle.std.proofs.Common.{rules}
 use Rattle.std.specs.Ordering.{is_lt}
-use Rattle.std.specs.List.Sorted.{IsPartitionPoint}
-use Rattle.btree.specs.Change.{edit_keys}
-use Rattle.btree.specs.Keys.{Each, Rises, key_cmp}
-use Rattle.index.specs.EditList.{edits_in}
-use Rattle.index.specs.OtherKeys.{IsEndOf, is_another, puts_another}
+use Rattle.std.proofs.lemmas.Fn.{always_returns_same}
+use Rattle.btree.specs.Keys.{key_cmp}
+use Rattle.index.proofs.EditPlaceLemmas.{below_first}
 use Rattle.index.proofs.other_keys.count_below.Goals as goal
 
--- src/other_keys.rt:49:1
 pub returns-clause-cut : goal.returns-clause-cut
-returns-clause-cut c = ?
+returns-clause-cut c =
+    c.partition_point.ensures.partitioned (λ e. is_lt (key_cmp e.key.items c.args.key.now)) (always_returns_same _ _ _ (λ a r f k. search rules)) (below_first c.args.key.now c.args.edits.now c.requires)

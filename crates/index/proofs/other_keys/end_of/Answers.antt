@@ -1,20 +1,12 @@
-use Rattle.std.proofs.Common.{rules, ◌≡◌, ◌+◌, ◌<◌, ◌≤◌, ◌++◌, [], ◌∷◌, false, true, IfOk, length, option_map, ℕ, ◌-◌, ◌*◌, ◌/◌, ◌%◌, Bool, nat_eq, nat_lt, List, slice_index_or, slice_set, bit_and, bit_or, Fits, w8, w32, w64, Bor, MutBor}
+use Rattle.std.proofs.Common.{◌≡◌, ◌-◌, List, ℕ, ◌++◌, true, arith, subst, sym}
 use Rattle.std.specs.Ordering.{is_lt}
-use Rattle.std.specs.List.Sorted.{IsPartitionPoint}
-use Rattle.btree.specs.Change.{edit_keys}
-use Rattle.btree.specs.Keys.{Each, Rises, key_cmp}
-use Rattle.index.specs.EditList.{edits_in}
-use Rattle.index.specs.OtherKeys.{IsEndOf, is_another, puts_another}
+use Rattle.btree.specs.Keys.{key_cmp}
+use Rattle.index.proofs.FrontLemmas.{under_end}
 use Rattle.index.proofs.other_keys.end_of.Goals as goal
 
--- src/other_keys.rt:40:5
-pub loop-at-init : goal.loop-at-init
-loop-at-init c = ?
-
--- src/other_keys.rt:42:13
 pub returns-then-front-at-lt255 : goal.returns-then-front-at-lt255
-returns-then-front-at-lt255 c = ?
-
--- src/other_keys.rt:40:5
-pub loop-at-preserved : goal.loop-at-preserved
-loop-at-preserved c = ?
+returns-then-front-at-lt255 c =
+    let front = c.args.front.now in
+    λ rest.
+    subst (λ (k : List ℕ). is_lt (key_cmp (front ++ rest) k) ≡ true) (sym c.in_ok-above.ensures)
+    (under_end front (c.loop-at.at - 1) 0 rest (omega (arith, c.loop-at-test.true, c.loop-at.auto.at)))

@@ -1,11 +1,5 @@
-use Rattle.std.proofs.Common.{◌≡◌, ◌+◌, ◌<◌, ◌≤◌, ◌++◌, [], ◌∷◌, false, true, IfOk, length, option_map, ℕ, ◌-◌, ◌*◌}
-use Rattle.std.specs.Ordering.{is_lt}
-use Rattle.std.specs.List.Sorted.{IsPartitionPoint}
-use Rattle.btree.specs.Change.{edit_keys}
-use Rattle.btree.specs.Keys.{Each, Rises, key_cmp}
-use Rattle.index.specs.EditList.{edits_in}
-use Rattle.index.specs.OtherKeys.{IsEndOf, is_another, puts_another}
 use Rattle.index.proofs.other_keys.end_of.Given as goal
 
+-- nothing has to be known but where the loop is
 abbrev pub invariant-loop-at : goal.invariant-loop-at
-invariant-loop-at l = ?
+invariant-loop-at l = Unit {0}
