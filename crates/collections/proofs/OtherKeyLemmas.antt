@@ -1,5 +1,5 @@
 -- What a range of entries and a list of edits tell of other keys.
-use Rattle.std.proofs.Common.{◌≡◌, ℕ, false, true, Bool, not, ◌||◌, List, map, Option, Some, None, refl, sym, ap, arith, ◌∙◌}
+use Rattle.std.proofs.Common.{◌≡◌, ℕ, false, true, Bool, not, ◌||◌, List, [], ◌∷◌, map, Option, Some, None, refl, sym, ap, arith, ◌∙◌}
 use Rattle.std.specs.Prelude.{is_some}
 use Rattle.std.specs.List.{list_any}
 use Rattle.std.specs.Option.{option_map}
@@ -9,10 +9,9 @@ use Rattle.btree.specs.Change.{edit_keys}
 use Rattle.btree.specs.Keys.{Edit, Entry, Rises, change, window}
 use Rattle.btree.specs.Scan.{entry_in, within}
 use Rattle.btree.specs.declared.scanning.Batch.{Batch}
-use Rattle.btree.specs.declared.scanning.Entry.{Entry as OwnEntry}
 use Rattle.btree.specs.declared.scanning.Range.{Range}
 use Rattle.index.specs.Changes.{is_among}
-use Rattle.index.specs.OtherKeys.{has_other_key, is_another, leaves_another, puts_another, IsEndOf}
+use Rattle.index.specs.OtherKeys.{is_another, leaves_another, puts_another, IsEndOf}
 use Rattle.index.specs.State.{Collection}
 use Rattle.index.specs.StateEntries.{key_under}
 use Rattle.index.proofs.OtherEditLaws.{after_edits, in_range}
