@@ -16,7 +16,9 @@ use crate::applying::refusal_of;
 use crate::collections::Collections;
 use bson::Document;
 use btree::{Batch, Entry, Range, TreeFault, get, scan};
-use index::{Catalogued, catalogue_key, catalogue_told, document_in, document_key, first_key, namespace_in};
+use index::{
+    Catalogued, catalogue_key, catalogue_told, document_in, document_key, first_key, namespace_in,
+};
 use page::Disk;
 use pager::Pager;
 use path::Refusal;
