@@ -12,23 +12,30 @@ ghost use Rattle.engine.specs.View.{world, IsSendable};
 ghost use Rattle.engine.specs.World.{documents_of};
 
 use crate::engine::Engine;
-use crate::find::matches;
 use crate::looking::BATCH;
 use crate::reply::total_reply;
-use bson::Document;
+use bson::{Document, NoMemory, SpelledDocument};
 use collections::Collections;
 use filter::Filter;
 use page::Disk;
 use path::Refusal;
+use std::alloc::Global;
 
-/// How many documents match a filter.
-fn count_matching(documents: &[Document], filter: &Filter) -> usize
-    ensures { result ≡ length (matching filter.now documents.now) }
+/// How many documents match a filter. No more of them is read than it looks at.
+fn count_matching(
+    alloc: Global,
+    documents: &[SpelledDocument],
+    filter: &Filter,
+) -> Result<usize, NoMemory>
+    ensures { IfOk result (λ count. count ≡ length (matching filter.now documents.now)) }
 {
-    documents
-        .iter()
-        .filter(|document| matches(filter, document))
-        .count()
+    let mut count = 0usize;
+    'documents: for document in documents {
+        if filter.matches_raw(alloc, &document.raw())? {
+            count += 1;
+        }
+    }
+    Ok(count)
 }
 
 /// How many of so many are left after those that are skipped and up to the limit; a limit of 0 is none.
@@ -41,6 +48,7 @@ fn within_window(count: usize, skip: usize, limit: usize) -> usize
 
 /// How many documents of the collection of a number in a file match a filter. None of them is kept.
 fn count_in<D: Disk>(
+    alloc: Global,
     file: &mut Collections<D>,
     number: u32,
     filter: &Filter,
@@ -55,11 +63,11 @@ fn count_in<D: Disk>(
     let mut walk = file.walk(number)?;
     let mut count = 0usize;
     'walk: loop {
-        let documents = file.next_documents(&mut walk, BATCH)?;
+        let documents = file.next_spelled(&mut walk, BATCH)?;
         if documents.is_empty() {
             return Ok(count);
         }
-        count = count.saturating_add(count_matching(&documents, filter));
+        count = count.saturating_add(count_matching(alloc, &documents, filter)?);
     }
 }
 
@@ -75,7 +83,7 @@ impl<D: Disk> Engine<D> {
         let Some(number) = self.number_of(namespace)? else {
             return Ok(0);
         };
-        count_in(&mut self.file, number, filter)
+        count_in(self.alloc, &mut self.file, number, filter)
     }
 
     /// Counts the documents that match a filter, after those that are skipped and up to the limit.
