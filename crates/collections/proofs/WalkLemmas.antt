@@ -1,6 +1,6 @@
 -- What a walk makes of the documents from its key on.
 use Rattle.std.proofs.Common.{◌≡◌, ◌⊎◌, ℕ, suc, ◌+◌, ◌-◌, ◌*◌, ◌<◌, ◌≤◌, Bool, true, false, not, List, [], ◌∷◌, ◌++◌, length, map, take, drop, refl, sym, ◌∙◌, ap, subst, arith, inl, inr, length-append, append_assoc}
-use Rattle.std.specs.Prelude.{◌&&◌, Option, Some, None, All, Result, Ok, Err}
+use Rattle.std.specs.Prelude.{◌&&◌, Option, Some, None, All, IfOk, Result, Ok, Err}
 use Rattle.std.specs.Option.{option_map}
 use Rattle.std.specs.Global.{Vec}
 use Rattle.std.specs.Ordering.{is_lt}
@@ -325,11 +325,12 @@ module _ {D : Type 0} (history : D → History) (old new : State D) (walk after 
       (λ now rest (x : Vec OwnEntry). HasNext limit after now rest x.items) batch r reads
       (λ now rest w p. stepped now rest (take (length batch.items) rest) r p.1 (made (take (length batch.items) rest) p.0))
 
--- as many documents as entries
-pub none_made : {X Y B : Type 0} (xs : List X) (ys : List Y) → length ys ≡ length xs → (xs ≡ []) ⊎ B → (ys ≡ []) ⊎ B
-none_made xs ys same (inl none) = inl (nothing ys (same ∙ ap length none))
+-- there are as many as entries
+pub ends_made : {B : Type 0} (entries : List OwnEntry) (r : Result (Vec Pairs) Refusal) → IfOk r (λ (v : Vec Pairs). length v.items ≡ length entries) → (entries ≡ []) ⊎ B → IfOk r (λ (v : Vec Pairs). (v.items ≡ []) ⊎ B)
+ends_made entries (Ok v) same (inl none) = inl (nothing v.items (same ∙ ap length none))
   where
-    nothing : {Y : Type 0} (ys : List Y) → length ys ≡ 0 → ys ≡ []
+    nothing : (ds : List Pairs) → length ds ≡ 0 → ds ≡ []
     nothing [] e = refl
-    nothing (y ∷ ys) e = absurd (omega (arith, e))
-none_made xs ys same (inr b) = inr b
+    nothing (d ∷ ds) e = absurd (omega (arith, e))
+ends_made entries (Ok v) same (inr less) = inr less
+ends_made entries (Err e) same ends = tt

@@ -6,7 +6,7 @@ use Rattle.collections.proofs.reading.documents_of.Goals as goal
 
 pub returns-in_err-document_of-clause-reads : goal.returns-in_err-document_of-clause-reads
 returns-in_err-document_of-clause-reads c =
-    let p = err_from_is_err_and c.from_residual.result c.from_residual.ensures.1 in
+    let p = err_from_is_err_and c.from_residual-in_err-document_of.result c.from_residual-in_err-document_of.ensures.1 in
     let lt : c.loop-entry.entry-index < length c.args.entries.now = omega arith in
     λ ds each.
     let there : AtPlace IsOfDocument c.entry-item.result ds c.loop-entry.entry-index = item_at IsOfDocument c.args.entries.now ds c.loop-entry.entry-index c.entry-item.result c.entry-item.is each lt in

@@ -1,4 +1,4 @@
-use Rattle.std.proofs.Common.{◌≡◌, sym, subst, Vec}
+use Rattle.std.proofs.Common.{◌≡◌, ◌⊎◌, ◌<◌, List, [], sym, subst, Vec}
 use Rattle.std.specs.Global.{Global}
 use Rattle.std.proofs.lemmas.Result.{err_from_is_err_and}
 use Rattle.bson.specs.Tree.{Pairs}
@@ -6,7 +6,7 @@ use Rattle.btree.specs.declared.scanning.Entry.{Entry}
 use Rattle.collections.specs.Reading.{AreEach, IsOfDocument}
 use Rattle.collections.specs.Walk.{HasNext, IsWalk, StepsOn}
 use Rattle.collections.proofs.ReadingLemmas.{asked_refused}
-use Rattle.collections.proofs.WalkLemmas.{made_of, none_made}
+use Rattle.collections.proofs.WalkLemmas.{ends_made, made_of}
 use Rattle.collections.proofs.collections.Collections.next_documents.Goals as goal
 
 pub returns-in_err-batch-clause-reads : goal.returns-in_err-batch-clause-reads
@@ -21,4 +21,6 @@ returns-clause-reads g c =
     (λ ds each. c.documents_of.ensures.reads ds (subst (λ es. AreEach IsOfDocument es ds) (sym c.deref.ensures.value) each))
 
 pub returns-clause-ends : goal.returns-clause-ends
-returns-clause-ends g c = ?
+returns-clause-ends g c =
+    ends_made c.deref.result.now c.documents_of.result c.documents_of.ensures.count
+    (subst (λ (es : List Entry). (es ≡ []) ⊎ (c.next_batch.new.walk.left < c.args.walk.now.left)) (sym c.deref.ensures.value) c.in_ok-batch.ensures.ends)

@@ -1,12 +1,11 @@
-use Rattle.std.proofs.Common.{◌≡◌, sym, subst, Vec}
+use Rattle.std.proofs.Common.{Vec}
 use Rattle.std.specs.Global.{Global}
 use Rattle.std.proofs.lemmas.Result.{err_from_is_err_and}
 use Rattle.bson.specs.Tree.{Pairs}
 use Rattle.btree.specs.declared.scanning.Entry.{Entry}
-use Rattle.collections.specs.Reading.{AreEach, IsOfDocument}
 use Rattle.collections.specs.Walk.{HasNext, IsWalk, StepsOn}
 use Rattle.collections.proofs.ReadingLemmas.{asked_refused}
-use Rattle.collections.proofs.WalkLemmas.{made_of, none_made}
+use Rattle.collections.proofs.WalkLemmas.{ends_made, made_of}
 use Rattle.collections.proofs.collections.Collections.next_spelled.Goals as goal
 
 pub returns-in_err-batch-clause-reads : goal.returns-in_err-batch-clause-reads
@@ -21,4 +20,4 @@ returns-clause-reads g c =
     c.spelled_of.ensures.reads
 
 pub returns-clause-ends : goal.returns-clause-ends
-returns-clause-ends g c = ?
+returns-clause-ends g c = ends_made c.in_ok-batch.batch.items c.spelled_of.result c.spelled_of.ensures.count c.in_ok-batch.ensures.ends
