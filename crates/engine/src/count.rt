@@ -1,6 +1,6 @@
 //! `count`: how many documents match.
 
-ghost use Rattle.std.specs.Prelude.{◌≡◌, IfOk, List, length};
+ghost use Rattle.std.specs.Prelude.{◌≡◌, IfOk, List, [], ◌∷◌, length};
 ghost use Rattle.bson.specs.Tree.{Pairs};
 ghost use Rattle.collections.specs.Reading.{IsNumbered, ReadsOf};
 ghost use Rattle.engine.specs.Count.{run_count};
@@ -21,7 +21,23 @@ use page::Disk;
 use path::Refusal;
 use std::alloc::Global;
 
-/// How many documents match a filter. No more of them is read than it looks at.
+/// One where a document matches a filter, and none where it doesn't. No more of it is read than the filter asks for.
+fn count_one(
+    alloc: Global,
+    document: &SpelledDocument,
+    filter: &Filter,
+) -> Result<usize, NoMemory>
+    ensures { IfOk result (λ count. count
+        ≡ length (matching filter.now (document.now ∷ []))) }
+{
+    if filter.matches_raw(alloc, &document.raw())? {
+        Ok(1)
+    } else {
+        Ok(0)
+    }
+}
+
+/// How many documents match a filter.
 fn count_matching(
     alloc: Global,
     documents: &[SpelledDocument],
@@ -31,9 +47,7 @@ fn count_matching(
 {
     let mut count = 0usize;
     'documents: for document in documents {
-        if filter.matches_raw(alloc, &document.raw())? {
-            count += 1;
-        }
+        count += count_one(alloc, document, filter)?;
     }
     Ok(count)
 }

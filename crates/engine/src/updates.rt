@@ -24,7 +24,7 @@ ghost use Rattle.engine.specs.Writing.{Makes};
 
 use crate::REPLY_LIMIT;
 use crate::by_id::asked_id;
-use crate::documents::{compare_id, compare_ids, id_text};
+use crate::documents::{compare_id, compare_ids, id_text, read_id};
 use crate::engine::Engine;
 use crate::find::matches;
 use crate::looking::Selects;
