@@ -3,7 +3,7 @@ use Rattle.std.proofs.Common.{◌≡◌, ℕ, zero, suc, ◌≤◌, Bool, true, 
 use Rattle.std.specs.Prelude.{None, All}
 use Rattle.std.specs.List.{filter}
 use Rattle.std.proofs.lemmas.List.{take-append-drop, append-nil}
-use Rattle.std.proofs.lemmas.List.Elements.{filter-append}
+use Rattle.std.proofs.lemmas.List.Elements.{All-cons, All-nil, filter-append}
 use Rattle.bson.specs.Tree.{Pairs}
 use Rattle.aggregate.specs.Limits.{first_fault, limit_fault}
 use Rattle.aggregate.specs.Pipeline.{run}
@@ -75,14 +75,13 @@ module _ (stages : List Stage) where
   pub none_of_within : AreOfWithin stages []
   none_of_within = record { seen = []; enough = none_is_enough stages; within = refl }
 
-  pub batch_of_within : (few next batch : List Pairs) → ((seen : List Pairs) → IsEnough stages few seen → IsEnough stages next (seen ++ filter (takes stages) batch)) → All IsWithin batch → AreOfWithin stages few → AreOfWithin stages next
+  pub batch_of_within : (few next batch : List Pairs) → ((seen : List Pairs) → IsEnough stages few seen → IsEnough stages next (seen ++ filter (takes stages) batch)) → All IsWithin (filter (takes stages) batch) → AreOfWithin stages few → AreOfWithin stages next
   batch_of_within few next batch on all h =
       let taken = filter (takes stages) batch in
       record {
         seen = h.seen ++ taken;
         enough = on h.seen h.enough;
-        within = within-fault 65535 (h.seen ++ taken) (All-append (λ d. limit_fault 65535 d ≡ None) h.seen taken (fault-within 65535 h.seen h.within)
-            (All-filter (λ d. limit_fault 65535 d ≡ None) (takes stages) batch (fault-within 65535 batch (none_at_fault batch all))));
+        within = within-fault 65535 (h.seen ++ taken) (All-append (λ d. limit_fault 65535 d ≡ None) h.seen taken (fault-within 65535 h.seen h.within) (fault-within 65535 taken (none_at_fault taken all)));
       }
 
   pub are_within : (few last : List Pairs) → ((seen : List Pairs) → IsEnough stages few seen → IsEnough stages last seen) → AreOfWithin stages few → All IsWithin last
@@ -149,3 +148,19 @@ module _ (stages : List Stage) (before all : List Pairs) where
   takes_all now left none h seen e =
       let whole : h.front ≡ all = sym (append-nil h.front) ∙ ap (λ (ys : List Pairs). h.front ++ ys) (sym none) ∙ sym h.split in
       subst (λ (ys : List Pairs). IsEnough stages now (seen ++ filter (takes stages) ys)) whole (h.enough seen e)
+
+-- ---- documents within the limits, one by one
+
+module _ (p : Pairs → Bool) (x : Pairs) (left : List Pairs) where
+  pub within_taken : p x ≡ true → IsWithin x → All IsWithin (filter p left) → All IsWithin (filter p (x ∷ left))
+  within_taken is within later =
+      let taken : filter p (x ∷ left) ≡ x ∷ filter p left = rw is refl in
+      subst (All IsWithin) (sym taken) (All-cons IsWithin x (filter p left) within later)
+
+  pub within_passed : p x ≡ false → All IsWithin (filter p left) → All IsWithin (filter p (x ∷ left))
+  within_passed is later =
+      let passed : filter p (x ∷ left) ≡ filter p left = rw is refl in
+      subst (All IsWithin) (sym passed) later
+
+pub within_none : (p : Pairs → Bool) (left : List Pairs) → left ≡ [] → All IsWithin (filter p left)
+within_none p left none = subst (λ (ds : List Pairs). All IsWithin (filter p ds)) (sym none) (All-nil IsWithin)

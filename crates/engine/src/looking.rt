@@ -1,13 +1,12 @@
 //! What commands look up in the file.
 
-ghost use Rattle.std.specs.Prelude.{◌≡◌, ◌⊎◌, ◌<◌, ◌≤◌, Bool, All, IfOk, IfErr, IfSome, OnOk, [], ◌∷◌, ◌++◌, length, take};
+ghost use Rattle.std.specs.Prelude.{◌≡◌, ◌≤◌, Bool, All, IfOk, IfErr, IfSome, OnOk, [], ◌∷◌, ◌++◌, length, take};
 ghost use Rattle.std.specs.List.{filter, list_all};
 ghost use Rattle.std.specs.Option.{option_map};
 ghost use Rattle.bson.specs.Tree.{Pairs};
 ghost use Rattle.bson.specs.View.{tree};
 ghost use Rattle.filter.specs.Matches.{matches};
 ghost use Rattle.collections.specs.Reading.{IsNumbered, IsPlaceOf, ReadsOf, stored_at};
-ghost use Rattle.collections.specs.Walk.{IsWalk, StepsOn};
 ghost use Rattle.index.specs.State.{find_collection};
 ghost use Rattle.engine.specs.ById.{AsksForId, found_alone};
 ghost use Rattle.engine.specs.Durable.{IsSound};
@@ -22,7 +21,7 @@ use crate::engine::Engine;
 use crate::find::matches;
 use crate::shared_document::SharedDocument;
 use bson::{Document, NoMemory, RawDoc, SpelledDocument, Value};
-use collections::{Collections, Walk};
+use collections::Collections;
 use filter::Filter;
 use page::Disk;
 use path::Refusal;
@@ -74,27 +73,9 @@ pub(crate) fn are_within(documents: &[Document]) -> bool
         .all(|document| limits_fault(document, STORED_LIMIT).is_none())
 }
 
-/// The next documents of a walk. A disk may give some that are over the limits of those that are stored.
-pub(crate) fn next_within<D: Disk>(
-    file: &mut Collections<D>,
-    walk: &mut Walk,
-) -> Result<Vec<Document>, Refusal>
-    ensures reads { ReadsOf D.history (λ now rest. IsWalk now walk.old rest)
-        (λ now rest batch. StepsOn 64 walk.new now rest batch.items)
-        result file.old file.new }
-    ensures within { IfOk result (λ batch. All IsWithin batch.items) }
-    ensures ends { IfOk result (λ batch. (batch.items ≡ []) ⊎ (walk.new.left < walk.old.left)) }
-{
-    let documents = file.next_documents(walk, BATCH)?;
-    if !are_within(&documents) {
-        return Err(Refusal::StorageFailed);
-    }
-    Ok(documents)
-}
-
 /// The document, with values of its own; `StorageFailed` where it is over the limits of those that are stored, as a disk may
 /// give some.
-fn built_within(alloc: Global, document: &SpelledDocument) -> Result<Document, Refusal>
+pub(crate) fn built_within(alloc: Global, document: &SpelledDocument) -> Result<Document, Refusal>
     ensures built { IfOk result (λ d. (d ≡ document.now) × IsWithin d) }
     ensures refuses { IfErr result (HasReadCause (document.now ∷ [])) }
 {
