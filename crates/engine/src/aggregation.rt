@@ -85,8 +85,29 @@ fn with_one_more(
     Ok(these)
 }
 
-/// These documents and those of more that a pipeline takes; `StorageFailed` where one of these is over the limits of those
-/// that are stored.
+/// These documents and one more, if a pipeline takes it; `StorageFailed` where it is over the limits of those that are stored.
+fn with_taken(
+    alloc: Global,
+    pipeline: &Pipeline,
+    these: Vec<Document>,
+    room: &mut usize,
+    document: &SpelledDocument,
+) -> Result<Vec<Document>, Refusal>
+    ensures enough { (seen : List Pairs) → IsEnough (pipeline_of pipeline.now) these.items seen
+        → IfOk result (λ v. IsEnough (pipeline_of pipeline.now) v.items
+        (seen ++ filter (takes (pipeline_of pipeline.now)) (document.now ∷ []))) }
+    ensures within { IfOk result
+        (λ _. All IsWithin (filter (takes (pipeline_of pipeline.now)) (document.now ∷ []))) }
+    ensures refuses { IfErr result (HasReadCause (document.now ∷ [])) }
+{
+    if !pipeline.takes_raw(alloc, &document.raw())? {
+        return Ok(these);
+    }
+    let built = built_within(alloc, document)?;
+    Ok(with_one_more(alloc, pipeline, these, room, built)?)
+}
+
+/// These documents and those of more that a pipeline takes.
 fn with_more(
     alloc: Global,
     pipeline: &Pipeline,
@@ -102,10 +123,7 @@ fn with_more(
     ensures refuses { IfErr result (HasReadCause documents.items) }
 {
     'documents: for document in documents {
-        if pipeline.takes_raw(alloc, &document.raw())? {
-            let built = built_within(alloc, &document)?;
-            these = with_one_more(alloc, pipeline, these, room, built)?;
-        }
+        these = with_taken(alloc, pipeline, these, room, &document)?;
     }
     Ok(these)
 }

@@ -1,13 +1,13 @@
-use Rattle.std.proofs.Common.{◌≡◌, ◌++◌, true, false, List, [], ◌∷◌, sym, ap, subst, ◌∙◌, arith}
+use Rattle.std.proofs.Common.{◌≡◌, false, List, ◌∷◌, sym, ap, subst, ◌∙◌, arith}
 use Rattle.std.specs.Prelude.{All}
 use Rattle.std.specs.List.{filter, list_all}
 use Rattle.std.proofs.lemmas.Result.{err_from_is_err_and}
 use Rattle.bson.specs.Tree.{Pairs}
-use Rattle.aggregate.specs.Taking.{takes, IsEnough}
+use Rattle.aggregate.specs.Taking.{takes}
 use Rattle.aggregate.specs.View.{pipeline_of}
 use Rattle.engine.specs.Lawful.{IsWithin}
 use Rattle.engine.specs.Looking.{is_within}
-use Rattle.engine.proofs.NeededLemmas.{IsTaking, takes_all, takes_none, takes_not, takes_one, within_none, within_passed, within_taken}
+use Rattle.engine.proofs.NeededLemmas.{IsTaking, takes_all, takes_next, takes_none, within_next, within_none}
 use Rattle.engine.proofs.SelectLemmas.{cause_of_all, over_later}
 use Rattle.engine.proofs.WalkingLemmas.{none_left}
 use Rattle.engine.proofs.aggregation.with_more.Goals as goal
@@ -24,26 +24,6 @@ documents-init c =
       over = subst (λ (left : List Pairs). list_all is_within left ≡ false → list_all is_within all ≡ false) (sym same) (λ h. h);
     }
 
-pub documents-preserved-then-takes_raw : goal.documents-preserved-then-takes_raw
-documents-preserved-then-takes_raw c =
-    let stages = pipeline_of c.args.pipeline.now in
-    let before = c.args.these.items in
-    let all = c.args.documents.items in
-    let now = c.documents.these.items in
-    let x : Pairs = c.in-Some.document in
-    let left = c.next.new.self.rest.items in
-    let next = c.in_ok-these.these.items in
-    let is : takes stages x ≡ true = ? in
-    let built : Pairs = c.in_ok-built.built in
-    let same : built ≡ x = c.in_ok-built.ensures.0 in
-    let far : IsTaking stages before all now (x ∷ left) = subst (IsTaking stages before all now) c.in-Some.ensures.steps.0 c.documents.invariant.so in
-    record {
-      so = takes_one stages before all x now left next is
-          (λ seen e so. subst (λ (d : Pairs). IsEnough stages next (seen ++ d ∷ [])) same (c.in_ok-these.ensures seen e (ap (takes stages) same ∙ is))) far;
-      within = λ h. c.documents.invariant.within (subst (λ (ds : List Pairs). All IsWithin (filter (takes stages) ds)) (sym c.in-Some.ensures.steps.0) (within_taken (takes stages) x left is (subst IsWithin same c.in_ok-built.ensures.1) h));
-      over = λ h. c.documents.invariant.over (ap (list_all is_within) c.in-Some.ensures.steps.0 ∙ over_later is_within x left h);
-    }
-
 pub documents-preserved : goal.documents-preserved
 documents-preserved c =
     let stages = pipeline_of c.args.pipeline.now in
@@ -52,16 +32,21 @@ documents-preserved c =
     let now = c.documents.these.items in
     let x : Pairs = c.in-Some.document in
     let left = c.next.new.self.rest.items in
-    let is : takes stages x ≡ false = ? in
+    let next = c.in_ok-these.these.items in
     let far : IsTaking stages before all now (x ∷ left) = subst (IsTaking stages before all now) c.in-Some.ensures.steps.0 c.documents.invariant.so in
     record {
-      so = takes_not stages before all x now left is far;
-      within = λ h. c.documents.invariant.within (subst (λ (ds : List Pairs). All IsWithin (filter (takes stages) ds)) (sym c.in-Some.ensures.steps.0) (within_passed (takes stages) x left is h));
+      so = takes_next stages before all x now left next c.in_ok-these.ensures.enough far;
+      within = λ h. c.documents.invariant.within (subst (λ (ds : List Pairs). All IsWithin (filter (takes stages) ds)) (sym c.in-Some.ensures.steps.0) (within_next (takes stages) x left c.in_ok-these.ensures.within h));
       over = λ h. c.documents.invariant.over (ap (list_all is_within) c.in-Some.ensures.steps.0 ∙ over_later is_within x left h);
     }
 
-pub returns-in_err-built-clause-refuses : goal.returns-in_err-built-clause-refuses
-returns-in_err-built-clause-refuses c = ?
+pub returns-in_err-these-clause-refuses : goal.returns-in_err-these-clause-refuses
+returns-in_err-these-clause-refuses c =
+    let e = err_from_is_err_and c.from_residual.result c.from_residual.ensures.1 in
+    let x : Pairs = c.in-Some.document in
+    let left = c.next.new.self.rest.items in
+    rw (e.1, e.2) (cause_of_all x left c.args.documents.items c.in_err-these.field-0
+    (λ over. c.documents.invariant.over (ap (list_all is_within) c.in-Some.ensures.steps.0 ∙ over)) c.in_err-these.ensures.refuses)
 
 pub returns-clause-enough : goal.returns-clause-enough
 returns-clause-enough c =

@@ -1,9 +1,13 @@
-use Rattle.std.proofs.Common.{◌≡◌, ◌<◌, ◌≤◌, length, arith}
+use Rattle.std.proofs.Common.{◌<◌, ◌≤◌, length, arith}
 use Rattle.engine.proofs.CountLemmas.{counted_all, counted_on}
 use Rattle.engine.proofs.count.count_matching.Goals as goal
 
 pub documents-preserved : goal.documents-preserved
-documents-preserved c = ?
+documents-preserved c =
+    let lt : c.documents.document-index < length c.args.documents.now = omega arith in
+    counted_on c.args.filter.now c.args.documents.now c.documents.count c.in_ok-count_one.field-0 _ c.documents.document-index c.document-item.result lt c.document-item.is c.in_ok-count_one.ensures ? c.documents.invariant
 
 pub returns : goal.returns
-returns c = ?
+returns c =
+    let le : length c.args.documents.now ≤ c.documents.document-index = omega arith in
+    counted_all c.args.filter.now c.args.documents.now c.documents.count c.documents.document-index le c.documents.invariant
