@@ -47,7 +47,7 @@ module _ (rules : Conditions) (documents : List Pairs) where
       }
     where
       drop_step : (ds : List Pairs) (i : ℕ) (d : Pairs) → i < length ds → d ≡ get_or ds i d → drop i ds ≡ d ∷ drop (i + 1) ds
-      drop_step ds i d lt is = drop-cons ds i d ∙ (λ j. sym is j ∷ drop (add-one i j) ds)
+      drop_step ds i d lt is = drop-cons ds i d lt ∙ (λ j. sym is j ∷ drop (sym (add-one i) j) ds)
 
   pub counted_all : (count index : ℕ) → length documents ≤ index → IsCountedTo rules documents count index → count ≡ length (matching rules documents)
   counted_all count index le h =

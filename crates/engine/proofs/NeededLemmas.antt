@@ -3,7 +3,7 @@ use Rattle.std.proofs.Common.{◌≡◌, ℕ, zero, suc, ◌≤◌, Bool, true, 
 use Rattle.std.specs.Prelude.{None, All}
 use Rattle.std.specs.List.{filter}
 use Rattle.std.proofs.lemmas.List.{take-append-drop, append-nil}
-use Rattle.std.proofs.lemmas.List.Elements.{All-cons, All-nil, filter-append}
+use Rattle.std.proofs.lemmas.List.Elements.{All-append as append_all, All-cons, All-nil, filter-append}
 use Rattle.bson.specs.Tree.{Pairs}
 use Rattle.aggregate.specs.Limits.{first_fault, limit_fault}
 use Rattle.aggregate.specs.Pipeline.{run}
@@ -156,7 +156,7 @@ module _ (stages : List Stage) (x : Pairs) where
 -- ---- documents within the limits, one by one
 
 pub within_next : (p : Pairs → Bool) (x : Pairs) (left : List Pairs) → All IsWithin (filter p (x ∷ [])) → All IsWithin (filter p left) → All IsWithin (filter p (x ∷ left))
-within_next p x left one later = subst (All IsWithin) (sym (filter-append p (x ∷ []) left)) (All-append IsWithin (filter p (x ∷ [])) (filter p left) one later)
+within_next p x left one later = subst (All IsWithin) (sym (filter-append p (x ∷ []) left)) (append_all IsWithin (filter p (x ∷ [])) (filter p left) one later)
 
 pub within_none : (p : Pairs → Bool) (left : List Pairs) → left ≡ [] → All IsWithin (filter p left)
 within_none p left none = subst (λ (ds : List Pairs). All IsWithin (filter p ds)) (sym none) (All-nil IsWithin)

@@ -45,7 +45,7 @@ returns-in_err-these-clause-refuses c =
     let e = err_from_is_err_and c.from_residual.result c.from_residual.ensures.1 in
     let x : Pairs = c.in-Some.document in
     let left = c.next.new.self.rest.items in
-    rw (e.1, e.2) (cause_of_all x left c.args.documents.items c.in_err-these.field-0
+    rw (e.1, e.2) (cause_of_all x left c.args.documents.items c.in_err-these.field-0.0
     (λ over. c.documents.invariant.over (ap (list_all is_within) c.in-Some.ensures.steps.0 ∙ over)) c.in_err-these.ensures.refuses)
 
 pub returns-clause-enough : goal.returns-clause-enough
