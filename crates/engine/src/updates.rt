@@ -24,13 +24,13 @@ ghost use Rattle.engine.specs.Writing.{Makes};
 
 use crate::REPLY_LIMIT;
 use crate::by_id::asked_id;
-use crate::documents::{compare_id, compare_ids, id_text};
+use crate::documents::{compare_id, compare_ids, id_text, read_id};
 use crate::engine::Engine;
 use crate::find::matches;
 use crate::looking::Selects;
 use crate::shared_document::SharedDocument;
 use crate::statements::{run_on, update_reply, upsert_document};
-use bson::{Document, NoMemory, Value};
+use bson::{Document, NoMemory, RawDoc, Value};
 use commands::UpdateStatement;
 use index::Edits;
 use page::Disk;
@@ -125,6 +125,39 @@ fn has_id_of(documents: &[Document], other: &Document) -> bool
         .any(|document| compare_ids(document, other).is_eq())
 }
 
+/// Whether a statement matches a document that stays its bytes.
+fn is_updated_raw(
+    alloc: Global,
+    statements: &[UpdateStatement],
+    document: &RawDoc<'_>,
+) -> Result<bool, NoMemory>
+    ensures { IfOk result (λ answer. answer ≡ is_updated statements.now document.now) }
+{
+    'statements: for statement in statements {
+        if statement.filter.matches_raw(alloc, document)? {
+            return Ok(true);
+        }
+    }
+    Ok(false)
+}
+
+/// Whether one of these documents has the `_id` of another that stays its bytes.
+fn has_id_of_raw(
+    alloc: Global,
+    documents: &[Document],
+    other: &RawDoc<'_>,
+) -> Result<bool, NoMemory>
+    ensures { IfOk result (λ answer. answer ≡ has_key_of documents.now other.now) }
+{
+    if documents.is_empty() {
+        return Ok(false);
+    }
+    let id = read_id(alloc, other)?;
+    Ok(documents
+        .iter()
+        .any(|document| compare_id(document, &id).is_eq()))
+}
+
 /// Whether all of these have an `_id` equal to this.
 fn all_have(made: &[Document], id: &Value) -> bool
     ensures { result ≡ list_all (λ d. is_eq (compare (key_of d) (tree id.now))) made.now }
@@ -144,6 +177,13 @@ impl Selects for Meaning<'_> {
 
     fn selects(&self, document: &Document) -> bool {
         is_updated(self.statements, document) || has_id_of(self.made, document)
+    }
+
+    fn selects_raw(&self, alloc: Global, document: &RawDoc<'_>) -> Result<bool, NoMemory> {
+        if is_updated_raw(alloc, self.statements, document)? {
+            return Ok(true);
+        }
+        has_id_of_raw(alloc, self.made, document)
     }
 
     fn asked_id(&self) -> Option<&Value> {
