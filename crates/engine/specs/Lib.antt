@@ -19,6 +19,8 @@ pub mod Lawful
 pub mod Places
 pub mod Redoing
 pub mod Known
+pub mod DocumentWrite
+pub mod Writes
 pub mod Updating
 pub mod View
 pub mod Laws
