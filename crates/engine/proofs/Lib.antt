@@ -21,6 +21,7 @@ pub mod NotingLemmas
 pub mod Finding
 pub mod NeededLemmas
 pub mod Applied
+pub mod WriteSteps
 pub mod UpdatingLoop
 pub mod LawfulUpdates
 pub mod ReadingLaws

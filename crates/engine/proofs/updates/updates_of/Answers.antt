@@ -24,5 +24,5 @@ pub returns-clause-planned : goal.returns-clause-planned
 returns-clause-planned c = λ now name h meant.
     let short : length (spelled c.in_ok-reply.reply) ≤ 1048555 = omega (arith, c.encoded_len.ensures, c.if-encoded_len-gt-REPLY_LIMIT.false) in
     let m = c.args.meant in
-    let u : Updates = record { number = m.number; is_new = m.is_new; news = c.in_ok-ran.ran.news; reply = c.in_ok-reply.reply } in
+    let u : Updates = record { number = m.number; is_new = m.is_new; writes = c.in_ok-ran.ran.writes; reply = c.in_ok-reply.reply } in
     updates_done c.args.statements.now m c.requires.read now name h meant c.in_ok-ran.ran c.in_ok-ran.ensures.gives c.in_ok-ran.ensures.from c.in_ok-reply.reply c.in_ok-reply.ensures u refl refl refl refl short
