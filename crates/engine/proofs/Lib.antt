@@ -23,6 +23,7 @@ pub mod NeededLemmas
 pub mod Applied
 pub mod WriteSteps
 pub mod UpdatingLoop
+pub mod StatementLoop
 pub mod LawfulUpdates
 pub mod ReadingLaws
 pub mod EmptyImage
@@ -50,6 +51,8 @@ pub mod MeantDeletions
 pub mod RemovingLemmas
 pub mod TakenLemmas
 pub mod MeantUpdates
+pub mod WriteLawLemmas
+pub mod WritePlaceLemmas
 pub mod ListedUpdates
 pub mod OnlyReading
 pub mod WritingLemmas

@@ -1,7 +1,7 @@
 -- Updates go alike on the documents that their statements may mean and on all of them.
-use Rattle.std.proofs.Common.{◌≡◌, ℕ, suc, ◌+◌, Bool, true, false, List, [], ◌∷◌, ◌++◌, Option, Some, None, Result, Ok, Err, refl, sym, ap, subst, ◌∙◌, arith, append_assoc}
+use Rattle.std.proofs.Common.{◌≡◌, ℕ, suc, ◌+◌, Bool, true, false, List, [], ◌∷◌, ◌++◌, map, take, Option, Some, None, Result, Ok, Err, refl, sym, ap, subst, ◌∙◌, arith, append_assoc}
 use Rattle.std.specs.Prelude.{not, ◌||◌, ◌&&◌, if◌then◌else◌, option_map, All}
-use Rattle.std.specs.List.{filter}
+use Rattle.std.specs.List.{filter, list_any}
 use Rattle.std.specs.Ordering.{is_eq}
 use Rattle.std.specs.declared.cmp.Ordering.{Ordering}
 use Rattle.std.specs.declared.cmp.Ordering.TheVariants as orders
@@ -11,6 +11,7 @@ use Rattle.bson.specs.Tree.{document, Pairs, Items, no_items, item, append_items
 use Rattle.filter.specs.Matches.{matches}
 use Rattle.value_order.specs.Order.{compare}
 use Rattle.outcome.specs.Outcome.{◌>>=◌, or_refused}
+use Rattle.engine.specs.DocumentWrite.{DocumentWrite}
 use Rattle.path.specs.declared.refusal.Refusal.{Refusal}
 use Rattle.path.specs.declared.refusal.Refusal.TheVariants as refusals
 use Rattle.update.specs.Applying.{apply}
@@ -21,6 +22,7 @@ use Rattle.engine.specs.Documents.{key_of, place}
 use Rattle.engine.specs.Lawful.{IsStored}
 use Rattle.engine.specs.Merging.{is_updated, one_or_none, made_of, made_by, has_key_of, is_meant, put_each, Listed, none_changed, listed_to, with_listed, upsert_listed, run_listed, run_each}
 use Rattle.engine.specs.Update.{counted, modified_by, Changed, passed_over, changed_to, update_from, upsert_document, upserted_entry}
+use Rattle.engine.specs.Writes.{changes_of, made_write, statement_writes, unless_refused, writes_from, writes_of}
 use Rattle.engine.proofs.Applied.{upserted_stored}
 use Rattle.engine.proofs.LawfulSteps.{kept_place}
 use Rattle.engine.proofs.LawfulUpdates.{SameKeys-rising, from_kept}
@@ -80,7 +82,7 @@ lift_meant x new ms xs ys (Ok c) (Err f) h = h
 lift_meant x new ms xs ys (Err e) (Ok d) h = h
 
 -- what becomes of a document, and then of the others
-abbrev one_step : UpdateStatement → Changed → Pairs → List Pairs → Bool → Result Pairs Refusal → Bool → Result Changed Refusal
+abbrev pub one_step : UpdateStatement → Changed → Pairs → List Pairs → Bool → Result Pairs Refusal → Bool → Result Changed Refusal
 one_step s so_far x ds m r multi =
     if not m then update_from s (passed_over x so_far) ds else
     (r >>= (λ new. if multi then update_from s (changed_to x new so_far) ds else
@@ -182,7 +184,7 @@ place_alike new (other x ∷ ms) up free = at (compare (key_of new) (key_of x)) 
 abbrev pub listed_with : List Pairs → ℕ → ℕ → Items → Listed
 listed_with ds matched modified upserted = record { documents = ds; matched = matched; modified = modified; upserted = upserted }
 
-record BothRun (ms : List Marked) (l m : Listed) : Type 0 where
+pub record BothRun (ms : List Marked) (l m : Listed) : Type 0 where
   pub next : List Marked
   pub matched : ℕ
   pub modified : ℕ
@@ -193,7 +195,7 @@ record BothRun (ms : List Marked) (l m : Listed) : Type 0 where
   pub rising : IsRising (all_of next)
   pub stored : All IsStored (all_of next)
 
-abbrev RunsAlike : List Marked → Result Listed Refusal → Result Listed Refusal → Type 0
+abbrev pub RunsAlike : List Marked → Result Listed Refusal → Result Listed Refusal → Type 0
 RunsAlike ms (Ok l) (Ok m) = BothRun ms l m
 RunsAlike ms (Err e) (Err f) = e ≡ f
 RunsAlike ms (Ok l) (Err f) = ⊥
@@ -251,7 +253,7 @@ module _ (i : ℕ) (s : UpdateStatement) (ms : List Marked) (a n : ℕ) (u : Ite
   abbrev ends : Listed → Changed → Result Listed Refusal
   ends l changed = if not changed.found && s.upsert then upsert_listed i s l else Ok (listed_to l changed)
 
-  run_alike : NoneIs (matches s.filter) (others_of ms) → NoneIs (has_key_of (made_of s)) (others_of ms) → RunsAlike ms (run_listed i s few) (run_listed i s whole)
+  pub run_alike : NoneIs (matches s.filter) (others_of ms) → NoneIs (has_key_of (made_of s)) (others_of ms) → RunsAlike ms (run_listed i s few) (run_listed i s whole)
   run_alike none free =
       at (update_from s (none_changed few) (meant_of ms)) (update_from s (none_changed whole) (all_of ms)) refl (from_alike s ms [] [] false a n none)
     where
@@ -300,28 +302,32 @@ from_next ms next (Err e) (Err f) same h = h
 from_next ms next (Ok l) (Err f) same h = h
 from_next ms next (Err e) (Ok m) same h = h
 
+-- what no statement means, the first doesn't, nor do the later ones
+module _ (s : UpdateStatement) (ss : List UpdateStatement) (xs : List Pairs) where
+  pub first_unmatched : NoneIs (is_updated (s ∷ ss)) xs → NoneIs (matches s.filter) xs
+  first_unmatched none = Each-map (λ x. is_updated (s ∷ ss) x ≡ false) (λ x. matches s.filter x ≡ false) xs (λ x e. or_first (matches s.filter x) (is_updated ss x) e) none
+
+  pub later_unmatched : NoneIs (is_updated (s ∷ ss)) xs → NoneIs (is_updated ss) xs
+  later_unmatched none = Each-map (λ x. is_updated (s ∷ ss) x ≡ false) (λ x. is_updated ss x ≡ false) xs (λ x e. or_second (matches s.filter x) (is_updated ss x) e) none
+
+  both : (x : Pairs) → has_key_of (made_of s ++ made_by ss) x ≡ (has_key_of (made_of s) x || has_key_of (made_by ss) x)
+  both x = list_any-append (λ d. is_eq (compare (key_of d) (key_of x))) (made_of s) (made_by ss)
+
+  pub first_free : NoneIs (has_key_of (made_by (s ∷ ss))) xs → NoneIs (has_key_of (made_of s)) xs
+  first_free free = Each-map (λ x. has_key_of (made_by (s ∷ ss)) x ≡ false) (λ x. has_key_of (made_of s) x ≡ false) xs (λ x e. or_first (has_key_of (made_of s) x) (has_key_of (made_by ss) x) (sym (both x) ∙ e)) free
+
+  pub later_free : NoneIs (has_key_of (made_by (s ∷ ss))) xs → NoneIs (has_key_of (made_by ss)) xs
+  later_free free = Each-map (λ x. has_key_of (made_by (s ∷ ss)) x ≡ false) (λ x. has_key_of (made_by ss) x ≡ false) xs (λ x e. or_second (has_key_of (made_of s) x) (has_key_of (made_by ss) x) (sym (both x) ∙ e)) free
+
 each_alike : (i : ℕ) (ss : List UpdateStatement) (ms : List Marked) (a n : ℕ) (u : Items) → All (λ (s : UpdateStatement). IsRead s.change) ss → IsRising (all_of ms) → All IsStored (all_of ms)
     → NoneIs (is_updated ss) (others_of ms) → NoneIs (has_key_of (made_by ss)) (others_of ms) → RunsAlike ms (run_each i ss (listed_with (meant_of ms) a n u)) (run_each i ss (listed_with (all_of ms) a n u))
 each_alike i [] ms a n u read rising stored none free = record { next = ms; matched = a; modified = n; upserted = u; among = refl; all = refl; rest = refl; rising = rising; stored = stored }
 each_alike i (s ∷ ss) ms a n u read rising stored none free =
-    at (run_listed i s (listed_with (meant_of ms) a n u)) (run_listed i s (listed_with (all_of ms) a n u)) (run_alike i s ms a n u (read 0 s (omega arith)) rising stored first free_first)
-    (λ next k l v up kept same. each_alike (suc i) ss next k l v (λ j d below. read (suc j) d (omega arith)) up kept (subst (NoneIs (is_updated ss)) (sym same) second) (subst (NoneIs (has_key_of (made_by ss))) (sym same) free_second))
+    at (run_listed i s (listed_with (meant_of ms) a n u)) (run_listed i s (listed_with (all_of ms) a n u))
+    (run_alike i s ms a n u (read 0 s (omega arith)) rising stored (first_unmatched s ss (others_of ms) none) (first_free s ss (others_of ms) free))
+    (λ next k l v up kept same. each_alike (suc i) ss next k l v (λ j d below. read (suc j) d (omega arith)) up kept (subst (NoneIs (is_updated ss)) (sym same) (later_unmatched s ss (others_of ms) none))
+    (subst (NoneIs (has_key_of (made_by ss))) (sym same) (later_free s ss (others_of ms) free)))
   where
-    first : NoneIs (matches s.filter) (others_of ms)
-    first = Each-map (λ x. is_updated (s ∷ ss) x ≡ false) (λ x. matches s.filter x ≡ false) (others_of ms) (λ x e. or_first (matches s.filter x) (is_updated ss x) e) none
-
-    second : NoneIs (is_updated ss) (others_of ms)
-    second = Each-map (λ x. is_updated (s ∷ ss) x ≡ false) (λ x. is_updated ss x ≡ false) (others_of ms) (λ x e. or_second (matches s.filter x) (is_updated ss x) e) none
-
-    both : (x : Pairs) → has_key_of (made_of s ++ made_by ss) x ≡ (has_key_of (made_of s) x || has_key_of (made_by ss) x)
-    both x = list_any-append (λ d. is_eq (compare (key_of d) (key_of x))) (made_of s) (made_by ss)
-
-    free_first : NoneIs (has_key_of (made_of s)) (others_of ms)
-    free_first = Each-map (λ x. has_key_of (made_by (s ∷ ss)) x ≡ false) (λ x. has_key_of (made_of s) x ≡ false) (others_of ms) (λ x e. or_first (has_key_of (made_of s) x) (has_key_of (made_by ss) x) (sym (both x) ∙ e)) free
-
-    free_second : NoneIs (has_key_of (made_by ss)) (others_of ms)
-    free_second = Each-map (λ x. has_key_of (made_by (s ∷ ss)) x ≡ false) (λ x. has_key_of (made_by ss) x ≡ false) (others_of ms) (λ x e. or_second (has_key_of (made_of s) x) (has_key_of (made_by ss) x) (sym (both x) ∙ e)) free
-
     at : (r t : Result Listed Refusal) → RunsAlike ms r t
         → ((next : List Marked) (k l : ℕ) (v : Items) → IsRising (all_of next) → All IsStored (all_of next) → others_of next ≡ others_of ms
         → RunsAlike next (run_each (suc i) ss (listed_with (meant_of next) k l v)) (run_each (suc i) ss (listed_with (all_of next) k l v)))
@@ -333,6 +339,43 @@ each_alike i (s ∷ ss) ms a n u read rising stored none free =
         (subst (λ (x : Listed). RunsAlike ms (run_each (suc i) ss few) (run_each (suc i) ss x)) (sym h.all)
         (from_next ms h.next (run_each (suc i) ss few) (run_each (suc i) ss whole) h.rest (go h.next h.matched h.modified h.upserted h.rising h.stored h.rest)))
     at (Err e) (Err f) h go = h
+    at (Ok l) (Err f) h go = absurd h
+    at (Err e) (Ok m) h go = absurd h
+
+-- ---- what they write
+
+matching_alike : (p : Pairs → Bool) (ms : List Marked) → NoneIs p (others_of ms) → filter p (meant_of ms) ≡ filter p (all_of ms)
+matching_alike p [] none = refl
+matching_alike p (meant x ∷ ms) none = ap (λ (xs : List Pairs). if p x then x ∷ xs else xs) (matching_alike p ms none)
+matching_alike p (other x ∷ ms) none = matching_alike p ms none.1 ∙ sym (ap (λ (b : Bool). if b then x ∷ filter p (all_of ms) else filter p (all_of ms)) none.0)
+
+any_alike : (p : Pairs → Bool) (ms : List Marked) → NoneIs p (others_of ms) → list_any p (meant_of ms) ≡ list_any p (all_of ms)
+any_alike p [] none = refl
+any_alike p (meant x ∷ ms) none = ap (λ (b : Bool). p x || b) (any_alike p ms none)
+any_alike p (other x ∷ ms) none = any_alike p ms none.1 ∙ sym (ap (λ (b : Bool). b || list_any p (all_of ms)) none.0)
+
+statement_alike : (s : UpdateStatement) (ms : List Marked) → NoneIs (matches s.filter) (others_of ms) → statement_writes s (meant_of ms) ≡ statement_writes s (all_of ms)
+statement_alike s ms none i =
+    let matching = matching_alike (matches s.filter) ms none i in
+    if any_alike (matches s.filter) ms none i then changes_of s.change (if s.multi then matching else take 1 matching) else map made_write (made_of s)
+
+writes_alike : (i : ℕ) (ss : List UpdateStatement) (ms : List Marked) (a n : ℕ) (u : Items) → All (λ (s : UpdateStatement). IsRead s.change) ss → IsRising (all_of ms) → All IsStored (all_of ms)
+    → NoneIs (is_updated ss) (others_of ms) → NoneIs (has_key_of (made_by ss)) (others_of ms) → writes_from i ss (listed_with (meant_of ms) a n u) ≡ writes_from i ss (listed_with (all_of ms) a n u)
+writes_alike i [] ms a n u read rising stored none free = refl
+writes_alike i (s ∷ ss) ms a n u read rising stored none free =
+    let unmatched = first_unmatched s ss (others_of ms) none in
+    let later = at (run_listed i s (listed_with (meant_of ms) a n u)) (run_listed i s (listed_with (all_of ms) a n u))
+    (run_alike i s ms a n u (read 0 s (omega arith)) rising stored unmatched (first_free s ss (others_of ms) free))
+    (λ next k l v up kept same. writes_alike (suc i) ss next k l v (λ j d below. read (suc j) d (omega arith)) up kept (subst (NoneIs (is_updated ss)) (sym same) (later_unmatched s ss (others_of ms) none))
+    (subst (NoneIs (has_key_of (made_by ss))) (sym same) (later_free s ss (others_of ms) free))) in
+    λ k. statement_alike s ms unmatched k ++ later k
+  where
+    at : (r t : Result Listed Refusal) → RunsAlike ms r t
+        → ((next : List Marked) (k l : ℕ) (v : Items) → IsRising (all_of next) → All IsStored (all_of next) → others_of next ≡ others_of ms
+        → writes_from (suc i) ss (listed_with (meant_of next) k l v) ≡ writes_from (suc i) ss (listed_with (all_of next) k l v))
+        → unless_refused (writes_from (suc i) ss) r ≡ unless_refused (writes_from (suc i) ss) t
+    at (Ok l) (Ok m) h go = ap (writes_from (suc i) ss) h.among ∙ go h.next h.matched h.modified h.upserted h.rising h.stored h.rest ∙ ap (writes_from (suc i) ss) (sym h.all)
+    at (Err e) (Err f) h go = refl
     at (Ok l) (Err f) h go = absurd h
     at (Err e) (Ok m) h go = absurd h
 
@@ -348,12 +391,15 @@ module _ (ss : List UpdateStatement) (ds : List Pairs) (read : All (λ (s : Upda
   all : all_of marks ≡ ds
   all = mark_all (is_meant ss) ds
 
+  none_updated : NoneIs (is_updated ss) (others_of marks)
+  none_updated = Each-map (λ x. is_meant ss x ≡ false) (λ x. is_updated ss x ≡ false) (others_of marks) (λ x e. or_first (is_updated ss x) (has_key_of (made_by ss) x) e) (mark_others (is_meant ss) ds)
+
+  none_made : NoneIs (has_key_of (made_by ss)) (others_of marks)
+  none_made = Each-map (λ x. is_meant ss x ≡ false) (λ x. has_key_of (made_by ss) x ≡ false) (others_of marks) (λ x e. or_second (is_updated ss x) (has_key_of (made_by ss) x) e) (mark_others (is_meant ss) ds)
+
   runs : RunsAlike marks (run_each 0 ss (listed_with among 0 0 no_items)) (run_each 0 ss (listed_with ds 0 0 no_items))
   runs =
-      let none = mark_others (is_meant ss) ds in
-      let first = Each-map (λ x. is_meant ss x ≡ false) (λ x. is_updated ss x ≡ false) (others_of marks) (λ x e. or_first (is_updated ss x) (has_key_of (made_by ss) x) e) none in
-      let second = Each-map (λ x. is_meant ss x ≡ false) (λ x. has_key_of (made_by ss) x ≡ false) (others_of marks) (λ x e. or_second (is_updated ss x) (has_key_of (made_by ss) x) e) none in
-      let here = each_alike 0 ss marks 0 0 no_items read (subst IsRising (sym all) rising) (subst (All IsStored) (sym all) stored) first second in
+      let here = each_alike 0 ss marks 0 0 no_items read (subst IsRising (sym all) rising) (subst (All IsStored) (sym all) stored) none_updated none_made in
       subst (λ (xs : List Pairs). RunsAlike marks (run_each 0 ss (listed_with among 0 0 no_items)) (run_each 0 ss (listed_with xs 0 0 no_items))) all
       (subst (λ (xs : List Pairs). RunsAlike marks (run_each 0 ss (listed_with xs 0 0 no_items)) (run_each 0 ss (listed_with (all_of marks) 0 0 no_items))) (mark_meant (is_meant ss) ds) here)
 
@@ -378,3 +424,9 @@ module _ (ss : List UpdateStatement) (ds : List Pairs) (read : All (λ (s : Upda
           let whole : put_each news ds ≡ all_of h.next = ap (put_each news) (sym all) ∙ lead in
           let kept : record l { documents = put_each news ds } ≡ listed_with (put_each news ds) h.matched h.modified h.upserted = ap (λ (x : Listed). record x { documents = put_each news ds }) h.among in
           ap (λ (x : Listed). Ok x) (h.all ∙ ap (λ (xs : List Pairs). listed_with xs h.matched h.modified h.upserted) (sym whole) ∙ sym kept)
+
+  -- They write the same.
+  pub same_writes : writes_of ss among ≡ writes_of ss ds
+  same_writes =
+      ap (writes_of ss) (sym (mark_meant (is_meant ss) ds))
+      ∙ writes_alike 0 ss marks 0 0 no_items read (subst IsRising (sym all) rising) (subst (All IsStored) (sym all) stored) none_updated none_made ∙ ap (writes_of ss) all

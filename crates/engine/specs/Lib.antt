@@ -21,6 +21,7 @@ pub mod Redoing
 pub mod Known
 pub mod DocumentWrite
 pub mod Writes
+pub mod WriteLaws
 pub mod Updating
 pub mod View
 pub mod Laws

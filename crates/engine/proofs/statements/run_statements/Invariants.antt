@@ -1,4 +1,4 @@
-use Rattle.engine.proofs.UpdatingLoop.{HasLeft}
+use Rattle.engine.proofs.StatementLoop.{HasLeft}
 use Rattle.engine.proofs.statements.run_statements.Given as goal
 
 abbrev pub invariant-statements : goal.invariant-statements
