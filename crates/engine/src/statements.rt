@@ -402,7 +402,8 @@ pub(crate) fn run_on(
             upserted: Array::new(alloc),
         },
     };
-    let end = match run_statements(alloc, &mut run, statements) {
+    let result = run_statements(alloc, &mut run, statements);
+    let end = match result {
         Ok(()) => Ok(run.tally),
         Err(Refusal::OutOfMemory) => return Err(AllocError),
         Err(refusal) => Err(refusal),
