@@ -51,6 +51,7 @@ pub mod MeantDeletions
 pub mod RemovingLemmas
 pub mod TakenLemmas
 pub mod MeantUpdates
+pub mod MeantWrites
 pub mod WriteLawLemmas
 pub mod WritePlaceLemmas
 pub mod ListedUpdates

@@ -1,7 +1,7 @@
 -- Updates go alike on the documents that their statements may mean and on all of them.
-use Rattle.std.proofs.Common.{◌≡◌, ℕ, suc, ◌+◌, Bool, true, false, List, [], ◌∷◌, ◌++◌, map, take, Option, Some, None, Result, Ok, Err, refl, sym, ap, subst, ◌∙◌, arith, append_assoc}
+use Rattle.std.proofs.Common.{◌≡◌, ℕ, suc, ◌+◌, Bool, true, false, List, [], ◌∷◌, ◌++◌, Option, Some, None, Result, Ok, Err, refl, sym, ap, subst, ◌∙◌, arith, append_assoc}
 use Rattle.std.specs.Prelude.{not, ◌||◌, ◌&&◌, if◌then◌else◌, option_map, All}
-use Rattle.std.specs.List.{filter, list_any}
+use Rattle.std.specs.List.{filter}
 use Rattle.std.specs.Ordering.{is_eq}
 use Rattle.std.specs.declared.cmp.Ordering.{Ordering}
 use Rattle.std.specs.declared.cmp.Ordering.TheVariants as orders
@@ -11,7 +11,6 @@ use Rattle.bson.specs.Tree.{document, Pairs, Items, no_items, item, append_items
 use Rattle.filter.specs.Matches.{matches}
 use Rattle.value_order.specs.Order.{compare}
 use Rattle.outcome.specs.Outcome.{◌>>=◌, or_refused}
-use Rattle.engine.specs.DocumentWrite.{DocumentWrite}
 use Rattle.path.specs.declared.refusal.Refusal.{Refusal}
 use Rattle.path.specs.declared.refusal.Refusal.TheVariants as refusals
 use Rattle.update.specs.Applying.{apply}
@@ -22,7 +21,6 @@ use Rattle.engine.specs.Documents.{key_of, place}
 use Rattle.engine.specs.Lawful.{IsStored}
 use Rattle.engine.specs.Merging.{is_updated, one_or_none, made_of, made_by, has_key_of, is_meant, put_each, Listed, none_changed, listed_to, with_listed, upsert_listed, run_listed, run_each}
 use Rattle.engine.specs.Update.{counted, modified_by, Changed, passed_over, changed_to, update_from, upsert_document, upserted_entry}
-use Rattle.engine.specs.Writes.{changes_of, made_write, statement_writes, unless_refused, writes_from, writes_of}
 use Rattle.engine.proofs.Applied.{upserted_stored}
 use Rattle.engine.proofs.LawfulSteps.{kept_place}
 use Rattle.engine.proofs.LawfulUpdates.{SameKeys-rising, from_kept}
@@ -342,43 +340,6 @@ each_alike i (s ∷ ss) ms a n u read rising stored none free =
     at (Ok l) (Err f) h go = absurd h
     at (Err e) (Ok m) h go = absurd h
 
--- ---- what they write
-
-matching_alike : (p : Pairs → Bool) (ms : List Marked) → NoneIs p (others_of ms) → filter p (meant_of ms) ≡ filter p (all_of ms)
-matching_alike p [] none = refl
-matching_alike p (meant x ∷ ms) none = ap (λ (xs : List Pairs). if p x then x ∷ xs else xs) (matching_alike p ms none)
-matching_alike p (other x ∷ ms) none = matching_alike p ms none.1 ∙ sym (ap (λ (b : Bool). if b then x ∷ filter p (all_of ms) else filter p (all_of ms)) none.0)
-
-any_alike : (p : Pairs → Bool) (ms : List Marked) → NoneIs p (others_of ms) → list_any p (meant_of ms) ≡ list_any p (all_of ms)
-any_alike p [] none = refl
-any_alike p (meant x ∷ ms) none = ap (λ (b : Bool). p x || b) (any_alike p ms none)
-any_alike p (other x ∷ ms) none = any_alike p ms none.1 ∙ sym (ap (λ (b : Bool). b || list_any p (all_of ms)) none.0)
-
-statement_alike : (s : UpdateStatement) (ms : List Marked) → NoneIs (matches s.filter) (others_of ms) → statement_writes s (meant_of ms) ≡ statement_writes s (all_of ms)
-statement_alike s ms none i =
-    let matching = matching_alike (matches s.filter) ms none i in
-    if any_alike (matches s.filter) ms none i then changes_of s.change (if s.multi then matching else take 1 matching) else map made_write (made_of s)
-
-writes_alike : (i : ℕ) (ss : List UpdateStatement) (ms : List Marked) (a n : ℕ) (u : Items) → All (λ (s : UpdateStatement). IsRead s.change) ss → IsRising (all_of ms) → All IsStored (all_of ms)
-    → NoneIs (is_updated ss) (others_of ms) → NoneIs (has_key_of (made_by ss)) (others_of ms) → writes_from i ss (listed_with (meant_of ms) a n u) ≡ writes_from i ss (listed_with (all_of ms) a n u)
-writes_alike i [] ms a n u read rising stored none free = refl
-writes_alike i (s ∷ ss) ms a n u read rising stored none free =
-    let unmatched = first_unmatched s ss (others_of ms) none in
-    let later = at (run_listed i s (listed_with (meant_of ms) a n u)) (run_listed i s (listed_with (all_of ms) a n u))
-    (run_alike i s ms a n u (read 0 s (omega arith)) rising stored unmatched (first_free s ss (others_of ms) free))
-    (λ next k l v up kept same. writes_alike (suc i) ss next k l v (λ j d below. read (suc j) d (omega arith)) up kept (subst (NoneIs (is_updated ss)) (sym same) (later_unmatched s ss (others_of ms) none))
-    (subst (NoneIs (has_key_of (made_by ss))) (sym same) (later_free s ss (others_of ms) free))) in
-    λ k. statement_alike s ms unmatched k ++ later k
-  where
-    at : (r t : Result Listed Refusal) → RunsAlike ms r t
-        → ((next : List Marked) (k l : ℕ) (v : Items) → IsRising (all_of next) → All IsStored (all_of next) → others_of next ≡ others_of ms
-        → writes_from (suc i) ss (listed_with (meant_of next) k l v) ≡ writes_from (suc i) ss (listed_with (all_of next) k l v))
-        → unless_refused (writes_from (suc i) ss) r ≡ unless_refused (writes_from (suc i) ss) t
-    at (Ok l) (Ok m) h go = ap (writes_from (suc i) ss) h.among ∙ go h.next h.matched h.modified h.upserted h.rising h.stored h.rest ∙ ap (writes_from (suc i) ss) (sym h.all)
-    at (Err e) (Err f) h go = refl
-    at (Ok l) (Err f) h go = absurd h
-    at (Err e) (Ok m) h go = absurd h
-
 -- ---- all of them
 
 module _ (ss : List UpdateStatement) (ds : List Pairs) (read : All (λ (s : UpdateStatement). IsRead s.change) ss) (rising : IsRising ds) (stored : All IsStored ds) where
@@ -391,10 +352,10 @@ module _ (ss : List UpdateStatement) (ds : List Pairs) (read : All (λ (s : Upda
   all : all_of marks ≡ ds
   all = mark_all (is_meant ss) ds
 
-  none_updated : NoneIs (is_updated ss) (others_of marks)
+  pub none_updated : NoneIs (is_updated ss) (others_of marks)
   none_updated = Each-map (λ x. is_meant ss x ≡ false) (λ x. is_updated ss x ≡ false) (others_of marks) (λ x e. or_first (is_updated ss x) (has_key_of (made_by ss) x) e) (mark_others (is_meant ss) ds)
 
-  none_made : NoneIs (has_key_of (made_by ss)) (others_of marks)
+  pub none_made : NoneIs (has_key_of (made_by ss)) (others_of marks)
   none_made = Each-map (λ x. is_meant ss x ≡ false) (λ x. has_key_of (made_by ss) x ≡ false) (others_of marks) (λ x e. or_second (is_updated ss x) (has_key_of (made_by ss) x) e) (mark_others (is_meant ss) ds)
 
   runs : RunsAlike marks (run_each 0 ss (listed_with among 0 0 no_items)) (run_each 0 ss (listed_with ds 0 0 no_items))
@@ -424,9 +385,3 @@ module _ (ss : List UpdateStatement) (ds : List Pairs) (read : All (λ (s : Upda
           let whole : put_each news ds ≡ all_of h.next = ap (put_each news) (sym all) ∙ lead in
           let kept : record l { documents = put_each news ds } ≡ listed_with (put_each news ds) h.matched h.modified h.upserted = ap (λ (x : Listed). record x { documents = put_each news ds }) h.among in
           ap (λ (x : Listed). Ok x) (h.all ∙ ap (λ (xs : List Pairs). listed_with xs h.matched h.modified h.upserted) (sym whole) ∙ sym kept)
-
-  -- They write the same.
-  pub same_writes : writes_of ss among ≡ writes_of ss ds
-  same_writes =
-      ap (writes_of ss) (sym (mark_meant (is_meant ss) ds))
-      ∙ writes_alike 0 ss marks 0 0 no_items read (subst IsRising (sym all) rising) (subst (All IsStored) (sym all) stored) none_updated none_made ∙ ap (writes_of ss) all

@@ -35,10 +35,11 @@ use Rattle.engine.specs.Writes.{change_writes, changes_of, made_write, statement
 use Rattle.engine.proofs.Applied.{kept_key, kept_stored, upserted_stored}
 use Rattle.engine.proofs.LawfulSteps.{Kept, kept_place}
 use Rattle.engine.proofs.LawfulUpdates.{SameKeys, SameKeys-rising, from_kept}
-use Rattle.engine.proofs.MeantUpdates.{one_step, same_writes}
+use Rattle.engine.proofs.MeantUpdates.{one_step}
+use Rattle.engine.proofs.MeantWrites.{documents_append, same_writes}
 use Rattle.engine.proofs.MergingLemmas.{Each}
 use Rattle.engine.proofs.Ordered.{flipped}
-use Rattle.engine.proofs.WriteSteps.{changes_on, changes_only, none_written, updated_none, updated_other, updated_unmatched, writes_changes, writes_none}
+use Rattle.engine.proofs.WriteSteps.{none_written, updated_stored, updated_unmatched, writes_changes, writes_none}
 
 pub writes_of_meant : WritesOfMeant
 writes_of_meant ss ds h = same_writes ss ds h.read h.rising h.stored
@@ -168,13 +169,6 @@ unchanged_write_nothing s ds some h =
 pub no_stored : All IsStored []
 no_stored k d below = absurd (omega arith)
 
-pub updated_stored : (s : UpdateStatement) (ds : List Pairs) → All IsStored ds → All IsStored (updated_by s ds)
-updated_stored s ds h = at s.multi
-  where
-    at : (multi : Bool) → All IsStored (if multi then filter (matches s.filter) ds else take 1 (filter (matches s.filter) ds))
-    at true = All-filter (matches s.filter) IsStored ds h
-    at false = All-take IsStored 1 (filter (matches s.filter) ds) (All-filter (matches s.filter) IsStored ds h)
-
 found_is : (s : UpdateStatement) (c : Changed) (xs : List Pairs) (d : Changed) → update_from s c xs ≡ Ok d → d.found ≡ (c.found || list_any (matches s.filter) xs)
 found_is s c [] d e = let same : c ≡ d = cc in ap (λ (x : Changed). x.found) (sym same) ∙ sym (at c.found)
   where
@@ -282,10 +276,6 @@ statement_stored s read ds h = at (list_any (matches s.filter) ds)
     at : (b : Bool) → All IsStored (documents_in (if b then changes_of s.change (updated_by s ds) else map made_write (made_of s)))
     at true = changes_stored s.change read (updated_by s ds) (updated_stored s ds h)
     at false = made_stored s
-
-pub documents_append : (ws vs : List DocumentWrite) → documents_in (ws ++ vs) ≡ documents_in ws ++ documents_in vs
-documents_append [] vs = refl
-documents_append (w ∷ ws) vs = ap (λ (ds : List Pairs). w.document ∷ ds) (documents_append ws vs)
 
 from_stored : (i : ℕ) (ss : List UpdateStatement) (l : Listed) → All (λ (s : UpdateStatement). IsRead s.change) ss → Kept l.documents → All IsStored (documents_in (writes_from i ss l))
 from_stored i [] l read h = no_stored

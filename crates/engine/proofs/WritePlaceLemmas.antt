@@ -34,12 +34,13 @@ use Rattle.engine.proofs.Applied.{kept_key}
 use Rattle.engine.proofs.LawfulSteps.{Kept}
 use Rattle.engine.proofs.LawfulUpdates.{SameKeys, SameKeys-rising}
 use Rattle.engine.proofs.MeantUpdates.{one_step}
+use Rattle.engine.proofs.MeantWrites.{documents_append}
 use Rattle.engine.proofs.MergingLemmas.{Each, Each-map}
 use Rattle.engine.proofs.Ordered.{flipped}
 use Rattle.engine.proofs.StoringLemmas.{put_where_placed}
 use Rattle.engine.proofs.UpdatingLoop.{put_in_place}
-use Rattle.engine.proofs.WriteLawLemmas.{documents_append, HasChanged, HasMade, left_by, next_kept, updated_stored}
-use Rattle.engine.proofs.WriteSteps.{changes_on, changes_only, updated_none, updated_other, updated_unmatched, writes_changes, writes_made, writes_upsert}
+use Rattle.engine.proofs.WriteLawLemmas.{HasChanged, HasMade, left_by, next_kept}
+use Rattle.engine.proofs.WriteSteps.{changes_on, changes_only, updated_none, updated_other, updated_stored, writes_upsert}
 
 put_each_append : (xs ys ds : List Pairs) → put_each (xs ++ ys) ds ≡ put_each ys (put_each xs ds)
 put_each_append [] ys ds = refl

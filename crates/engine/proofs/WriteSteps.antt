@@ -1,6 +1,6 @@
 -- What a statement writes, document by document.
 use Rattle.std.proofs.Common.{◌≡◌, ℕ, zero, suc, ◌<◌, Bool, true, false, List, [], ◌∷◌, ◌++◌, length, map, take, get_or, Option, Some, None, Result, Ok, Err, refl, sym, ap, subst, ◌∙◌, arith}
-use Rattle.std.specs.Prelude.{◌||◌, if◌then◌else◌}
+use Rattle.std.specs.Prelude.{◌||◌, if◌then◌else◌, All}
 use Rattle.std.specs.List.{filter, list_any}
 use Rattle.std.specs.Ordering.{is_eq}
 use Rattle.std.specs.Str.{bytes_eq}
@@ -8,6 +8,7 @@ use Rattle.std.specs.declared.cmp.Ordering.{Ordering}
 use Rattle.std.specs.declared.cmp.Ordering.TheVariants as orders
 use Rattle.std.proofs.lemmas.Cmp.{tied_itself}
 use Rattle.std.proofs.lemmas.List.{append-nil, map-append}
+use Rattle.std.proofs.lemmas.List.Elements.{All-filter, All-take}
 use Rattle.std.proofs.lemmas.Slice.Eq.{bytes_eq-Decides}
 use Rattle.bson.specs.Tree.{Pairs, no_pairs}
 use Rattle.filter.specs.Matches.{matches}
@@ -22,6 +23,7 @@ use Rattle.index.specs.LawfulState.{IsRising}
 use Rattle.index.specs.StateReads.{find_document}
 use Rattle.engine.specs.DocumentWrite.{DocumentWrite}
 use Rattle.engine.specs.Documents.{key_of}
+use Rattle.engine.specs.Lawful.{IsStored}
 use Rattle.engine.specs.Merging.{made_of, one_or_none, put_each}
 use Rattle.engine.specs.Update.{spelled, upsert_document}
 use Rattle.engine.specs.Updating.{HaveOld, news_of, replaced_in, seen}
@@ -69,6 +71,13 @@ updated_unmatched s ds none = ap (λ (xs : List Pairs). if s.multi then xs else 
             → (if b then x ∷ filter (matches s.filter) xs else filter (matches s.filter) xs) ≡ []
         at true later f = absurd cc
         at false later f = later f
+
+pub updated_stored : (s : UpdateStatement) (ds : List Pairs) → All IsStored ds → All IsStored (updated_by s ds)
+updated_stored s ds h = at s.multi
+  where
+    at : (multi : Bool) → All IsStored (if multi then filter (matches s.filter) ds else take 1 (filter (matches s.filter) ds))
+    at true = All-filter (matches s.filter) IsStored ds h
+    at false = All-take IsStored 1 (filter (matches s.filter) ds) (All-filter (matches s.filter) IsStored ds h)
 
 module _ (s : UpdateStatement) (d : Pairs) (ds : List Pairs) where
   abbrev after_matching : List Pairs → List Pairs
