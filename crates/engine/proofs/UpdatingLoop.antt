@@ -80,7 +80,7 @@ put_each_more [] x ds = refl
 put_each_more (new ∷ rest) x ds = put_each_more rest x (put_document new ds)
 
 -- it goes in the place of the one of its key
-put_in_place : (ds : List Pairs) (i : ℕ) (new : Pairs) → i < length ds → key_of new ≡ key_of (get_or ds i no_pairs) → IsRising ds → put_document new ds ≡ set ds i new
+pub put_in_place : (ds : List Pairs) (i : ℕ) (new : Pairs) → i < length ds → key_of new ≡ key_of (get_or ds i no_pairs) → IsRising ds → put_document new ds ≡ set ds i new
 put_in_place [] i new below same up = absurd (omega (arith, below))
 put_in_place (d ∷ ds) zero new below same up =
     let tied : compare (key_of new) (key_of d) ≡ orders.Equal = ap (λ t. compare t (key_of d)) same ∙ tied_itself compare_total (key_of d) in

@@ -146,7 +146,7 @@ pub old_more : (from : List Pairs) (ws : List Write) (w : Write) → HaveOld fro
 old_more from [] w h is = (is, tt)
 old_more from (v ∷ ws) w h is = (h.0, old_more (put_document v.new from) ws w h.1 is)
 
-rising_rest : (d : Pairs) (ds : List Pairs) → IsRising (d ∷ ds) → IsRising ds
+pub rising_rest : (d : Pairs) (ds : List Pairs) → IsRising (d ∷ ds) → IsRising ds
 rising_rest d ds up i j e lt below = up (suc i) (suc j) e (omega (arith, lt)) (omega (arith, below))
 
 -- the document at a place is found by its key

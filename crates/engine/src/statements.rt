@@ -1,7 +1,8 @@
 //! The statements of an update, run over documents in memory.
 
-ghost use Rattle.std.specs.Prelude.{◌≡◌, ◌≢◌, true, ◌≤◌, ◌<◌, IfOk, OnOk, IfErr, IfSome, IfNone, Ok, All, length, slice_set};
+ghost use Rattle.std.specs.Prelude.{◌≡◌, ◌≢◌, true, ◌≤◌, ◌<◌, IfOk, OnOk, IfErr, IfSome, IfNone, Ok, Some, All, length, map, slice_index_or, slice_set};
 ghost use Rattle.std.specs.Str.{bytes_eq};
+ghost use Rattle.bson.specs.Tree.{no_pairs};
 ghost use Rattle.bson.specs.Lawful.{IsDocument, pairs_levels};
 ghost use Rattle.bson.specs.Spelling.{Spells, frame_of, pairs_bytes};
 ghost use Rattle.bson.specs.View.{tree, pairs_of};
@@ -380,6 +381,16 @@ fn run_statements(
     Ok(())
 }
 
+/// A refusal, unless it is want of memory.
+fn unless_memory(refusal: Refusal) -> Result<Refusal, NoMemory>
+    ensures { IfOk result (λ e. (e ≡ refusal) × (refusal ≢ Refusal.OutOfMemory)) }
+{
+    match refusal {
+        Refusal::OutOfMemory => Err(AllocError),
+        _ => Ok(refusal),
+    }
+}
+
 /// Runs statements over documents in ascending order of `_id`, up to the first that is refused.
 pub(crate) fn run_on(
     alloc: Global,
@@ -403,13 +414,17 @@ pub(crate) fn run_on(
         },
     };
     let result = run_statements(alloc, &mut run, statements);
-    let end = match result {
-        Ok(()) => Ok(run.tally),
-        Err(Refusal::OutOfMemory) => return Err(AllocError),
-        Err(refusal) => Err(refusal),
-    };
-    Ok(Ran {
-        writes: run.writes,
-        end,
-    })
+    match result {
+        Ok(()) => Ok(Ran {
+            writes: run.writes,
+            end: Ok(run.tally),
+        }),
+        Err(refusal) => {
+            let refusal = unless_memory(refusal)?;
+            Ok(Ran {
+                writes: run.writes,
+                end: Err(refusal),
+            })
+        }
+    }
 }
