@@ -1,7 +1,7 @@
 -- What an update puts into the file.
-use Rattle.std.proofs.Common.{◌≡◌, ◌≢◌, ◌+◌, ◌<◌, ◌≤◌, inl, inr, ℕ, Bool, true, false, List, [], ◌∷◌, length, drop, get_or, Option, Some, None, Result, Ok, Err, refl, sym, ap, subst, ◌∙◌}
+use Rattle.std.proofs.Common.{◌≡◌, ◌≢◌, ◌+◌, ◌<◌, ◌≤◌, inl, inr, ℕ, Bool, true, false, List, [], ◌∷◌, length, drop, get_or, Option, Some, None, Result, Ok, Err, refl, sym, ap, subst, ◌∙◌, arith}
 use Rattle.std.specs.Prelude.{All, nat_lt}
-use Rattle.std.proofs.lemmas.List.{drop_all}
+use Rattle.std.proofs.lemmas.List.{drop_all, get_or-map, length-map}
 use Rattle.bson.specs.Tree.{Pairs, no_pairs}
 use Rattle.value_order.specs.KeyText.{tree_text}
 use Rattle.page.specs.History.{History, KeepsWord}
@@ -50,6 +50,10 @@ use Rattle.engine.proofs.Steps.{drop_step}
 
 pub may_be_stored : (d : Pairs) → MayBePut d → length (tree_text (key_of d)) ≤ 500 → IsStorable d
 may_be_stored d may short = record { lawful = may.lawful; size = may.size; depth = may.depth; key = may.key; short = short }
+
+-- the document of a write
+pub news_at : (ws : List Write) (i : ℕ) (w : Write) → i < length ws → w ≡ get_or ws i w → (i < length (news_of ws)) × (w.new ≡ get_or (news_of ws) i w.new)
+news_at ws i w within is = (omega (arith, within, length-map ws (λ (v : Write). v.new)), ap (λ (v : Write). v.new) is ∙ sym (get_or-map (λ (v : Write). v.new) ws i w w.new within))
 
 -- documents that are left to be put
 abbrev pub PutsLeft : List Edit → List Edit → ℕ → List Pairs → List Pairs → Type 0
