@@ -22,9 +22,11 @@ use Rattle.engine.specs.Merging.{is_meant, Listed, listed_in, makes_any, not_lis
 use Rattle.engine.specs.Putting.{IsFullFor, IsMeant, IsUpdate, MeansIn, PutsIn}
 use Rattle.engine.specs.Refusals.{ok_reply}
 use Rattle.engine.specs.Update.{counts_reply, judged, not_updated, run_all, run_statements, spelled, Updated, update_reply}
-use Rattle.engine.specs.Updating.{HasNone, IsRun, IsRunOf, listed_of, news_of}
+use Rattle.engine.specs.Updating.{EndsAs, HasNone, IsDone, IsRan, IsRun, IsRunOf, listed_of, news_of}
 use Rattle.engine.specs.World.{documents_or_none, or_empty, unused}
+use Rattle.engine.specs.declared.statements.Ran.{Ran}
 use Rattle.engine.specs.declared.statements.Run.{Run}
+use Rattle.engine.specs.declared.statements.Tally.{Tally}
 use Rattle.engine.specs.declared.updates.Meant.{Meant}
 use Rattle.engine.specs.declared.updates.Updates.{Updates}
 use Rattle.engine.proofs.LawfulSteps.{stored_at}
@@ -251,6 +253,29 @@ module _ (ss : List UpdateStatement) (m : Meant) (read : All (λ (s : UpdateStat
               (subst (λ (b : Bool). PutsIn (find_collection now name) now name m.number b (news_of u.writes.items) x.after.collections) (sym new)
               (subst (λ (ds : List Pairs). PutsIn (find_collection now name) now name m.number m.is_new ds x.after.collections) (sym news) x.puts));
         }
+
+  module _ (keeps_old : Bool) (x : Ran) (ran : IsRan keeps_old ss m.documents.items x) where
+    -- what the reply says, of the counts
+    abbrev says : Tally → Pairs
+    says t = ok_reply (counts_reply t.matched t.modified t.upserted)
+
+    pub ran_refused : (e : Refusal) → x.end ≡ Err e → (run_all name ss now ≡ Err e) ⊎ (e ≡ refusals.OutOfMemory)
+    ran_refused e is = updates_refused e (λ other. subst (EndsAs ss m.documents.items x.writes.items) is ran.end)
+
+    module _ (t : Tally) (is : x.end ≡ Ok t) (reply : Pairs) (said : reply ≡ says t) where
+      done : IsDone ss m.documents.items x.writes.items t
+      done = subst (EndsAs ss m.documents.items x.writes.items) is ran.end
+
+      said_so : reply ≡ says_run done.run
+      said_so = said ∙ ap says (sym done.tally)
+
+      pub ran_long : 1048555 < length (spelled reply) → run_all name ss now ≡ Err refusals.BSONObjectTooLarge
+      ran_long long = updates_long done.run done.planned done.is reply said_so long
+
+      pub ran_done : length (spelled reply) ≤ 1048555 → IsUpdate now name ss (record { number = m.number; is_new = m.is_new; writes = x.writes; reply = reply })
+      ran_done short =
+          let u : Updates = record { number = m.number; is_new = m.is_new; writes = x.writes; reply = reply } in
+          updates_done done.run done.planned done.is reply said_so u refl refl (sym done.writes) refl short
 
 -- a collection for a document that a statement makes would be one too many
 pub full_refused : (now : List Collection) (name : List ℕ) (ss : List UpdateStatement) (e : Refusal) → IsFullFor now name ss e → run_all name ss now ≡ Err e
