@@ -168,12 +168,11 @@ old_alike : (ms : List Marked) (ws : List Write) → Ascends (all_of ms) → Are
 old_alike ms [] up free h = tt
 old_alike ms (w ∷ ws) up free h =
     let put = marked_meant w.new ms up free.0 in
-    let all = marked_all w.new ms in
-    (
+    let all = marked_all w.new ms in (
       h.0 ∙ ap (λ (o : Option Pairs). if w.is_new then None else o) (find_alike (key_of w.new) ms free.0),
       subst (λ (xs : List Pairs). HaveOld xs ws) all
-      (old_alike (put_marked w.new ms) ws (subst Ascends (sym all) (put_ascends w.new (all_of ms) up)) (subst (λ (xs : List Pairs). AreUntied xs (news_of ws)) (sym put.1) free.1)
-      (subst (λ (xs : List Pairs). HaveOld xs ws) (sym put.0) h.1)),
+          (old_alike (put_marked w.new ms) ws (subst Ascends (sym all) (put_ascends w.new (all_of ms) up)) (subst (λ (xs : List Pairs). AreUntied xs (news_of ws)) (sym put.1) free.1)
+          (subst (λ (xs : List Pairs). HaveOld xs ws) (sym put.0) h.1)),
     )
 
 news_seen : (ws : List Write) → documents_in (map seen ws) ≡ news_of ws

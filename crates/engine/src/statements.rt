@@ -382,7 +382,7 @@ fn run_statements(
 }
 
 /// A refusal, unless it is want of memory.
-fn unless_memory(refusal: Refusal) -> Result<Refusal, NoMemory>
+pub(crate) fn unless_memory(refusal: Refusal) -> Result<Refusal, NoMemory>
     ensures { IfOk result (λ e. (e ≡ refusal) × (refusal ≢ Refusal.OutOfMemory)) }
 {
     match refusal {

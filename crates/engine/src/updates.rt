@@ -29,7 +29,7 @@ use crate::engine::Engine;
 use crate::find::matches;
 use crate::looking::Selects;
 use crate::shared_document::SharedDocument;
-use crate::statements::{Write, run_on, update_reply, upsert_document};
+use crate::statements::{Write, run_on, unless_memory, update_reply, upsert_document};
 use bson::{Document, NoMemory, Value};
 use commands::UpdateStatement;
 use index::Edits;
@@ -57,17 +57,6 @@ pub(crate) struct Updates {
     reply: Document,
 }
 
-/// Whether a refusal isn't want of memory, which has to be told.
-fn unless_memory(refusal: Refusal) -> Result<(), Refusal>
-    ensures ok { OnOk result (refusal ≢ Refusal.OutOfMemory) }
-    ensures err { IfErr result (λ e. e ≡ Refusal.OutOfMemory) }
-{
-    match refusal {
-        Refusal::OutOfMemory => Err(Refusal::OutOfMemory),
-        _ => Ok(()),
-    }
-}
-
 /// Adds the document that a statement makes where none matches.
 fn add_made(
     alloc: Global,
@@ -82,7 +71,10 @@ fn add_made(
     }
     let document = match upsert_document(alloc, statement) {
         Ok(document) => document,
-        Err(refusal) => return unless_memory(refusal),
+        Err(refusal) => {
+            let _refusal = unless_memory(refusal)?;
+            return Ok(());
+        }
     };
     made.push(document)?;
     Ok(())
@@ -188,12 +180,7 @@ fn updates_of(
 }
 
 /// Notes that documents are put into the collection of a number, one after the other.
-fn note_put(
-    alloc: Global,
-    edits: &mut Edits,
-    number: u32,
-    writes: &[Write],
-) -> Result<(), Refusal>
+fn note_put(alloc: Global, edits: &mut Edits, number: u32, writes: &[Write]) -> Result<(), Refusal>
     requires { All MayBePut (news_of writes.now) }
     ensures { Puts number (news_of writes.now) result edits.old edits.new }
 {
