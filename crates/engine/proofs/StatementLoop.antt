@@ -1,44 +1,21 @@
 -- Statement after statement, over documents in memory.
-use Rattle.std.proofs.Common.{◌≡◌, ◌≢◌, ℕ, zero, suc, ◌+◌, ◌<◌, ◌≤◌, Bool, true, false, List, [], ◌∷◌, ◌++◌, length, map, take, drop, get_or, set, Option, Some, Result, Ok, Err, refl, sym, ap, subst, ◌∙◌, arith, append_assoc}
-use Rattle.std.specs.Prelude.{◌^◌, ◌-◌, nat_lt, not, ◌&&◌, ◌||◌, if◌then◌else◌, All}
-use Rattle.std.specs.List.{list_any}
-use Rattle.std.specs.declared.cmp.Ordering.{Ordering}
-use Rattle.std.specs.declared.cmp.Ordering.TheVariants as orders
-use Rattle.std.proofs.lemmas.Cmp.{tied_itself}
-use Rattle.std.proofs.lemmas.List.{set-get_or, length-set, take_more, take_more_set, take-append-drop, get_or_default, drop_all, take_all, drop-set-lt, append-nil}
-use Rattle.std.proofs.lemmas.List.Elements.{All-append, All-cons, All-set}
-use Rattle.std.proofs.lemmas.Slice.Eq.{bytes_eq-Decides}
-use Rattle.bson.specs.Lawful.{IsDocument}
-use Rattle.bson.specs.Tree.{document, Pairs, no_pairs, Items, no_items, item, append_items}
-use Rattle.filter.specs.Matches.{matches}
+use Rattle.std.proofs.Common.{◌≡◌, ◌≢◌, ℕ, suc, ◌+◌, ◌<◌, ◌≤◌, Bool, List, [], ◌++◌, length, map, drop, get_or, Result, Ok, Err, refl, sym, ap, subst, ◌∙◌, arith, append_assoc}
+use Rattle.std.specs.Prelude.{All}
+use Rattle.std.proofs.lemmas.List.{drop_all, append-nil}
+use Rattle.bson.specs.Tree.{Pairs}
 use Rattle.outcome.specs.Outcome.{◌>>=◌, Fails}
 use Rattle.path.specs.declared.refusal.Refusal.{Refusal}
 use Rattle.path.specs.declared.refusal.Refusal.TheVariants as refusals
-use Rattle.value_order.specs.Order.{compare}
-use Rattle.value_order.specs.TotalLaws.{compare_total}
-use Rattle.update.specs.Update.{Update as Change}
-use Rattle.update.specs.Applying.{apply}
-use Rattle.commands.specs.Update.{UpdateStatement, IsRead}
-use Rattle.index.specs.Documents.{put_document}
+use Rattle.commands.specs.Update.{UpdateStatement}
 use Rattle.index.specs.LawfulState.{IsRising, IsStorable}
-use Rattle.index.specs.State.{by_order}
 use Rattle.engine.specs.DocumentWrite.{DocumentWrite}
-use Rattle.engine.specs.Documents.{key_of, place}
 use Rattle.engine.specs.Lawful.{IsStored, IsWithin}
-use Rattle.engine.specs.Merging.{Listed, none_changed, listed_to, one_or_none, not_listed, put_each, run_each, run_listed, upsert_listed}
-use Rattle.engine.specs.Update.{counted, spelled, Changed, passed_over, changed_to, update_from, upsert_document}
-use Rattle.engine.specs.Updating.{AreWritten, changed_of, ChangesAt, document_at, HasInserted, HasNone, HasRun, HasStopped, HasWritten, HaveOld, IsChange, IsMadeIn, IsRan, IsRefused, IsRun, IsRunOf, listed_of, MayBePut, news_of, replaced_in, RunsOn, seen, write_of_new, written, Wrote}
-use Rattle.engine.specs.Writes.{change_writes, changes_of, made_write, statement_writes, unless_refused, updated_by, writes_from, writes_of}
-use Rattle.engine.specs.declared.statements.Ran.{Ran}
+use Rattle.engine.specs.Merging.{Listed, not_listed, put_each, run_each, run_listed}
+use Rattle.engine.specs.Updating.{AreWritten, HasWritten, HaveOld, IsRan, IsRun, IsRunOf, listed_of, MayBePut, news_of, RunsOn, seen, written, Wrote}
+use Rattle.engine.specs.Writes.{statement_writes, unless_refused, writes_from, writes_of}
 use Rattle.engine.specs.declared.statements.Run.{Run}
 use Rattle.engine.specs.declared.statements.Write.{Write}
-use Rattle.engine.proofs.Applied.{applied, change_kept, change_puttable, rising_set, stored_puttable}
-use Rattle.engine.proofs.EditPlaceLemmas.{storable}
-use Rattle.engine.proofs.LawfulSteps.{kept_place}
-use Rattle.engine.proofs.Ordered.{flipped}
 use Rattle.engine.proofs.Steps.{drop_step}
-use Rattle.engine.proofs.StoringLemmas.{put_where_placed}
-use Rattle.engine.proofs.WriteSteps.{changes_on, changes_only, changes_refused, found_at, news_more, none_written, old_more, one_written, or_false, or_true, rising_rest, seen_more, updated_none, updated_other, updated_unmatched, writes_changes, writes_made, writes_none, writes_upsert}
 use Rattle.engine.proofs.UpdatingLoop.{RunsOn-refl, RunsOn-trans}
 
 -- ---- statement after statement

@@ -1,19 +1,12 @@
 -- Laws of what the statements of an update write.
-use Rattle.std.proofs.Common.{◌≡◌, ℕ, zero, suc, ◌+◌, ◌<◌, Bool, true, false, List, [], ◌∷◌, ◌++◌, length, map, take, get_or, set, Option, Some, None, Result, Ok, Err, refl, sym, ap, subst, ◌∙◌, arith, append_assoc}
-use Rattle.std.specs.Prelude.{not, ◌&&◌, ◌||◌, if◌then◌else◌, is_some, option_map, All}
+use Rattle.std.proofs.Common.{◌≡◌, ℕ, suc, Bool, true, false, List, [], ◌∷◌, ◌++◌, map, take, Option, Some, None, Result, Ok, Err, refl, sym, ap, subst, ◌∙◌, arith, append_assoc}
+use Rattle.std.specs.Prelude.{not, ◌&&◌, ◌||◌, if◌then◌else◌, All}
 use Rattle.std.specs.List.{filter, list_any}
-use Rattle.std.specs.Ordering.{is_eq}
 use Rattle.std.specs.Str.{bytes_eq}
-use Rattle.std.specs.declared.cmp.Ordering.{Ordering}
-use Rattle.std.specs.declared.cmp.Ordering.TheVariants as orders
-use Rattle.std.proofs.lemmas.Cmp.{tied_itself}
 use Rattle.std.proofs.lemmas.List.{append-nil}
 use Rattle.std.proofs.lemmas.List.Elements.{All-append, All-cons, All-filter, All-take, filter_passes}
-use Rattle.std.proofs.lemmas.Slice.Eq.{bytes_eq-Decides}
-use Rattle.bson.specs.Tree.{Tree, Pairs, no_pairs}
+use Rattle.bson.specs.Tree.{Pairs}
 use Rattle.filter.specs.Matches.{matches}
-use Rattle.value_order.specs.Order.{compare}
-use Rattle.value_order.specs.TotalLaws.{compare_total}
 use Rattle.outcome.specs.Outcome.{◌>>=◌, or_refused}
 use Rattle.path.specs.declared.refusal.Refusal.{Refusal}
 use Rattle.path.specs.declared.refusal.Refusal.TheVariants as refusals
@@ -21,24 +14,18 @@ use Rattle.update.specs.Update.{Update as Change}
 use Rattle.update.specs.Applying.{apply}
 use Rattle.commands.specs.OutcomeLaws.{step_of}
 use Rattle.commands.specs.Update.{UpdateStatement, IsRead}
-use Rattle.index.specs.Documents.{put_document}
-use Rattle.index.specs.LawfulState.{IsRising}
-use Rattle.index.specs.State.{by_order}
-use Rattle.index.specs.StateReads.{find_document}
 use Rattle.engine.specs.DocumentWrite.{DocumentWrite}
 use Rattle.engine.specs.Documents.{key_of, place}
 use Rattle.engine.specs.Lawful.{IsStored}
-use Rattle.engine.specs.Merging.{Listed, listed_to, made_of, none_changed, not_listed, one_or_none, put_each, run_each, run_listed, upsert_listed, with_listed}
+use Rattle.engine.specs.Merging.{Listed, listed_to, made_of, none_changed, not_listed, one_or_none, run_each, run_listed, upsert_listed, with_listed}
 use Rattle.engine.specs.Update.{Changed, changed_to, passed_over, spelled, update_from, upsert_document}
-use Rattle.engine.specs.WriteLaws.{AreRun, AreThere, documents_in, UnchangedWriteNothing, WritesJoin, WritesLead, WritesOfMeant, WritesReplace, WritesStored}
+use Rattle.engine.specs.WriteLaws.{documents_in, UnchangedWriteNothing, WritesJoin, WritesOfMeant, WritesStored}
 use Rattle.engine.specs.Writes.{change_writes, changes_of, made_write, statement_writes, unless_refused, updated_by, writes_from, writes_of}
-use Rattle.engine.proofs.Applied.{kept_key, kept_stored, upserted_stored}
+use Rattle.engine.proofs.Applied.{kept_stored, upserted_stored}
 use Rattle.engine.proofs.LawfulSteps.{Kept, kept_place}
 use Rattle.engine.proofs.LawfulUpdates.{SameKeys, SameKeys-rising, from_kept}
 use Rattle.engine.proofs.MeantUpdates.{one_step}
 use Rattle.engine.proofs.MeantWrites.{documents_append, same_writes}
-use Rattle.engine.proofs.MergingLemmas.{Each}
-use Rattle.engine.proofs.Ordered.{flipped}
 use Rattle.engine.proofs.WriteSteps.{none_written, updated_stored, updated_unmatched, writes_changes, writes_none}
 
 pub writes_of_meant : WritesOfMeant

@@ -1,5 +1,5 @@
 -- What an update writes, put among the documents.
-use Rattle.std.proofs.Common.{◌≡◌, ℕ, zero, suc, ◌<◌, Bool, true, false, List, [], ◌∷◌, ◌++◌, length, length-append, map, take, get_or, set, Option, Some, None, Result, Ok, Err, refl, sym, ap, subst, ◌∙◌, arith, append_assoc}
+use Rattle.std.proofs.Common.{◌≡◌, ℕ, suc, ◌<◌, Bool, true, false, List, [], ◌∷◌, ◌++◌, length, length-append, map, take, get_or, Option, Some, None, Result, Ok, Err, refl, sym, ap, subst, ◌∙◌, arith, append_assoc}
 use Rattle.std.specs.Prelude.{if◌then◌else◌, is_some, option_map, All}
 use Rattle.std.specs.List.{filter, list_any}
 use Rattle.std.specs.Ordering.{is_eq}
@@ -27,7 +27,7 @@ use Rattle.engine.specs.DocumentWrite.{DocumentWrite}
 use Rattle.engine.specs.Documents.{key_of, place}
 use Rattle.engine.specs.Lawful.{IsStored}
 use Rattle.engine.specs.Merging.{Listed, made_of, none_changed, not_listed, one_or_none, put_each, run_each, run_listed}
-use Rattle.engine.specs.Update.{Changed, changed_to, passed_over, spelled, update_from, upsert_document}
+use Rattle.engine.specs.Update.{Changed, changed_to, passed_over, spelled, update_from}
 use Rattle.engine.specs.WriteLaws.{AreThere, documents_in, WritesLead, WritesReplace}
 use Rattle.engine.specs.Writes.{change_writes, changes_of, made_write, statement_writes, unless_refused, updated_by, writes_from, writes_of}
 use Rattle.engine.proofs.Applied.{kept_key}

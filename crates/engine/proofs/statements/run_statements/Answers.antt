@@ -1,5 +1,5 @@
 use Rattle.std.proofs.lemmas.Result.{err_from_is_err_and}
-use Rattle.engine.proofs.StatementLoop.{left_none, left_on, left_refused, none_left}
+use Rattle.engine.proofs.StatementLoop.{left_on, left_refused, none_left}
 use Rattle.engine.proofs.statements.run_statements.Goals as goal
 
 pub statements-init : goal.statements-init
