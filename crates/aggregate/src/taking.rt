@@ -53,11 +53,7 @@ pub(crate) fn takes(stages: &[Stage], document: &Document) -> bool
 }
 
 /// The same of a document that stays its bytes.
-fn takes_raw(
-    alloc: Global,
-    stages: &[Stage],
-    document: &RawDoc<'_>,
-) -> Result<bool, NoMemory>
+fn takes_raw(alloc: Global, stages: &[Stage], document: &RawDoc<'_>) -> Result<bool, NoMemory>
     ensures { IfOk result (λ answer. answer ≡ takes (map stage_of stages.now) document.now) }
 {
     match stages.first() {

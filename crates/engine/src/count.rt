@@ -22,11 +22,7 @@ use path::Refusal;
 use std::alloc::Global;
 
 /// One where a document matches a filter, and none where it doesn't. No more of it is read than the filter asks for.
-fn count_one(
-    alloc: Global,
-    document: &SpelledDocument,
-    filter: &Filter,
-) -> Result<usize, NoMemory>
+fn count_one(alloc: Global, document: &SpelledDocument, filter: &Filter) -> Result<usize, NoMemory>
     ensures { IfOk result (λ count. count
         ≡ length (matching filter.now (document.now ∷ []))) }
 {

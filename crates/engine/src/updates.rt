@@ -145,9 +145,11 @@ fn has_id_of_raw(
         return Ok(false);
     }
     let id = read_id(alloc, other)?;
-    Ok(documents
-        .iter()
-        .any(|document| compare_id(document, &id).is_eq()))
+    Ok(
+        documents
+            .iter()
+            .any(|document| compare_id(document, &id).is_eq()),
+    )
 }
 
 /// Whether all of these have an `_id` equal to this.

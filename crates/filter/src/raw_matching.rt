@@ -48,11 +48,7 @@ fn any_holds(alloc: Global, filter: &Filter, document: &RawDoc<'_>) -> Result<bo
 }
 
 #[cycle(raw_matching)]
-fn holds(
-    alloc: Global,
-    condition: &Condition,
-    document: &RawDoc<'_>,
-) -> Result<bool, NoMemory>
+fn holds(alloc: Global, condition: &Condition, document: &RawDoc<'_>) -> Result<bool, NoMemory>
     ensures { IfOk result (λ answer.
         answer ≡ holds (condition_of condition.now) (whole document.now)) }
 {
@@ -82,11 +78,7 @@ fn holds_at(
 }
 
 /// The value of a name in the document, if it has one.
-fn read_field(
-    alloc: Global,
-    document: &RawDoc<'_>,
-    name: &str,
-) -> Result<Option<Value>, NoMemory>
+fn read_field(alloc: Global, document: &RawDoc<'_>, name: &str) -> Result<Option<Value>, NoMemory>
     ensures { IfOk result (λ found. option_map tree found ≡ lookup document.now name.now) }
 {
     match document.get(name) {

@@ -1,5 +1,4 @@
 use Rattle.std.proofs.Common.{◌≡◌, true, false, sym, ap, subst, ◌∙◌}
-use Rattle.bson.specs.Tree.{Pairs}
 use Rattle.aggregate.specs.Taking.{takes}
 use Rattle.aggregate.specs.View.{pipeline_of}
 use Rattle.engine.specs.Lawful.{IsWithin}

@@ -1,11 +1,9 @@
 use Rattle.std.proofs.Common.{◌≡◌, List, Vec, Global, length, take, sym, ap, subst, arith}
-use Rattle.std.specs.Prelude.{All}
 use Rattle.std.specs.List.{filter}
 use Rattle.std.proofs.lemmas.Result.{err_from_is_err_and}
 use Rattle.bson.specs.Tree.{Pairs}
 use Rattle.collections.specs.Reading.{IsNumbered}
 use Rattle.collections.specs.Walk.{StepsOn}
-use Rattle.engine.specs.Lawful.{IsWithin}
 use Rattle.engine.proofs.SelectLemmas.{AreSelected, all_selected, batch_selected, enough_selected, none_selected}
 use Rattle.engine.proofs.WalkingLemmas.{answered, asks_memory, asks_stopped, begins, ends, fails, none_there, read_refused, steps}
 use Rattle.engine.proofs.looking.selected_in.Goals as goal
