@@ -2,10 +2,10 @@
 #![tactic(auto)]
 
 #[cfg(test)]
-mod devices;
-#[cfg(test)]
 mod endings;
 #[cfg(test)]
 mod people;
 #[cfg(test)]
 mod runs;
+#[cfg(test)]
+mod wordings;

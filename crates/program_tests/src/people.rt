@@ -1,11 +1,11 @@
 //! The programs for people: what is asked, brought in and written out as Extended JSON.
 
-use crate::runs::{Ending, ended};
+use crate::runs::ended;
 use std::alloc::{AllocError, Global};
 use std::fs;
-use std::test::*;
+use std::test::Fail;
 
-/// A run of the program: its words behind the file, its input, its status, what it prints, and what it says of faults.
+/// A run of the program: its words around the file, its input, its status, what it prints, and what it says of faults.
 struct Run {
     program: &'static str,
     words: &'static [&'static str],
@@ -15,7 +15,24 @@ struct Run {
     errors: &'static str,
 }
 
-const ASKED: [Run; 6] = [
+/// A document of each kind, in the canonical form of the public specification.
+const CANONICAL: &str = "\
+{\"_id\":{\"$numberInt\":\"1\"},\"a\":{\"$oid\":\"56e1fc72e0c917e9c4714161\"},\"b\":\"\\\"\"}
+{\"_id\":{\"$numberLong\":\"2\"},\"d\":{\"$date\":{\"$numberLong\":\"-284643869501\"}}}
+{\"_id\":{\"$numberInt\":\"3\"},\"t\":{\"$timestamp\":{\"t\":123456789,\"i\":42}},\"l\":[true,null,{}]}
+{\"_id\":{\"$numberInt\":\"4\"},\"b\":{\"$binary\":{\"base64\":\"//8=\",\"subType\":\"00\"}},\"m\":{\"$minKey\":1},\"n\":{\"$maxKey\":1}}
+";
+
+/// The same for people.
+const RELAXED: &str = "\
+{\"_id\":1,\"a\":{\"$oid\":\"56e1fc72e0c917e9c4714161\"},\"b\":\"\\\"\"}
+{\"_id\":{\"$numberLong\":\"2\"},\"d\":{\"$date\":{\"$numberLong\":\"-284643869501\"}}}
+{\"_id\":3,\"t\":{\"$timestamp\":{\"t\":123456789,\"i\":42}},\"l\":[true,null,{}]}
+{\"_id\":4,\"b\":{\"$binary\":{\"base64\":\"//8=\",\"subType\":\"00\"}},\"m\":{\"$minKey\":1},\"n\":{\"$maxKey\":1}}
+";
+
+/// Each over what the ones before left in the file.
+const RUNS: [Run; 13] = [
     Run {
         program: "ask",
         words: &[
@@ -73,25 +90,6 @@ const ASKED: [Run; 6] = [
         output: "",
         errors: "docpage: Fraction at line 1, column 29\n",
     },
-];
-
-/// A document of each kind, in the canonical form of the public specification.
-const CANONICAL: &str = "\
-{\"_id\":{\"$numberInt\":\"1\"},\"a\":{\"$oid\":\"56e1fc72e0c917e9c4714161\"},\"b\":\"\\\"\"}
-{\"_id\":{\"$numberLong\":\"2\"},\"d\":{\"$date\":{\"$numberLong\":\"-284643869501\"}}}
-{\"_id\":{\"$numberInt\":\"3\"},\"t\":{\"$timestamp\":{\"t\":123456789,\"i\":42}},\"l\":[true,null,{}]}
-{\"_id\":{\"$numberInt\":\"4\"},\"b\":{\"$binary\":{\"base64\":\"//8=\",\"subType\":\"00\"}},\"m\":{\"$minKey\":1},\"n\":{\"$maxKey\":1}}
-";
-
-/// The same for people.
-const RELAXED: &str = "\
-{\"_id\":1,\"a\":{\"$oid\":\"56e1fc72e0c917e9c4714161\"},\"b\":\"\\\"\"}
-{\"_id\":{\"$numberLong\":\"2\"},\"d\":{\"$date\":{\"$numberLong\":\"-284643869501\"}}}
-{\"_id\":3,\"t\":{\"$timestamp\":{\"t\":123456789,\"i\":42}},\"l\":[true,null,{}]}
-{\"_id\":4,\"b\":{\"$binary\":{\"base64\":\"//8=\",\"subType\":\"00\"}},\"m\":{\"$minKey\":1},\"n\":{\"$maxKey\":1}}
-";
-
-const CARRIED: [Run; 7] = [
     Run {
         program: "import",
         words: &["shop.goods"],
@@ -151,136 +149,70 @@ const CARRIED: [Run; 7] = [
     },
 ];
 
-/// How each run over the same file ended that didn't end as it is to.
-fn others(rt: &HostRuntime, file: &str, runs: &[Run]) -> Result<Vec<Ending>, AllocError> {
-    let alloc = rt.alloc();
-    let _ = fs::remove_file(rt, file);
-    let mut others = Vec::new(alloc);
-    for run in runs {
-        let mut words = Vec::new(alloc);
-        words.push("docpage")?;
-        words.push(run.program)?;
-        words.push(file)?;
-        for word in run.words {
-            words.push(*word)?;
-        }
-        let ending = ended(rt, &words, run.input.as_bytes())?;
-        if !ends_as(&ending, run) {
-            others.push(ending)?;
-        }
-    }
-    let _ = fs::remove_file(rt, file);
-    Ok(others)
-}
-
-/// Whether the program ended as it is to.
-fn ends_as(ending: &Ending, run: &Run) -> bool {
-    ending.status == run.status
-        && ending.output.as_slice() == run.output.as_bytes()
-        && ending.errors.as_slice() == run.errors.as_bytes()
-}
-
-/// What the first of these printed, and said of faults.
-fn said(endings: &[Ending]) -> (&[u8], &[u8]) {
-    match endings.first() {
-        Some(ending) => (ending.output.as_slice(), ending.errors.as_slice()),
-        None => (&[], &[]),
-    }
-}
-
 #[test]
-fn commands_are_asked(rt: HostRuntime) -> Result<(), Fail> {
-    let others = others(&rt, "asked.docpage", &ASKED)?;
-    let (output, errors) = said(&others);
-    assert_eq!(rt; output, b"".as_slice());
-    assert_eq!(rt; errors, b"".as_slice());
-    assert!(rt; others.is_empty());
-    Ok(())
-}
-
-#[test]
-fn documents_are_brought_in_and_out(rt: HostRuntime) -> Result<(), Fail> {
-    let others = others(&rt, "carried.docpage", &CARRIED)?;
-    let (output, errors) = said(&others);
-    assert_eq!(rt; output, b"".as_slice());
-    assert_eq!(rt; errors, b"".as_slice());
-    assert!(rt; others.is_empty());
+fn one_file(rt: HostRuntime) -> Result<(), Fail> {
+    let file = "people.docpage";
+    let _ = fs::remove_file(&rt, file);
+    for (row, run) in RUNS.iter().enumerate() {
+        let mut words = Vec::new(rt.alloc());
+        words.extend_from_slice(&["docpage", run.program, file])?;
+        words.extend_from_slice(run.words)?;
+        let ending = ended(&rt, &words, run.input.as_bytes())?;
+        assert_eq!(rt;
+            ending.output.as_slice(),
+            run.output.as_bytes(),
+            "run {row}"
+        );
+        assert_eq!(rt;
+            ending.errors.as_slice(),
+            run.errors.as_bytes(),
+            "run {row}"
+        );
+        assert_eq!(rt; ending.status, run.status, "run {row}");
+    }
+    fs::remove_file(&rt, file)?;
     Ok(())
 }
 
 /// Lines of so many documents, each with a text of so many bytes.
 fn many_lines(alloc: Global, count: u32, bytes: u32) -> Result<String, AllocError> {
+    let mut text = String::new(alloc);
+    for _ in 0..bytes {
+        text.push('x')?;
+    }
     let mut lines = String::new(alloc);
     for number in 0..count {
-        lines.push_str(&format!(in alloc; "{{\"_id\":{number},\"t\":\"")?)?;
-        for _ in 0..bytes {
-            lines.push_str("x")?;
-        }
-        lines.push_str("\"}\n")?;
+        lines.push_str(&format!(in alloc; "{{\"_id\":{number},\"t\":\"{text}\"}}\n")?)?;
     }
     Ok(lines)
 }
 
+const ASK_ALL: &[&str] = &[
+    "docpage",
+    "ask",
+    "many.docpage",
+    "--db",
+    "t",
+    "--all",
+    "{\"find\": \"c\", \"batchSize\": 39}",
+];
+
+/// More than one batch by their number, and by their bytes.
 #[test]
 fn many_documents(rt: HostRuntime) -> Result<(), Fail> {
-    let alloc = rt.alloc();
     let file = "many.docpage";
-    // more than one batch by their number, and by their bytes
     for (count, bytes) in [(2_500, 1), (40, 60_000)] {
         let _ = fs::remove_file(&rt, file);
-        let lines = many_lines(alloc, count, bytes)?;
+        let lines = many_lines(rt.alloc(), count, bytes)?;
         let imported = ended(&rt, &["docpage", "import", file, "t.c"], lines.as_bytes())?;
         assert_eq!(rt; imported.status, 0);
         let exported = ended(&rt, &["docpage", "export", file, "t.c"], &[])?;
         assert_eq!(rt; exported.status, 0);
         assert_eq!(rt; exported.output.as_slice(), lines.as_bytes());
-        let asked = ended(
-            &rt,
-            &[
-                "docpage",
-                "ask",
-                file,
-                "--db",
-                "t",
-                "--all",
-                "{\"find\": \"c\", \"batchSize\": 39}",
-            ],
-            &[],
-        )?;
-        assert_eq!(rt; asked.status, 0);
+        let asked = ended(&rt, ASK_ALL, &[])?;
         let replies = asked.output.iter().filter(|byte| **byte == b'\n').count();
-        assert!(rt; replies > 1);
+        assert!(rt; asked.status == 0 && replies > 1);
     }
-    let _ = fs::remove_file(&rt, file);
-    Ok(())
-}
-
-#[test]
-fn help_is_printed(rt: HostRuntime) -> Result<(), Fail> {
-    for words in [
-        ["docpage", "help", "import"],
-        ["docpage", "import", "--help"],
-    ] {
-        let ending = ended(&rt, &words, &[])?;
-        assert_eq!(rt; ending.status, 2);
-        assert!(rt;
-            ending
-                .output
-                .as_slice()
-                .starts_with(b"docpage import FILE NAMESPACE\n")
-        );
-        assert_eq!(rt; ending.errors.as_slice(), b"docpage: Usage\n".as_slice());
-    }
-    Ok(())
-}
-
-#[test]
-fn a_missing_file_is_not_made(rt: HostRuntime) -> Result<(), Fail> {
-    let file = "missing.docpage";
-    let _ = fs::remove_file(&rt, file);
-    let ending = ended(&rt, &["docpage", "export", file, "t.c"], &[])?;
-    assert_eq!(rt; ending.status, 1);
-    assert_eq!(rt; ending.errors.as_slice(), b"docpage: Device\n".as_slice());
-    assert!(rt; fs::metadata(&rt, file).is_err());
+    fs::remove_file(&rt, file)?;
     Ok(())
 }

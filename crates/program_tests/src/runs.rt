@@ -22,11 +22,10 @@ pub(crate) fn words(alloc: Global, all: &[&str]) -> Result<Vec<String>, AllocErr
 
 /// The program with these words over this input.
 pub(crate) fn ended(rt: &HostRuntime, all: &[&str], input: &[u8]) -> Result<Ending, AllocError> {
-    let alloc = rt.alloc();
-    let words = words(alloc, all)?;
+    let words = words(rt.alloc(), all)?;
     let mut rest = input;
-    let mut output = Vec::new(alloc);
-    let mut errors = Vec::new(alloc);
+    let mut output = Vec::new(rt.alloc());
+    let mut errors = Vec::new(rt.alloc());
     let status = run(rt, &words, &mut rest, &mut output, &mut errors);
     Ok(Ending {
         status,

@@ -1,11 +1,9 @@
-//! Connections served over sockets of this machine, in one process: the clients send, then the server runs, then they read.
+//! Tests of `server` over what no script plays: sockets of this machine, and disks that are looked into, or written by hand.
 #![tactic(auto)]
 
 #[cfg(test)]
-mod clients;
+mod disks;
 #[cfg(test)]
-mod faults;
+mod exchanges;
 #[cfg(test)]
-mod together;
-#[cfg(test)]
-mod words;
+mod streams;

@@ -1,6 +1,0 @@
-use Rattle.page.specs.Memory.{memory_history}
-use Rattle.server.specs.Durable.{IsSound}
-use Rattle.find_tests.proofs.cursors.first_of_sixteen.Given as goal
-
-abbrev pub invariant-loop-number : goal.invariant-loop-number
-invariant-loop-number l = IsSound memory_history l.core

@@ -1,0 +1,16 @@
+//! Tests of the libraries of values, by rows worked by hand: what of `bson`, `value_order`, `index` and `ext_json` no command
+//! reaches. The rows of BSON and Extended JSON are scripts (crates/scripts/data).
+#![tactic(auto)]
+
+#[cfg(test)]
+mod catalogue;
+#[cfg(test)]
+mod documents;
+#[cfg(test)]
+mod growths;
+#[cfg(test)]
+mod index_edits;
+#[cfg(test)]
+mod index_keys;
+#[cfg(test)]
+mod key_texts;

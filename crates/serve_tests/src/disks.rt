@@ -1,0 +1,250 @@
+//! What the disk holds after a turn, byte by byte, pairs that spell no collections, and a turn that is cut.
+
+use crate::exchanges::{answer, frame, new_server, open};
+use engine::ConnId;
+use page::{Disk, MemDisk, StopDisk};
+use server::OpenFault;
+use std::alloc::Global;
+use std::process::Abort;
+use std::test::Fail;
+
+const INSERT: &str = r#"{"insert": "c", "documents": [{"_id": 1}], "$db": "t"}"#;
+
+const DELETE: &str = r#"{"delete": "c", "deletes": [{"q": {}, "limit": 0}], "$db": "t"}"#;
+
+/// Sector 1 after the insert, up to its last byte that isn't zero: generation 1, the tree below page 1, 2 pages.
+const ROOT: &[u8] = b"DOCPAGE1\x01\0\0\0\0\x10\0\0\x01\0\0\0\0\0\0\0\x01\0\0\0\x02";
+
+/// Sector 8, page 1: a leaf of the collection `t.c` with the number 1, and of `{_id: 1}`.
+const LEAF: &[u8] = b"\x01\0\x02\0\x01\0\0\0\x01\0\0\0\0\0\0\0\
+\x0e\0\x14\0\0\0\0\0\0\0\0\0\0\0\x40t.c\0\0\x14\0\0\0\x10n\0\x01\0\0\0\x04x\0\x05\0\0\0\0\0\
+\x11\0\x0e\0\0\0\0\0\0\x01\0\0\0\0\x30\x80\0\0\0\0\0\0\x01\x0e\0\0\0\x10_id\0\x01";
+
+/// Sector 0 after the delete.
+const NEXT_ROOT: &[u8] = b"DOCPAGE1\x01\0\0\0\0\x10\0\0\x02\0\0\0\0\0\0\0\x02\0\0\0\x03";
+
+/// Sector 16, page 2: the leaf of the collection.
+const NEXT_LEAF: &[u8] = b"\x01\0\x01\0\x02\0\0\0\x02\0\0\0\0\0\0\0\
+\x0e\0\x14\0\0\0\0\0\0\0\0\0\0\0\x40t.c\0\0\x14\0\0\0\x10n\0\x01\0\0\0\x04x\0\x05";
+
+/// A sector that begins with these bytes, has others at a place, and zeros behind.
+fn sector_of(front: &[u8], at: usize, bytes: &[u8]) -> [u8; 512] {
+    let mut sector = [0; 512];
+    for (byte, new) in sector.iter_mut().zip(front) {
+        *byte = *new;
+    }
+    for (byte, new) in sector.iter_mut().skip(at).zip(bytes) {
+        *byte = *new;
+    }
+    sector
+}
+
+/// Whether a sector begins with these bytes, and has zeros behind them.
+fn holds(disk: &mut MemDisk, number: u64, front: &[u8]) -> bool {
+    let mut bytes = [1; 512];
+    disk.read(number, &mut bytes).is_ok() && bytes == sector_of(front, 0, &[])
+}
+
+#[test]
+fn an_insert_and_a_delete(rt: HostRuntime) -> Result<(), Fail> {
+    let alloc = rt.alloc();
+    let connection = ConnId::new(0).ok_or("connection 0")?;
+    let mut core = new_server(alloc)?;
+    let insert = frame(alloc, 7, 0, INSERT)?;
+    assert!(rt; answer(&mut core, connection, &insert)?.is_some());
+    // a duplicate changes nothing, and makes no call of the disk
+    assert!(rt; answer(&mut core, connection, &insert)?.is_some());
+    let mut disk = core.into_disk();
+    // two reads and a sync opened it; the turn wrote a page and a root, and synced twice
+    assert_eq!(rt; disk.calls(), 3 + 9 + 2);
+    assert!(rt; holds(&mut disk, 0, &[]) && holds(&mut disk, 1, ROOT));
+    assert!(rt; holds(&mut disk, 8, LEAF) && holds(&mut disk, 9, &[]));
+    let mut core = open(alloc, disk)?;
+    let delete = frame(alloc, 7, 0, DELETE)?;
+    assert!(rt; answer(&mut core, connection, &delete)?.is_some());
+    let mut disk = core.into_disk();
+    assert!(rt; holds(&mut disk, 0, NEXT_ROOT) && holds(&mut disk, 1, ROOT));
+    assert!(rt; holds(&mut disk, 8, LEAF) && holds(&mut disk, 16, NEXT_LEAF));
+    Ok(())
+}
+
+/// Changes of the leaf: a place in it, the bytes there, and the fault.
+const CHANGES: [(&str, usize, &[u8], Option<OpenFault>); 26] = [
+    ("no change", 0, b"\x01", None),
+    ("another name", 31, b"u", None),
+    (
+        "the catalogue's key in index 1",
+        29,
+        b"\x01",
+        Some(OpenFault::Damaged),
+    ),
+    (
+        "a namespace that is no string",
+        30,
+        b"\x41",
+        Some(OpenFault::Damaged),
+    ),
+    (
+        "a namespace that is no UTF-8",
+        31,
+        b"\xff",
+        Some(OpenFault::Damaged),
+    ),
+    (
+        "a namespace that doesn't end",
+        35,
+        b"\x01",
+        Some(OpenFault::Damaged),
+    ),
+    (
+        "an entry of another length",
+        36,
+        b"\x13",
+        Some(OpenFault::Damaged),
+    ),
+    (
+        "an entry with a long",
+        40,
+        b"\x12",
+        Some(OpenFault::Damaged),
+    ),
+    (
+        "an entry without a number",
+        41,
+        b"m",
+        Some(OpenFault::Damaged),
+    ),
+    ("the number 0", 43, b"\0", Some(OpenFault::Damaged)),
+    (
+        "the number of another collection",
+        43,
+        b"\x02",
+        Some(OpenFault::Damaged),
+    ),
+    (
+        "the number 1,001",
+        43,
+        b"\xe9\x03",
+        Some(OpenFault::Damaged),
+    ),
+    (
+        "a number below 0",
+        43,
+        b"\xff\xff\xff\xff",
+        Some(OpenFault::Damaged),
+    ),
+    (
+        "an entry without indexes",
+        48,
+        b"y",
+        Some(OpenFault::Damaged),
+    ),
+    (
+        "indexes that are no array",
+        47,
+        b"\x03",
+        Some(OpenFault::Damaged),
+    ),
+    (
+        "a document of no collection",
+        65,
+        b"\x02",
+        Some(OpenFault::Damaged),
+    ),
+    (
+        "an entry of an index that there isn't",
+        69,
+        b"\x01",
+        Some(OpenFault::Damaged),
+    ),
+    (
+        "a key of another class",
+        70,
+        b"\x31",
+        Some(OpenFault::Damaged),
+    ),
+    (
+        "a key of a number past int64's middle",
+        71,
+        b"\x81",
+        Some(OpenFault::Damaged),
+    ),
+    (
+        "a key of another number",
+        78,
+        b"\x03",
+        Some(OpenFault::Damaged),
+    ),
+    (
+        "a document of another length",
+        79,
+        b"\x0d",
+        Some(OpenFault::Damaged),
+    ),
+    (
+        "a type that there isn't",
+        83,
+        b"\x13",
+        Some(OpenFault::Damaged),
+    ),
+    (
+        "a document without an _id",
+        84,
+        b"a",
+        Some(OpenFault::Damaged),
+    ),
+    (
+        "another number than the key's",
+        88,
+        b"\x03",
+        Some(OpenFault::Damaged),
+    ),
+    (
+        "a number past the key's",
+        91,
+        b"\x01",
+        Some(OpenFault::Damaged),
+    ),
+    (
+        "a document that doesn't end",
+        92,
+        b"\x01",
+        Some(OpenFault::Damaged),
+    ),
+];
+
+/// Why the file with a change of its leaf isn't opened, or None.
+fn fault_of(alloc: Global, at: usize, bytes: &[u8]) -> Option<OpenFault> {
+    let mut disk = MemDisk::new(alloc);
+    if disk.write(1, &sector_of(ROOT, 0, &[])).is_err() {
+        return Some(OpenFault::Device);
+    }
+    if disk.write(8, &sector_of(LEAF, at, bytes)).is_err() {
+        return Some(OpenFault::Device);
+    }
+    open(alloc, disk).err()
+}
+
+#[test]
+fn pairs_that_spell_no_collections(rt: HostRuntime) {
+    for (what, at, bytes, fault) in CHANGES {
+        assert_eq!(rt; fault_of(rt.alloc(), at, bytes), fault, "{what}");
+    }
+}
+
+/// A connection that a fault would close stays open in a turn that is cut, and its bytes are taken.
+#[test]
+fn a_cut_turn_closes_nothing(rt: HostRuntime) -> Result<(), Fail> {
+    let alloc = rt.alloc();
+    let connection = ConnId::new(0).ok_or("connection 0")?;
+    let mut core = open(alloc, StopDisk::new(MemDisk::new(alloc), 1))?;
+    let insert = frame(alloc, 7, 0, INSERT)?;
+    assert!(rt; answer(&mut core, connection, &insert)?.is_none());
+    assert!(rt; !core.waiting(connection));
+    core.feed(connection, &[25, 0, 0, 0])?;
+    assert!(rt; core.waiting(connection));
+    assert!(rt; core.turn().is_err());
+    assert!(rt; core.waiting(connection));
+    assert!(rt; core.feed(connection, &[0]).is_ok());
+    Ok(())
+}

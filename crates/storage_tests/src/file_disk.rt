@@ -1,0 +1,120 @@
+//! A disk in a file: the same calls as on one in memory, who may open it, and what a failure leaves.
+
+use page::{DeviceFault, Disk, FileDisk, FileFault, MemDisk};
+use std::fs;
+use std::test::Fail;
+
+/// Why a file isn't opened, or None.
+fn fault_of(answer: Result<FileDisk, FileFault>) -> Option<FileFault> {
+    answer.err()
+}
+
+/// Whether both disks give the same bytes of the sectors from one up to another.
+fn same_sectors(file: &mut FileDisk, memory: &mut MemDisk, from: u64, to: u64) -> bool {
+    for sector in from..to {
+        let mut one = [1; 512];
+        let mut other = [2; 512];
+        let read = file.read(sector, &mut one).is_ok() && memory.read(sector, &mut other).is_ok();
+        if !read || one != other {
+            return false;
+        }
+    }
+    true
+}
+
+/// Writes so many neighbouring sectors.
+fn write_run(file: &mut FileDisk, memory: &mut MemDisk, first: u64, count: u64, seed: u8) -> bool {
+    for i in 0..count {
+        let mut bytes = [seed; 512];
+        bytes[7] = i as u8;
+        let sector = first.wrapping_add(i);
+        if file.write(sector, &bytes).is_err() || memory.write(sector, &bytes).is_err() {
+            return false;
+        }
+    }
+    true
+}
+
+/// One call, or a run of writes, on both, by numbers that look random. Whether both gave the same.
+fn step(file: &mut FileDisk, memory: &mut MemDisk, random: u64) -> bool {
+    let sector = random % 64;
+    match random / 64 % 8 {
+        0 => file.sync().is_ok() && memory.sync().is_ok(),
+        1 | 2 | 3 => same_sectors(file, memory, sector, sector + 1),
+        _ => write_run(
+            file,
+            memory,
+            sector,
+            random / 512 % 16,
+            (random / 8_192 % 256) as u8,
+        ),
+    }
+}
+
+/// Two thousand steps. What was synced is there when the file is opened again.
+#[test]
+fn a_file_beside_memory(rt: HostRuntime) -> Result<(), Fail> {
+    let path = "storage_tests_random_calls";
+    let Ok(mut file) = FileDisk::open(&rt, path, true) else {
+        panic!(&rt; "the file isn't made");
+    };
+    let mut memory = MemDisk::new(rt.alloc());
+    let mut random: u64 = 88_172_645_463_325_252;
+    for i in 0..2000 {
+        random ^= random << 13;
+        random ^= random >> 7;
+        random ^= random << 17;
+        assert!(rt; step(&mut file, &mut memory, random), "step {i}");
+    }
+    assert!(rt; same_sectors(&mut file, &mut memory, 0, 128) && file.sync().is_ok());
+    drop(file);
+    let Ok(mut again) = FileDisk::open(&rt, path, false) else {
+        panic!(&rt; "the file isn't opened again");
+    };
+    assert!(rt; same_sectors(&mut again, &mut memory, 0, 128));
+    drop(again);
+    fs::remove_file(&rt, path)?;
+    Ok(())
+}
+
+/// One writer, or many readers.
+#[test]
+fn a_file_is_locked(rt: HostRuntime) -> Result<(), Fail> {
+    let path = "storage_tests_locks";
+    let Ok(writer) = FileDisk::open(&rt, path, true) else {
+        panic!(&rt; "the file isn't made");
+    };
+    assert!(rt; fault_of(FileDisk::open(&rt, path, true)) == Some(FileFault::Locked));
+    assert!(rt; fault_of(FileDisk::open_to_read(&rt, path)) == Some(FileFault::Locked));
+    drop(writer);
+    let Ok(reader) = FileDisk::open_to_read(&rt, path) else {
+        panic!(&rt; "the lock is still held");
+    };
+    assert!(rt; fault_of(FileDisk::open_to_read(&rt, path)).is_none());
+    assert!(rt; fault_of(FileDisk::open(&rt, path, false)) == Some(FileFault::Locked));
+    drop(reader);
+    assert!(rt; fault_of(FileDisk::open(&rt, path, false)).is_none());
+    fs::remove_file(&rt, path)?;
+    assert!(rt; fault_of(FileDisk::open(&rt, path, false)) == Some(FileFault::Device));
+    Ok(())
+}
+
+/// A file that can't be written: after the first failure each call fails.
+#[test]
+fn a_failure_stays(rt: HostRuntime) -> Result<(), Fail> {
+    let path = "storage_tests_failure";
+    fs::write(&rt, path, b"")?;
+    let Ok(mut disk) = FileDisk::open_to_read(&rt, path) else {
+        panic!(&rt; "the file isn't opened");
+    };
+    let mut bytes = [1; 512];
+    assert!(rt; disk.read(3, &mut bytes).is_ok() && bytes == [0; 512]);
+    assert!(rt; disk.write(0, &bytes).is_ok());
+    assert!(rt; disk.sync() == Err(DeviceFault));
+    assert!(rt; disk.sync() == Err(DeviceFault));
+    assert!(rt; disk.read(3, &mut bytes) == Err(DeviceFault));
+    assert!(rt; disk.write(0, &bytes) == Err(DeviceFault));
+    drop(disk);
+    fs::remove_file(&rt, path)?;
+    Ok(())
+}

@@ -1,0 +1,21 @@
+//! Tests of the storage, from `page` to `pager`: pages, roots and trees byte by byte, files that no commit left, how many pages a
+//! file has, and a disk in a file.
+#![tactic(auto)]
+
+#[cfg(test)]
+mod cached_pages;
+#[cfg(test)]
+mod damaged_files;
+#[cfg(test)]
+mod file_disk;
+#[cfg(test)]
+mod page_bytes;
+#[cfg(test)]
+mod page_counts;
+mod read_pages;
+#[cfg(test)]
+mod root_bytes;
+#[cfg(test)]
+mod tree_bytes;
+
+pub use read_pages::ReadPages;

@@ -1,0 +1,169 @@
+//! How many pages files have, and what is free again: no contract bounds the pages of a tree.
+
+use btree::{Pages, insert, remove};
+use freelist::FreePages;
+use page::{MemDisk, PageContent};
+use pager::Pager;
+use roots::Store;
+use std::alloc::Global;
+use std::test::Fail;
+
+/// The longest value.
+const VALUE: &[u8] = &[7; 65_535];
+
+/// The tree of nothing in a file of at most so many pages.
+fn new_file(alloc: Global, limit: u32) -> Result<Pager<MemDisk>, &'static str> {
+    match Pager::open(alloc, MemDisk::new(alloc), limit) {
+        Ok(pager) => Ok(pager),
+        Err(_) => Err("zeros don't open"),
+    }
+}
+
+/// A turn that puts a value of so many bytes at a number's key of so many bytes, or takes it away.
+fn turn(
+    alloc: Global,
+    pager: &mut Pager<MemDisk>,
+    number: u32,
+    size: usize,
+    value: Option<usize>,
+) -> bool {
+    let mut bytes = [0; 1024];
+    bytes[..4].copy_from_slice(&number.to_be_bytes());
+    let key = &bytes[..size.min(1024)];
+    let root = pager.root();
+    let changed = match value {
+        Some(len) => insert(alloc, pager, root, key, &VALUE[..len.min(65_535)]),
+        None => remove(alloc, pager, root, key),
+    };
+    match changed {
+        Ok(root) => pager.commit(root).is_ok(),
+        Err(_) => false,
+    }
+}
+
+/// How many pages a turn can take now, up to so many. They are taken back.
+fn count_free(alloc: Global, pager: &mut Pager<MemDisk>, limit: u32) -> u32 {
+    let mark = pager.mark();
+    let mut count: u32 = 0;
+    for _ in 0..limit {
+        let content = PageContent::Chain {
+            next: 0,
+            bytes: Vec::new(alloc),
+        };
+        if pager.fresh(content).is_err() {
+            break;
+        }
+        count = count.saturating_add(1);
+    }
+    pager.undo_to(mark);
+    count
+}
+
+/// How many pages the file has, with page 0.
+fn pages_of(pager: Pager<MemDisk>) -> u32 {
+    match Store::open(pager.into_disk()) {
+        Ok(store) => store.root().pages,
+        Err(_) => u32::MAX,
+    }
+}
+
+/// So many keys of so many bytes, with values of these lengths; how many pages the file may have, and how many it needs at most.
+///
+/// An entry of 17 and 100 bytes takes 6 more. A leaf of less than a quarter of its 4,080 bytes, 8 entries or fewer, is joined with
+/// the page beside it: some 112 leaves at most. A child takes 6 + 17 bytes of a branch, and 44 are less than a quarter: 3 branches
+/// at most, and a root. A turn makes two pages on each of three levels at most, and a new root. With page 0 these are 124, where a
+/// page that is free is taken before a new one; 140 are let pass. A file that lost a page each turn would have 2,000.
+///
+/// A key of 1,014 bytes and 330 of its value are 1,350, so a leaf has three entries or four, and a branch four children.
+const COMING: [(u32, usize, &[usize], u32, u32); 2] = [
+    (1_000, 17, &[100], 400, 140),
+    (200, 1_014, &[330, 0, 331, 1, 330, 65_535], 2_000, 2_000),
+];
+
+#[test]
+fn entries_come_and_go(rt: HostRuntime) -> Result<(), Fail> {
+    let alloc = rt.alloc();
+    for (keys, size, lengths, limit, most) in COMING {
+        let mut pager = new_file(alloc, limit)?;
+        for i in 0..keys {
+            let length = lengths.iter().cycle().nth(i as usize).copied();
+            let key = i.wrapping_mul(389) % keys;
+            assert!(rt; turn(alloc, &mut pager, key, size, length), "put {key}");
+        }
+        for i in 0..keys {
+            let key = i.wrapping_mul(123) % keys;
+            assert!(rt; turn(alloc, &mut pager, key, size, None), "removed {key}");
+        }
+        assert_eq!(rt; pager.root(), 0);
+        // as many as a file that was never written has: all but page 0
+        assert_eq!(rt; count_free(alloc, &mut pager, 3_000), limit - 1);
+        let pages = pages_of(pager);
+        assert!(rt; pages <= most, "{pages} pages");
+    }
+    Ok(())
+}
+
+/// A key of 17 bytes and a value of 330 take 353 with their lengths: 11 go into a leaf's 4,080 bytes. Ten thousand in ascending
+/// order fill 910 leaves. A branch has 177 children of 6 + 17 bytes where it is full and 59 where it is filled to a third: 16
+/// branches at most, and a root. One leaf more may stand at the end, where two share what is left, and with page 0 these are 929. A
+/// turn makes two pages on each of three levels at most, and a new root.
+#[test]
+fn rising_entries_fill_their_leaves(rt: HostRuntime) -> Result<(), Fail> {
+    let alloc = rt.alloc();
+    let mut pager = new_file(alloc, 2_000)?;
+    for key in 0..10_000 {
+        assert!(rt; turn(alloc, &mut pager, key, 17, Some(330)), "put {key}");
+    }
+    let pages = pages_of(pager);
+    assert!(rt; pages <= 929 + 7, "{pages} pages");
+    Ok(())
+}
+
+/// Lengths of the value at one key, turn by turn, and the pages of its tree: a leaf, and one for each 4,076 bytes of a value of
+/// more than 330.
+const LENGTHS: [(usize, u32); 12] = [
+    (330, 1),
+    (331, 2),
+    (330, 1),
+    (65_535, 18),
+    (331, 2),
+    (65_535, 18),
+    (65_534, 18),
+    (4_076, 2),
+    (4_077, 3),
+    (331, 2),
+    (0, 1),
+    (65_535, 18),
+];
+
+/// The old value and the new one have 18 pages each at most: with page 0 the file has 37.
+#[test]
+fn values_replace_each_other(rt: HostRuntime) -> Result<(), Fail> {
+    let mut pager = new_file(rt.alloc(), 100)?;
+    for (length, pages) in LENGTHS {
+        assert!(rt; turn(rt.alloc(), &mut pager, 0, 4, Some(length)));
+        assert_eq!(rt;
+            count_free(rt.alloc(), &mut pager, 200),
+            99 - pages,
+            "{length}"
+        );
+    }
+    assert!(rt; pages_of(pager) <= 37);
+    Ok(())
+}
+
+/// No server pins a version yet.
+#[test]
+fn pinned_pages_are_not_taken(rt: HostRuntime) -> Result<(), Fail> {
+    let mut book = FreePages::open(rt.alloc(), &[1, 2], 3, 5)?;
+    book.pin(5)?;
+    book.retire(1, 5)?;
+    assert_eq!(rt; book.take()?, None);
+    book.commit(6);
+    assert_eq!(rt; book.take()?, None);
+    book.unpin(5);
+    assert_eq!(rt; book.take()?, Some(1));
+    assert_eq!(rt; book.take()?, None);
+    assert_eq!(rt; (book.version(), book.full_takes()), (6, 3));
+    Ok(())
+}
