@@ -1,0 +1,44 @@
+//! A file whose last commit has the greatest number that there is.
+
+use crate::fault::Fault;
+use page::{Disk, MemDisk};
+
+/// The number of a root's commit.
+fn number_in(root: &[u8; 512]) -> u64 {
+    match root[16..24].first_chunk::<8>() {
+        Some(bytes) => u64::from_le_bytes(*bytes),
+        None => 0,
+    }
+}
+
+/// Reads a sector.
+fn sector(memory: &mut MemDisk, number: u64) -> Result<[u8; 512], Fault> {
+    let mut bytes = [0; 512];
+    match memory.read(number, &mut bytes) {
+        Ok(()) => Ok(bytes),
+        Err(_) => Err(Fault::Memory),
+    }
+}
+
+/// Writes a root with this number in the sector where that belongs.
+fn put_root(memory: &mut MemDisk, root: &[u8; 512], number: u64) -> Result<(), Fault> {
+    let mut bytes = *root;
+    bytes[16..24].copy_from_slice(&number.to_le_bytes());
+    match memory.write(number % 2, &bytes) {
+        Ok(()) => Ok(()),
+        Err(_) => Err(Fault::Memory),
+    }
+}
+
+/// Gives the last commit the greatest number, and the one before it the greatest but one.
+pub fn with_last_commit(memory: &mut MemDisk) -> Result<(), Fault> {
+    let even = sector(memory, 0)?;
+    let odd = sector(memory, 1)?;
+    let newest = if number_in(&odd) < number_in(&even) {
+        even
+    } else {
+        odd
+    };
+    put_root(memory, &newest, u64::MAX)?;
+    put_root(memory, &newest, u64::MAX - 1)
+}

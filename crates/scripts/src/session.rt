@@ -1,0 +1,108 @@
+//! A server whose device a script has in its hands.
+
+use crate::device::{Device, Orders};
+use crate::fault::Fault;
+use engine::ConnId;
+use page::MemDisk;
+use server::{Config, Core, FeedFault, OpenFault, TurnFault, TurnOut};
+use std::alloc::Global;
+use std::marker::Model;
+use std::rc::Rc;
+
+/// A server on a device. To its callers it is no more than whether it is patient.
+#[derive(Drop)]
+pub struct Session {
+    core: Core<Device>,
+    // a call that finds no memory is made once more
+    is_patient: bool,
+}
+
+impl Model for Session {
+    ghost use Rattle.page.specs.Unknown.{unknown_history};
+    ghost use Rattle.server.specs.Durable.{IsSound};
+    ghost use Rattle.std.specs.Prelude.{Bool};
+
+    ghost Value = { Bool };
+
+    ghost view = { λ a. a.is_patient };
+
+    ghost invariant = { λ a. IsSound (λ _. unknown_history) a.core };
+}
+
+/// The connection of a number.
+fn connection_of(number: u8) -> Result<ConnId, Fault> {
+    match ConnId::new(number) {
+        Some(connection) => Ok(connection),
+        None => Err(Fault::Form("no connection has that number")),
+    }
+}
+
+impl Session {
+    /// Opens a server. The memory of its device is given back where it doesn't open.
+    pub fn open(
+        alloc: Global,
+        memory: MemDisk,
+        orders: Rc<Orders>,
+        max_pages: u32,
+        is_patient: bool,
+    ) -> Result<Session, (MemDisk, OpenFault)> {
+        let device = Device::new(memory, orders);
+        match Core::open(alloc, device, Config { max_pages }) {
+            Ok(core) => Ok(Session { core, is_patient }),
+            Err((device, fault)) => Err((device.into_memory(), fault)),
+        }
+    }
+
+    /// The memory of its device.
+    pub fn into_memory(self) -> MemDisk {
+        let Session {
+            core,
+            is_patient: _,
+        } = self;
+        core.into_disk().into_memory()
+    }
+
+    /// Bytes come on a connection. What comes behind a fault of a frame is passed over.
+    pub fn feed(&mut self, connection: u8, bytes: &[u8]) -> Result<(), Fault> {
+        let connection = connection_of(connection)?;
+        let mut fed = self.core.feed(connection, bytes);
+        if self.is_patient && matches!(fed, Err(FeedFault::Memory)) {
+            fed = self.core.feed(connection, bytes);
+        }
+        match fed {
+            Ok(()) | Err(FeedFault::Closed) => Ok(()),
+            Err(FeedFault::Memory) => Err(Fault::Memory),
+        }
+    }
+
+    /// A turn.
+    pub fn turn(&mut self) -> Result<TurnOut, Fault> {
+        let mut out = self.core.turn();
+        if self.is_patient && matches!(out, Err(TurnFault::Memory)) {
+            out = self.core.turn();
+        }
+        match out {
+            Ok(out) => Ok(out),
+            Err(TurnFault::Stopped) => Err(Fault::Stopped),
+            Err(TurnFault::Memory) => Err(Fault::Memory),
+        }
+    }
+
+    /// A connection ends.
+    pub fn gone(&mut self, connection: u8) -> Result<(), Fault> {
+        self.core.gone(connection_of(connection)?);
+        Ok(())
+    }
+
+    /// Whether a connection has a whole message or a fault of a frame waiting.
+    pub fn is_any_waiting(&self) -> bool {
+        for number in 0..64 {
+            if let Some(connection) = ConnId::new(number) {
+                if self.core.waiting(connection) {
+                    return true;
+                }
+            }
+        }
+        false
+    }
+}
