@@ -1,6 +1,6 @@
 -- Keys of indexes: a path that is judged before its direction, and one path more.
-use Rattle.std.proofs.Common.{◌≡◌, ℕ, ◌<◌, Bool, true, false, cond, List, [], ◌∷◌, ◌++◌, length, Option, Some, None, Result, Ok, Err, refl, sym, ap, subst, ◌∙◌, arith, eq-eqb}
-use Rattle.std.specs.Prelude.{◌≢◌, ◌≤◌, ◌==◌, ◌||◌, nat_lt, if◌then◌else◌, IsUtf8}
+use Rattle.std.proofs.Common.{◌≡◌, ℕ, Bool, true, false, cond, List, [], ◌∷◌, ◌++◌, length, Option, Some, None, Result, Ok, Err, refl, sym, ap, subst, ◌∙◌, arith, eq-eqb}
+use Rattle.std.specs.Prelude.{◌≢◌, ◌==◌, ◌||◌, nat_lt, if◌then◌else◌, IsUtf8}
 use Rattle.std.specs.List.{AllByRecursion, list_any, slice_split, onto_first}
 use Rattle.std.specs.Result.{IsErrAnd}
 use Rattle.std.specs.Str.{bytes_eq}
@@ -8,11 +8,11 @@ use Rattle.std.proofs.lemmas.Bool.{false≢true}
 use Rattle.std.proofs.lemmas.Int.{ints}
 use Rattle.std.proofs.lemmas.List.{length_push}
 use Rattle.std.proofs.lemmas.Slice.Eq.{bytes_eq-Decides}
-use Rattle.bson.specs.Tree.{Tree, Pairs, no_pairs, pair, append}
+use Rattle.bson.specs.Tree.{Tree, no_pairs, pair, append}
 use Rattle.bson.specs.Lawful.{NoZero, IsName, Lacks, IsTree, IsPairs}
 use Rattle.bson.specs.EditsLaws.{IsPairs-append}
 use Rattle.outcome.specs.Outcome.{◌>>=◌, fault_or, Fails, Gives}
-use Rattle.path.specs.Parts.{is_empty, begins_with_dollar, has_zero, path_fault, path_of, parts_of}
+use Rattle.path.specs.Parts.{is_empty, begins_with_dollar, has_zero, path_fault, parts_of}
 use Rattle.path.specs.declared.fault.PathFault.{PathFault}
 use Rattle.path.specs.declared.fault.PathFault.TheVariants as faults
 use Rattle.path.specs.declared.refusal.Refusal.{Refusal}

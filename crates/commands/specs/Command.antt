@@ -63,9 +63,12 @@ command_of (pair name t ps) =
     if bytes_eq name (codes "drop") then as_command drop (read_drop t ps) else
     if bytes_eq name (codes "listCollections")
     then as_command list_collections (read_list_collections t ps) else
-    if bytes_eq name (codes "createIndexes") then as_command create_indexes (read_create_indexes t ps) else
-    if bytes_eq name (codes "dropIndexes") then as_command drop_indexes (read_drop_indexes t ps) else
-    if bytes_eq name (codes "listIndexes") then as_command list_indexes (read_list_indexes t ps) else
+    if bytes_eq name (codes "createIndexes")
+    then as_command create_indexes (read_create_indexes t ps) else
+    if bytes_eq name (codes "dropIndexes")
+    then as_command drop_indexes (read_drop_indexes t ps) else
+    if bytes_eq name (codes "listIndexes")
+    then as_command list_indexes (read_list_indexes t ps) else
     Err refusals.CommandNotFound
 
 -- What a command that was read keeps: a namespace of at most 255 bytes, and from 1 to 1,000 documents, statements, cursors or

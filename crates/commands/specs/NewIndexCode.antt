@@ -1,5 +1,5 @@
 -- That indexes to be made are told apart by lists of numbers.
-use Rattle.std.specs.Prelude.{◌≡◌, ℕ, Bool, List, refl}
+use Rattle.std.specs.Prelude.{ℕ, Bool, List, refl}
 use Rattle.std.specs.Coded.{Coded, code_by, coded×, coded_ℕ, coded_bool, coded_list}
 use Rattle.index.specs.Definition.{Field}
 use Rattle.index.specs.DefinitionCode.{field_code}

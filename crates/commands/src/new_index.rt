@@ -115,7 +115,7 @@ fn field_to(alloc: Global, name: &str, direction: Direction) -> Result<IndexFiel
 {
     match IndexField::new(alloc, name, direction) {
         Ok(field) => {
-            let _lawful = field.text();
+            let _text = field.text();
             Ok(field)
         }
         Err(fault) => Err(fault.refusal()),
