@@ -1,7 +1,7 @@
 -- Bodies of commands on indexes, worked by hand: what they are read as, or their first refusal.
 use Rattle.std.proofs.Common.{◌≡◌, List, [], ◌∷◌, Ok, Err, refl, true}
 use Rattle.std.specs.Prelude.{ℕ, pos, negsuc, codes}
-use Rattle.bson.specs.Tree.{Tree, scalar, text, int32, int64, boolean, document, array, Pairs, no_pairs, pair, Items, no_items, item}
+use Rattle.bson.specs.Tree.{Tree, scalar, text, int32, int64, boolean, document, array, Pairs, no_pairs, pair, no_items, item}
 use Rattle.path.specs.declared.refusal.Refusal.TheVariants as refusals
 use Rattle.value_order.specs.declared.texts.Direction.TheVariants as directions
 use Rattle.commands.specs.Command.{create_indexes, drop_indexes, list_indexes, command_of}
