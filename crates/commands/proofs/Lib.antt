@@ -1,1 +1,3 @@
 mod Readings
+mod NewIndexLemmas
+mod IndexCommandRows

@@ -18,6 +18,9 @@ use Rattle.commands.specs.Aggregate.{Aggregate, read_aggregate}
 use Rattle.commands.specs.Create.{Create, read_create}
 use Rattle.commands.specs.DropCollection.{DropCollection, read_drop}
 use Rattle.commands.specs.ListCollections.{ListCollections, read_list_collections}
+use Rattle.commands.specs.CreateIndexes.{CreateIndexes, read_create_indexes}
+use Rattle.commands.specs.DropIndexes.{DropIndexes, read_drop_indexes}
+use Rattle.commands.specs.ListIndexes.{ListIndexes, read_list_indexes}
 use Rattle.commands.specs.Update.{UpdateStatement, Update, read_update_command, IsRead}
 
 pub data Command : Type 0 where
@@ -34,6 +37,9 @@ pub data Command : Type 0 where
   create : Create → Command
   drop : DropCollection → Command
   list_collections : ListCollections → Command
+  create_indexes : CreateIndexes → Command
+  drop_indexes : DropIndexes → Command
+  list_indexes : ListIndexes → Command
 
 -- what was read, as a command
 abbrev pub as_command : {X : Type 0} → (X → Command) → Result X Refusal → Result Command Refusal
@@ -57,9 +63,16 @@ command_of (pair name t ps) =
     if bytes_eq name (codes "drop") then as_command drop (read_drop t ps) else
     if bytes_eq name (codes "listCollections")
     then as_command list_collections (read_list_collections t ps) else
+    if bytes_eq name (codes "createIndexes")
+    then as_command create_indexes (read_create_indexes t ps) else
+    if bytes_eq name (codes "dropIndexes")
+    then as_command drop_indexes (read_drop_indexes t ps) else
+    if bytes_eq name (codes "listIndexes")
+    then as_command list_indexes (read_list_indexes t ps) else
     Err refusals.CommandNotFound
 
--- What a command that was read keeps: a namespace of at most 255 bytes, and from 1 to 1,000 documents, statements or cursors.
+-- What a command that was read keeps: a namespace of at most 255 bytes, and from 1 to 1,000 documents, statements, cursors or
+-- indexes.
 abbrev pub IsBounded : Command → Type 0
 IsBounded ping = Unit {0}
 IsBounded hello = Unit {0}
@@ -77,3 +90,7 @@ IsBounded (aggregate c) = length c.namespace ≤ 255
 IsBounded (create c) = length c.namespace ≤ 255
 IsBounded (drop c) = length c.namespace ≤ 255
 IsBounded (list_collections c) = length c.database ≤ 63
+IsBounded (create_indexes c) =
+    (length c.namespace ≤ 255) × (length c.indexes ≤ 1000) × (1 ≤ length c.indexes)
+IsBounded (drop_indexes c) = length c.namespace ≤ 255
+IsBounded (list_indexes c) = length c.namespace ≤ 255

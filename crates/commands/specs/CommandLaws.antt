@@ -33,7 +33,11 @@ use Rattle.commands.specs.Alone.{read_alone}
 use Rattle.commands.specs.Create.{Create, read_create}
 use Rattle.commands.specs.DropCollection.{DropCollection, read_drop}
 use Rattle.commands.specs.ListCollections.{ListCollections, read_list_collections}
-use Rattle.commands.specs.Command.{Command, ping, insert, find, count, delete, update, aggregate, create, drop, list_collections, as_command, command_of, IsBounded, get_more, kill_cursors, hello}
+use Rattle.commands.specs.NewIndex.{NewIndex, read_new_index}
+use Rattle.commands.specs.CreateIndexes.{CreateIndexes, CreateIndexesFields, no_create_indexes_fields, new_indexes_in, create_indexes_field, read_create_indexes}
+use Rattle.commands.specs.DropIndexes.{DropIndexes, dropped_by, no_drop_indexes_fields, drop_indexes_field, read_drop_indexes}
+use Rattle.commands.specs.ListIndexes.{ListIndexes, read_list_indexes}
+use Rattle.commands.specs.Command.{Command, ping, insert, find, count, delete, update, aggregate, create, drop, list_collections, create_indexes, drop_indexes, list_indexes, as_command, command_of, IsBounded, get_more, kill_cursors, hello}
 
 later_false : (a b : Bool) → (a || b) ≡ false → b ≡ false
 later_false true b e = absurd cc
@@ -250,6 +254,39 @@ module _ (found next : KillCursorsFields) (name : List ℕ) (t : Tree) (h : FewI
       let same : record found { common = s.0 } ≡ next = cc in
       subst (λ (f : KillCursorsFields). FewIds f.cursors) same h
 
+-- ---- indexes to be made
+
+abbrev FewIndexes : List NewIndex → Type 0
+FewIndexes is = (length is ≤ 1000) × (1 ≤ length is)
+
+abbrev FewIndexesAt : Option (List NewIndex) → Type 0
+FewIndexesAt None = Unit {0}
+FewIndexesAt (Some is) = FewIndexes is
+
+few_indexes : (t : Tree) (is : List NewIndex) → new_indexes_in t ≡ Ok is → FewIndexes is
+few_indexes t is e =
+    let s = step_of (statements_in t) (each_of (spelled_in read_new_index)) is e in
+    let many = as_many (spelled_in read_new_index) s.0 is s.2 in
+    let items = few_items t s.0 s.1 in
+    (omega (arith, many, items.0), omega (arith, many, items.1))
+
+module _ (found next : CreateIndexesFields) (name : List ℕ) (t : Tree) (h : FewIndexesAt found.indexes) where
+  abbrev with_indexes : List NewIndex → Result CreateIndexesFields Refusal
+  with_indexes indexes = Ok (record found { indexes = Some indexes })
+
+  abbrev with_common_fields : CommonFields → Result CreateIndexesFields Refusal
+  with_common_fields common = Ok (record found { common = common })
+
+  few_indexes_by_field : (b : Bool) → (if b then (new_indexes_in t >>= with_indexes) else (common_field found.common name t >>= with_common_fields)) ≡ Ok next → FewIndexesAt next.indexes
+  few_indexes_by_field true e =
+      let s = step_of (new_indexes_in t) with_indexes next e in
+      let same : record found { indexes = Some s.0 } ≡ next = cc in
+      subst (λ (f : CreateIndexesFields). FewIndexesAt f.indexes) same (few_indexes t s.0 s.1)
+  few_indexes_by_field false e =
+      let s = step_of (common_field found.common name t) with_common_fields next e in
+      let same : record found { common = s.0 } ≡ next = cc in
+      subst (λ (f : CreateIndexesFields). FewIndexesAt f.indexes) same h
+
 -- ---- commands
 
 pub insert_bounded : (t : Tree) (ps : Pairs) (c : Insert) → read_insert t ps ≡ Ok c → (length c.namespace ≤ 255) × (length c.documents ≤ 1000) × (1 ≤ length c.documents)
@@ -355,6 +392,38 @@ list_collections_bounded t ps c e =
     let few = ltb-false 63 (length b.0) (later_false (length b.0 == 0) (nat_lt 63 (length b.0)) (first_false (length b.0 == 0 || nat_lt 63 (length b.0)) (list_any is_bad_byte b.0) p.0)) in
     subst (λ (x : ListCollections). length x.database ≤ 63) same few
 
+pub create_indexes_bounded : (t : Tree) (ps : Pairs) (c : CreateIndexes) → read_create_indexes t ps ≡ Ok c → IsBounded (create_indexes c)
+create_indexes_bounded t ps c e =
+    let n = step_of (text_in t) _ c e in
+    let s = step_of (read_fields create_indexes_field no_create_indexes_fields ps) _ c n.2 in
+    let b = step_of (or_refused s.0.common.database refusals.FailedToParse) _ c s.2 in
+    let d = step_of (or_refused s.0.indexes refusals.FailedToParse) _ c b.2 in
+    let m = step_of (namespace_of b.0 n.0) _ c d.2 in
+    let made : CreateIndexes = record { namespace = m.0; indexes = d.0 } in
+    let same : made ≡ c = cc in
+    let few = fields_keep (λ (f : CreateIndexesFields). FewIndexesAt f.indexes) create_indexes_field
+    (λ found next name t h e. few_indexes_by_field found next name t h (bytes_eq name (codes "indexes")) e) ps no_create_indexes_fields s.0 tt s.1 in
+    let some : FewIndexes d.0 = subst FewIndexesAt (there s.0.indexes d.0 d.1) few in
+    subst (λ (x : CreateIndexes). IsBounded (create_indexes x)) same (short b.0 n.0 m.0 m.1, some.0, some.1)
+
+pub drop_indexes_bounded : (t : Tree) (ps : Pairs) (c : DropIndexes) → read_drop_indexes t ps ≡ Ok c → length c.namespace ≤ 255
+drop_indexes_bounded t ps c e =
+    let n = step_of (text_in t) _ c e in
+    let s = step_of (read_fields drop_indexes_field no_drop_indexes_fields ps) _ c n.2 in
+    let b = step_of (or_refused s.0.common.database refusals.FailedToParse) _ c s.2 in
+    let d = step_of (or_refused s.0.index refusals.FailedToParse) _ c b.2 in
+    let m = step_of (namespace_of b.0 n.0) _ c d.2 in
+    let made : DropIndexes = record { namespace = m.0; indexes = dropped_by d.0 } in
+    let same : made ≡ c = cc in
+    subst (λ (x : DropIndexes). length x.namespace ≤ 255) same (short b.0 n.0 m.0 m.1)
+
+pub list_indexes_bounded : (t : Tree) (ps : Pairs) (c : ListIndexes) → read_list_indexes t ps ≡ Ok c → length c.namespace ≤ 255
+list_indexes_bounded t ps c e =
+    let r = step_of (read_alone t ps) _ c e in
+    let made : ListIndexes = record { namespace = r.0 } in
+    let same : made ≡ c = cc in
+    subst (λ (x : ListIndexes). length x.namespace ≤ 255) same (alone_bounded t ps r.0 r.1)
+
 -- what was read is bounded, so the command is
 made_bounded : {X : Type 0} (make : X → Command) (read : Result X Refusal) (c : Command) → ((x : X) → read ≡ Ok x → IsBounded (make x)) → as_command make read ≡ Ok c → IsBounded c
 made_bounded {X} make read c keeps e =
@@ -385,7 +454,10 @@ bounded (pair name t ps) c e =
     (chosen_bounded (bytes_eq name (codes "create")) _ _ c (made_bounded create (read_create t ps) c (create_bounded t ps))
     (chosen_bounded (bytes_eq name (codes "drop")) _ _ c (made_bounded drop (read_drop t ps) c (drop_bounded t ps))
     (chosen_bounded (bytes_eq name (codes "listCollections")) _ _ c (made_bounded list_collections (read_list_collections t ps) c (list_collections_bounded t ps))
-    (λ f. absurd cc))))))))))))) e
+    (chosen_bounded (bytes_eq name (codes "createIndexes")) _ _ c (made_bounded create_indexes (read_create_indexes t ps) c (create_indexes_bounded t ps))
+    (chosen_bounded (bytes_eq name (codes "dropIndexes")) _ _ c (made_bounded drop_indexes (read_drop_indexes t ps) c (drop_indexes_bounded t ps))
+    (chosen_bounded (bytes_eq name (codes "listIndexes")) _ _ c (made_bounded list_indexes (read_list_indexes t ps) c (list_indexes_bounded t ps))
+    (λ f. absurd cc)))))))))))))))) e
 
 -- a reader that gives what was planned gives a bounded command
 pub gives-bounded : {X : Type 0} (view : X → Command) (planned : Result Command Refusal) (r : Result X Refusal) → Gives refusals.OutOfMemory view r planned → ((c : Command) → planned ≡ Ok c → IsBounded c) → IfOk r (λ x. IsBounded (view x))

@@ -16,6 +16,11 @@ pub mod Alone
 pub mod Create
 pub mod DropCollection
 pub mod ListCollections
+pub mod NewIndex
+pub mod NewIndexCode
+pub mod CreateIndexes
+pub mod DropIndexes
+pub mod ListIndexes
 pub mod Command
 pub mod View
 pub mod OutcomeLaws

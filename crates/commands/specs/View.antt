@@ -14,6 +14,9 @@ use Rattle.commands.specs.Aggregate as aggregates
 use Rattle.commands.specs.Create as creates
 use Rattle.commands.specs.DropCollection as drops
 use Rattle.commands.specs.ListCollections as lists
+use Rattle.commands.specs.CreateIndexes as index_creates
+use Rattle.commands.specs.DropIndexes as index_drops
+use Rattle.commands.specs.ListIndexes as index_lists
 use Rattle.aggregate.specs.View.{pipeline_of}
 use Rattle.commands.specs.declared.insert.Insert.{Insert}
 use Rattle.commands.specs.declared.find.Find.{Find}
@@ -26,6 +29,11 @@ use Rattle.commands.specs.declared.aggregation.Aggregate.{Aggregate}
 use Rattle.commands.specs.declared.create.Create.{Create}
 use Rattle.commands.specs.declared.drop_collection.DropCollection.{DropCollection}
 use Rattle.commands.specs.declared.list_collections.ListCollections.{ListCollections}
+use Rattle.commands.specs.declared.create_indexes.CreateIndexes.{CreateIndexes}
+use Rattle.commands.specs.declared.drop_indexes.DroppedIndexes.{DroppedIndexes}
+use Rattle.commands.specs.declared.drop_indexes.DroppedIndexes.TheVariants as dropped
+use Rattle.commands.specs.declared.drop_indexes.DropIndexes.{DropIndexes}
+use Rattle.commands.specs.declared.list_indexes.ListIndexes.{ListIndexes}
 use Rattle.commands.specs.declared.command.Command.{Command}
 use Rattle.commands.specs.declared.command.Command.TheVariants as cases
 
@@ -78,6 +86,21 @@ drop_read c = record { namespace = string_bytes c.namespace }
 abbrev pub list_collections_read : ListCollections → lists.ListCollections
 list_collections_read c = record { database = c.database.now }
 
+abbrev pub create_indexes_read : CreateIndexes → index_creates.CreateIndexes
+create_indexes_read c =
+    record { namespace = string_bytes c.namespace; indexes = c.indexes.items }
+
+abbrev pub dropped_of : DroppedIndexes → index_drops.DroppedIndexes
+dropped_of (dropped.Named name) = index_drops.named name.now
+dropped_of dropped.All = index_drops.all
+
+abbrev pub drop_indexes_read : DropIndexes → index_drops.DropIndexes
+drop_indexes_read c =
+    record { namespace = string_bytes c.namespace; indexes = dropped_of c.indexes }
+
+abbrev pub list_indexes_read : ListIndexes → index_lists.ListIndexes
+list_indexes_read c = record { namespace = string_bytes c.namespace }
+
 abbrev pub command_read : Command → commands.Command
 command_read cases.Ping = commands.ping
 command_read cases.Hello = commands.hello
@@ -92,3 +115,6 @@ command_read (cases.Aggregate c) = commands.aggregate (aggregate_read c)
 command_read (cases.Create c) = commands.create (create_read c)
 command_read (cases.Drop c) = commands.drop (drop_read c)
 command_read (cases.ListCollections c) = commands.list_collections (list_collections_read c)
+command_read (cases.CreateIndexes c) = commands.create_indexes (create_indexes_read c)
+command_read (cases.DropIndexes c) = commands.drop_indexes (drop_indexes_read c)
+command_read (cases.ListIndexes c) = commands.list_indexes (list_indexes_read c)

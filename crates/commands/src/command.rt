@@ -8,14 +8,17 @@ ghost use Rattle.commands.specs.View.{command_read};
 use crate::aggregation::{Aggregate, read_aggregate};
 use crate::count::{Count, read_count};
 use crate::create::{Create, read_create};
+use crate::create_indexes::{CreateIndexes, read_create_indexes};
 use crate::delete::{Delete, read_delete};
 use crate::drop_collection::{DropCollection, read_drop};
+use crate::drop_indexes::{DropIndexes, read_drop_indexes};
 use crate::find::{Find, read_find};
 use crate::get_more::{GetMore, read_get_more};
 use crate::hello::read_hello;
 use crate::insert::{Insert, read_insert};
 use crate::kill_cursors::{KillCursors, read_kill_cursors};
 use crate::list_collections::{ListCollections, read_list_collections};
+use crate::list_indexes::{ListIndexes, read_list_indexes};
 use crate::ping::read_ping;
 use crate::updates::{Update, read_update};
 use bson::Document;
@@ -38,6 +41,9 @@ pub enum Command<'a> {
     Create(Create),
     Drop(DropCollection),
     ListCollections(ListCollections<'a>),
+    CreateIndexes(CreateIndexes),
+    DropIndexes(DropIndexes<'a>),
+    ListIndexes(ListIndexes),
 }
 
 impl<'a> Command<'a> {
@@ -56,37 +62,36 @@ impl<'a> Command<'a> {
         };
         let name = first.name.as_str();
         let value = &first.value;
-        if name == "ping" {
-            read_ping(alloc, value, rest)?;
-            Ok(Command::Ping)
-        } else if name == "hello" {
-            read_hello(alloc, value, rest)?;
-            Ok(Command::Hello)
-        } else if name == "insert" {
-            Ok(Command::Insert(read_insert(alloc, value, rest)?))
-        } else if name == "find" {
-            Ok(Command::Find(read_find(alloc, value, rest)?))
-        } else if name == "getMore" {
-            Ok(Command::GetMore(read_get_more(alloc, value, rest)?))
-        } else if name == "killCursors" {
-            Ok(Command::KillCursors(read_kill_cursors(alloc, value, rest)?))
-        } else if name == "count" {
-            Ok(Command::Count(read_count(alloc, value, rest)?))
-        } else if name == "delete" {
-            Ok(Command::Delete(read_delete(alloc, value, rest)?))
-        } else if name == "update" {
-            Ok(Command::Update(read_update(alloc, value, rest)?))
-        } else if name == "aggregate" {
-            Ok(Command::Aggregate(read_aggregate(alloc, value, rest)?))
-        } else if name == "create" {
-            Ok(Command::Create(read_create(alloc, value, rest)?))
-        } else if name == "drop" {
-            Ok(Command::Drop(read_drop(alloc, value, rest)?))
-        } else if name == "listCollections" {
-            let read = read_list_collections(alloc, value, rest)?;
-            Ok(Command::ListCollections(read))
-        } else {
-            Err(Refusal::CommandNotFound)
+        match name {
+            "ping" => {
+                read_ping(alloc, value, rest)?;
+                Ok(Command::Ping)
+            }
+            "hello" => {
+                read_hello(alloc, value, rest)?;
+                Ok(Command::Hello)
+            }
+            "insert" => Ok(Command::Insert(read_insert(alloc, value, rest)?)),
+            "find" => Ok(Command::Find(read_find(alloc, value, rest)?)),
+            "getMore" => Ok(Command::GetMore(read_get_more(alloc, value, rest)?)),
+            "killCursors" => Ok(Command::KillCursors(read_kill_cursors(alloc, value, rest)?)),
+            "count" => Ok(Command::Count(read_count(alloc, value, rest)?)),
+            "delete" => Ok(Command::Delete(read_delete(alloc, value, rest)?)),
+            "update" => Ok(Command::Update(read_update(alloc, value, rest)?)),
+            "aggregate" => Ok(Command::Aggregate(read_aggregate(alloc, value, rest)?)),
+            "create" => Ok(Command::Create(read_create(alloc, value, rest)?)),
+            "drop" => Ok(Command::Drop(read_drop(alloc, value, rest)?)),
+            "listCollections" => {
+                let read = read_list_collections(alloc, value, rest)?;
+                Ok(Command::ListCollections(read))
+            }
+            "createIndexes" => {
+                let read = read_create_indexes(alloc, value, rest)?;
+                Ok(Command::CreateIndexes(read))
+            }
+            "dropIndexes" => Ok(Command::DropIndexes(read_drop_indexes(alloc, value, rest)?)),
+            "listIndexes" => Ok(Command::ListIndexes(read_list_indexes(alloc, value, rest)?)),
+            _ => Err(Refusal::CommandNotFound),
         }
     }
 }

@@ -1,0 +1,31 @@
+//! `listIndexes`: which indexes has a collection?
+
+ghost use Rattle.bson.specs.View.{tree, pairs_of};
+ghost use Rattle.outcome.specs.Outcome.{Gives};
+ghost use Rattle.commands.specs.ListIndexes.{read_list_indexes};
+ghost use Rattle.commands.specs.View.{list_indexes_read};
+
+use crate::alone::read_alone;
+use bson::{Pair, Value};
+use path::Refusal;
+use std::alloc::Global;
+
+/// A collection whose indexes are listed.
+#[derive(Drop)]
+pub struct ListIndexes {
+    pub namespace: String,
+}
+
+/// Reads a `listIndexes` from the value of its name, which is the collection's, and its further fields.
+pub(crate) fn read_list_indexes(
+    alloc: Global,
+    collection: &Value,
+    pairs: &[Pair],
+) -> Result<ListIndexes, Refusal>
+    ensures { Gives Refusal.OutOfMemory list_indexes_read result
+        (read_list_indexes (tree collection.now) (pairs_of pairs.now)) }
+{
+    Ok(ListIndexes {
+        namespace: read_alone(alloc, collection, pairs)?,
+    })
+}
