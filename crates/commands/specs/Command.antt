@@ -91,6 +91,6 @@ IsBounded (create c) = length c.namespace ≤ 255
 IsBounded (drop c) = length c.namespace ≤ 255
 IsBounded (list_collections c) = length c.database ≤ 63
 IsBounded (create_indexes c) =
-    (length c.namespace ≤ 255) × (length c.indexes ≤ 1000) × (1 ≤ length c.indexes)
+    (length c.namespace ≤ 255) × (1 ≤ length c.indexes)
 IsBounded (drop_indexes c) = length c.namespace ≤ 255
 IsBounded (list_indexes c) = length c.namespace ≤ 255

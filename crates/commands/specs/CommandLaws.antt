@@ -17,7 +17,7 @@ use Rattle.path.specs.declared.refusal.Refusal.TheVariants as refusals
 use Rattle.commands.specs.OutcomeLaws.{step_of, passed}
 use Rattle.commands.specs.Values.{text_in, bool_in, items_of, document_in, spelled_in, id_in}
 use Rattle.commands.specs.Fields.{CommonFields, read_fields, common_field, no_common}
-use Rattle.commands.specs.Statements.{statements_in, each_of}
+use Rattle.commands.specs.Statements.{statements_in, some_in, each_of}
 use Rattle.commands.specs.Names.{is_bad_byte, is_bad_database, is_bad_collection, is_too_long, namespace_of}
 use Rattle.commands.specs.Ping.{read_ping}
 use Rattle.commands.specs.Hello.{read_hello}
@@ -256,36 +256,41 @@ module _ (found next : KillCursorsFields) (name : List ℕ) (t : Tree) (h : FewI
 
 -- ---- indexes to be made
 
-abbrev FewIndexes : List NewIndex → Type 0
-FewIndexes is = (length is ≤ 1000) × (1 ≤ length is)
+abbrev SomeIndexes : List NewIndex → Type 0
+SomeIndexes is = 1 ≤ length is
 
-abbrev FewIndexesAt : Option (List NewIndex) → Type 0
-FewIndexesAt None = Unit {0}
-FewIndexesAt (Some is) = FewIndexes is
+some_items : (t : Tree) (ts : Items) → some_in t ≡ Ok ts → 1 ≤ items_len ts
+some_items t ts e =
+    let s = step_of (or_refused (items_of t) refusals.TypeMismatch) (λ us. unless (items_len us == 0) refusals.BadValue (Ok us)) ts e in
+    let q = passed (items_len s.0 == 0) refusals.BadValue (Ok s.0) ts s.2 in
+    let same : s.0 ≡ ts = cc in
+    omega (arith, ap items_len same, eqb-false (items_len s.0) 0 q.0)
 
-few_indexes : (t : Tree) (is : List NewIndex) → new_indexes_in t ≡ Ok is → FewIndexes is
-few_indexes t is e =
-    let s = step_of (statements_in t) (each_of (spelled_in read_new_index)) is e in
-    let many = as_many (spelled_in read_new_index) s.0 is s.2 in
-    let items = few_items t s.0 s.1 in
-    (omega (arith, many, items.0), omega (arith, many, items.1))
+abbrev SomeIndexesAt : Option (List NewIndex) → Type 0
+SomeIndexesAt None = Unit {0}
+SomeIndexesAt (Some is) = SomeIndexes is
 
-module _ (found next : CreateIndexesFields) (name : List ℕ) (t : Tree) (h : FewIndexesAt found.indexes) where
+some_indexes : (t : Tree) (is : List NewIndex) → new_indexes_in t ≡ Ok is → SomeIndexes is
+some_indexes t is e =
+    let s = step_of (some_in t) (each_of (spelled_in read_new_index)) is e in
+    omega (arith, as_many (spelled_in read_new_index) s.0 is s.2, some_items t s.0 s.1)
+
+module _ (found next : CreateIndexesFields) (name : List ℕ) (t : Tree) (h : SomeIndexesAt found.indexes) where
   abbrev with_indexes : List NewIndex → Result CreateIndexesFields Refusal
   with_indexes indexes = Ok (record found { indexes = Some indexes })
 
   abbrev with_common_fields : CommonFields → Result CreateIndexesFields Refusal
   with_common_fields common = Ok (record found { common = common })
 
-  few_indexes_by_field : (b : Bool) → (if b then (new_indexes_in t >>= with_indexes) else (common_field found.common name t >>= with_common_fields)) ≡ Ok next → FewIndexesAt next.indexes
-  few_indexes_by_field true e =
+  some_indexes_by_field : (b : Bool) → (if b then (new_indexes_in t >>= with_indexes) else (common_field found.common name t >>= with_common_fields)) ≡ Ok next → SomeIndexesAt next.indexes
+  some_indexes_by_field true e =
       let s = step_of (new_indexes_in t) with_indexes next e in
       let same : record found { indexes = Some s.0 } ≡ next = cc in
-      subst (λ (f : CreateIndexesFields). FewIndexesAt f.indexes) same (few_indexes t s.0 s.1)
-  few_indexes_by_field false e =
+      subst (λ (f : CreateIndexesFields). SomeIndexesAt f.indexes) same (some_indexes t s.0 s.1)
+  some_indexes_by_field false e =
       let s = step_of (common_field found.common name t) with_common_fields next e in
       let same : record found { common = s.0 } ≡ next = cc in
-      subst (λ (f : CreateIndexesFields). FewIndexesAt f.indexes) same h
+      subst (λ (f : CreateIndexesFields). SomeIndexesAt f.indexes) same h
 
 -- ---- commands
 
@@ -401,10 +406,10 @@ create_indexes_bounded t ps c e =
     let m = step_of (namespace_of b.0 n.0) _ c d.2 in
     let made : CreateIndexes = record { namespace = m.0; indexes = d.0 } in
     let same : made ≡ c = cc in
-    let few = fields_keep (λ (f : CreateIndexesFields). FewIndexesAt f.indexes) create_indexes_field
-    (λ found next name t h e. few_indexes_by_field found next name t h (bytes_eq name (codes "indexes")) e) ps no_create_indexes_fields s.0 tt s.1 in
-    let some : FewIndexes d.0 = subst FewIndexesAt (there s.0.indexes d.0 d.1) few in
-    subst (λ (x : CreateIndexes). IsBounded (create_indexes x)) same (short b.0 n.0 m.0 m.1, some.0, some.1)
+    let few = fields_keep (λ (f : CreateIndexesFields). SomeIndexesAt f.indexes) create_indexes_field
+    (λ found next name t h e. some_indexes_by_field found next name t h (bytes_eq name (codes "indexes")) e) ps no_create_indexes_fields s.0 tt s.1 in
+    let some : SomeIndexes d.0 = subst SomeIndexesAt (there s.0.indexes d.0 d.1) few in
+    subst (λ (x : CreateIndexes). IsBounded (create_indexes x)) same (short b.0 n.0 m.0 m.1, some)
 
 pub drop_indexes_bounded : (t : Tree) (ps : Pairs) (c : DropIndexes) → read_drop_indexes t ps ≡ Ok c → length c.namespace ≤ 255
 drop_indexes_bounded t ps c e =

@@ -7,11 +7,11 @@ use Rattle.path.specs.declared.refusal.Refusal.{Refusal}
 use Rattle.path.specs.declared.refusal.Refusal.TheVariants as refusals
 use Rattle.commands.specs.Values.{text_in, spelled_in}
 use Rattle.commands.specs.Fields.{CommonFields, read_fields, common_field, no_common}
-use Rattle.commands.specs.Statements.{statements_in, each_of}
+use Rattle.commands.specs.Statements.{some_in, each_of}
 use Rattle.commands.specs.Names.{namespace_of}
 use Rattle.commands.specs.NewIndex.{NewIndex, read_new_index}
 
--- from 1 to 1,000 indexes, in the order written
+-- at least one index, in the order written
 pub record CreateIndexes : Type 0 where
   pub namespace : List ℕ
   pub indexes : List NewIndex
@@ -25,7 +25,7 @@ no_create_indexes_fields = record { common = no_common; indexes = None }
 
 abbrev pub new_indexes_in : Tree → Result (List NewIndex) Refusal
 new_indexes_in t = do
-  ts ← statements_in t
+  ts ← some_in t
   each_of (spelled_in read_new_index) ts
 
 abbrev pub create_indexes_field : CreateIndexesFields → List ℕ → Tree

@@ -1,4 +1,5 @@
--- The documents or statements of one command: at least one, and at most 1,000, which is judged before any of them is read.
+-- The documents or statements of one command: at least one, and at most 1,000, which is judged before any of them is read. Of the
+-- indexes of one there is at least one.
 use Rattle.std.specs.Prelude.{◌==◌, nat_lt, List, [], ◌∷◌, Result, Ok}
 use Rattle.bson.specs.Tree.{Tree, Items, no_items, item}
 use Rattle.bson.specs.Edits.{items_len}
@@ -12,6 +13,11 @@ statements_in t = do
   ts ← or_refused (items_of t) refusals.TypeMismatch
   unless (nat_lt 1000 (items_len ts)) refusals.TooMany
       (unless (items_len ts == 0) refusals.BadValue (Ok ts))
+
+abbrev pub some_in : Tree → Result Items Refusal
+some_in t = do
+  ts ← or_refused (items_of t) refusals.TypeMismatch
+  unless (items_len ts == 0) refusals.BadValue (Ok ts)
 
 -- what the items spell, up to the first that is refused
 abbrev pub each_of : {X : Type 0} → (Tree → Result X Refusal) → Items → Result (List X) Refusal

@@ -12,14 +12,14 @@ ghost use Rattle.commands.specs.View.{create_indexes_read};
 use crate::fields::{CommonFields, Fields, read_fields};
 use crate::names::namespace_of;
 use crate::new_index::{NewIndex, read_new_index};
-use crate::statements::statements_in;
+use crate::statements::some_in;
 use crate::values::{document_in, text_in};
 use bson::{Pair, Value};
 use path::Refusal;
 use std::alloc::Global;
 use std::marker::Model;
 
-/// From 1 to 1,000 indexes to be made, in the order written.
+/// Indexes to be made, at least one, in the order written.
 #[derive(Drop)]
 pub struct CreateIndexes {
     pub namespace: String,
@@ -42,7 +42,7 @@ fn all_new_indexes(alloc: Global, items: &[Value]) -> Result<Vec<NewIndex>, Refu
 fn new_indexes_in(alloc: Global, value: &Value) -> Result<Vec<NewIndex>, Refusal>
     ensures { Gives Refusal.OutOfMemory (λ v. v.items) result (new_indexes_in (tree value.now)) }
 {
-    all_new_indexes(alloc, statements_in(value)?)
+    all_new_indexes(alloc, some_in(value)?)
 }
 
 /// The fields of a `createIndexes` that were met so far.

@@ -21,7 +21,7 @@ use Rattle.commands.specs.Aggregate.{Aggregate}
 use Rattle.commands.specs.Create.{Create}
 use Rattle.commands.specs.DropCollection.{DropCollection}
 use Rattle.commands.specs.ListCollections.{ListCollections}
-use Rattle.commands.specs.Command.{Command, ping, hello, insert, find, get_more, kill_cursors, count, delete, update, aggregate, create, drop as drop_of, list_collections, command_of}
+use Rattle.commands.specs.Command.{Command, ping, hello, insert, find, get_more, kill_cursors, count, delete, update, aggregate, create, drop as drop_of, list_collections, create_indexes, drop_indexes, list_indexes, command_of}
 use Rattle.aggregate.specs.Pipeline.{run as after_pipeline}
 use Rattle.engine.specs.World.{World, Cursor, documents_of, with_documents, at_rest, untouched, without_cursors}
 use Rattle.index.specs.State.{Collection, put_collection}
@@ -311,6 +311,9 @@ module _ (k : ℕ) (w : World) (connection : ℕ) (left : List Pairs) (drawn : k
   ran (Ok (create c)) = made c
   ran (Ok (drop_of c)) = dropped_so c
   ran (Ok (list_collections c)) = listed_so c
+  ran (Ok (create_indexes c)) = same
+  ran (Ok (drop_indexes c)) = same
+  ran (Ok (list_indexes c)) = same
 
   -- ---- one event
 

@@ -42,7 +42,7 @@ use Rattle.engine.specs.ListCollections.{names_in, listed, run_list_collections}
 use Rattle.engine.proofs.Creating.{dropped_lawful}
 use Rattle.engine.proofs.Listing.{go_into_one}
 use Rattle.engine.specs.Refusals.{int, total, words, ok_reply}
-use Rattle.commands.specs.Command.{Command, ping, insert as insert_of, find as find_of, count as count_of_all, delete, update, aggregate, create as create_of, drop as drop_of, list_collections, command_of, IsBounded, get_more, kill_cursors, hello}
+use Rattle.commands.specs.Command.{Command, ping, insert as insert_of, find as find_of, count as count_of_all, delete, update, aggregate, create as create_of, drop as drop_of, list_collections, create_indexes, drop_indexes, list_indexes, command_of, IsBounded, get_more, kill_cursors, hello}
 use Rattle.engine.specs.Lawful.{IsStored, IsWithin, IsKept, IsLawfulState, IsLawful, AreLawfulCursors}
 use Rattle.index.specs.LawfulState.{IsRising, AreNamedApart, AreNumberedApart}
 use Rattle.engine.specs.Places.{collection_at, no_collection}
@@ -441,6 +441,9 @@ good_run w connection (aggregate c) h b = good_aggregate w connection c h b
 good_run w connection (create_of c) h b = good_create w c.namespace h b
 good_run w connection (drop_of c) h b = good_drop w c.namespace h b
 good_run w connection (list_collections c) h b = good_list_collections w c h b
+good_run w connection (create_indexes c) h b = λ x e. absurd cc
+good_run w connection (drop_indexes c) h b = λ x e. absurd cc
+good_run w connection (list_indexes c) h b = λ x e. absurd cc
 
 -- the world after a step, and its reply
 pub record Steps (x : World × Pairs) : Type 0 where

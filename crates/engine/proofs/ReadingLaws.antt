@@ -13,7 +13,7 @@ use Rattle.aggregate.specs.Pipeline.{run as after_pipeline}
 use Rattle.engine.specs.Aggregate.{run_aggregate}
 use Rattle.commands.specs.ListCollections.{ListCollections}
 use Rattle.engine.specs.ListCollections.{run_list_collections}
-use Rattle.commands.specs.Command.{Command, ping, insert, find, count, delete, update, aggregate, create, drop as drop_of, list_collections, command_of, get_more, kill_cursors, hello}
+use Rattle.commands.specs.Command.{Command, ping, insert, find, count, delete, update, aggregate, create, drop as drop_of, list_collections, create_indexes, drop_indexes, list_indexes, command_of, get_more, kill_cursors, hello}
 use Rattle.engine.specs.World.{World, documents_of}
 use Rattle.engine.specs.Cursors.{batch_of, batch_reply, open_cursor, is_refused, new_cursor, first_batch, is_cursor}
 use Rattle.commands.specs.GetMore.{GetMore}
@@ -90,6 +90,9 @@ module _ (w : World) (connection : ℕ) where
   ran (Ok (create c)) h = absurd h
   ran (Ok (drop_of c)) h = absurd h
   ran (Ok (list_collections c)) h = listed_so c
+  ran (Ok (create_indexes c)) h = refl
+  ran (Ok (drop_indexes c)) h = refl
+  ran (Ok (list_indexes c)) h = refl
   ran (Ok (count c)) h = counted c
   ran (Ok (find c)) h = found c
   ran (Ok (get_more c)) h = given c

@@ -21,7 +21,7 @@ use Rattle.commands.specs.ListCollections.{ListCollections}
 use Rattle.engine.specs.Create.{created, run_create}
 use Rattle.engine.specs.DropCollection.{dropped, run_drop}
 use Rattle.engine.specs.ListCollections.{run_list_collections}
-use Rattle.commands.specs.Command.{Command, ping, hello, insert, find, get_more, kill_cursors, count, delete, update, aggregate, create, drop as drop_of, list_collections, command_of}
+use Rattle.commands.specs.Command.{Command, ping, hello, insert, find, get_more, kill_cursors, count, delete, update, aggregate, create, drop as drop_of, list_collections, create_indexes, drop_indexes, list_indexes, command_of}
 use Rattle.aggregate.specs.Pipeline.{run as after_pipeline}
 use Rattle.engine.specs.World.{World, Cursor, documents_of, with_documents, untouched, are_untouched}
 use Rattle.index.specs.State.{Collection, put_collection}
@@ -197,6 +197,9 @@ module _ (w : World) (connection : ℕ) where
   ran (Ok (create c)) d rests h = made c d rests h
   ran (Ok (drop_of c)) d rests h = dropped_so c d rests h
   ran (Ok (list_collections c)) d rests h = listed_so c d rests h
+  ran (Ok (create_indexes c)) d rests h = h
+  ran (Ok (drop_indexes c)) d rests h = h
+  ran (Ok (list_indexes c)) d rests h = h
 
   came : (body : Result Pairs BsonFault) (c : Cursor) → c.touched ≡ false → IsAmong c (step w connection body).0.cursors → IsAmong c w.cursors
   came (Ok body) c rests h = ran (command_of body) c rests h

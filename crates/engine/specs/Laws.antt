@@ -8,7 +8,7 @@ use Rattle.collections.specs.Calls.{IsOfFile}
 use Rattle.engine.specs.Lawful.{IsLawful}
 use Rattle.engine.specs.Durable.{Holds}
 use Rattle.path.specs.declared.refusal.Refusal.{Refusal}
-use Rattle.commands.specs.Command.{Command, ping, insert, find, count, delete, update, aggregate, create, drop, list_collections, command_of, get_more, kill_cursors, hello}
+use Rattle.commands.specs.Command.{Command, ping, insert, find, count, delete, update, aggregate, create, drop, list_collections, create_indexes, drop_indexes, list_indexes, command_of, get_more, kill_cursors, hello}
 use Rattle.engine.specs.Step.{step, Answers}
 use Rattle.engine.specs.View.{IsSendable}
 
@@ -39,6 +39,9 @@ OnlyReads (Ok (kill_cursors c)) = Unit {0}
 OnlyReads (Ok (count c)) = Unit {0}
 OnlyReads (Ok (aggregate c)) = Unit {0}
 OnlyReads (Ok (list_collections c)) = Unit {0}
+OnlyReads (Ok (create_indexes c)) = Unit {0}
+OnlyReads (Ok (drop_indexes c)) = Unit {0}
+OnlyReads (Ok (list_indexes c)) = Unit {0}
 OnlyReads (Ok (insert c)) = ⊥
 OnlyReads (Ok (delete c)) = ⊥
 OnlyReads (Ok (update c)) = ⊥

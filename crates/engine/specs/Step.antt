@@ -5,7 +5,7 @@ use Rattle.bson.specs.declared.fault.BsonFault.{BsonFault}
 use Rattle.outcome.specs.Outcome.{◌>>=◌}
 use Rattle.path.specs.declared.refusal.Refusal.{Refusal}
 use Rattle.path.specs.declared.refusal.Refusal.TheVariants as refusals
-use Rattle.commands.specs.Command.{Command, ping, insert, find, count, delete, update, aggregate, create, drop, list_collections, command_of, get_more, kill_cursors, hello}
+use Rattle.commands.specs.Command.{Command, ping, insert, find, count, delete, update, aggregate, create, drop, list_collections, create_indexes, drop_indexes, list_indexes, command_of, get_more, kill_cursors, hello}
 use Rattle.engine.specs.World.{World}
 use Rattle.engine.specs.Refusals.{refusal_reply, ok_reply}
 use Rattle.engine.specs.Hello.{run_hello}
@@ -21,7 +21,7 @@ use Rattle.engine.specs.DropCollection.{run_drop}
 use Rattle.engine.specs.ListCollections.{run_list_collections}
 use Rattle.engine.specs.Update.{Updated, not_updated, run_statements, run_update}
 
--- the table of what commands do
+-- the table of what commands do; those of indexes are read, and none is run yet
 abbrev pub run : World → ℕ → Command → Result (World × Pairs) Refusal
 run world connection ping = Ok (world, no_pairs)
 run world connection hello = run_hello world connection
@@ -36,6 +36,9 @@ run world connection (aggregate c) = run_aggregate world connection c
 run world connection (create c) = run_create world c
 run world connection (drop c) = run_drop world c
 run world connection (list_collections c) = run_list_collections world c
+run world connection (create_indexes c) = Err refusals.CommandNotFound
+run world connection (drop_indexes c) = Err refusals.CommandNotFound
+run world connection (list_indexes c) = Err refusals.CommandNotFound
 
 -- a refusal leaves the world as it was
 abbrev pub answered : World → Result (World × Pairs) Refusal → World × Pairs
