@@ -246,16 +246,18 @@ fn first_wrong(
     Ok(None)
 }
 
+/// Pages, changes of them, and the answer to each.
+const ROWS: [(&[&[u8]; 7], &[Change], Option<OpenFault>); 4] = [
+    (&TREE, &TREE_SOUND, None),
+    (&TREE, &TREE_DAMAGED, Some(OpenFault::Damaged)),
+    (&CHAINS, &CHAINS_SOUND, None),
+    (&CHAINS, &CHAINS_DAMAGED, Some(OpenFault::Damaged)),
+];
+
 #[test]
 fn changed_files(rt: HostRuntime) -> Result<(), Fail> {
-    let alloc = rt.alloc();
-    let damaged = Some(OpenFault::Damaged);
-    assert_eq!(rt; first_wrong(alloc, &TREE, &TREE_SOUND, None)?, None);
-    assert_eq!(rt; first_wrong(alloc, &TREE, &TREE_DAMAGED, damaged)?, None);
-    assert_eq!(rt; first_wrong(alloc, &CHAINS, &CHAINS_SOUND, None)?, None);
-    assert_eq!(rt;
-        first_wrong(alloc, &CHAINS, &CHAINS_DAMAGED, damaged)?,
-        None
-    );
+    for (fronts, changes, wanted) in ROWS {
+        assert_eq!(rt; first_wrong(rt.alloc(), fronts, changes, wanted)?, None);
+    }
     Ok(())
 }
