@@ -3,7 +3,7 @@
 use crate::devices::Broken;
 use crate::runs::{Ending, ended, words};
 use by_hand::*;
-use server::program::run;
+use program::run;
 use std::alloc::{AllocError, Global};
 use std::fs;
 use std::test::*;

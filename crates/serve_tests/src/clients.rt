@@ -6,7 +6,8 @@ ghost use Rattle.server.specs.Durable.{IsSound};
 
 use by_hand::*;
 use page::MemDisk;
-use server::*;
+use program::Server;
+use server::{Config, Core};
 use std::alloc::{AllocError, Global};
 use std::io;
 use std::io::{Read, Write};
@@ -23,11 +24,11 @@ pub fn listener(rt: &HostRuntime) -> io::Result<TcpListener> {
 }
 
 /// A server over a new disk.
-pub fn new_server(alloc: Global) -> Result<Core<MemDisk>, &'static str>
-    ensures { IfOk result (λ core. IsSound memory_history core) }
+pub fn new_server(alloc: Global) -> Result<Server<MemDisk>, &'static str>
+    ensures { IfOk result (λ server. IsSound memory_history server.core) }
 {
     match Core::open(alloc, MemDisk::new(alloc), CONFIG) {
-        Ok(core) => Ok(core),
+        Ok(core) => Ok(Server { core }),
         Err(_) => Err("zeros don't open"),
     }
 }

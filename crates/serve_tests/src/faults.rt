@@ -1,7 +1,7 @@
 //! Connections that end before their time, and ports that are in use.
 
 use crate::clients::*;
-use server::{ServeFault, serve_on};
+use program::{ServeFault, serve_on};
 use std::test::*;
 
 #[test]

@@ -2,7 +2,7 @@
 
 use crate::clients::*;
 use by_hand::*;
-use server::serve_on;
+use program::serve_on;
 use std::net::{TcpListener, TcpStream};
 use std::test::*;
 

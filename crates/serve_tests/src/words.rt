@@ -1,7 +1,7 @@
 //! What the programs that serve say of their words and of a port in use.
 
 use crate::clients::listener;
-use server::program::run;
+use program::run;
 use std::alloc::{AllocError, Global};
 use std::fs;
 use std::test::*;

@@ -16,4 +16,3 @@ pub mod Chunks
 pub mod InOrder
 pub mod Streams
 pub mod Taking
-pub mod Serving

@@ -5,41 +5,48 @@ ghost use Rattle.sockets.specs.Handing.{Hands, Closes};
 ghost use Rattle.server.specs.View.{frames_in};
 ghost use Rattle.server.specs.Durable.{IsSound};
 
-use crate::turn::{Core, TurnFault};
 use engine::ConnId;
 use op_msg::FrameFault;
 use page::Disk;
+use server::{Core, TurnFault};
 use sockets::{NotTaken, Outlet, ServeFault, Service, Stopped};
 use std::net::{Net, TcpListener};
 
-impl<D: Disk> Service for Core<D> {
+/// A server as the loops over sockets and the programs for people see it.
+#[derive(Drop)]
+pub struct Server<D: Disk> {
+    pub core: Core<D>,
+}
+
+impl<D: Disk> Service for Server<D> {
     ghost use Rattle.std.specs.Prelude.{◌≡◌};
     ghost use Rattle.server.specs.ServerState.{fed, ended};
-    ghost use Rattle.server.specs.Serving.{IsAnswered};
+    ghost use Rattle.program.specs.Serving.{IsAnswered};
     ghost use Rattle.server.specs.View.{state};
     ghost use Rattle.server.specs.Durable.{IsSound};
 
-    ghost is_sound = { λ core. IsSound D.history core };
+    ghost is_sound = { λ server. IsSound D.history server.core };
 
-    ghost is_fed = { λ old id bytes new. state new ≡ fed (state old) id bytes };
+    ghost is_fed = { λ old id bytes new. state new.core ≡ fed (state old.core) id bytes };
 
-    ghost is_answered = { λ old replies closed new. IsAnswered D.history old replies closed new };
+    ghost is_answered = { λ old replies closed new.
+        IsAnswered D.history old.core replies closed new.core };
 
-    ghost is_ended = { λ old id new. state new ≡ ended (state old) id };
+    ghost is_ended = { λ old id new. state new.core ≡ ended (state old.core) id };
 
     fn take_bytes(&mut self, connection: usize, bytes: &[u8]) -> Result<(), NotTaken> {
-        match self.feed(numbered(connection), bytes) {
+        match self.core.feed(numbered(connection), bytes) {
             Ok(()) => Ok(()),
             Err(_) => Err(NotTaken),
         }
     }
 
     fn has_message(&self, connection: usize) -> bool {
-        self.waiting(numbered(connection))
+        self.core.waiting(numbered(connection))
     }
 
     fn answer<O: Outlet>(&mut self, outlet: &mut O) -> Result<(), Stopped> {
-        match self.turn() {
+        match self.core.turn() {
             Ok(turn) => {
                 give_replies(&turn.replies, outlet);
                 close_connections(&turn.closed, outlet);
@@ -52,7 +59,7 @@ impl<D: Disk> Service for Core<D> {
     }
 
     fn forget(&mut self, connection: usize) {
-        self.gone(numbered(connection));
+        self.core.gone(numbered(connection));
     }
 }
 
@@ -94,11 +101,11 @@ pub fn serve_on<R: AllocGlobal + Net, D: Disk>(
     listener: &TcpListener,
     connections: usize,
     turns: u64,
-    core: &mut Core<D>,
+    server: &mut Server<D>,
 ) -> Result<(), ServeFault>
     requires connections { connections ≤ 64 }
-    requires sound { IsSound D.history core.old }
-    ensures sound { IsSound D.history core.new }
+    requires sound { IsSound D.history server.old.core }
+    ensures sound { IsSound D.history server.new.core }
 {
-    sockets::serve_on(rt, listener, connections, turns, core)
+    sockets::serve_on(rt, listener, connections, turns, server)
 }

@@ -1,6 +1,6 @@
 use Rattle.std.proofs.Common.{drop, map}
 use Rattle.sockets.specs.Handing.{Closes}
-use Rattle.server.proofs.service.close_connections.Given as goal
+use Rattle.program.proofs.service.close_connections.Given as goal
 
 abbrev pub invariant-closed : goal.invariant-closed
 invariant-closed g l =

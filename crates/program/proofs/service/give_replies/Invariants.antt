@@ -1,7 +1,7 @@
 use Rattle.std.proofs.Common.{drop}
 use Rattle.sockets.specs.Handing.{Hands}
 use Rattle.server.specs.View.{frames_in}
-use Rattle.server.proofs.service.give_replies.Given as goal
+use Rattle.program.proofs.service.give_replies.Given as goal
 
 abbrev pub invariant-replies : goal.invariant-replies
 invariant-replies g l =
