@@ -7,7 +7,7 @@ ghost use Rattle.index.specs.State.{key_of};
 ghost use Rattle.value_order.specs.KeyText.{tree_text};
 ghost use Rattle.value_order.specs.Order.{compare};
 
-use crate::rows::{parts, put_digits};
+use crate::rows::{put_digits, split};
 use bson::{Document, NoMemory, Value, encode};
 use ext_json::read;
 use index::{Edits, IndexSpec, catalogue_told, end_of, index_key, keys_in_all};
@@ -146,13 +146,9 @@ fn replace(
 }
 
 /// Makes what a word of a row says of its documents.
-fn edit(
-    edits: &mut Edits,
-    alloc: Global,
-    indexes: &[IndexSpec],
-    row: &'static str,
-) -> Result<bool, Fail> {
-    let [word, first, second, _, _] = parts(row);
+fn edit(edits: &mut Edits, alloc: Global, indexes: &[IndexSpec], row: &str) -> Result<bool, Fail> {
+    let (word, rest) = split(row);
+    let (first, second) = split(rest);
     let (Some(index), document) = (indexes.first(), read(alloc, first)?) else {
         return Ok(false);
     };
@@ -202,7 +198,7 @@ const EDITS: [(&[&str], &str); 4] = [
 ];
 
 /// The edits of a row, as the table shows them.
-fn edited(alloc: Global, indexes: &[IndexSpec], rows: &[&'static str]) -> Result<String, Fail> {
+fn edited(alloc: Global, indexes: &[IndexSpec], rows: &[&str]) -> Result<String, Fail> {
     let mut edits = Edits::new(alloc);
     for row in rows {
         if !edit(&mut edits, alloc, indexes, row)? {

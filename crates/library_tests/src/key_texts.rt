@@ -1,6 +1,6 @@
 //! Key texts byte by byte.
 
-use crate::rows::parts;
+use crate::rows::split;
 use bson::Value;
 use ext_json::read;
 use std::alloc::Global;
@@ -49,7 +49,7 @@ fn has_text(alloc: Global, value: &Value, wanted: &str) -> Result<bool, Fail> {
 #[test]
 fn texts(rt: HostRuntime) -> Result<(), Fail> {
     for row in ROWS {
-        let [text, wanted, _, _, _] = parts(row);
+        let (text, wanted) = split(row);
         let document = read(rt.alloc(), text)?;
         let is_right = match document.get("v") {
             Some(value) => has_text(rt.alloc(), value, wanted)?,

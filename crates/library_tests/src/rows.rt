@@ -3,13 +3,12 @@
 use bson::NoMemory;
 use std::alloc::Global;
 
-/// The parts of a row, with a bar between.
-pub(crate) fn parts(row: &'static str) -> [&'static str; 5] {
-    let mut parts = [""; 5];
-    for (part, text) in parts.iter_mut().zip(row.split('|')) {
-        *part = text.trim();
+/// The first part of a row and what stands behind its bar.
+pub(crate) fn split(row: &str) -> (&str, &str) {
+    match row.split_once('|') {
+        Some((first, rest)) => (first.trim(), rest.trim()),
+        None => (row, ""),
     }
-    parts
 }
 
 /// Puts bytes in hexadecimal digits, and a mark behind them.
