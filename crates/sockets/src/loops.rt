@@ -89,7 +89,10 @@ pub fn listen<R: AllocGlobal + Net + Clock, S: Service>(
     let Ok((mut clients, listener)) = watched(rt, listener) else {
         return Err(ServeFault::Accept);
     };
-    serve_all(rt, &mut clients, &listener, idle, service)
+    let served = serve_all(rt, &mut clients, &listener, idle, service);
+    drop(listener);
+    drop(clients);
+    served
 }
 
 /// Serves every connection that the listener gives.
