@@ -2,7 +2,7 @@
 
 ghost use Rattle.std.specs.Prelude.{◌≡◌, [], IfOk, map};
 ghost use Rattle.bson.specs.View.{tree};
-ghost use Rattle.outcome.specs.Outcome.{Gives};
+ghost use Rattle.outcome.specs.Outcome.{Gives, Does};
 ghost use Rattle.aggregate.specs.Group.{read_id_fields, read_id, read_group_field, no_parts, read_part, read_parts, read_grouping};
 ghost use Rattle.aggregate.specs.Group.{with_id_field, with_id_fields, id_value};
 ghost use Rattle.aggregate.specs.Expression.{expression_value, or_null};
@@ -141,21 +141,16 @@ impl GroupField {
 }
 
 impl Parts {
-    fn read_part(self, alloc: Global, name: &str, value: &Value) -> Result<Parts, Refusal>
-        ensures { Gives Refusal.OutOfMemory parts_of result
-            (read_part name.now (tree value.now) (parts_of self)) }
+    fn read_part(&mut self, alloc: Global, name: &str, value: &Value) -> Result<(), Refusal>
+        ensures { Does Refusal.OutOfMemory result (parts_of self.new)
+            (read_part name.now (tree value.now) (parts_of self.old)) }
     {
-        let Parts { id, fields } = self;
         if name == "_id" {
-            let read = GroupId::read(alloc, value)?;
-            return Ok(Parts {
-                id: Some(read),
-                fields,
-            });
+            self.id = Some(GroupId::read(alloc, value)?);
+        } else {
+            self.fields.push(GroupField::read(alloc, name, value)?)?;
         }
-        let mut fields = fields;
-        fields.push(GroupField::read(alloc, name, value)?)?;
-        Ok(Parts { id, fields })
+        Ok(())
     }
 }
 
@@ -167,7 +162,7 @@ fn read_parts(alloc: Global, document: &Document) -> Result<Parts, Refusal>
         fields: Vec::new(alloc),
     };
     'pairs: for pair in document.pairs() {
-        parts = parts.read_part(alloc, pair.name.as_str(), &pair.value)?;
+        parts.read_part(alloc, pair.name.as_str(), &pair.value)?;
     }
     Ok(parts)
 }

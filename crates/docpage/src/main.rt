@@ -1,8 +1,7 @@
 //! The program `docpage`: a document database that answers frames of MongoDB-style commands.
 #![tactic(auto)]
 
-use server::program::run_at;
-use server::terminal::Terminal;
+use program::{Terminal, run_at};
 use std::io::{BufWriter, ErrorKind, IsTerminal};
 use std::process::ExitCode;
 use std::{env, fs, io};
@@ -30,7 +29,7 @@ fn terminal(rt: &HostRuntime) -> Terminal {
     }
 }
 
-/// Hands the words to the server's program, which answers on the standard streams, and gives its status.
+/// Hands the words to the program, which answers on the standard streams, and gives its status.
 fn start(rt: &HostRuntime) -> io::Result<u8> {
     let words = words(rt)?;
     let mut output = BufWriter::new(rt.alloc(), rt.stdout())?;

@@ -5,6 +5,7 @@ pub mod Sizes
 pub mod Matches
 pub mod Probes
 pub mod Words
+pub mod Tables
 pub mod Reading
 pub mod Elements
 pub mod Sort

@@ -37,8 +37,7 @@ pub fn has_operators(document: &Document) -> bool
 pub(crate) fn just(alloc: Global, condition: Condition) -> Result<Filter, NoMemory>
     ensures { IfOk result (λ f. f ≡ just (condition_of condition)) }
 {
-    let mut conditions = Vec::with_capacity(alloc, 1)?;
-    conditions.push(condition)?;
+    let conditions = Vec::from_array(alloc, [condition])?;
     Ok(Filter { conditions })
 }
 

@@ -3,6 +3,7 @@
 ghost use Rattle.std.specs.Prelude.{◌≡◌};
 ghost use Rattle.bson.specs.View.{tree, items_of};
 ghost use Rattle.outcome.specs.Outcome.{Gives};
+ghost use Rattle.filter.specs.Tables.{named};
 ghost use Rattle.filter.specs.Words.{operator_of, kind_named, kind_counted, kind_numbered, kinds_named, only_kind, kinds_in, each_kind, all_kinds, size_of, size_in};
 
 use bson::{Array, Kind, Value};
@@ -26,46 +27,62 @@ pub(crate) enum Operator {
     NotIn,
 }
 
+/// What stands beside a name in a table.
+fn named<T: Copy>(rows: &[(&str, T)], name: &str) -> Option<T>
+    ensures { result ≡ named rows.now name.now }
+{
+    'rows: for (word, value) in rows {
+        if name == *word {
+            return Some(*value);
+        }
+    }
+    None
+}
+
+/// The operators by their names.
+const OPERATORS: [(&str, Operator); 12] = [
+    ("$eq", Operator::Equal),
+    ("$gt", Operator::Above),
+    ("$gte", Operator::AtLeast),
+    ("$lt", Operator::Below),
+    ("$lte", Operator::AtMost),
+    ("$in", Operator::In),
+    ("$exists", Operator::Exists),
+    ("$type", Operator::Type),
+    ("$all", Operator::All),
+    ("$size", Operator::Size),
+    ("$ne", Operator::NotEqual),
+    ("$nin", Operator::NotIn),
+];
+
 /// The operator of a name.
 pub(crate) fn operator_of(name: &str) -> Option<Operator>
     ensures { result ≡ operator_of name.now }
 {
-    match name {
-        _ if name == "$eq" => Some(Operator::Equal),
-        _ if name == "$gt" => Some(Operator::Above),
-        _ if name == "$gte" => Some(Operator::AtLeast),
-        _ if name == "$lt" => Some(Operator::Below),
-        _ if name == "$lte" => Some(Operator::AtMost),
-        _ if name == "$in" => Some(Operator::In),
-        _ if name == "$exists" => Some(Operator::Exists),
-        _ if name == "$type" => Some(Operator::Type),
-        _ if name == "$all" => Some(Operator::All),
-        _ if name == "$size" => Some(Operator::Size),
-        _ if name == "$ne" => Some(Operator::NotEqual),
-        _ if name == "$nin" => Some(Operator::NotIn),
-        _ => None,
-    }
+    named(&OPERATORS, name)
 }
+
+/// The kinds by their names.
+const KINDS: [(&str, Kind); 13] = [
+    ("string", Kind::String),
+    ("object", Kind::Document),
+    ("array", Kind::Array),
+    ("binData", Kind::Binary),
+    ("objectId", Kind::ObjectId),
+    ("bool", Kind::Bool),
+    ("date", Kind::Date),
+    ("null", Kind::Null),
+    ("int", Kind::Int32),
+    ("timestamp", Kind::Timestamp),
+    ("long", Kind::Int64),
+    ("minKey", Kind::MinKey),
+    ("maxKey", Kind::MaxKey),
+];
 
 fn kind_named(name: &str) -> Option<Kind>
     ensures { result ≡ kind_named name.now }
 {
-    match name {
-        _ if name == "string" => Some(Kind::String),
-        _ if name == "object" => Some(Kind::Document),
-        _ if name == "array" => Some(Kind::Array),
-        _ if name == "binData" => Some(Kind::Binary),
-        _ if name == "objectId" => Some(Kind::ObjectId),
-        _ if name == "bool" => Some(Kind::Bool),
-        _ if name == "date" => Some(Kind::Date),
-        _ if name == "null" => Some(Kind::Null),
-        _ if name == "int" => Some(Kind::Int32),
-        _ if name == "timestamp" => Some(Kind::Timestamp),
-        _ if name == "long" => Some(Kind::Int64),
-        _ if name == "minKey" => Some(Kind::MinKey),
-        _ if name == "maxKey" => Some(Kind::MaxKey),
-        _ => None,
-    }
+    named(&KINDS, name)
 }
 
 fn kind_counted(number: u64) -> Option<Kind>

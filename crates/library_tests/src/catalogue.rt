@@ -56,6 +56,16 @@ fn indexes(rt: HostRuntime) -> Result<(), Fail> {
     Ok(())
 }
 
+/// No command makes an index multikey yet.
+#[test]
+fn multikey(rt: HostRuntime) -> Result<(), Fail> {
+    let document = read(rt.alloc(), INDEXES[2])?;
+    let mut index = IndexSpec::read(rt.alloc(), &document)?.ok_or("no index")?;
+    index.set_multi();
+    assert!(rt; index.is_multi() && index.is_unique());
+    Ok(())
+}
+
 /// Values of the catalogue, and the numbers of collections that they tell.
 const NUMBERS: [(&[u8], Option<u32>); 9] = [
     (b"\x14\0\0\0\x10n\0\x01\0\0\0\x04x\0\x05\0\0\0\0\0", Some(1)),

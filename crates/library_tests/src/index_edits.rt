@@ -7,7 +7,8 @@ ghost use Rattle.index.specs.State.{key_of};
 ghost use Rattle.value_order.specs.KeyText.{tree_text};
 ghost use Rattle.value_order.specs.Order.{compare};
 
-use bson::{Document, NoMemory, encode};
+use crate::rows::{put_digits, split};
+use bson::{Document, NoMemory, Value, encode};
 use ext_json::read;
 use index::{Edits, IndexSpec, catalogue_told, end_of, index_key, keys_in_all};
 use std::alloc::Global;
@@ -35,15 +36,11 @@ fn shown(alloc: Global, edits: &Edits) -> Result<String, Fail> {
     let mut text = String::new(alloc);
     let all = edits.tree_edits(alloc)?;
     for edit in &all {
-        text.push_str(hex::encode(alloc, edit.key)?.as_str())?;
+        put_digits(&mut text, alloc, edit.key, ':')?;
         match edit.value {
-            Some(value) => {
-                text.push(':')?;
-                text.push_str(hex::encode(alloc, value)?.as_str())?;
-            }
-            None => text.push_str(":-")?,
+            Some(value) => put_digits(&mut text, alloc, value, ' ')?,
+            None => text.push_str("- ")?,
         }
-        text.push(' ')?;
     }
     Ok(text)
 }
@@ -78,7 +75,7 @@ fn same_id(old: &Document, new: &Document) -> bool
 }
 
 /// Inserts a document, or deletes it.
-fn put_or_remove(
+fn edit_all(
     edits: &mut Edits,
     alloc: Global,
     indexes: &[IndexSpec],
@@ -95,6 +92,28 @@ fn put_or_remove(
         edits.insert_document(2, indexes, &id, document, &keys)?;
     } else {
         edits.delete_document(2, indexes, &id, document, &keys)?;
+    }
+    Ok(true)
+}
+
+/// Puts the entries of a document in one index, or removes them.
+fn edit_one(
+    edits: &mut Edits,
+    alloc: Global,
+    index: &IndexSpec,
+    document: &Document,
+    is_put: bool,
+) -> Result<bool, Fail> {
+    let Some(id) = stored_id(alloc, document)? else {
+        return Ok(false);
+    };
+    let Ok(keys) = index.keys(alloc, document) else {
+        return Ok(false);
+    };
+    if is_put {
+        edits.put_entries(2, index, &id, document, &keys)?;
+    } else {
+        edits.remove_entries(2, index, &id, document, &keys)?;
     }
     Ok(true)
 }
@@ -126,18 +145,33 @@ fn replace(
     Ok(true)
 }
 
-/// A document or none, what comes in its place, and the edits. The entry of `_id` 7 comes first, then those of both indexes.
-const EDITS: [(&str, &str, &str); 3] = [
+/// Makes what a word of a row says of its documents.
+fn edit(edits: &mut Edits, alloc: Global, indexes: &[IndexSpec], row: &str) -> Result<bool, Fail> {
+    let (word, rest) = split(row);
+    let (first, second) = split(rest);
+    let (Some(index), document) = (indexes.first(), read(alloc, first)?) else {
+        return Ok(false);
+    };
+    match word {
+        "insert" => edit_all(edits, alloc, indexes, &document, true),
+        "delete" => edit_all(edits, alloc, indexes, &document, false),
+        "put" => edit_one(edits, alloc, index, &document, true),
+        "remove" => edit_one(edits, alloc, index, &document, false),
+        _ => replace(edits, alloc, indexes, &document, &read(alloc, second)?),
+    }
+}
+
+/// What is made of documents in the collection, and of the entries in its first index; the edits. The entry of `_id` 7 comes
+/// first, then those of both indexes.
+const EDITS: [(&[&str], &str); 4] = [
     (
-        "",
-        r#"{"_id": 7, "a": 5}"#,
+        &[r#"insert | {"_id": 7, "a": 5}"#],
         "0000000200000000308000000000000007:15000000105f696400070000001061000500000000 \
 0000000200000001308000000000000005308000000000000007: \
 000000020000000220308000000000000007: ",
     ),
     (
-        r#"{"_id": 7, "a": [2, 1]}"#,
-        "",
+        &[r#"delete | {"_id": 7, "a": [2, 1]}"#],
         "0000000200000000308000000000000007:- \
 0000000200000001308000000000000001308000000000000007:- \
 0000000200000001308000000000000002308000000000000007:- \
@@ -145,125 +179,83 @@ const EDITS: [(&str, &str, &str); 3] = [
     ),
     // in the index on `a` 1 becomes 4, that on `b` stays as it is
     (
-        r#"{"_id": 7, "a": [1, 2, 3], "b": 1}"#,
-        r#"{"_id": 7, "a": [4, 3, 2], "b": 1}"#,
+        &[r#"replace | {"_id": 7, "a": [1, 2, 3], "b": 1} | {"_id": 7, "a": [4, 3, 2], "b": 1}"#],
         "0000000200000000308000000000000007:32000000105f696400070000000461001a000000\
-10300004000000103100030000001032000200000000\
-1062000100000000 \
+103000040000001031000300000010320002000000001062000100000000 \
 0000000200000001308000000000000001308000000000000007:- \
 0000000200000001308000000000000004308000000000000007: ",
     ),
+    (
+        &[
+            r#"put | {"_id": 7, "a": 5}"#,
+            r#"put | {"_id": 8, "a": [5, 4]}"#,
+            r#"remove | {"_id": 7, "a": 5}"#,
+        ],
+        "0000000200000001308000000000000004308000000000000008: \
+0000000200000001308000000000000005308000000000000007:- \
+0000000200000001308000000000000005308000000000000008: ",
+    ),
 ];
 
-/// Makes the edits of a row.
-fn edit(
-    edits: &mut Edits,
-    alloc: Global,
-    indexes: &[IndexSpec],
-    old: &str,
-    new: &str,
-) -> Result<bool, Fail> {
-    match (old, new) {
-        ("", new) => put_or_remove(edits, alloc, indexes, &read(alloc, new)?, true),
-        (old, "") => put_or_remove(edits, alloc, indexes, &read(alloc, old)?, false),
-        (old, new) => replace(
-            edits,
-            alloc,
-            indexes,
-            &read(alloc, old)?,
-            &read(alloc, new)?,
-        ),
+/// The edits of a row, as the table shows them.
+fn edited(alloc: Global, indexes: &[IndexSpec], rows: &[&str]) -> Result<String, Fail> {
+    let mut edits = Edits::new(alloc);
+    for row in rows {
+        if !edit(&mut edits, alloc, indexes, row)? {
+            return Err(Fail::from("a row that makes no edit"));
+        }
     }
+    shown(alloc, &edits)
 }
 
 #[test]
 fn documents(rt: HostRuntime) -> Result<(), Fail> {
-    let alloc = rt.alloc();
-    let indexes = indexes_of(alloc)?;
-    for (old, new, wanted) in &EDITS {
-        let mut edits = Edits::new(alloc);
-        assert!(rt; edit(&mut edits, alloc, &indexes, old, new)?);
-        assert_eq!(rt; shown(alloc, &edits)?.as_str(), *wanted);
+    let indexes = indexes_of(rt.alloc())?;
+    for (rows, wanted) in EDITS {
+        assert_eq!(rt; edited(rt.alloc(), &indexes, rows)?.as_str(), wanted);
     }
-    Ok(())
-}
-
-/// Puts the entries of a document in one index, or removes them.
-fn put_in_one(
-    edits: &mut Edits,
-    alloc: Global,
-    index: &IndexSpec,
-    document: &Document,
-    is_put: bool,
-) -> Result<bool, Fail> {
-    let Some(id) = stored_id(alloc, document)? else {
-        return Ok(false);
-    };
-    let Ok(keys) = index.keys(alloc, document) else {
-        return Ok(false);
-    };
-    if is_put {
-        edits.put_entries(2, index, &id, document, &keys)?;
-    } else {
-        edits.remove_entries(2, index, &id, document, &keys)?;
-    }
-    Ok(true)
-}
-
-/// What an index on `a` gets of `{_id: 8, a: [5, 4]}`, and loses of `{_id: 7, a: 5}`.
-const ENTRIES: &str = "\
-0000000200000001308000000000000004308000000000000008: \
-0000000200000001308000000000000005308000000000000007:- \
-0000000200000001308000000000000005308000000000000008: ";
-
-#[test]
-fn one_index(rt: HostRuntime) -> Result<(), Fail> {
-    let alloc = rt.alloc();
-    let indexes = indexes_of(alloc)?;
-    let seven = read(alloc, r#"{"_id": 7, "a": 5}"#)?;
-    let eight = read(alloc, r#"{"_id": 8, "a": [5, 4]}"#)?;
-    let mut edits = Edits::new(alloc);
-    for index in indexes.iter().take(1) {
-        assert!(rt; put_in_one(&mut edits, alloc, index, &seven, true)?);
-        assert!(rt; put_in_one(&mut edits, alloc, index, &eight, true)?);
-        assert!(rt; put_in_one(&mut edits, alloc, index, &seven, false)?);
-    }
-    assert_eq!(rt; shown(alloc, &edits)?.as_str(), ENTRIES);
-    // another document has the key 5, and none has 6
-    let id = group_text(alloc, &bson::Value::Int32(7))?;
-    let five = index_key(alloc, 2, 1, b"\x30\x80\0\0\0\0\0\0\x05")?;
-    let six = index_key(alloc, 2, 1, b"\x30\x80\0\0\0\0\0\0\x06")?;
-    assert!(rt; edits.puts_other(&five, &id) && !edits.puts_other(&six, &id));
-    assert!(rt; end_of(alloc, &[1, 2, 255])?.as_deref() == Some(&[1, 3]));
-    assert!(rt; end_of(alloc, &[255, 255])?.is_none());
     Ok(())
 }
 
 /// {n: 2, x: [{i: 1, name: "a_1", key: {a: 1}, unique: false, multi: false}]}
 const NOTED: &str = "\
-000000000000000040742e630000:53000000106e000200000004780044000000033000\
-3c00000010690001000000026e616d650004000000615f3100036b6579000c00000010610001000000\
-0008756e69717565000008\
-6d756c74690000000000 ";
+000000000000000040742e630000:53000000106e0002000000047800440000000330003c00000010690001000000026e\
+616d650004000000615f3100036b6579000c000000106100010000000008756e697175650000086d756c74690000000000 ";
+
+/// How many indexes the catalogue tells of a collection by the value that is noted, which stands here.
+fn told(alloc: Global, edits: &Edits) -> Result<usize, Fail> {
+    let all = edits.tree_edits(alloc)?;
+    let value = all.first().and_then(|edit| edit.value).unwrap_or(b"");
+    let told = catalogue_told(alloc, value)?.ok_or("nothing told")?;
+    Ok(told.indexes.len())
+}
 
 #[test]
 fn indexes_are_noted(rt: HostRuntime) -> Result<(), Fail> {
-    let alloc = rt.alloc();
-    let mut indexes = indexes_of(alloc)?;
-    indexes.truncate(1);
-    let mut edits = Edits::new(alloc);
-    if indexes.len() < 17 {
-        edits.put_indexes("t.c", 2, &indexes)?;
-    }
-    assert_eq!(rt; shown(alloc, &edits)?.as_str(), NOTED);
-    let all = edits.tree_edits(alloc)?;
-    for edit in &all {
-        let told = catalogue_told(alloc, edit.value.unwrap_or(b""))?.ok_or("nothing told")?;
-        assert_eq!(rt; (told.number, told.indexes.len()), (2, 1));
-    }
-    for index in indexes.iter_mut() {
-        index.set_multi();
-        assert!(rt; index.is_multi() && !index.is_unique());
-    }
+    let indexes = indexes_of(rt.alloc())?;
+    let (first, _) = indexes.split_at(1.min(indexes.len()));
+    let mut edits = Edits::new(rt.alloc());
+    edits.put_indexes("t.c", 2, first)?;
+    assert_eq!(rt; shown(rt.alloc(), &edits)?.as_str(), NOTED);
+    assert_eq!(rt; told(rt.alloc(), &edits)?, 1);
+    Ok(())
+}
+
+/// Whether an entry of the edits has the key of this number and another `_id` than 7.
+fn is_taken(alloc: Global, edits: &Edits, number: i32) -> Result<bool, NoMemory> {
+    let id = group_text(alloc, &Value::Int32(7))?;
+    let key = group_text(alloc, &Value::Int32(number))?;
+    Ok(edits.puts_other(&index_key(alloc, 2, 1, &key)?, &id))
+}
+
+#[test]
+fn keys_of_others(rt: HostRuntime) -> Result<(), Fail> {
+    let mut edits = Edits::new(rt.alloc());
+    let indexes = indexes_of(rt.alloc())?;
+    let row = r#"insert | {"_id": 8, "a": [5, 4]}"#;
+    assert!(rt; edit(&mut edits, rt.alloc(), &indexes, row)?);
+    assert!(rt; is_taken(rt.alloc(), &edits, 5)? && !is_taken(rt.alloc(), &edits, 6)?);
+    assert!(rt; end_of(rt.alloc(), &[1, 2, 255])?.as_deref() == Some(&[1, 3]));
+    assert!(rt; end_of(rt.alloc(), &[255, 255])?.is_none());
     Ok(())
 }

@@ -1,88 +1,61 @@
 //! Key texts byte by byte.
 
+use crate::rows::split;
 use bson::Value;
 use ext_json::read;
 use std::alloc::Global;
 use std::test::Fail;
 use value_order::{Direction, KeyPart, group_text, key_text};
 
-/// A value, and its ascending text.
-const ROWS: [(&str, &[u8]); 23] = [
-    (r#"{"v": {"$minKey": 1}}"#, b"\x10"),
-    (r#"{"v": null}"#, b"\x20"),
-    (r#"{"v": 5}"#, b"\x30\x80\0\0\0\0\0\0\x05"),
-    (
-        r#"{"v": {"$numberLong": "5"}}"#,
-        b"\x30\x80\0\0\0\0\0\0\x05",
-    ),
-    (r#"{"v": -1}"#, b"\x30\x7f\xff\xff\xff\xff\xff\xff\xff"),
-    (r#"{"v": -9223372036854775808}"#, b"\x30\0\0\0\0\0\0\0\0"),
-    (
-        r#"{"v": 9223372036854775807}"#,
-        b"\x30\xff\xff\xff\xff\xff\xff\xff\xff",
-    ),
-    (r#"{"v": ""}"#, b"\x40\0\0"),
-    (r#"{"v": "a\u0000b"}"#, b"\x40a\0\xffb\0\0"),
-    (r#"{"v": {}}"#, b"\x50\0"),
-    (
-        r#"{"v": {"a": 1}}"#,
-        b"\x50\x30a\0\x30\x80\0\0\0\0\0\0\x01\0",
-    ),
-    (r#"{"v": [null, true]}"#, b"\x60\x20\x90\x01\0"),
-    (r#"{"v": [{}]}"#, b"\x60\x50\0\0"),
-    (
-        r#"{"v": {"$binary": {"base64": "", "subType": "00"}}}"#,
-        b"\x70\0\0\0\0\0",
-    ),
-    (
-        r#"{"v": {"$binary": {"base64": "AQI=", "subType": "05"}}}"#,
-        b"\x70\0\0\0\x02\x05\x01\x02",
-    ),
-    (
-        r#"{"v": {"$oid": "000000000000000000000009"}}"#,
-        b"\x80\0\0\0\0\0\0\0\0\0\0\0\x09",
-    ),
-    (r#"{"v": false}"#, b"\x90\0"),
-    (r#"{"v": true}"#, b"\x90\x01"),
-    (
-        r#"{"v": {"$date": {"$numberLong": "-1"}}}"#,
-        b"\xa0\x7f\xff\xff\xff\xff\xff\xff\xff",
-    ),
-    (
-        r#"{"v": {"$date": {"$numberLong": "256"}}}"#,
-        b"\xa0\x80\0\0\0\0\0\x01\0",
-    ),
-    (
-        r#"{"v": {"$timestamp": {"t": 0, "i": 258}}}"#,
-        b"\xb0\0\0\0\0\0\0\x01\x02",
-    ),
-    (
-        r#"{"v": {"$timestamp": {"t": 2147483648, "i": 0}}}"#,
-        b"\xb0\x80\0\0\0\0\0\0\0",
-    ),
-    (r#"{"v": {"$maxKey": 1}}"#, b"\xf0"),
+/// A value, and its ascending text in hexadecimal digits.
+const ROWS: [&str; 23] = [
+    r#"{"v": {"$minKey": 1}} | 10"#,
+    r#"{"v": null} | 20"#,
+    r#"{"v": 5} | 308000000000000005"#,
+    r#"{"v": {"$numberLong": "5"}} | 308000000000000005"#,
+    r#"{"v": -1} | 307fffffffffffffff"#,
+    r#"{"v": -9223372036854775808} | 300000000000000000"#,
+    r#"{"v": 9223372036854775807} | 30ffffffffffffffff"#,
+    r#"{"v": ""} | 400000"#,
+    r#"{"v": "a\u0000b"} | 406100ff620000"#,
+    r#"{"v": {}} | 5000"#,
+    r#"{"v": {"a": 1}} | 5030610030800000000000000100"#,
+    r#"{"v": [null, true]} | 6020900100"#,
+    r#"{"v": [{}]} | 60500000"#,
+    r#"{"v": {"$binary": {"base64": "", "subType": "00"}}} | 700000000000"#,
+    r#"{"v": {"$binary": {"base64": "AQI=", "subType": "05"}}} | 7000000002050102"#,
+    r#"{"v": {"$oid": "000000000000000000000009"}} | 80000000000000000000000009"#,
+    r#"{"v": false} | 9000"#,
+    r#"{"v": true} | 9001"#,
+    r#"{"v": {"$date": {"$numberLong": "-1"}}} | a07fffffffffffffff"#,
+    r#"{"v": {"$date": {"$numberLong": "256"}}} | a08000000000000100"#,
+    r#"{"v": {"$timestamp": {"t": 0, "i": 258}}} | b00000000000000102"#,
+    r#"{"v": {"$timestamp": {"t": 2147483648, "i": 0}}} | b08000000000000000"#,
+    r#"{"v": {"$maxKey": 1}} | f0"#,
 ];
 
 /// Whether a value has this ascending text, also as a group's, and a descending one of which each byte is its complement.
-fn has_text(alloc: Global, value: &Value, wanted: &[u8]) -> Result<bool, Fail> {
+fn has_text(alloc: Global, value: &Value, wanted: &str) -> Result<bool, Fail> {
     let key = KeyPart::Value(value);
     let rising = key_text(alloc, &key, Direction::Ascending)?;
     let falling = key_text(alloc, &key, Direction::Descending)?;
-    let group = group_text(alloc, value)?;
-    let is_complement = falling.len() == wanted.len()
-        && falling.iter().zip(wanted).all(|(a, b)| *a == 0xff - *b);
-    Ok(rising.as_slice() == wanted && group.as_slice() == wanted && is_complement)
+    let is_complement = falling.len() == rising.len()
+        && falling.iter().zip(&rising).all(|(a, b)| *a == 0xff - *b);
+    let is_group = group_text(alloc, value)?.as_slice() == rising.as_slice();
+    let digits = hex::encode(alloc, rising)?;
+    Ok(digits.as_str() == wanted && is_complement && is_group)
 }
 
 #[test]
 fn texts(rt: HostRuntime) -> Result<(), Fail> {
-    for (text, wanted) in &ROWS {
+    for row in ROWS {
+        let (text, wanted) = split(row);
         let document = read(rt.alloc(), text)?;
         let is_right = match document.get("v") {
             Some(value) => has_text(rt.alloc(), value, wanted)?,
             None => false,
         };
-        assert!(rt; is_right, "{text}");
+        assert!(rt; is_right, "{row}");
     }
     Ok(())
 }

@@ -14,3 +14,5 @@ mod index_edits;
 mod index_keys;
 #[cfg(test)]
 mod key_texts;
+#[cfg(test)]
+mod rows;

@@ -1,7 +1,7 @@
 //! How `exec` ends, and inputs, outputs and files that fail.
 
 use crate::runs::{ended, words};
-use server::program::run;
+use program::run;
 use std::io::{ErrorKind, Read, Write};
 use std::test::Fail;
 use std::{fs, io};

@@ -5,15 +5,16 @@ use std::alloc::{AllocError, Global};
 use std::fs;
 use std::test::Fail;
 
-/// A run of the program: its words around the file, its input, its status, what it prints, and what it says of faults.
-struct Run {
-    program: &'static str,
-    words: &'static [&'static str],
-    input: &'static str,
-    status: u8,
-    output: &'static str,
-    errors: &'static str,
-}
+/// A run of the program: its word before the file and those behind it, its input, its status, what it prints, and what it says of
+/// faults.
+type Run = (
+    &'static str,
+    &'static [&'static str],
+    &'static str,
+    u8,
+    &'static str,
+    &'static str,
+);
 
 /// A document of each kind, in the canonical form of the public specification.
 const CANONICAL: &str = "\
@@ -33,120 +34,106 @@ const RELAXED: &str = "\
 
 /// Each over what the ones before left in the file.
 const RUNS: [Run; 13] = [
-    Run {
-        program: "ask",
-        words: &[
+    (
+        "ask",
+        &[
             "{\"insert\": \"people\", \"documents\": [{\"_id\": 1, \"name\": \"Ada\"}]}",
             "{\"find\": \"people\"}",
         ],
-        input: "",
-        status: 0,
-        output: "{\"n\":1,\"ok\":1}\n{\"cursor\":{\"firstBatch\":[{\"_id\":1,\"name\":\"Ada\"}],\"id\":{\"$numberLong\":\"0\"},\"ns\":\"test.people\"},\"ok\":1}\n",
-        errors: "",
-    },
+        "",
+        0,
+        "{\"n\":1,\"ok\":1}\n{\"cursor\":{\"firstBatch\":[{\"_id\":1,\"name\":\"Ada\"}],\"id\":{\"$numberLong\":\"0\"},\"ns\":\"test.people\"},\"ok\":1}\n",
+        "",
+    ),
     // a refusal, and what comes behind it
-    Run {
-        program: "ask",
-        words: &[
+    (
+        "ask",
+        &[
             "{\"insert\": \"people\", \"documents\": [{\"_id\": {\"$numberLong\": \"1\"}}]}",
             "{\"count\": \"people\"}",
         ],
-        input: "",
-        status: 1,
-        output: "{\"ok\":0,\"errmsg\":\"duplicate key\",\"code\":11000,\"codeName\":\"DuplicateKey\"}\n{\"n\":1,\"ok\":1}\n",
-        errors: "docpage: DuplicateKey\n",
-    },
+        "",
+        1,
+        "{\"ok\":0,\"errmsg\":\"duplicate key\",\"code\":11000,\"codeName\":\"DuplicateKey\"}\n{\"n\":1,\"ok\":1}\n",
+        "docpage: DuplicateKey\n",
+    ),
     // lines, a blank one among them, and the last without an end
-    Run {
-        program: "ask",
-        words: &["--db", "other"],
-        input: "{\"ping\": 1}\n\n{\"count\": \"people\"}\r\n{\"count\": \"people\", \"$db\": \"test\"}",
-        status: 0,
-        output: "{\"ok\":1}\n{\"n\":0,\"ok\":1}\n{\"n\":1,\"ok\":1}\n",
-        errors: "",
-    },
+    (
+        "ask",
+        &["--db", "other"],
+        "{\"ping\": 1}\n\n{\"count\": \"people\"}\r\n{\"count\": \"people\", \"$db\": \"test\"}",
+        0,
+        "{\"ok\":1}\n{\"n\":0,\"ok\":1}\n{\"n\":1,\"ok\":1}\n",
+        "",
+    ),
     // a line that is no document ends it
-    Run {
-        program: "ask",
-        words: &[],
-        input: "{\"ping\": 1}\n{\"ping\": 1, \"ping\": 2}\n{\"ping\": 1}\n",
-        status: 1,
-        output: "{\"ok\":1}\n",
-        errors: "docpage: Repeated at line 2, column 13\n",
-    },
-    Run {
-        program: "ask",
-        words: &["--pretty", "{\"count\": \"people\"}"],
-        input: "",
-        status: 0,
-        output: "{\n  \"n\": 1,\n  \"ok\": 1\n}\n",
-        errors: "",
-    },
-    Run {
-        program: "ask",
-        words: &["{\"find\": \"people\", \"limit\": 1.5}"],
-        input: "",
-        status: 1,
-        output: "",
-        errors: "docpage: Fraction at line 1, column 29\n",
-    },
-    Run {
-        program: "import",
-        words: &["shop.goods"],
-        input: CANONICAL,
-        status: 0,
-        output: "4 documents\n",
-        errors: "",
-    },
-    Run {
-        program: "export",
-        words: &["shop.goods", "--canonical"],
-        input: "",
-        status: 0,
-        output: CANONICAL,
-        errors: "",
-    },
-    Run {
-        program: "export",
-        words: &["shop.goods"],
-        input: "",
-        status: 0,
-        output: RELAXED,
-        errors: "",
-    },
+    (
+        "ask",
+        &[],
+        "{\"ping\": 1}\n{\"ping\": 1, \"ping\": 2}\n{\"ping\": 1}\n",
+        1,
+        "{\"ok\":1}\n",
+        "docpage: Repeated at line 2, column 13\n",
+    ),
+    (
+        "ask",
+        &["--pretty", "{\"count\": \"people\"}"],
+        "",
+        0,
+        "{\n  \"n\": 1,\n  \"ok\": 1\n}\n",
+        "",
+    ),
+    (
+        "ask",
+        &["{\"find\": \"people\", \"limit\": 1.5}"],
+        "",
+        1,
+        "",
+        "docpage: Fraction at line 1, column 29\n",
+    ),
+    ("import", &["shop.goods"], CANONICAL, 0, "4 documents\n", ""),
+    (
+        "export",
+        &["shop.goods", "--canonical"],
+        "",
+        0,
+        CANONICAL,
+        "",
+    ),
+    ("export", &["shop.goods"], "", 0, RELAXED, ""),
     // what stands before a wrong line stays
-    Run {
-        program: "import",
-        words: &["shop.other"],
-        input: "{\"_id\": 1}\n{\"_id\": 2}\n{\"_id\": }\n{\"_id\": 4}\n",
-        status: 1,
-        output: "",
-        errors: "docpage: Syntax at line 3, column 9\n",
-    },
-    Run {
-        program: "export",
-        words: &["shop.other"],
-        input: "",
-        status: 0,
-        output: "{\"_id\":1}\n{\"_id\":2}\n",
-        errors: "",
-    },
-    Run {
-        program: "import",
-        words: &["shop.other"],
-        input: "{\"_id\": 3}\n{\"_id\": 1}\n",
-        status: 1,
-        output: "",
-        errors: "docpage: DuplicateKey\n",
-    },
-    Run {
-        program: "export",
-        words: &["shop"],
-        input: "",
-        status: 1,
-        output: "",
-        errors: "docpage: InvalidNamespace\n",
-    },
+    (
+        "import",
+        &["shop.other"],
+        "{\"_id\": 1}\n{\"_id\": 2}\n{\"_id\": }\n{\"_id\": 4}\n",
+        1,
+        "",
+        "docpage: Syntax at line 3, column 9\n",
+    ),
+    (
+        "export",
+        &["shop.other"],
+        "",
+        0,
+        "{\"_id\":1}\n{\"_id\":2}\n",
+        "",
+    ),
+    (
+        "import",
+        &["shop.other"],
+        "{\"_id\": 3}\n{\"_id\": 1}\n",
+        1,
+        "",
+        "docpage: DuplicateKey\n",
+    ),
+    (
+        "export",
+        &["shop"],
+        "",
+        1,
+        "",
+        "docpage: InvalidNamespace\n",
+    ),
 ];
 
 #[test]
@@ -154,21 +141,14 @@ fn one_file(rt: HostRuntime) -> Result<(), Fail> {
     let file = "people.docpage";
     let _ = fs::remove_file(&rt, file);
     for (row, run) in RUNS.iter().enumerate() {
+        let (program, behind, input, status, output, errors) = run;
         let mut words = Vec::new(rt.alloc());
-        words.extend_from_slice(&["docpage", run.program, file])?;
-        words.extend_from_slice(run.words)?;
-        let ending = ended(&rt, &words, run.input.as_bytes())?;
-        assert_eq!(rt;
-            ending.output.as_slice(),
-            run.output.as_bytes(),
-            "run {row}"
-        );
-        assert_eq!(rt;
-            ending.errors.as_slice(),
-            run.errors.as_bytes(),
-            "run {row}"
-        );
-        assert_eq!(rt; ending.status, run.status, "run {row}");
+        words.extend_from_slice(&["docpage", program, file])?;
+        words.extend_from_slice(behind)?;
+        let ending = ended(&rt, &words, input.as_bytes())?;
+        assert_eq!(rt; ending.output.as_slice(), output.as_bytes(), "run {row}");
+        assert_eq!(rt; ending.errors.as_slice(), errors.as_bytes(), "run {row}");
+        assert_eq!(rt; ending.status, *status, "run {row}");
     }
     fs::remove_file(&rt, file)?;
     Ok(())

@@ -1,6 +1,6 @@
 //! Runs of the program.
 
-use server::program::run;
+use program::run;
 use std::alloc::{AllocError, Global};
 
 /// How the program ended, and what it wrote.

@@ -7,17 +7,16 @@ use crate::exchanges::{frame, new_server};
 use page::MemDisk;
 use server::{Core, serve_on};
 use std::alloc::Global;
-use std::io;
 use std::io::{Read, Write};
 use std::net::{Shutdown, TcpListener, TcpStream};
 use std::test::Fail;
 
 /// What a client sends, messages and bytes behind them, and the replies.
-struct Client {
-    messages: &'static [&'static str],
-    behind: &'static [u8],
-    replies: &'static [&'static str],
-}
+type Client = (
+    &'static [&'static str],
+    &'static [u8],
+    &'static [&'static str],
+);
 
 const PING: &str = r#"{"ping": 1, "$db": "t"}"#;
 
@@ -37,68 +36,29 @@ const BOTH: &str =
 /// The first 20 bytes of a ping, of 47.
 const HALF: &[u8] = b"\x2f\0\0\0\x07\0\0\0\0\0\0\0\xdd\x07\0\0\0\0\0\0";
 
-const PINGED: Client = Client {
-    messages: &[PING],
-    behind: &[],
-    replies: &[PONG],
-};
+const PINGED: Client = (&[PING], b"", &[PONG]);
 
 /// How many turns run, for these clients, and then for these.
-const ROWS: [(&str, u64, &[Client], &[Client]); 4] = [
+const ROWS: [(u64, &[Client], &[Client]); 4] = [
+    // each finds what both insert
     (
-        "two insert and find",
         10,
         &[
-            Client {
-                messages: &[ONE, FIND],
-                behind: &[],
-                replies: &[STORED, BOTH],
-            },
-            Client {
-                messages: &[TWO, FIND],
-                behind: &[],
-                replies: &[STORED, BOTH],
-            },
+            (&[ONE, FIND], b"", &[STORED, BOTH]),
+            (&[TWO, FIND], b"", &[STORED, BOTH]),
         ],
         &[],
     ),
+    // an end in a frame: the number is given anew, with nothing of what came before
+    (1_000, &[(&[], HALF, &[]), PINGED], &[PINGED]),
+    // turns end with a message left
+    (1, &[(&[PING, PING], b"", &[PONG])], &[PINGED]),
+    // a fault of a frame closes one connection
     (
-        "an end in a frame: its number is given anew, with nothing of what came before",
         1_000,
         &[
-            Client {
-                messages: &[],
-                behind: HALF,
-                replies: &[],
-            },
-            PINGED,
-        ],
-        &[PINGED],
-    ),
-    (
-        "turns end with a message left",
-        1,
-        &[Client {
-            messages: &[PING, PING],
-            behind: &[],
-            replies: &[PONG],
-        }],
-        &[PINGED],
-    ),
-    (
-        "a fault of a frame closes one connection",
-        1_000,
-        &[
-            Client {
-                messages: &[PING],
-                behind: b"\x19\0\0\0",
-                replies: &[PONG],
-            },
-            Client {
-                messages: &[PING, PING, PING],
-                behind: &[],
-                replies: &[PONG, PONG, PONG],
-            },
+            (&[PING], b"\x19\0\0\0", &[PONG]),
+            (&[PING, PING, PING], b"", &[PONG, PONG, PONG]),
         ],
         &[],
     ),
@@ -106,22 +66,24 @@ const ROWS: [(&str, u64, &[Client], &[Client]); 4] = [
 
 /// A client that has sent what it sends, and ended its writing.
 fn opened(rt: &HostRuntime, listener: &TcpListener, client: &Client) -> Result<TcpStream, Fail> {
+    let (messages, behind, _) = client;
     let mut stream = TcpStream::connect(rt, listener.local_addr()?)?;
-    for message in client.messages {
+    for message in *messages {
         stream.write_all(&frame(rt.alloc(), 7, 0, message)?)?;
     }
-    stream.write_all(client.behind)?;
+    stream.write_all(behind)?;
     stream.shutdown(Shutdown::Write)?;
     Ok(stream)
 }
 
 /// Whether a client is sent its replies, and nothing else up to the end.
 fn is_answered(alloc: Global, stream: &mut TcpStream, client: &Client) -> Result<bool, Fail> {
+    let (_, _, replies) = client;
     let mut received = Vec::new(alloc);
     stream.read_to_end(&mut received)?;
     let mut wanted = Vec::new(alloc);
     let mut number: u32 = 0;
-    for reply in client.replies {
+    for reply in *replies {
         number = number.saturating_add(1);
         wanted.extend_from_slice(&frame(alloc, number, 7, reply)?)?;
     }
@@ -156,14 +118,14 @@ fn serves(
 
 #[test]
 fn clients_are_answered(rt: HostRuntime) -> Result<(), Fail> {
-    for (what, turns, first, second) in &ROWS {
+    for (turns, first, second) in &ROWS {
         let listener = TcpListener::bind(&rt, "127.0.0.1:0")?;
         let mut core = new_server(rt.alloc())?;
-        assert!(rt; serves(&rt, &listener, *turns, first, &mut core)?, "{what}");
         assert!(rt;
-            serves(&rt, &listener, *turns, second, &mut core)?,
-            "{what}, then"
+            serves(&rt, &listener, *turns, first, &mut core)?,
+            "{turns} turns"
         );
+        assert!(rt; serves(&rt, &listener, *turns, second, &mut core)?);
     }
     Ok(())
 }

@@ -4,18 +4,12 @@
 mod anew;
 mod connection;
 mod drive;
-mod help;
-mod in_process;
 pub mod laws;
-mod people;
 mod preparing;
-pub mod program;
 mod service;
 mod serving;
 mod step;
-pub mod terminal;
 mod turn;
-mod words;
 
 pub use anew::run_anew;
 pub use connection::FeedFault;

@@ -94,7 +94,7 @@ impl<D: Disk> Core<D> {
     }
 
     /// Where its memory comes from.
-    pub(crate) fn allocator(&self) -> Global {
+    pub fn allocator(&self) -> Global {
         *self.connections.allocator()
     }
 

@@ -25,19 +25,60 @@ pub fn export<D: Database>(
 {
     let from = Namespace::of(namespace);
     let mut command = find_all(alloc, &from)?;
+    let documents = export_from(
+        alloc,
+        database,
+        &from,
+        &mut command,
+        canonical,
+        output,
+        watch,
+    );
+    drop(command);
+    documents
+}
+
+/// Writes the batches that a command and those after it are answered. It gives how many documents they have.
+fn export_from<D: Database>(
+    alloc: Global,
+    database: &mut D,
+    from: &Namespace<'_>,
+    command: &mut Document,
+    canonical: bool,
+    output: &mut impl Write,
+    watch: &mut impl Watch,
+) -> Result<u64, ShellFault>
+    requires sound { D.is_sound database.old }
+    ensures sound { D.is_sound database.new }
+{
     let mut documents = 0u64;
     'batches: for _ in 0..u64::MAX {
-        let reply = database.reply(&command)?;
-        let batch = batch_of(alloc, &reply)?;
-        write_batch(alloc, batch.documents, canonical, output)?;
-        documents = documents.saturating_add(batch.documents.len() as u64);
+        let (count, cursor) = export_batch(alloc, database, command, canonical, output)?;
+        documents = documents.saturating_add(count);
         watch.done(documents, 0);
-        if batch.cursor == 0 {
+        if cursor == 0 {
             break;
         }
-        command = get_more(alloc, &from, batch.cursor)?;
+        *command = get_more(alloc, from, cursor)?;
     }
     Ok(documents)
+}
+
+/// Writes the batch that a command is answered. It gives how many documents it has, and the cursor to go on with.
+fn export_batch<D: Database>(
+    alloc: Global,
+    database: &mut D,
+    command: &Document,
+    canonical: bool,
+    output: &mut impl Write,
+) -> Result<(u64, i64), ShellFault>
+    requires sound { D.is_sound database.old }
+    ensures sound { D.is_sound database.new }
+{
+    let reply = database.reply(command)?;
+    let batch = batch_of(alloc, &reply)?;
+    write_batch(alloc, batch.documents, canonical, output)?;
+    Ok((batch.documents.len() as u64, batch.cursor))
 }
 
 /// The batch of a reply, or its refusal.

@@ -4,7 +4,7 @@ use crate::asking::fault_at;
 use crate::commands::{Namespace, insert};
 use crate::database::Database;
 use crate::fault::ShellFault;
-use crate::lines::Lines;
+use crate::lines::{Line, Lines};
 use crate::progress::Watch;
 use crate::replies::{is_done, refusal};
 use bson::{Document, Value};
@@ -102,18 +102,49 @@ impl Work<'_> {
     {
         let mut lines = Lines::new(self.alloc, input);
         let mut reader = LineReader::new(self.alloc);
+        let taken = self.take_lines(database, &mut lines, &mut reader, watch);
+        drop(reader);
+        drop(lines);
+        taken
+    }
+
+    /// Takes each line as it is read.
+    fn take_lines<D: Database, I: BufRead>(
+        &mut self,
+        database: &mut D,
+        lines: &mut Lines<'_, I>,
+        reader: &mut LineReader,
+        watch: &mut impl Watch,
+    ) -> Result<(), ShellFault>
+        requires sound { D.is_sound database.old }
+        ensures sound { D.is_sound database.new }
+    {
         'lines: for _ in 0..u64::MAX {
             let Some(line) = lines.next()? else {
                 break;
             };
-            self.bytes = self.bytes.saturating_add(line.text.len() as u64 + 1);
-            match reader.read(line.as_str()?) {
-                Ok(Some(document)) => self.take(database, document, watch)?,
-                Ok(None) => {}
-                Err(at) => return Err(fault_at(1, at)),
-            }
+            self.take_line(database, &line, reader, watch)?;
         }
         Ok(())
+    }
+
+    /// Takes a line: its document, if it isn't blank.
+    fn take_line<D: Database>(
+        &mut self,
+        database: &mut D,
+        line: &Line<'_>,
+        reader: &mut LineReader,
+        watch: &mut impl Watch,
+    ) -> Result<(), ShellFault>
+        requires sound { D.is_sound database.old }
+        ensures sound { D.is_sound database.new }
+    {
+        self.bytes = self.bytes.saturating_add(line.text.len() as u64 + 1);
+        match reader.read(line.as_str()?) {
+            Ok(Some(document)) => self.take(database, document, watch),
+            Ok(None) => Ok(()),
+            Err(at) => Err(fault_at(1, at)),
+        }
     }
 
     /// Takes a document. Where it has no room beside those that wait, these are inserted first.

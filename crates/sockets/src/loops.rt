@@ -4,6 +4,7 @@ ghost use Rattle.std.specs.Prelude.{◌≡◌, ◌≤◌};
 
 use crate::clients::{Backlog, Clients, PLACES};
 use crate::service::{ServeFault, Service};
+use mio::net::TcpListener as Listener;
 use std::io;
 use std::net::{Net, TcpListener};
 use std::rt::Clock;
@@ -85,29 +86,75 @@ pub fn listen<R: AllocGlobal + Net + Clock, S: Service>(
     requires sound { S.is_sound service.old }
     ensures sound { S.is_sound service.new }
 {
-    let Ok(mut clients) = Clients::new(rt, rt.alloc(), PLACES) else {
+    let Ok((mut clients, listener)) = watched(rt, listener) else {
         return Err(ServeFault::Accept);
     };
-    let Ok(listener) = clients.watch(listener) else {
-        return Err(ServeFault::Accept);
-    };
+    let served = serve_all(rt, &mut clients, &listener, idle, service);
+    drop(listener);
+    drop(clients);
+    served
+}
+
+/// Serves every connection that the listener gives.
+fn serve_all<R: Clock, S: Service>(
+    rt: &R,
+    clients: &mut Clients,
+    listener: &Listener,
+    idle: Option<Duration>,
+    service: &mut S,
+) -> Result<(), ServeFault>
+    requires sound { S.is_sound service.old }
+    ensures sound { S.is_sound service.new }
+{
     let mut backlog = Backlog::Empty;
     for _ in 0..u64::MAX {
-        let limit = patience(&clients, backlog, idle, service);
-        let Ok(accepts) = clients.wait(limit) else {
+        let Ok(accepts) = wait(rt, clients, backlog, idle, service) else {
             return Err(ServeFault::Accept);
         };
-        if let Ok(now) = rt.monotonic() {
-            clients.table.time = now;
-        }
         if accepts || backlog != Backlog::Empty {
-            backlog = clients.accept(&listener);
+            backlog = clients.accept(listener);
         }
-        clients.round(service)?;
-        if let Some(idle) = idle {
-            clients.table.end_idle(idle);
-            clients.table.settle(service);
-        }
+        serve_round(clients, idle, service)?;
+    }
+    Ok(())
+}
+
+/// No connections yet, and a listener whose connections are accepted as they come.
+fn watched<R: AllocGlobal + Net>(rt: &R, listener: TcpListener) -> io::Result<(Clients, Listener)> {
+    let clients = Clients::new(rt, rt.alloc(), PLACES)?;
+    let listener = clients.watch(listener)?;
+    Ok((clients, listener))
+}
+
+/// Waits until something is ready. Whether a connection may be there to be accepted.
+fn wait<R: Clock, S: Service>(
+    rt: &R,
+    clients: &mut Clients,
+    backlog: Backlog,
+    idle: Option<Duration>,
+    service: &S,
+) -> io::Result<bool> {
+    let limit = patience(clients, backlog, idle, service);
+    let accepts = clients.wait(limit)?;
+    if let Ok(now) = rt.monotonic() {
+        clients.table.time = now;
+    }
+    Ok(accepts)
+}
+
+/// A round over what is ready. Then it ends the connections of which nothing has come for so long.
+fn serve_round<S: Service>(
+    clients: &mut Clients,
+    idle: Option<Duration>,
+    service: &mut S,
+) -> Result<(), ServeFault>
+    requires sound { S.is_sound service.old }
+    ensures sound { S.is_sound service.new }
+{
+    clients.round(service)?;
+    if let Some(idle) = idle {
+        clients.table.end_idle(idle);
+        clients.table.settle(service);
     }
     Ok(())
 }

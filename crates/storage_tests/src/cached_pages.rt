@@ -26,21 +26,44 @@ fn byte_of(cache: &mut PageCache, page: u32) -> Option<u8> {
     }
 }
 
+/// Puts pages of these numbers with a byte.
+fn fill(
+    cache: &mut PageCache,
+    alloc: Global,
+    from: u32,
+    to: u32,
+    byte: u8,
+) -> Result<(), AllocError> {
+    for page in from..to {
+        cache.put(page, chain_of(alloc, page, byte)?);
+    }
+    Ok(())
+}
+
+/// What is kept of five pages.
+fn kept(cache: &mut PageCache) -> [Option<u8>; 5] {
+    [
+        byte_of(cache, 1),
+        byte_of(cache, 2),
+        byte_of(cache, 3),
+        byte_of(cache, 5),
+        byte_of(cache, 1025),
+    ]
+}
+
 /// 1,024 pages find room. Of 1,025 the one goes that was used longest ago, which is page 2, since page 1 was read.
 #[test]
 fn the_oldest_page_goes(rt: HostRuntime) -> Result<(), Fail> {
     let mut cache = PageCache::new(rt.alloc())?;
-    for page in 1..1025 {
-        cache.put(page, chain_of(rt.alloc(), page, 7)?);
-    }
+    fill(&mut cache, rt.alloc(), 1, 1025, 7)?;
     assert_eq!(rt; byte_of(&mut cache, 1), Some(7));
-    cache.put(1025, chain_of(rt.alloc(), 1025, 8)?);
-    for (page, byte) in [(1, Some(7)), (2, None), (3, Some(7)), (1025, Some(8))] {
-        assert_eq!(rt; byte_of(&mut cache, page), byte, "page {page}");
-    }
-    cache.put(5, chain_of(rt.alloc(), 5, 30)?);
-    assert_eq!(rt; byte_of(&mut cache, 5), Some(30));
+    fill(&mut cache, rt.alloc(), 1025, 1026, 8)?;
+    fill(&mut cache, rt.alloc(), 5, 6, 30)?;
+    assert_eq!(rt;
+        kept(&mut cache),
+        [Some(7), None, Some(7), Some(30), Some(8)]
+    );
     cache.remove(5);
-    assert_eq!(rt; byte_of(&mut cache, 5), None);
+    assert_eq!(rt; kept(&mut cache), [Some(7), None, Some(7), None, Some(8)]);
     Ok(())
 }

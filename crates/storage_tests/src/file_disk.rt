@@ -26,7 +26,7 @@ fn same_sectors(file: &mut FileDisk, memory: &mut MemDisk, from: u64, to: u64) -
 fn write_run(file: &mut FileDisk, memory: &mut MemDisk, first: u64, count: u64, seed: u8) -> bool {
     for i in 0..count {
         let mut bytes = [seed; 512];
-        bytes[7] = i as u8;
+        bytes[7] = (i % 256) as u8;
         let sector = first.wrapping_add(i);
         if file.write(sector, &bytes).is_err() || memory.write(sector, &bytes).is_err() {
             return false;

@@ -12,10 +12,7 @@ mod file_disk;
 mod page_bytes;
 #[cfg(test)]
 mod page_counts;
-mod read_pages;
 #[cfg(test)]
 mod root_bytes;
 #[cfg(test)]
 mod tree_bytes;
-
-pub use read_pages::ReadPages;

@@ -16,6 +16,14 @@ const CHAIN: &[u8] = b"\x03\0\x03\0\x04\0\0\0\x02\0\0\0\0\0\0\0\0\0\0\0\x0a\x14\
 /// Page 3 of generation 2: the end of the free list, with the pages 5 and 300.
 const FREE_LIST: &[u8] = b"\x04\0\x02\0\x03\0\0\0\x02\0\0\0\0\0\0\0\0\0\0\0\x05\0\0\0\x2c\x01";
 
+/// Page 2 of generation 2: "k" with 331 bytes in a chain from page 3; that chain, of zeros; page 5 of generation 3: page 1, and from
+/// the key "m" on page 4.
+const VALUE: &[u8] = b"\x01\0\x01\0\x02\0\0\0\x02\0\0\0\0\0\0\0\x01\0\x4b\x01\0\0k\x03";
+
+const VALUE_CHAIN: &[u8] = b"\x03\0\x4b\x01\x03\0\0\0\x02";
+
+const PARTED: &[u8] = b"\x02\0\x02\0\x05\0\0\0\x03\0\0\0\0\0\0\0\x01\0\0\0\x01\0m\x04";
+
 /// Page 7 of generation 3 up to its one cell: keys of 1, 1, 1,354 and 1,355 bytes, values of 330, 331 and no bytes.
 const INLINE: &[u8] = b"\x01\0\x01\0\x07\0\0\0\x03\0\0\0\0\0\0\0\x01\0\x4a\x01\0\0";
 
@@ -28,11 +36,15 @@ const TOO_LONG: &[u8] = b"\x01\0\x01\0\x07\0\0\0\x03\0\0\0\0\0\0\0\x4b\x05\0\0\0
 /// A page, the number under which it is read, a place in it and the bytes there, and the fault under the root of generation 3.
 type Row = (&'static [u8], u32, usize, &'static [u8], Option<PageFault>);
 
-const ROWS: [Row; 35] = [
+const ROWS: [Row; 38] = [
     (LEAF, 7, 0, b"\x01", None),
     (BRANCH, 8, 0, b"\x02", None),
     (CHAIN, 4, 0, b"\x03", None),
     (FREE_LIST, 3, 0, b"\x04", None),
+    // a leaf with a value in a chain, that chain, and a branch
+    (VALUE, 2, 0, b"\x01", None),
+    (VALUE_CHAIN, 3, 0, b"\x03", None),
+    (PARTED, 5, 0, b"\x02", None),
     // kinds, and the byte behind them, which come before the number
     (LEAF, 7, 0, b"\0", Some(PageFault::Kind)),
     (LEAF, 7, 0, b"\x05", Some(PageFault::Kind)),

@@ -1,7 +1,7 @@
 //! How many pages files have, and what is free again: no contract bounds the pages of a tree.
 
 use btree::{Pages, insert, remove};
-use freelist::FreePages;
+use freelist::{FreePages, NoMemory};
 use page::{MemDisk, PageContent};
 use pager::Pager;
 use roots::Store;
@@ -80,25 +80,50 @@ const COMING: [(u32, usize, &[usize], u32, u32); 2] = [
     (200, 1_014, &[330, 0, 331, 1, 330, 65_535], 2_000, 2_000),
 ];
 
+/// Puts entries of these lengths, each in a turn, in another order than that of their keys.
+fn come(
+    alloc: Global,
+    pager: &mut Pager<MemDisk>,
+    keys: u32,
+    size: usize,
+    lengths: &[usize],
+) -> bool {
+    for i in 0..keys {
+        let length = lengths.iter().cycle().nth(i as usize).copied();
+        if !turn(alloc, pager, i.wrapping_mul(389) % keys, size, length) {
+            return false;
+        }
+    }
+    true
+}
+
+/// Removes them in a third order.
+fn go(alloc: Global, pager: &mut Pager<MemDisk>, keys: u32, size: usize) -> bool {
+    for i in 0..keys {
+        if !turn(alloc, pager, i.wrapping_mul(123) % keys, size, None) {
+            return false;
+        }
+    }
+    true
+}
+
 #[test]
 fn entries_come_and_go(rt: HostRuntime) -> Result<(), Fail> {
     let alloc = rt.alloc();
     for (keys, size, lengths, limit, most) in COMING {
         let mut pager = new_file(alloc, limit)?;
-        for i in 0..keys {
-            let length = lengths.iter().cycle().nth(i as usize).copied();
-            let key = i.wrapping_mul(389) % keys;
-            assert!(rt; turn(alloc, &mut pager, key, size, length), "put {key}");
-        }
-        for i in 0..keys {
-            let key = i.wrapping_mul(123) % keys;
-            assert!(rt; turn(alloc, &mut pager, key, size, None), "removed {key}");
-        }
-        assert_eq!(rt; pager.root(), 0);
+        assert!(rt; come(alloc, &mut pager, keys, size, lengths), "{keys} keys");
+        assert!(rt;
+            go(alloc, &mut pager, keys, size) && pager.root() == 0,
+            "{keys} keys"
+        );
         // as many as a file that was never written has: all but page 0
-        assert_eq!(rt; count_free(alloc, &mut pager, 3_000), limit - 1);
+        let free = count_free(alloc, &mut pager, 3_000);
         let pages = pages_of(pager);
-        assert!(rt; pages <= most, "{pages} pages");
+        assert!(rt;
+            free == limit - 1 && pages <= most,
+            "{free} free of {pages} pages"
+        );
     }
     Ok(())
 }
@@ -112,7 +137,7 @@ fn rising_entries_fill_their_leaves(rt: HostRuntime) -> Result<(), Fail> {
     let alloc = rt.alloc();
     let mut pager = new_file(alloc, 2_000)?;
     for key in 0..10_000 {
-        assert!(rt; turn(alloc, &mut pager, key, 17, Some(330)), "put {key}");
+        assert!(rt; turn(alloc, &mut pager, key, 17, Some(330)));
     }
     let pages = pages_of(pager);
     assert!(rt; pages <= 929 + 7, "{pages} pages");
@@ -142,28 +167,29 @@ fn values_replace_each_other(rt: HostRuntime) -> Result<(), Fail> {
     let mut pager = new_file(rt.alloc(), 100)?;
     for (length, pages) in LENGTHS {
         assert!(rt; turn(rt.alloc(), &mut pager, 0, 4, Some(length)));
-        assert_eq!(rt;
-            count_free(rt.alloc(), &mut pager, 200),
-            99 - pages,
-            "{length}"
-        );
+        let free = count_free(rt.alloc(), &mut pager, 200);
+        assert_eq!(rt; free.wrapping_add(pages), 99, "{length}");
     }
     assert!(rt; pages_of(pager) <= 37);
     Ok(())
+}
+
+/// What a book of two pages gives while a version is pinned that reaches page 1, before and after a commit, and then.
+fn taken(book: &mut FreePages) -> Result<[Option<u32>; 4], NoMemory> {
+    book.pin(5)?;
+    book.retire(1, 5)?;
+    let pinned = book.take()?;
+    book.commit(6);
+    let committed = book.take()?;
+    book.unpin(5);
+    Ok([pinned, committed, book.take()?, book.take()?])
 }
 
 /// No server pins a version yet.
 #[test]
 fn pinned_pages_are_not_taken(rt: HostRuntime) -> Result<(), Fail> {
     let mut book = FreePages::open(rt.alloc(), &[1, 2], 3, 5)?;
-    book.pin(5)?;
-    book.retire(1, 5)?;
-    assert_eq!(rt; book.take()?, None);
-    book.commit(6);
-    assert_eq!(rt; book.take()?, None);
-    book.unpin(5);
-    assert_eq!(rt; book.take()?, Some(1));
-    assert_eq!(rt; book.take()?, None);
+    assert_eq!(rt; taken(&mut book)?, [None, None, Some(1), None]);
     assert_eq!(rt; (book.version(), book.full_takes()), (6, 3));
     Ok(())
 }

@@ -71,7 +71,7 @@ fn roots_are_judged(rt: HostRuntime) {
         assert!(rt; disk.write(1, &bytes_of(odd)).is_ok());
         let opened = match Store::open(disk) {
             Ok(store) => Ok(store.root().generation),
-            Err((_, fault)) => Err(fault),
+            Err((_disk, fault)) => Err(fault),
         };
         assert_eq!(rt; opened, wanted, "{even:?} and {odd:?}");
     }

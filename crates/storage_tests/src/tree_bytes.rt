@@ -1,58 +1,38 @@
-//! A tree of two leaves, written out byte by byte, and pages that no tree has.
+//! Trees whose pages are written out byte by byte, read through a pager.
 
-use crate::ReadPages;
-use crate::page_bytes::page_of;
+use crate::damaged_files::{CHAINS, TREE, file_of};
 use btree::{Range, TreeFault, get, scan};
-use page::{PageImage, SharedPage};
+use page::MemDisk;
+use pager::Pager;
 use std::alloc::Global;
 use std::test::Fail;
-
-/// The pages, all of generation 1, up to their last byte that isn't zero.
-const PAGES: [&[u8]; 10] = [
-    // No page of a tree: an empty free list.
-    b"\x04\0\0\0\0\0\0\0\x01",
-    // A branch: page 2, and from the key "m" on page 3.
-    b"\x02\0\x02\0\x01\0\0\0\x01\0\0\0\0\0\0\0\x02\0\0\0\x01\0m\x03",
-    // A leaf: "a" with the value "xy", and "c" with 331 bytes in a chain from page 4.
-    b"\x01\0\x02\0\x02\0\0\0\x01\0\0\0\0\0\0\0\x01\0\x02\0\0\0axy\x01\0\x4b\x01\0\0c\x04",
-    // A leaf: "m" with the value "1", and "z" with an empty one.
-    b"\x01\0\x02\0\x03\0\0\0\x01\0\0\0\0\0\0\0\x01\0\x01\0\0\0m1\x01\0\0\0\0\0z",
-    // A chain's last page, with 331 bytes, all zeros.
-    b"\x03\0\x4b\x01\x04\0\0\0\x01",
-    // A branch that names itself twice.
-    b"\x02\0\x02\0\x05\0\0\0\x01\0\0\0\0\0\0\0\x05\0\0\0\x01\0m\x05",
-    // A branch over a page of a chain.
-    b"\x02\0\x02\0\x06\0\0\0\x01\0\0\0\0\0\0\0\x04\0\0\0\x01\0m\x04",
-    // A branch whose first child has keys from "m" on, and ends below "b".
-    b"\x02\0\x02\0\x07\0\0\0\x01\0\0\0\0\0\0\0\x03\0\0\0\x01\0b\x02",
-    // A leaf: "c" with 332 bytes in a chain from page 4, which has 331.
-    b"\x01\0\x01\0\x08\0\0\0\x01\0\0\0\0\0\0\0\x01\0\x4c\x01\0\0c\x04",
-    // A leaf: "c" with 331 bytes in a chain from page 9, which is this leaf.
-    b"\x01\0\x01\0\x09\0\0\0\x01\0\0\0\0\0\0\0\x01\0\x4b\x01\0\0c\x09",
-];
 
 /// A root page, a key, and the value there.
 type Found = (u32, &'static [u8], Result<Option<&'static [u8]>, TreeFault>);
 
-const FOUND: [Found; 17] = [
-    (1, b"a", Ok(Some(b"xy"))),
-    (1, b"c", Ok(Some(&[0; 331]))),
-    (1, b"m", Ok(Some(b"1"))),
+/// In three levels with empty values.
+const IN_TREE: [Found; 10] = [
+    (1, b"a", Ok(Some(b""))),
+    (1, b"h", Ok(Some(b""))),
+    (1, b"m", Ok(Some(b""))),
     (1, b"z", Ok(Some(b""))),
     (1, b"", Ok(None)),
     (1, b"b", Ok(None)),
     (1, b"zz", Ok(None)),
+    (2, b"h", Ok(Some(b""))),
+    (7, b"z", Ok(Some(b""))),
     (0, b"a", Ok(None)),
-    (9, b"b", Ok(None)),
-    // pages that no tree has
-    (5, b"a", Err(TreeFault::Order)),
-    (5, b"z", Err(TreeFault::Order)),
-    (6, b"a", Err(TreeFault::Kind)),
-    (7, b"a", Err(TreeFault::Order)),
-    (4, b"a", Err(TreeFault::Kind)),
-    (16, b"a", Err(TreeFault::Number)),
-    (8, b"c", Err(TreeFault::Length)),
-    (9, b"c", Err(TreeFault::Kind)),
+];
+
+/// In a leaf whose values are zeros in chains. A page of a chain is no tree, nor is one that isn't there.
+const IN_CHAINS: [Found; 7] = [
+    (1, b"k", Ok(Some(&[0; 8_000]))),
+    (1, b"l", Ok(Some(&[0; 4_076]))),
+    (1, b"n", Ok(Some(&[0; 331]))),
+    (2, b"k", Err(TreeFault::Kind)),
+    (7, b"k", Err(TreeFault::Kind)),
+    (8, b"k", Err(TreeFault::Number)),
+    (u32::MAX, b"k", Err(TreeFault::Number)),
 ];
 
 /// From which key and up to which a scan goes, how many entries it gives at most, the keys that it gives, and where it goes on.
@@ -65,59 +45,70 @@ type Scanned = (
 );
 
 const SCANNED: [Scanned; 5] = [
-    (b"", None, 10, &[b"a", b"c", b"m", b"z"], None),
-    (b"", None, 2, &[b"a", b"c"], Some(b"m")),
+    (b"", None, 10, &[b"a", b"h", b"m", b"z"], None),
+    (b"", None, 2, &[b"a", b"h"], Some(b"m")),
     (b"m", None, 2, &[b"m", b"z"], None),
-    (b"b", Some(b"z"), 10, &[b"c", b"m"], None),
+    (b"b", Some(b"z"), 10, &[b"h", b"m"], None),
     (b"", None, 0, &[], Some(b"a")),
 ];
 
-/// The pages above.
-fn pages_of(alloc: Global) -> Result<ReadPages, Fail> {
-    let mut images = Vec::new(alloc);
-    let mut number = 0;
-    for front in PAGES {
-        let image = PageImage::read(alloc, &page_of(front, 0, &[]), number, 1)?;
-        images.push(SharedPage::new(alloc, image)?)?;
-        number = number.wrapping_add(1);
+fn pager_of(alloc: Global, fronts: &[&[u8]; 7]) -> Result<Pager<MemDisk>, Fail> {
+    match Pager::open(alloc, file_of(alloc, fronts, "0.0=00")?, 20) {
+        Ok(pager) => Ok(pager),
+        Err(_) => Err(Fail::from("it isn't opened")),
     }
-    Ok(ReadPages {
-        images,
-        full_takes: 0,
-    })
+}
+
+/// Whether a root page and a key give this.
+fn is_found(alloc: Global, pager: &mut Pager<MemDisk>, row: &Found) -> bool {
+    let (root, key, wanted) = row;
+    match (get(alloc, pager, *root, key), wanted) {
+        (Ok(Some(value)), Ok(Some(wanted))) => value.as_slice() == *wanted,
+        (Ok(None), Ok(None)) => true,
+        (Err(fault), Err(wanted)) => fault == *wanted,
+        _ => false,
+    }
+}
+
+/// Whether a scan gives this.
+fn is_scanned(alloc: Global, pager: &mut Pager<MemDisk>, row: &Scanned) -> bool {
+    let (from, to, limit, keys, next) = row;
+    let range = Range {
+        from: *from,
+        to: *to,
+        limit: *limit,
+    };
+    match scan(alloc, pager, 1, range) {
+        Ok(batch) => {
+            batch.next.as_deref() == *next
+                && batch.entries.len() == keys.len()
+                && batch
+                    .entries
+                    .iter()
+                    .zip(*keys)
+                    .all(|(entry, key)| entry.key.as_slice() == *key)
+        }
+        Err(_) => false,
+    }
 }
 
 #[test]
 fn keys_are_found(rt: HostRuntime) -> Result<(), Fail> {
-    let mut pages = pages_of(rt.alloc())?;
-    for (row, (root, key, wanted)) in FOUND.iter().enumerate() {
-        let is_right = match (get(rt.alloc(), &mut pages, *root, key), wanted) {
-            (Ok(Some(value)), Ok(Some(wanted))) => value.as_slice() == *wanted,
-            (Ok(None), Ok(None)) => true,
-            (Err(fault), Err(wanted)) => fault == *wanted,
-            _ => false,
-        };
-        assert!(rt; is_right, "row {row}");
+    let mut pager = pager_of(rt.alloc(), &CHAINS)?;
+    for (row, found) in IN_CHAINS.iter().enumerate() {
+        assert!(rt; is_found(rt.alloc(), &mut pager, found), "row {row}");
     }
     Ok(())
 }
 
 #[test]
 fn ranges_are_handed_out(rt: HostRuntime) -> Result<(), Fail> {
-    let mut pages = pages_of(rt.alloc())?;
-    for (row, (from, to, limit, keys, next)) in SCANNED.iter().enumerate() {
-        let range = Range {
-            from: *from,
-            to: *to,
-            limit: *limit,
-        };
-        let batch = scan(rt.alloc(), &mut pages, 1, range)?;
-        let mut given = Vec::new(rt.alloc());
-        for entry in &batch.entries {
-            given.push(entry.key.as_slice())?;
-        }
-        assert_eq!(rt; given.as_slice(), *keys, "row {row}");
-        assert_eq!(rt; batch.next.as_deref(), *next, "row {row}");
+    let mut pager = pager_of(rt.alloc(), &TREE)?;
+    for (row, found) in IN_TREE.iter().enumerate() {
+        assert!(rt; is_found(rt.alloc(), &mut pager, found), "row {row}");
+    }
+    for (row, scanned) in SCANNED.iter().enumerate() {
+        assert!(rt; is_scanned(rt.alloc(), &mut pager, scanned), "scan {row}");
     }
     Ok(())
 }

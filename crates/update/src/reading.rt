@@ -3,9 +3,9 @@
 ghost use Rattle.std.specs.Prelude.{◌≡◌, [], map};
 ghost use Rattle.std.specs.List.{list_any};
 ghost use Rattle.bson.specs.View.{tree};
-ghost use Rattle.outcome.specs.Outcome.{Gives};
+ghost use Rattle.outcome.specs.Outcome.{Gives, Does};
 ghost use Rattle.update.specs.Update.{meets_any, paths_of};
-ghost use Rattle.update.specs.Reading.{edits_meet, meets_itself, conflicts, read_edit, read_edits};
+ghost use Rattle.update.specs.Reading.{edits_meet, meets_itself, conflicts, without_conflict, read_edit, read_edits};
 ghost use Rattle.update.specs.Reading.{read_operator, read_operators, read_update};
 ghost use Rattle.update.specs.View.{edit_of, action_of, update_of};
 
@@ -56,60 +56,66 @@ fn conflicts(earlier: &[Edit], edit: &Edit) -> bool
     meets_itself(edit)
 }
 
-/// The edits before, and one more.
+/// Puts an edit behind the earlier ones, none of which it may meet.
+fn add_edit(edits: &mut Vec<Edit>, edit: Edit) -> Result<(), Refusal>
+    ensures { Does Refusal.OutOfMemory result (map edit_of edits.new.items)
+        (without_conflict (map edit_of edits.old.items) (edit_of edit)) }
+{
+    if conflicts(edits, &edit) {
+        drop(edit);
+        return Err(Refusal::ConflictingUpdateOperators);
+    }
+    edits.push(edit)?;
+    Ok(())
+}
+
+/// Puts one edit more behind the earlier ones.
 fn read_edit(
     alloc: Global,
     operator: Operator,
     name: &str,
     value: &Value,
-    earlier: Vec<Edit>,
-) -> Result<Vec<Edit>, Refusal>
-    ensures { Gives Refusal.OutOfMemory (λ v. map edit_of v.items) result
-        (read_edit operator name.now (tree value.now) (map edit_of earlier.items)) }
+    edits: &mut Vec<Edit>,
+) -> Result<(), Refusal>
+    ensures { Does Refusal.OutOfMemory result (map edit_of edits.new.items)
+        (read_edit operator name.now (tree value.now) (map edit_of edits.old.items)) }
 {
     let path = editable_path(alloc, name)?;
     let action = read_action(alloc, operator, value)?;
-    let edit = Edit { path, action };
-    if conflicts(&earlier, &edit) {
-        return Err(Refusal::ConflictingUpdateOperators);
-    }
-    let mut edits = earlier;
-    edits.push(edit)?;
-    Ok(edits)
+    add_edit(edits, Edit { path, action })
 }
 
-/// The edits before, and those of one operator.
+/// Puts the edits of one operator behind the earlier ones.
 fn read_edits(
     alloc: Global,
     operator: Operator,
     document: &Document,
-    earlier: Vec<Edit>,
-) -> Result<Vec<Edit>, Refusal>
-    ensures { Gives Refusal.OutOfMemory (λ v. map edit_of v.items) result
-        (read_edits operator document.now (map edit_of earlier.items)) }
+    edits: &mut Vec<Edit>,
+) -> Result<(), Refusal>
+    ensures { Does Refusal.OutOfMemory result (map edit_of edits.new.items)
+        (read_edits operator document.now (map edit_of edits.old.items)) }
 {
-    let mut edits = earlier;
     'pairs: for pair in document.pairs() {
-        edits = read_edit(alloc, operator, pair.name.as_str(), &pair.value, edits)?;
+        read_edit(alloc, operator, pair.name.as_str(), &pair.value, edits)?;
     }
-    Ok(edits)
+    Ok(())
 }
 
-/// The edits before, and those of the operator of a name.
+/// Puts the edits of the operator of a name behind the earlier ones.
 fn read_operator(
     alloc: Global,
     name: &str,
     value: &Value,
-    earlier: Vec<Edit>,
-) -> Result<Vec<Edit>, Refusal>
-    ensures { Gives Refusal.OutOfMemory (λ v. map edit_of v.items) result
-        (read_operator name.now (tree value.now) (map edit_of earlier.items)) }
+    edits: &mut Vec<Edit>,
+) -> Result<(), Refusal>
+    ensures { Does Refusal.OutOfMemory result (map edit_of edits.new.items)
+        (read_operator name.now (tree value.now) (map edit_of edits.old.items)) }
 {
     let Some(operator) = operator_of(name) else {
         return Err(Refusal::BadValue);
     };
     match value {
-        Value::Document(document) => read_edits(alloc, operator, document, earlier),
+        Value::Document(document) => read_edits(alloc, operator, document, edits),
         _ => Err(Refusal::TypeMismatch),
     }
 }
@@ -121,7 +127,7 @@ fn read_operators(alloc: Global, document: &Document) -> Result<Vec<Edit>, Refus
 {
     let mut edits = Vec::new(alloc);
     'pairs: for pair in document.pairs() {
-        edits = read_operator(alloc, pair.name.as_str(), &pair.value, edits)?;
+        read_operator(alloc, pair.name.as_str(), &pair.value, &mut edits)?;
     }
     Ok(edits)
 }

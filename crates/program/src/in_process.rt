@@ -2,40 +2,46 @@
 
 ghost use Rattle.std.specs.Prelude.{◌≡◌};
 
-use crate::turn::{Core, TurnFault, TurnOut};
 use bson::{Document, decode};
 use engine::ConnId;
 use op_msg::{FRAME_BYTES, reply};
 use page::Disk;
+use server::{Core, TurnFault, TurnOut};
 use shell::{Database, DatabaseFault};
 use std::alloc::Global;
 
 /// The most bytes of a message's document.
 const MOST_BYTES: usize = bson::MESSAGE_LIMIT - FRAME_BYTES as usize;
 
-impl<D: Disk> Database for Core<D> {
+/// A server as the programs for people see it.
+#[derive(Drop)]
+pub(crate) struct Server<D: Disk> {
+    pub core: Core<D>,
+}
+
+impl<D: Disk> Database for Server<D> {
     ghost use Rattle.server.specs.Durable.{IsSound};
 
-    ghost is_sound = { λ core. IsSound D.history core };
+    ghost is_sound = { λ server. IsSound D.history server.core };
 
     fn reply(&mut self, command: &Document) -> Result<Document, DatabaseFault> {
         if command.encoded_len() > MOST_BYTES {
             return Err(DatabaseFault::TooLarge);
         }
-        let alloc = self.allocator();
+        let alloc = self.core.allocator();
         let Ok(frame) = reply(alloc, 1, 0, command) else {
             return Err(DatabaseFault::Memory);
         };
         let id = only_connection();
-        if self.feed(id, &frame).is_err() {
+        if self.core.feed(id, &frame).is_err() {
             return Err(DatabaseFault::Memory);
         }
-        match self.turn() {
+        match self.core.turn() {
             Ok(turn) => document_of(alloc, &turn),
             Err(TurnFault::Stopped) => Err(DatabaseFault::Stopped),
             // The message still waits, so it is forgotten.
             Err(TurnFault::Memory) => {
-                self.gone(id);
+                self.core.gone(id);
                 Err(DatabaseFault::Memory)
             }
         }

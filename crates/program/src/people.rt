@@ -2,9 +2,9 @@
 
 ghost use Rattle.server.specs.Durable.{IsSound};
 
-use crate::program::ProgramFault;
+use crate::fault::ProgramFault;
+use crate::in_process::Server;
 use crate::terminal::{Progress, Terminal};
-use crate::turn::Core;
 use crate::words::{AskWords, ExportWords, ImportWords};
 use page::Disk;
 use shell::{Asked, ask, export, import};
@@ -15,13 +15,13 @@ use std::rt::Clock;
 /// Asks the commands that the words have, or those in the lines of the input.
 pub(crate) fn ask_all<D: Disk>(
     alloc: Global,
-    core: &mut Core<D>,
+    server: &mut Server<D>,
     words: &AskWords,
     input: &mut impl Read,
     output: &mut impl Write,
 ) -> Result<(), ProgramFault>
-    requires sound { IsSound D.history core.old }
-    ensures sound { IsSound D.history core.new }
+    requires sound { IsSound D.history server.old.core }
+    ensures sound { IsSound D.history server.new.core }
 {
     let asked = Asked {
         database: &words.database,
@@ -31,28 +31,28 @@ pub(crate) fn ask_all<D: Disk>(
     let Ok(mut lines) = BufReader::new(alloc, input) else {
         return Err(ProgramFault::Memory);
     };
-    Ok(ask(alloc, core, &asked, &words.commands, &mut lines, output)?)
+    Ok(ask(alloc, server, &asked, &words.commands, &mut lines, output)?)
 }
 
 /// Brings the documents of the input's lines in.
 pub(crate) fn import_all<R: Clock, D: Disk>(
     rt: &R,
     alloc: Global,
-    core: &mut Core<D>,
+    server: &mut Server<D>,
     words: &ImportWords,
     terminal: &Terminal,
     input: &mut impl Read,
     output: &mut impl Write,
     errors: &mut impl Write,
 ) -> Result<(), ProgramFault>
-    requires sound { IsSound D.history core.old }
-    ensures sound { IsSound D.history core.new }
+    requires sound { IsSound D.history server.old.core }
+    ensures sound { IsSound D.history server.new.core }
 {
     let Ok(mut lines) = BufReader::new(alloc, input) else {
         return Err(ProgramFault::Memory);
     };
     let mut progress = Progress::new(rt, terminal, errors);
-    let imported = import(alloc, core, &words.namespace, &mut lines, &mut progress);
+    let imported = import(alloc, server, &words.namespace, &mut lines, &mut progress);
     progress.end();
     let count = imported?;
     match writeln!(output, "{count} documents").and(output.flush()) {
@@ -65,19 +65,19 @@ pub(crate) fn import_all<R: Clock, D: Disk>(
 pub(crate) fn export_all<R: Clock, D: Disk>(
     rt: &R,
     alloc: Global,
-    core: &mut Core<D>,
+    server: &mut Server<D>,
     words: &ExportWords,
     terminal: &Terminal,
     output: &mut impl Write,
     errors: &mut impl Write,
 ) -> Result<(), ProgramFault>
-    requires sound { IsSound D.history core.old }
-    ensures sound { IsSound D.history core.new }
+    requires sound { IsSound D.history server.old.core }
+    ensures sound { IsSound D.history server.new.core }
 {
     let mut progress = Progress::new(rt, terminal, errors);
     let exported = export(
         alloc,
-        core,
+        server,
         &words.namespace,
         words.canonical,
         output,

@@ -1,4 +1,4 @@
-use Rattle.shell.proofs.importing.Work.import_lines.Given as goal
+use Rattle.shell.proofs.importing.Work.take_lines.Given as goal
 
 abbrev pub invariant-lines : goal.invariant-lines
 invariant-lines g l = g.D.Database.is_sound l.database
