@@ -19,7 +19,7 @@ pub enum Subject {
 
 /// The text that a JSON string is.
 fn text_of(alloc: Global, string: &str) -> Result<String, Fault> {
-    match values_in(alloc, string)?.pop() {
+    match values_in(alloc, string)?.into_items().pop() {
         Some(Value::String(text)) => Ok(String::from_str(alloc, text.as_str())?),
         _ => Err(Fault::Form("no text")),
     }
