@@ -128,19 +128,19 @@ fn entries_come_and_go(rt: HostRuntime) -> Result<(), Fail> {
     Ok(())
 }
 
-/// A key of 17 bytes and a value of 330 take 353 with their lengths: 11 go into a leaf's 4,080 bytes. Ten thousand in ascending
-/// order fill 910 leaves. A branch has 177 children of 6 + 17 bytes where it is full and 59 where it is filled to a third: 16
-/// branches at most, and a root. One leaf more may stand at the end, where two share what is left, and with page 0 these are 929. A
-/// turn makes two pages on each of three levels at most, and a new root.
+/// A key of 17 bytes and a value of 330 take 353 with their lengths: 11 go into a leaf's 4,080 bytes. Two thousand in ascending
+/// order fill 182 leaves. A branch has 59 children of 6 + 17 bytes where it is filled to a third: 4 branches at most, and a root. One
+/// leaf more may stand at the end, where two share what is left, and with page 0 these are 189. A turn makes two pages on each of
+/// three levels at most, and a new root.
 #[test]
 fn rising_entries_fill_their_leaves(rt: HostRuntime) -> Result<(), Fail> {
     let alloc = rt.alloc();
-    let mut pager = new_file(alloc, 2_000)?;
-    for key in 0..10_000 {
+    let mut pager = new_file(alloc, 1_000)?;
+    for key in 0..2_000 {
         assert!(rt; turn(alloc, &mut pager, key, 17, Some(330)));
     }
     let pages = pages_of(pager);
-    assert!(rt; pages <= 929 + 7, "{pages} pages");
+    assert!(rt; pages <= 189 + 7, "{pages} pages");
     Ok(())
 }
 
