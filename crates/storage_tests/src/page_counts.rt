@@ -146,7 +146,7 @@ fn rising_entries_fill_their_leaves(rt: HostRuntime) -> Result<(), Fail> {
 
 /// Lengths of the value at one key, turn by turn, and the pages of its tree: a leaf, and one for each 4,076 bytes of a value of
 /// more than 330.
-const LENGTHS: [(usize, u32); 10] = [
+const LENGTHS: [(usize, u32); 9] = [
     (330, 1),
     (331, 2),
     (65_535, 18),
@@ -154,7 +154,6 @@ const LENGTHS: [(usize, u32); 10] = [
     (65_534, 18),
     (4_076, 2),
     (4_077, 3),
-    (331, 2),
     (0, 1),
     (65_535, 18),
 ];
