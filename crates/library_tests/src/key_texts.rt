@@ -8,7 +8,7 @@ use std::test::Fail;
 use value_order::{Direction, KeyPart, group_text, key_text};
 
 /// A value, and its ascending text in hexadecimal digits.
-const ROWS: [&str; 23] = [
+const ROWS: [&str; 21] = [
     r#"{"v": {"$minKey": 1}} | 10"#,
     r#"{"v": null} | 20"#,
     r#"{"v": 5} | 308000000000000005"#,
@@ -18,7 +18,6 @@ const ROWS: [&str; 23] = [
     r#"{"v": 9223372036854775807} | 30ffffffffffffffff"#,
     r#"{"v": ""} | 400000"#,
     r#"{"v": "a\u0000b"} | 406100ff620000"#,
-    r#"{"v": {}} | 5000"#,
     r#"{"v": {"a": 1}} | 5030610030800000000000000100"#,
     r#"{"v": [null, true]} | 6020900100"#,
     r#"{"v": [{}]} | 60500000"#,
@@ -26,7 +25,6 @@ const ROWS: [&str; 23] = [
     r#"{"v": {"$binary": {"base64": "AQI=", "subType": "05"}}} | 7000000002050102"#,
     r#"{"v": {"$oid": "000000000000000000000009"}} | 80000000000000000000000009"#,
     r#"{"v": false} | 9000"#,
-    r#"{"v": true} | 9001"#,
     r#"{"v": {"$date": {"$numberLong": "-1"}}} | a07fffffffffffffff"#,
     r#"{"v": {"$date": {"$numberLong": "256"}}} | a08000000000000100"#,
     r#"{"v": {"$timestamp": {"t": 0, "i": 258}}} | b00000000000000102"#,

@@ -4,6 +4,7 @@ ghost use Rattle.std.specs.Prelude.{◌≤◌, length, IfOk};
 ghost use Rattle.server.specs.Durable.{IsSound};
 
 use crate::fault::ProgramFault;
+use crate::in_process::only_connection;
 use engine::ConnId;
 use page::Disk;
 use server::{Core, TurnFault, TurnOut};
@@ -24,24 +25,54 @@ pub(crate) fn exec<D: Disk>(
     requires sound { IsSound D.history core.old }
     ensures sound { IsSound D.history core.new }
 {
-    let Some(id) = ConnId::new(0) else {
-        unreachable!()
+    let Ok(mut buffer) = Vec::from_elem(alloc, 0u8, READ_BYTES) else {
+        return Err(ProgramFault::Memory);
     };
-    let mut buffer = Vec::from_elem(alloc, 0u8, READ_BYTES).map_err(|_| ProgramFault::Memory)?;
+    let ended = answer_input(core, &mut buffer, input, output);
+    drop(buffer);
+    ended
+}
+
+/// Answers what is read into the buffer, until the input ends.
+fn answer_input<D: Disk>(
+    core: &mut Core<D>,
+    buffer: &mut [u8],
+    input: &mut impl Read,
+    output: &mut impl Write,
+) -> Result<(), ProgramFault>
+    requires sound { IsSound D.history core.old }
+    ensures sound { IsSound D.history core.new }
+{
     for _ in 0..u64::MAX {
-        let count = read_chunk(input, &mut buffer)?;
+        let count = read_chunk(input, buffer)?;
         if count == 0 {
             break;
         }
-        // A fault of a frame ends the program, so the connection is open and only memory can be wanting.
-        if core.feed(id, &buffer[..count]).is_err() {
-            return Err(ProgramFault::Memory);
-        }
-        let ended = answer_waiting(core, id, output);
-        output.flush().map_err(|_| ProgramFault::Device)?;
-        ended?;
+        answer_bytes(core, &buffer[..count], output)?;
     }
     Ok(())
+}
+
+/// Answers the messages that end in these bytes.
+fn answer_bytes<D: Disk>(
+    core: &mut Core<D>,
+    bytes: &[u8],
+    output: &mut impl Write,
+) -> Result<(), ProgramFault>
+    requires sound { IsSound D.history core.old }
+    ensures sound { IsSound D.history core.new }
+{
+    let id = only_connection();
+    // A fault of a frame ends the program, so the connection is open and only memory can be wanting.
+    if core.feed(id, bytes).is_err() {
+        return Err(ProgramFault::Memory);
+    }
+    let ended = answer_waiting(core, id, output);
+    if output.flush().is_err() {
+        drop(ended);
+        return Err(ProgramFault::Device);
+    }
+    ended
 }
 
 /// Reads the next bytes of the input: none at its end.

@@ -48,8 +48,8 @@ impl<D: Disk> Database for Server<D> {
     }
 }
 
-/// The connection of what answers in its own process.
-fn only_connection() -> ConnId
+/// The connection of what has no other.
+pub(crate) fn only_connection() -> ConnId
     ensures { result ≡ 0 }
 {
     match ConnId::new(0) {

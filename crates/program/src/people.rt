@@ -7,9 +7,9 @@ use crate::in_process::Server;
 use crate::terminal::{Progress, Terminal};
 use crate::words::{AskWords, ExportWords, ImportWords};
 use page::Disk;
-use shell::{Asked, ask, export, import};
+use shell::{Asked, ShellFault, ask, export, import};
 use std::alloc::Global;
-use std::io::{BufReader, BufWriter, Read, Write};
+use std::io::{BufRead, BufReader, Read, Write};
 use std::rt::Clock;
 
 /// Asks the commands that the words have, or those in the lines of the input.
@@ -51,14 +51,33 @@ pub(crate) fn import_all<R: Clock, D: Disk>(
     let Ok(mut lines) = BufReader::new(alloc, input) else {
         return Err(ProgramFault::Memory);
     };
-    let mut progress = Progress::new(rt, terminal, errors);
-    let imported = import(alloc, server, &words.namespace, &mut lines, &mut progress);
-    progress.end();
+    let imported = import_lines(rt, alloc, server, words, terminal, &mut lines, errors);
+    drop(lines);
     let count = imported?;
     match writeln!(output, "{count} documents").and(output.flush()) {
         Ok(()) => Ok(()),
         Err(_) => Err(ProgramFault::Device),
     }
+}
+
+/// Brings the documents of lines in, and says how far it is. It gives how many they are.
+fn import_lines<R: Clock, D: Disk>(
+    rt: &R,
+    alloc: Global,
+    server: &mut Server<D>,
+    words: &ImportWords,
+    terminal: &Terminal,
+    lines: &mut impl BufRead,
+    errors: &mut impl Write,
+) -> Result<u64, ShellFault>
+    requires sound { IsSound D.history server.old.core }
+    ensures sound { IsSound D.history server.new.core }
+{
+    let mut progress = Progress::new(rt, terminal, errors);
+    let imported = import(alloc, server, &words.namespace, lines, &mut progress);
+    progress.end();
+    drop(progress);
+    imported
 }
 
 /// Writes the documents of a collection as lines.

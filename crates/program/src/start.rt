@@ -7,9 +7,9 @@ ghost use Rattle.server.specs.Durable.{IsSound};
 use crate::exec::exec;
 use crate::fault::ProgramFault;
 use crate::help::help_for;
+use crate::in_process::Server;
 use crate::people::{ask_all, export_all, import_all};
 use crate::ports::{listen, serve};
-use crate::in_process::Server;
 use crate::terminal::Terminal;
 use crate::words::{Task, Words, parse};
 use clap::error::ErrorKind;
@@ -71,7 +71,7 @@ pub fn run_at<
     fault.status()
 }
 
-/// Reads the words, opens the file, and runs the program.
+/// Gives the help that is asked for, reads the words, and runs the program.
 fn run_words<
     R: AllocGlobal + Clock + Files<File = File> + Net<Listener = TcpListener, Stream = TcpStream>,
 >(
@@ -87,16 +87,27 @@ fn run_words<
         let _ = output.write_all(help.as_bytes()).and(output.flush());
     }
     let words = read_words(rt.alloc(), words)?;
-    let mut server = open(rt, &words)?;
-    run_task(
-        rt,
-        &mut server,
-        &words.task,
-        terminal,
-        input,
-        output,
-        errors,
-    )
+    let ended = run_over(rt, &words, terminal, input, output, errors);
+    drop(words);
+    ended
+}
+
+/// Opens the file, and runs the program over it.
+fn run_over<
+    R: AllocGlobal + Clock + Files<File = File> + Net<Listener = TcpListener, Stream = TcpStream>,
+>(
+    rt: &R,
+    words: &Words,
+    terminal: &Terminal,
+    input: &mut impl Read,
+    output: &mut impl Write,
+    errors: &mut impl Write,
+) -> Result<(), ProgramFault> {
+    let mut server = open(rt, words)?;
+    let task = &words.task;
+    let ended = run_task(rt, &mut server, task, terminal, input, output, errors);
+    drop(server);
+    ended
 }
 
 /// Runs a program over a file that is open.

@@ -9,6 +9,27 @@ use std::time::Duration;
 /// The most connections that a program serves.
 const MOST_CONNECTIONS: usize = 64;
 
+/// One of the programs.
+#[derive(Clone, Copy, Debug, PartialEq, Eq)]
+enum Program {
+    Exec,
+    Serve,
+    Listen,
+    Ask,
+    Import,
+    Export,
+}
+
+/// All programs.
+const PROGRAMS: [Program; 6] = [
+    Program::Exec,
+    Program::Serve,
+    Program::Listen,
+    Program::Ask,
+    Program::Import,
+    Program::Export,
+];
+
 /// What the program is to do, over which file.
 #[derive(Drop)]
 pub(crate) struct Words {
@@ -102,14 +123,38 @@ fn words_in(alloc: Global, matches: &ArgMatches<'_>) -> Result<Option<Words>, Al
 
 /// The programs and their words.
 fn command<'a>(alloc: Global) -> Result<Command<'a>, AllocError> {
-    Command::new(alloc, "docpage")
-        .subcommand_required(true)
-        .subcommand(Command::new(alloc, "exec").arg(file(alloc))?)?
-        .subcommand(serve_words(alloc)?)?
-        .subcommand(listen_words(alloc)?)?
-        .subcommand(ask_words(alloc)?)?
-        .subcommand(import_words(alloc)?)?
-        .subcommand(export_words(alloc)?)
+    let mut all = Command::new(alloc, "docpage").subcommand_required(true);
+    for program in PROGRAMS {
+        all = with_program(alloc, all, program)?;
+    }
+    Ok(all)
+}
+
+/// The programs before, and one more.
+fn with_program<'a>(
+    alloc: Global,
+    all: Command<'a>,
+    program: Program,
+) -> Result<Command<'a>, AllocError> {
+    match words_for(alloc, program) {
+        Ok(words) => all.subcommand(words),
+        Err(error) => {
+            drop(all);
+            Err(error)
+        }
+    }
+}
+
+/// The words of a program.
+fn words_for<'a>(alloc: Global, program: Program) -> Result<Command<'a>, AllocError> {
+    match program {
+        Program::Exec => Command::new(alloc, "exec").arg(file(alloc)),
+        Program::Serve => serve_words(alloc),
+        Program::Listen => listen_words(alloc),
+        Program::Ask => ask_words(alloc),
+        Program::Import => import_words(alloc),
+        Program::Export => export_words(alloc),
+    }
 }
 
 fn serve_words<'a>(alloc: Global) -> Result<Command<'a>, AllocError> {

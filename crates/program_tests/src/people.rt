@@ -33,7 +33,7 @@ const RELAXED: &str = "\
 ";
 
 /// Each over what the ones before left in the file.
-const RUNS: [Run; 13] = [
+const RUNS: [Run; 12] = [
     (
         "ask",
         &[
@@ -82,14 +82,6 @@ const RUNS: [Run; 13] = [
         0,
         "{\n  \"n\": 1,\n  \"ok\": 1\n}\n",
         "",
-    ),
-    (
-        "ask",
-        &["{\"find\": \"people\", \"limit\": 1.5}"],
-        "",
-        1,
-        "",
-        "docpage: Fraction at line 1, column 29\n",
     ),
     ("import", &["shop.goods"], CANONICAL, 0, "4 documents\n", ""),
     (

@@ -1,6 +1,7 @@
 //! The words of the programs, and a port in use.
 
-use crate::runs::ended;
+use crate::runs::{Ending, ended};
+use std::alloc::AllocError;
 use std::fs;
 use std::net::TcpListener;
 use std::test::Fail;
@@ -88,27 +89,25 @@ fn help_is_printed(rt: HostRuntime) -> Result<(), Fail> {
     Ok(())
 }
 
-const SERVE: &[&str] = &[
-    "docpage",
-    "serve",
-    "port.docpage",
-    "--connections",
-    "1",
-    "--turns",
-    "1",
-    "--port",
+/// The words of programs over a port, but for its number.
+const OVER_PORTS: [&str; 2] = [
+    "docpage serve port.docpage --connections 1 --turns 1 --port",
+    "docpage listen port.docpage --port",
 ];
 
-const LISTEN: &[&str] = &["docpage", "listen", "port.docpage", "--port"];
+/// The program with these words and a port's number.
+fn ended_over(rt: &HostRuntime, front: &str, port: u16) -> Result<Ending, AllocError> {
+    let line = format!(in rt.alloc(); "{front} {port}")?;
+    let words: Vec<&str> = line.as_str().split_whitespace().collect(rt.alloc())?;
+    ended(rt, &words, &[])
+}
 
 #[test]
 fn a_port_in_use(rt: HostRuntime) -> Result<(), Fail> {
     let listener = TcpListener::bind(&rt, "127.0.0.1:0")?;
-    let port = format!(in rt.alloc(); "{}", listener.local_addr()?.port())?;
-    for front in [SERVE, LISTEN] {
-        let mut words = Vec::from_slice(rt.alloc(), front)?;
-        words.push(port.as_str())?;
-        let ending = ended(&rt, &words, &[])?;
+    let port = listener.local_addr()?.port();
+    for front in OVER_PORTS {
+        let ending = ended_over(&rt, front, port)?;
         assert_eq!(rt; ending.errors.as_slice(), b"docpage: Accept\n".as_slice());
         assert!(rt; ending.status == 1 && ending.output.is_empty());
     }

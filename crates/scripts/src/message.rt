@@ -62,23 +62,14 @@ impl Draft {
         })
     }
 
-    /// Puts documents beside the body: a section of kind 1.
-    pub fn put_documents(&mut self, name: &str, documents: &[Value]) -> Result<(), Fault> {
-        let mut content = Vec::new(self.alloc);
-        for document in documents {
-            match document {
-                Value::Document(document) => {
-                    content.extend_from_slice(&encode(self.alloc, document)?)?;
-                }
-                _ => return Err(Fault::Form("no document")),
-            }
-        }
+    /// Puts documents beside the body, as they are spelled: a section of kind 1.
+    pub fn put_documents(&mut self, name: &str, content: &[u8]) -> Result<(), Fault> {
         let size = length(name.len(), content.len()).saturating_add(5);
         self.sections.push(1)?;
         self.sections.extend_from_slice(&size.to_le_bytes())?;
         self.sections.extend_from_slice(name.as_bytes())?;
         self.sections.push(0)?;
-        self.sections.extend_from_slice(&content)?;
+        self.sections.extend_from_slice(content)?;
         Ok(())
     }
 

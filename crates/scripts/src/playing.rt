@@ -7,7 +7,7 @@ use crate::message::Draft;
 use crate::numbers::number_in;
 use crate::player::Player;
 use crate::reply::{Reply, batch_reply, done, is_document, with_ids};
-use crate::values::{document_in, values_in};
+use crate::values::{document_in, documents_in, values_in};
 use crate::words::Word;
 use bson::{Array, Document, Text, Value, decode};
 use page::MemDisk;
@@ -22,11 +22,11 @@ fn text(alloc: Global, text: &str) -> Result<Value, AllocError> {
 }
 
 /// An insert of documents into a namespace.
-fn insert(alloc: Global, namespace: &str, documents: Vec<Value>) -> Result<Document, Fault> {
+fn insert(alloc: Global, namespace: &str, documents: Array) -> Result<Document, Fault> {
     let (database, collection) = namespace.split_once('.').unwrap_or(("t", namespace));
     let mut command = Document::new(alloc);
     command.push("insert", text(alloc, collection)?)?;
-    command.push("documents", Value::Array(Array::from_items(documents)))?;
+    command.push("documents", Value::Array(documents))?;
     command.push("$db", text(alloc, database)?)?;
     Ok(command)
 }
@@ -211,7 +211,7 @@ impl Player {
         };
         let (front, behind) = rest.split_once(' ').unwrap_or((rest, ""));
         match word {
-            Word::With => draft.put_documents(front, &values_in(alloc, behind)?),
+            Word::With => draft.put_documents(front, &documents_in(alloc, behind)?),
             Word::Flags => {
                 draft.set_flags(flags_in(front)?);
                 Ok(())

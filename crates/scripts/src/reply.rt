@@ -3,7 +3,7 @@
 use crate::fault::{Fault, differs};
 use crate::message::Shape;
 use bson::{Array, BsonFault, Document, Text, Value, decode, encode};
-use std::alloc::{AllocError, Global};
+use std::alloc::Global;
 use std::str::from_utf8;
 
 /// The bytes of a frame before its body: the header, the flags, the kind of the section.
@@ -85,10 +85,10 @@ pub fn batch_reply(
     alloc: Global,
     shape: &Shape,
     cursor: i64,
-    documents: Vec<Value>,
+    documents: Array,
 ) -> Result<Document, Fault> {
     let mut batch = Document::new(alloc);
-    batch.push(shape.batch, Value::Array(Array::from_items(documents)))?;
+    batch.push(shape.batch, Value::Array(documents))?;
     batch.push("id", Value::Int64(cursor))?;
     let namespace = Text::from_str(alloc, shape.namespace.as_str())?;
     batch.push("ns", Value::String(namespace))?;
@@ -106,8 +106,8 @@ pub fn done(mut reply: Document) -> Result<Document, Fault> {
 }
 
 /// The `_id` of each document, in its place.
-fn ids_of(alloc: Global, documents: &[Value]) -> Result<Vec<Value>, AllocError> {
-    let mut ids = Vec::with_capacity(alloc, documents.len())?;
+fn ids_of(alloc: Global, documents: &[Value]) -> Result<Array, Fault> {
+    let mut ids = Array::new(alloc);
     for document in documents {
         let id = match document {
             Value::Document(document) => document.get("_id"),
@@ -119,10 +119,10 @@ fn ids_of(alloc: Global, documents: &[Value]) -> Result<Vec<Value>, AllocError> 
 }
 
 /// The documents of a reply that gives some.
-fn batch_in<'a>(reply: &'a Document, batch: &str) -> Option<&'a [Value]> {
+fn batch_in<'a>(reply: &'a Document, batch: &str) -> Option<&'a Array> {
     match reply.get("cursor")? {
         Value::Document(cursor) => match cursor.get(batch)? {
-            Value::Array(documents) => Some(documents.items()),
+            Value::Array(documents) => Some(documents),
             _ => None,
         },
         _ => None,
@@ -135,16 +135,8 @@ pub fn with_ids(alloc: Global, shape: &Shape, cursor: i64, came: &[u8]) -> Resul
     let Some(documents) = batch_in(&reply, shape.batch) else {
         return Ok(Vec::from_slice(alloc, came)?);
     };
-    let whole = batch_reply(alloc, shape, cursor, copies(alloc, documents)?)?;
+    let whole = batch_reply(alloc, shape, cursor, documents.copy()?)?;
     is_document(alloc, &whole, came)?;
-    let ids = batch_reply(alloc, shape, cursor, ids_of(alloc, documents)?)?;
+    let ids = batch_reply(alloc, shape, cursor, ids_of(alloc, documents.items())?)?;
     Ok(encode(alloc, &ids)?)
-}
-
-fn copies(alloc: Global, values: &[Value]) -> Result<Vec<Value>, AllocError> {
-    let mut out = Vec::with_capacity(alloc, values.len())?;
-    for value in values {
-        out.push(value.copy()?)?;
-    }
-    Ok(out)
 }

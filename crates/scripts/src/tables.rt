@@ -2,6 +2,7 @@
 
 use crate::byte_text::bytes_in;
 use crate::fault::{Fault, differs};
+use crate::reply::is_document;
 use crate::values::values_in;
 use crate::words::Word;
 use bson::{Document, RawDoc, Value, decode, encode};
@@ -19,7 +20,7 @@ pub enum Subject {
 
 /// The text that a JSON string is.
 fn text_of(alloc: Global, string: &str) -> Result<String, Fault> {
-    match values_in(alloc, string)?.pop() {
+    match values_in(alloc, string)?.into_items().pop() {
         Some(Value::String(text)) => Ok(String::from_str(alloc, text.as_str())?),
         _ => Err(Fault::Form("no text")),
     }
@@ -66,7 +67,7 @@ impl Subject {
         Err(differs(alloc, "these bytes", "others")?)
     }
 
-    /// Its canonical or its relaxed form is this text.
+    /// Its canonical or its relaxed form is this text, which is read as the same document.
     fn is_written(&self, alloc: Global, wanted: &str, is_canonical: bool) -> Result<(), Fault> {
         let document = self.document(alloc)?;
         let mut came = Vec::new(alloc);
@@ -75,7 +76,12 @@ impl Subject {
         } else {
             ext_json::write_relaxed(&mut came, &document)?;
         }
-        is_text(alloc, wanted, &came)
+        is_text(alloc, wanted, &came)?;
+        is_document(
+            alloc,
+            &document,
+            &encode(alloc, &ext_json::read(alloc, wanted)?)?,
+        )
     }
 
     /// It is refused with this fault.

@@ -1,7 +1,7 @@
 //! Values that stand one behind the other, in MongoDB Extended JSON.
 
 use crate::fault::Fault;
-use bson::{Document, Value};
+use bson::{Array, Document, Pair, Value, encode};
 use std::alloc::{AllocError, Global};
 use std::str::from_utf8;
 
@@ -70,27 +70,39 @@ pub fn document_in(alloc: Global, text: &str) -> Result<Document, Fault> {
 }
 
 /// The values that stand in a text, with blanks or commas between them.
-pub fn values_in(alloc: Global, text: &str) -> Result<Vec<Value>, Fault> {
-    // one document by itself may have as many levels as there are
-    match document_in(alloc, text) {
-        Ok(document) => Ok(vec![in alloc; Value::Document(document)]?),
-        Err(Fault::Memory) => Err(Fault::Memory),
-        Err(_) => listed_values(alloc, text),
-    }
-}
-
-/// The values of an array of a text.
-fn listed_values(alloc: Global, text: &str) -> Result<Vec<Value>, Fault> {
+pub fn values_in(alloc: Global, text: &str) -> Result<Array, Fault> {
     let array = array_text(alloc, text)?;
     let Ok(array) = from_utf8(&array) else {
         return Err(Fault::Form("no text"));
     };
     let mut pairs = document_in(alloc, array)?.into_pairs();
-    match pairs.pop() {
-        Some(pair) => match pair.value {
-            Value::Array(array) => Ok(array.into_items()),
-            _ => Err(Fault::Form("no values")),
-        },
-        None => Err(Fault::Form("no values")),
+    let Some(Pair { name: _, value }) = pairs.pop() else {
+        return Err(Fault::Form("no values"));
+    };
+    match value {
+        Value::Array(array) => Ok(array),
+        _ => Err(Fault::Form("no values")),
+    }
+}
+
+/// The bytes of values that are documents, one behind the other.
+fn spelled_documents(alloc: Global, values: &[Value]) -> Result<Vec<u8>, Fault> {
+    let mut out = Vec::new(alloc);
+    for value in values {
+        match value {
+            Value::Document(document) => out.extend_from_slice(&encode(alloc, document)?)?,
+            _ => return Err(Fault::Form("no document")),
+        }
+    }
+    Ok(out)
+}
+
+/// The bytes of the documents that stand in a text.
+pub fn documents_in(alloc: Global, text: &str) -> Result<Vec<u8>, Fault> {
+    // one document by itself may have as many levels as there are, and more than one in an array
+    match document_in(alloc, text) {
+        Ok(document) => Ok(encode(alloc, &document)?),
+        Err(Fault::Memory) => Err(Fault::Memory),
+        Err(_) => spelled_documents(alloc, values_in(alloc, text)?.items()),
     }
 }

@@ -1,11 +1,10 @@
 //! What the disk holds after a turn, byte by byte, pairs that spell no collections, and a turn that is cut.
 
-use crate::exchanges::{answer, frame, new_server, open};
+use crate::exchanges::{CONFIG, answer, frame, new_server, open};
 use engine::ConnId;
 use page::{Disk, MemDisk, StopDisk};
-use server::OpenFault;
+use server::{OpenFault, Step, run_anew};
 use std::alloc::Global;
-use std::process::Abort;
 use std::test::Fail;
 
 const INSERT: &str = r#"{"insert": "c", "documents": [{"_id": 1}], "$db": "t"}"#;
@@ -117,6 +116,25 @@ fn pairs_that_spell_no_collections(rt: HostRuntime) {
         let fault = fault_of(rt.alloc(), at, bytes);
         assert!(rt; fault == Some(OpenFault::Damaged), "{what}");
     }
+}
+
+/// A connection inserts and ends, over a new disk.
+#[test]
+fn steps_over_a_new_disk(rt: HostRuntime) -> Result<(), Fail> {
+    let alloc = rt.alloc();
+    let connection = ConnId::new(0).ok_or("connection 0")?;
+    let stored = frame(alloc, 1, 7, r#"{"n": 1, "ok": 1}"#)?;
+    let mut steps = Vec::new(alloc);
+    steps.push(Step::Bytes(connection, frame(alloc, 7, 0, INSERT)?))?;
+    steps.push(Step::Turn)?;
+    steps.push(Step::Gone(connection))?;
+    let Ok((_core, out)) = run_anew(alloc, CONFIG, &steps) else {
+        return Err(Fail::from("zeros don't open"));
+    };
+    let reply = out.replies.first().ok_or("no reply")?;
+    assert!(rt; reply.1.as_slice() == stored.as_slice());
+    assert!(rt; out.turns == 1 && out.stopped.is_none());
+    Ok(())
 }
 
 /// A connection that a fault would close stays open in a turn that is cut, and its bytes are taken.

@@ -12,14 +12,16 @@ use server::{Config, Core, OpenFault, TurnFault};
 use std::alloc::Global;
 use std::test::Fail;
 
-/// A server over a disk, of as many pages as the format allows.
+/// As many pages as the format allows.
+pub const CONFIG: Config = Config {
+    max_pages: 1_048_576,
+};
+
+/// A server over a disk.
 pub fn open<D: Disk + Drop>(alloc: Global, disk: D) -> Result<Core<D>, OpenFault>
     ensures { IfOk result (λ core. IsSound D.history core) }
 {
-    let config = Config {
-        max_pages: 1_048_576,
-    };
-    match Core::open(alloc, disk, config) {
+    match Core::open(alloc, disk, CONFIG) {
         Ok(core) => Ok(core),
         Err((_, fault)) => Err(fault),
     }

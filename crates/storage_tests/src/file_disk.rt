@@ -4,11 +4,6 @@ use page::{DeviceFault, Disk, FileDisk, FileFault, MemDisk};
 use std::fs;
 use std::test::Fail;
 
-/// Why a file isn't opened, or None.
-fn fault_of(answer: Result<FileDisk, FileFault>) -> Option<FileFault> {
-    answer.err()
-}
-
 /// Whether both disks give the same bytes of the sectors from one up to another.
 fn same_sectors(file: &mut FileDisk, memory: &mut MemDisk, from: u64, to: u64) -> bool {
     for sector in from..to {
@@ -84,18 +79,18 @@ fn a_file_is_locked(rt: HostRuntime) -> Result<(), Fail> {
     let Ok(writer) = FileDisk::open(&rt, path, true) else {
         panic!(&rt; "the file isn't made");
     };
-    assert!(rt; fault_of(FileDisk::open(&rt, path, true)) == Some(FileFault::Locked));
-    assert!(rt; fault_of(FileDisk::open_to_read(&rt, path)) == Some(FileFault::Locked));
+    assert!(rt; FileDisk::open(&rt, path, true).err() == Some(FileFault::Locked));
+    assert!(rt; FileDisk::open_to_read(&rt, path).err() == Some(FileFault::Locked));
     drop(writer);
     let Ok(reader) = FileDisk::open_to_read(&rt, path) else {
         panic!(&rt; "the lock is still held");
     };
-    assert!(rt; fault_of(FileDisk::open_to_read(&rt, path)).is_none());
-    assert!(rt; fault_of(FileDisk::open(&rt, path, false)) == Some(FileFault::Locked));
+    assert!(rt; FileDisk::open_to_read(&rt, path).err().is_none());
+    assert!(rt; FileDisk::open(&rt, path, false).err() == Some(FileFault::Locked));
     drop(reader);
-    assert!(rt; fault_of(FileDisk::open(&rt, path, false)).is_none());
+    assert!(rt; FileDisk::open(&rt, path, false).err().is_none());
     fs::remove_file(&rt, path)?;
-    assert!(rt; fault_of(FileDisk::open(&rt, path, false)) == Some(FileFault::Device));
+    assert!(rt; FileDisk::open(&rt, path, false).err() == Some(FileFault::Device));
     Ok(())
 }
 

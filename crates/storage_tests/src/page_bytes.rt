@@ -36,10 +36,8 @@ const TOO_LONG: &[u8] = b"\x01\0\x01\0\x07\0\0\0\x03\0\0\0\0\0\0\0\x4b\x05\0\0\0
 /// A page, the number under which it is read, a place in it and the bytes there, and the fault under the root of generation 3.
 type Row = (&'static [u8], u32, usize, &'static [u8], Option<PageFault>);
 
-const ROWS: [Row; 38] = [
+const ROWS: [Row; 36] = [
     (LEAF, 7, 0, b"\x01", None),
-    (BRANCH, 8, 0, b"\x02", None),
-    (CHAIN, 4, 0, b"\x03", None),
     (FREE_LIST, 3, 0, b"\x04", None),
     // a leaf with a value in a chain, that chain, and a branch
     (VALUE, 2, 0, b"\x01", None),

@@ -17,7 +17,7 @@ enum Sector {
 use Sector::{Changed, Letters, Root, Zeros};
 
 /// Both sectors, and the generation that is opened.
-const ROWS: [(Sector, Sector, Result<u64, OpenFault>); 20] = [
+const ROWS: [(Sector, Sector, Result<u64, OpenFault>); 18] = [
     (Zeros, Zeros, Ok(0)),
     (Zeros, Root(1), Ok(1)),
     (Root(2), Root(1), Ok(2)),
@@ -31,7 +31,6 @@ const ROWS: [(Sector, Sector, Result<u64, OpenFault>); 20] = [
     // a format 0, another page size, a tail, a tree past the end, no page
     (Zeros, Changed(1, 8, 0), Err(OpenFault::Damaged)),
     (Zeros, Changed(1, 13, 0), Err(OpenFault::Damaged)),
-    (Zeros, Changed(1, 40, 1), Err(OpenFault::Damaged)),
     (Zeros, Changed(1, 511, 1), Err(OpenFault::Damaged)),
     (Zeros, Changed(1, 24, 1), Err(OpenFault::Damaged)),
     (Zeros, Changed(1, 28, 0), Err(OpenFault::Damaged)),
@@ -40,7 +39,6 @@ const ROWS: [(Sector, Sector, Result<u64, OpenFault>); 20] = [
     (Root(2), Zeros, Err(OpenFault::Damaged)),
     (Zeros, Root(3), Err(OpenFault::Damaged)),
     (Root(4), Root(1), Err(OpenFault::Damaged)),
-    (Root(2), Root(5), Err(OpenFault::Damaged)),
 ];
 
 /// The bytes of a root up to its generation, and those behind it: no tree, one page.

@@ -1,5 +1,5 @@
 use Rattle.server.specs.Durable.{IsSound}
-use Rattle.program.proofs.exec.exec.Given as goal
+use Rattle.program.proofs.exec.answer_input.Given as goal
 
 abbrev pub invariant-loop : goal.invariant-loop
 invariant-loop g l = IsSound g.D.Disk.history l.core
