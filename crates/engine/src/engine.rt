@@ -119,9 +119,9 @@ impl<D: Disk> Engine<D> {
             Command::Create(c) => built(self.create(c.namespace.as_str())),
             Command::Drop(c) => built(self.drop_collection(c.namespace.as_str())),
             Command::ListCollections(c) => spelled(self.list_collections(c.database)),
-            Command::CreateIndexes(_) | Command::DropIndexes(_) | Command::ListIndexes(_) => {
-                Err(Refusal::CommandNotFound)
-            }
+            Command::CreateIndexes(_) => Err(Refusal::CommandNotFound),
+            Command::DropIndexes(_) => Err(Refusal::CommandNotFound),
+            Command::ListIndexes(_) => Err(Refusal::CommandNotFound),
         }
     }
 
