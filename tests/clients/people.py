@@ -5,7 +5,7 @@ import json, os, pty, re, select, signal, subprocess, sys, tempfile, time
 PROGRAM = os.path.abspath(sys.argv[1])
 FOLDER = tempfile.mkdtemp(prefix="people.")
 PATIENCE = 60
-COUNT = 30_000
+COUNT = 300_000
 signal.alarm(300)
 
 
