@@ -175,7 +175,7 @@ impl<'a> Trial<'a> {
             .map_err(|fault| self.failure(fault))
     }
 
-    /// A server that has stopped stays so, and what is left is what is expected.
+    /// What is left is what is expected, after a power cut and without one.
     fn judge(&self, player: &mut Player, expected: Expected) -> Result<(), Fault> {
         let pending = player.orders.pending();
         let memory = player.close()?;
