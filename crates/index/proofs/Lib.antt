@@ -50,5 +50,7 @@ pub mod IndexedLaws
 pub mod CatalogueValues
 pub mod ReplacingLoops
 pub mod ReplacingLaws
+pub mod EnteringLemmas
+pub mod EnteringSteps
 pub mod BuildingLaws
 pub mod CatalogueReadLaws

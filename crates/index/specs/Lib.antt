@@ -26,3 +26,4 @@ pub mod Escaping
 pub mod Indexed
 pub mod IndexBuilding
 pub mod CatalogueReading
+pub mod Entering
