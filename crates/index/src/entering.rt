@@ -37,7 +37,7 @@ impl<'a> Keyed<'a> {
         document: &'a Document,
     ) -> Result<Keyed<'a>, Refusal>
         ensures keyed { IfOk result (λ k. AreKeyed indexes.now k) }
-        ensures document { IfOk result (λ k. k.document ≡ document) }
+        ensures document { IfOk result (λ k. k.document.now ≡ document.now) }
         ensures refused { IfErr result (λ e. e ≢ Refusal.OutOfMemory
             → keys_in_all indexes.now document.now ≡ Err e) }
     {

@@ -31,7 +31,7 @@ pub use catalogue_reading::{Catalogued, catalogue_told};
 pub use changes::{KeyChanges, entry_key};
 pub use definition::{IndexField, IndexSpec};
 pub use edits::Edits;
-pub use entering::stay_indexed;
+pub use entering::{Keyed, stay_indexed};
 pub use entry_keys::{catalogue_key, document_key, first_key};
 pub use entry_reading::{catalogue_number, document_in, namespace_in};
 pub use keys::keys_in_all;
