@@ -15,14 +15,16 @@ use Rattle.btree.specs.Scan.{entry_in, within}
 use Rattle.btree.specs.declared.scanning.Batch.{Batch}
 use Rattle.btree.specs.declared.scanning.Entry.{Entry as OwnEntry}
 use Rattle.btree.specs.declared.scanning.Range.{Range}
+use Rattle.index.specs.Definition.{Definition}
 use Rattle.index.specs.LawfulState.{IsKept, IsStorable}
 use Rattle.index.specs.State.{Collection, find_collection, words}
 use Rattle.index.specs.StateEntries.{catalogue_entry, document_entry, key_under}
 use Rattle.index.specs.StateReads.{catalogue_bytes}
+use Rattle.index.specs.declared.catalogue_reading.Catalogued.{Catalogued}
 use Rattle.index.proofs.FoundLawLemmas.{found_collection, found_document}
 use Rattle.index.proofs.ListingLaws.{lists_collections}
 use Rattle.index.proofs.ReadLaws.{finds_collection, finds_document}
-use Rattle.collections.specs.Reading.{AreBytesAt, AreEach, IsBatchOf, IsInTree, IsOfCollection, IsOfDocument, IsPlaceOf, IsValueAt, OrMemory, Place, stored_at}
+use Rattle.collections.specs.Reading.{AreBytesAt, AreEach, IsBatchOf, IsInTree, IsOfCollection, IsOfDocument, IsPlaceOf, IsValueAt, OrMemory, Place, catalogued_in, catalogued_of, stored_at}
 
 -- ---- a collection by its name
 
@@ -30,32 +32,39 @@ module _ (now : List Collection) (name key : List ℕ) (is : key ≡ key_under 0
   bytes_found : (found : Option (Vec ℕ)) → IsInTree (IsValueAt key) now found → option_map (λ v. v.items) found ≡ option_map catalogue_bytes (find_collection now name)
   bytes_found found p =
       p.right ∙ ap (λ (k : List ℕ). value_at k p.entries) is
-      ∙ finds_collection p.entries now name (record { lawful = p.state.lawful; spells = p.spells })
+      ∙ finds_collection p.entries now name (record { lawful = p.state; spells = p.spells })
 
-  pub none_numbered : IsInTree (IsValueAt key) now None → None ≡ option_map (λ c. c.number) (find_collection now name)
-  none_numbered p = by_found (find_collection now name) (bytes_found None p)
+  pub none_told : IsInTree (IsValueAt key) now None → None ≡ option_map catalogued_in (find_collection now name)
+  none_told p = by_found (find_collection now name) (bytes_found None p)
     where
-      by_found : (o : Option Collection) → None ≡ option_map catalogue_bytes o → None ≡ option_map (λ c. c.number) o
+      by_found : (o : Option Collection) → None ≡ option_map catalogue_bytes o → None ≡ option_map catalogued_in o
       by_found None e = refl
       by_found (Some c) e = cc
 
-  pub one_numbered : (v : Vec ℕ) (r : Result ℕ Refusal) → IsInTree (IsValueAt key) now (Some v)
-      → ((c : Collection) → IsKept c → c.indexes ≡ [] → v.items ≡ (catalogue_entry c).value → OrMemory (λ number. number ≡ c.number) r)
-      → OrMemory (λ number. Some number ≡ option_map (λ c. c.number) (find_collection now name)) r
-  one_numbered v r p reads = by_found (find_collection now name) refl (bytes_found (Some v) p)
+  pub one_told : (v : Vec ℕ) (r : Result Catalogued Refusal) → IsInTree (IsValueAt key) now (Some v)
+      → ((c : Collection) → IsKept c → v.items ≡ (catalogue_entry c).value → OrMemory (λ told. catalogued_of told ≡ catalogued_in c) r)
+      → OrMemory (λ told. Some (catalogued_of told) ≡ option_map catalogued_in (find_collection now name)) r
+  one_told v r p reads = by_found (find_collection now name) refl (bytes_found (Some v) p)
     where
-      told : (c : Collection) (r : Result ℕ Refusal) → OrMemory (λ number. number ≡ c.number) r → OrMemory (λ number. Some number ≡ Some c.number) r
-      told c (Ok number) e = ap Some e
-      told c (Err e) is = is
+      in_some : (c : Collection) (r : Result Catalogued Refusal) → OrMemory (λ told. catalogued_of told ≡ catalogued_in c) r → OrMemory (λ told. Some (catalogued_of told) ≡ Some (catalogued_in c)) r
+      in_some c (Ok told) e = ap Some e
+      in_some c (Err e) is = is
 
-      by_found : (o : Option Collection) → find_collection now name ≡ o → Some v.items ≡ option_map catalogue_bytes o → OrMemory (λ number. Some number ≡ option_map (λ c. c.number) o) r
+      by_found : (o : Option Collection) → find_collection now name ≡ o → Some v.items ≡ option_map catalogue_bytes o → OrMemory (λ told. Some (catalogued_of told) ≡ option_map catalogued_in o) r
       by_found None at e = absurd cc
-      by_found (Some c) at e =
-          let found = found_collection now name c p.state at in
-          told c r (reads c found.0 found.1 (unsome v.items (catalogue_bytes c) e))
+      by_found (Some c) at e = in_some c r (reads c (found_collection now name c p.state at).0 (unsome v.items (catalogue_bytes c) e))
         where
           unsome : (a b : List ℕ) → Some a ≡ Some b → a ≡ b
           unsome a b e = cc
+
+-- the number alone
+pub none_numbered : (o : Option Collection) → None ≡ option_map catalogued_in o → None ≡ option_map (λ c. c.number) o
+none_numbered None e = refl
+none_numbered (Some c) e = cc
+
+pub one_numbered : (told : Catalogued) (o : Option Collection) → Some (catalogued_of told) ≡ option_map catalogued_in o → Some told.number ≡ option_map (λ c. c.number) o
+one_numbered told None e = absurd cc
+one_numbered told (Some c) e = ap (option_map (λ (p : ℕ × List Definition). p.0)) e
 
 -- ---- a document by its `_id`
 
@@ -67,7 +76,7 @@ bytes_there now number text key is place found at p =
     let same : key ≡ key_under c.number 0 (tree_text place.id) = is ∙ (λ i. key_under (numbers i) 0 (at.spelled i)) in
     record {
       spelled = p.right ∙ ap (λ (k : List ℕ). value_at k p.entries) same
-          ∙ finds_document p.entries now c place.id (record { lawful = p.state.lawful; spells = p.spells }) at.numbered.found at.key;
+          ∙ finds_document p.entries now c place.id (record { lawful = p.state; spells = p.spells }) at.numbered.found at.key;
       storable = (found_collection now c.name c p.state at.numbered.found).0.storable;
     }
 
@@ -177,13 +186,13 @@ each_document number (e ∷ es) (d ∷ ds) same all = (
   each_document number es ds (rest_same (entry_in e) (document_entry number d) (map entry_in es) (map (document_entry number) ds) same) (All-tail IsStorable d ds all),
 )
 
-each_collection : (es : List OwnEntry) (cs : List Collection) → map entry_in es ≡ map catalogue_entry cs → All IsKept cs → All (λ c. c.indexes ≡ []) cs → AreEach IsOfCollection es cs
-each_collection [] [] same kept plain = tt
-each_collection [] (c ∷ cs) same kept plain = absurd cc
-each_collection (e ∷ es) [] same kept plain = absurd cc
-each_collection (e ∷ es) (c ∷ cs) same kept plain = (
-  (All-head IsKept c cs kept, All-head (λ c. c.indexes ≡ []) c cs plain, front_same (entry_in e) (catalogue_entry c) (map entry_in es) (map catalogue_entry cs) same),
-  each_collection es cs (rest_same (entry_in e) (catalogue_entry c) (map entry_in es) (map catalogue_entry cs) same) (All-tail IsKept c cs kept) (All-tail (λ c. c.indexes ≡ []) c cs plain),
+each_collection : (es : List OwnEntry) (cs : List Collection) → map entry_in es ≡ map catalogue_entry cs → All IsKept cs → AreEach IsOfCollection es cs
+each_collection [] [] same kept = tt
+each_collection [] (c ∷ cs) same kept = absurd cc
+each_collection (e ∷ es) [] same kept = absurd cc
+each_collection (e ∷ es) (c ∷ cs) same kept = (
+  (All-head IsKept c cs kept, front_same (entry_in e) (catalogue_entry c) (map entry_in es) (map catalogue_entry cs) same),
+  each_collection es cs (rest_same (entry_in e) (catalogue_entry c) (map entry_in es) (map catalogue_entry cs) same) (All-tail IsKept c cs kept),
 )
 
 -- ---- the whole catalogue
@@ -202,7 +211,7 @@ fits_batch limit all entries (Some key) few more batch =
 module _ (now : List Collection) (range : Range) (batch : Batch) (from : range.from.now ≡ key_under 0 0 []) (to : option_map (λ b. b.now) range.to ≡ Some (key_under 0 1 [])) (limit : range.limit ≡ 1000)
     (p : IsInTree (IsBatchOf range) now batch) where
   listed : within range p.entries ≡ map catalogue_entry now
-  listed = (λ i. window (from i) (to i) p.entries) ∙ lists_collections p.entries now (record { lawful = p.state.lawful; spells = p.spells })
+  listed = (λ i. window (from i) (to i) p.entries) ∙ lists_collections p.entries now (record { lawful = p.state; spells = p.spells })
 
   some_same : is_some (option_map (λ v. v.items) batch.next) ≡ is_some batch.next
   some_same = by_next batch.next
@@ -213,9 +222,9 @@ module _ (now : List Collection) (range : Range) (batch : Batch) (from : range.f
 
   pub named : is_some batch.next ≡ false → AreEach IsOfCollection batch.entries.items now
   named end =
-      each_collection batch.entries.items now (whole_batch range.limit (within range p.entries) (map entry_in batch.entries.items) (option_map (λ v. v.items) batch.next) (some_same ∙ end) p.right ∙ listed) p.state.lawful.kept p.state.plain
+      each_collection batch.entries.items now (whole_batch range.limit (within range p.entries) (map entry_in batch.entries.items) (option_map (λ v. v.items) batch.next) (some_same ∙ end) p.right ∙ listed) p.state.kept
 
   pub not_more : is_some batch.next ≡ true → ⊥
   not_more more =
       fits_batch range.limit (within range p.entries) (map entry_in batch.entries.items) (option_map (λ v. v.items) batch.next)
-      (omega (arith, ap length listed, length-map now catalogue_entry, p.state.lawful.few, limit)) (some_same ∙ more) p.right
+      (omega (arith, ap length listed, length-map now catalogue_entry, p.state.few, limit)) (some_same ∙ more) p.right

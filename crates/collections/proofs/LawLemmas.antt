@@ -15,7 +15,7 @@ use Rattle.pager.specs.View.{store_of}
 use Rattle.pager.proofs.BeginLemmas.{begun_map}
 use Rattle.pager.proofs.TurnLemmas.{committed_still}
 use Rattle.index.proofs.OneStateLaws.{spells_one}
-use Rattle.index.specs.Documents.{IsUnindexed}
+use Rattle.index.specs.LawfulState.{IsLawfulState}
 use Rattle.index.specs.State.{Collection}
 use Rattle.index.specs.StateEntries.{Spells}
 use Rattle.collections.specs.State.{State}
@@ -47,7 +47,7 @@ rests_at_start history c start now running k has rests =
     let old_map : HasMap (store_of history c.pager) c.root t.live t.before =
     subst (λ (root : ℕ). HasMap (store_of history c.pager) root t.live t.before) same (old_trees_stay (store_of history t.began) (store_of history c.pager) (durable_root t.began.store).tree t.live t.before frame then_map) in
     let entries : t.after ≡ t.before = (one_map (store_of history c.pager) c.root t.pages t.live t.after t.before t.turn.holds old_map).entries_are in
-    spells_one t.after now start t.now_state.lawful t.start_state.lawful t.spells_now (subst (λ (es : List Entry). Spells es start) (sym entries) t.spells_start)
+    spells_one t.after now start t.now_state t.start_state t.spells_now (subst (λ (es : List Entry). Spells es start) (sym entries) t.spells_start)
 
 pub has_one_state : {D : Type 0} (history : D → History) → HasOneState history
 has_one_state history c start now' start' now'' running k one two =
@@ -60,30 +60,27 @@ has_one_state history c start now' start' now'' running k one two =
     let stands : StandsFor image t.before = record { root = durable_root c.pager.store; pages = t.live; opens = keeps.opens k; holds = keeps.holds k } in
     let stands' : StandsFor image u.before = record { root = durable_root c.pager.store; pages = u.live; opens = others.opens k; holds = others.holds k } in
     let before : t.before ≡ u.before = one_state image t.before u.before stands stands' in (
-      spells_one t.before start start' t.start_state.lawful u.start_state.lawful t.spells_start (subst (λ (es : List Entry). Spells es start') (sym before) u.spells_start),
-      spells_one t.after now' now'' t.now_state.lawful u.now_state.lawful t.spells_now (subst (λ (es : List Entry). Spells es now'') (sym entries) u.spells_now),
+      spells_one t.before start start' t.start_state u.start_state t.spells_start (subst (λ (es : List Entry). Spells es start') (sym before) u.spells_start),
+      spells_one t.after now' now'' t.now_state u.now_state t.spells_now (subst (λ (es : List Entry). Spells es now'') (sym entries) u.spells_now),
     )
 
 pub holds_one : HoldsOne
 holds_one image a b one two =
     let same : one.entries ≡ two.entries = one_state image one.entries two.entries one.stands two.stands in
-    spells_one one.entries a b one.state.lawful two.state.lawful one.spells (subst (λ (es : List Entry). Spells es b) (sym same) two.spells)
+    spells_one one.entries a b one.state two.state one.spells (subst (λ (es : List Entry). Spells es b) (sym same) two.spells)
 
 zero_roots : root_of (replicate 512 0) (replicate 512 0) ≡ Ok no_root
 zero_roots = refl
 
-none_unindexed : IsUnindexed []
-none_unindexed = record {
-  lawful = record { apart = search rules; numbers = tt; kept = search rules; few = omega arith };
-  plain = search rules;
-}
+none_lawful : IsLawfulState []
+none_lawful = record { apart = search rules; numbers = tt; kept = search rules; few = omega arith }
 
 pub zeros_hold_nothing : ZerosHoldNothing
 zeros_hold_nothing image even odd = record {
   entries = [];
   stands = record { root = no_root; pages = []; opens = (λ i. root_of (even i) (odd i)) ∙ zero_roots; holds = record { map = inl (refl, (refl, refl)); once = λ n. omega arith } };
   spells = record { rises = search rules; same = λ entry. (λ x. x, λ x. x) };
-  state = none_unindexed;
+  state = none_lawful;
 }
 
 pub goes_from_itself : {D : Type 0} (history : D → History) → GoesFromItself history

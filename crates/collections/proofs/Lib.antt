@@ -5,6 +5,7 @@ pub mod FoundLemmas
 pub mod LawLemmas
 pub mod MarkLemmas
 pub mod OpenLemmas
+pub mod OtherKeyLemmas
 pub mod ReadingLemmas
 pub mod StandingLemmas
 pub mod WalkLemmas

@@ -133,7 +133,7 @@ module _ {D X Y : Type 0} (history : D → History) (root : ℕ) (P : List Entry
   pub looks_never : (x : X) (e : TreeFault) → LooksUp history root P (Ok x) old new → ((entries : List Entry) → P entries x → ⊥) → LooksUp history root Q (Err e) old new
   looks_never x e looks never = record { grows = looks.grows; same = looks.same; yields = λ pages entries has k. absurd (never entries (looks.yields pages entries has k)) }
 
-next_same : (next : Option (Vec ℕ)) → is_some (option_map (λ v. v.items) next) ≡ is_some next
+pub next_same : (next : Option (Vec ℕ)) → is_some (option_map (λ v. v.items) next) ≡ is_some next
 next_same None = refl
 next_same (Some v) = refl
 

@@ -18,7 +18,7 @@ use Rattle.pager.specs.Turn.{IsBegun}
 use Rattle.pager.specs.View.{pager_history, store_of}
 use Rattle.pager.proofs.BeginLemmas.{turn_begins}
 use Rattle.pager.proofs.TurnLemmas.{same_root}
-use Rattle.index.specs.Documents.{IsUnindexed}
+use Rattle.index.specs.LawfulState.{IsLawfulState}
 use Rattle.index.specs.State.{Collection}
 use Rattle.index.specs.StateEntries.{Spells}
 use Rattle.collections.specs.State.{State}
@@ -48,7 +48,7 @@ pub record IsNow {D : Type 0} (history : D → History) (began : PagerState D) (
   pub after : List Entry
   pub turn : IsTurn history began c.pager c.root live pages after
   pub spells : Spells after now
-  pub state : IsUnindexed now
+  pub state : IsLawfulState now
 
 pub turned : {D : Type 0} (history : D → History) (old new : State D) (start before after : List Collection) (t : IsTurnOf history old start before) → IsNow history t.began t.live new after → IsTurnOf history new start after
 turned history old new start before after t n = record {
@@ -109,7 +109,7 @@ state_stays history old new start now goes same made retired =
 
 -- no turn runs
 pub begins : {D : Type 0} (history : D → History) (c : State D) (live : List ℕ) (entries : List Entry) (now : List Collection) → c.root ≡ (stores.durable_root c.pager.store).tree → KeepsWord (disk_history history c)
-    → IsBegun history c.pager live entries → Spells entries now → IsUnindexed now → IsTurnOf history c now now
+    → IsBegun history c.pager live entries → Spells entries now → IsLawfulState now → IsTurnOf history c now now
 begins history c live entries now is k begun spells state = record {
   began = c.pager;
   live = live;

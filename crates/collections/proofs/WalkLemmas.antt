@@ -18,7 +18,6 @@ use Rattle.btree.specs.declared.scanning.Batch.{Batch}
 use Rattle.btree.specs.declared.scanning.Range.{Range}
 use Rattle.btree.proofs.KeyLemmas.{not_under_itself}
 use Rattle.index.specs.Batches.{documents_at}
-use Rattle.index.specs.Documents.{IsUnindexed}
 use Rattle.index.specs.LawfulState.{IsKept, IsStorable}
 use Rattle.index.specs.State.{Collection}
 use Rattle.index.specs.StateEntries.{document_entry, key_under}
@@ -139,7 +138,7 @@ begins_walk history c number walk first fit same_number same_next same_key left 
     let numbers : of.number ≡ walk.number = numbered.same ∙ sym same_number in
     let next : next_key walk ≡ Some (key_under walk.number 0 []) = ap (option_map (λ v. v.items)) same_next ∙ ap Some same_key ∙ ap (λ (n : ℕ). Some (key_under n 0 [])) (sym same_number) in
     let listed : window key (Some (key_under of.number 1 [])) t.after ≡ map (document_entry of.number) of.documents =
-    lists_documents_from t.after now of key (record { lawful = t.now_state.lawful; spells = t.spells_now }) numbered.found (not_under_itself key) ∙ ap (map (document_entry of.number)) (all_documents of.number of.documents) in
+    lists_documents_from t.after now of key (record { lawful = t.now_state; spells = t.spells_now }) numbered.found (not_under_itself key) ∙ ap (map (document_entry of.number)) (all_documents of.number of.documents) in
     let few : length of.documents ≤ 680 * 1048576 =
     omega (arith, ap length listed, length-map of.documents (document_entry of.number), shorter_window key (Some (key_under of.number 1 [])) t.after, (fit t.began t.live t.before t.begun c.root t.pages t.after t.turn k).few) in
     record {
@@ -201,7 +200,7 @@ module _ (now : List Collection) (walk : Walk) (rest : List Pairs) (w : IsWalk n
 
   listed_at : (n : ℕ) → c.number ≡ n → IsNotUnder key (key_under n 0 []) → window key (Some (key_under n 1 [])) p.entries ≡ map (document_entry n) (documents_at n key c.documents)
   listed_at n is = subst (λ (n : ℕ). IsNotUnder key (key_under n 0 []) → window key (Some (key_under n 1 [])) p.entries ≡ map (document_entry n) (documents_at n key c.documents)) is
-      (λ above. lists_documents_from p.entries now c key (record { lawful = p.state.lawful; spells = p.spells }) w.numbered.found above)
+      (λ above. lists_documents_from p.entries now c key (record { lawful = p.state; spells = p.spells }) w.numbered.found above)
 
   listed : within range p.entries ≡ map (document_entry walk.number) (documents_at walk.number key c.documents)
   listed = (λ i. window (range_from i) (range_to i) p.entries) ∙ listed_at walk.number w.numbered.same ahead_here.0

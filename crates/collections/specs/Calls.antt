@@ -5,9 +5,9 @@ use Rattle.btree.specs.Keys.{Entry, Edit}
 use Rattle.btree.specs.Store.{Grows, HasNoPage}
 use Rattle.path.specs.declared.refusal.Refusal.{Refusal}
 use Rattle.path.specs.declared.refusal.Refusal.TheVariants as refusals
+use Rattle.index.specs.LawfulState.{IsLawfulState}
 use Rattle.index.specs.State.{Collection}
 use Rattle.index.specs.StateEntries.{Leads, Spells}
-use Rattle.index.specs.Documents.{IsUnindexed}
 use Rattle.collections.specs.State.{State}
 use Rattle.collections.specs.Standing.{HasState}
 use Rattle.collections.specs.View.{disk_history, is_changed, is_stopped, pages_of}
@@ -67,9 +67,9 @@ pub record Applies {D : Type 0} (history : D → History) (edits : List Edit)
   pub unchanged : OnErr result (is_changed new ≡ is_changed old)
   pub kinds : IfErr result IsOfFile
   pub state : (start before after : List Collection) → HasState history old start before
-      → Leads edits before after → IsUnindexed after
+      → Leads edits before after → IsLawfulState after
       → MatchResult result (λ _. HasState history new start after)
       (λ _. HasState history new start before)
   pub cause : KeepsWord (disk_history history new) → (start before after : List Collection)
-      → HasState history old start before → Leads edits before after → IsUnindexed after
+      → HasState history old start before → Leads edits before after → IsLawfulState after
       → IfErr result (HasWriteCause history after old new)

@@ -4,11 +4,11 @@ use Rattle.btree.specs.Keys.{Entry}
 use Rattle.roots.specs.Image.{StandsFor}
 use Rattle.index.specs.State.{Collection}
 use Rattle.index.specs.StateEntries.{Spells}
-use Rattle.index.specs.Documents.{IsUnindexed}
+use Rattle.index.specs.LawfulState.{IsLawfulState}
 
 -- The entries of the tree that the image's root names spell these collections, which are lawful.
 pub record Holds (image : ℕ → List ℕ) (collections : List Collection) : Type 0 where
   pub entries : List Entry
   pub stands : StandsFor image entries
   pub spells : Spells entries collections
-  pub state : IsUnindexed collections
+  pub state : IsLawfulState collections

@@ -6,6 +6,7 @@ pub mod Holding
 pub mod Laws
 pub mod Marks
 pub mod Opening
+pub mod OtherKeys
 pub mod Reading
 pub mod Standing
 pub mod State

@@ -19,11 +19,12 @@ use Rattle.btree.specs.declared.scanning.Entry.{Entry as OwnEntry}
 use Rattle.btree.specs.declared.scanning.Range.{Range}
 use Rattle.path.specs.declared.refusal.Refusal.{Refusal}
 use Rattle.path.specs.declared.refusal.Refusal.TheVariants as refusals
-use Rattle.index.specs.Documents.{IsUnindexed}
-use Rattle.index.specs.LawfulState.{IsKept, IsStorable}
+use Rattle.index.specs.Definition.{Definition}
+use Rattle.index.specs.LawfulState.{IsKept, IsLawfulState, IsStorable}
 use Rattle.index.specs.State.{Collection, find_collection}
 use Rattle.index.specs.StateEntries.{Spells, catalogue_entry}
 use Rattle.index.specs.StateReads.{find_document}
+use Rattle.index.specs.declared.catalogue_reading.Catalogued.{Catalogued}
 use Rattle.pager.specs.State.{State as PagerState}
 use Rattle.pager.specs.View.{pager_history, store_of}
 use Rattle.collections.specs.declared.reading.Name.{Name}
@@ -50,7 +51,7 @@ pub record IsInTree {X : Type 0} (IsRight : List Entry → X → Type 0) (now : 
     (answer : X) : Type 0 where
   pub entries : List Entry
   pub spells : Spells entries now
-  pub state : IsUnindexed now
+  pub state : IsLawfulState now
   pub right : IsRight entries answer
 
 -- the value at the key
@@ -78,6 +79,13 @@ name_of n = (string_bytes n.namespace, n.number)
 abbrev pub name_in : Collection → List ℕ × ℕ
 name_in c = (c.name, c.number)
 
+-- the number and the indexes of a collection
+abbrev pub catalogued_of : Catalogued → ℕ × List Definition
+catalogued_of e = (e.number, e.indexes.items)
+
+abbrev pub catalogued_in : Collection → ℕ × List Definition
+catalogued_in c = (c.number, c.indexes)
+
 -- ---- entries, one by one
 
 -- each of the one list is so to the one at its place in the other
@@ -90,9 +98,9 @@ AreEach R _ _ = ⊥
 abbrev pub IsOfDocument : OwnEntry → Pairs → Type 0
 IsOfDocument entry d = IsStorable d × (entry.value.items ≡ frame_of (pairs_bytes d))
 
--- what the catalogue keeps of a collection without indexes
+-- what the catalogue keeps of a collection
 abbrev pub IsOfCollection : OwnEntry → Collection → Type 0
-IsOfCollection entry c = IsKept c × (c.indexes ≡ []) × (entry_in entry ≡ catalogue_entry c)
+IsOfCollection entry c = IsKept c × (entry_in entry ≡ catalogue_entry c)
 
 abbrev pub IsNameOf : Name → Collection → Type 0
 IsNameOf name c = name_of name ≡ name_in c

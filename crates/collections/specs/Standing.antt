@@ -5,9 +5,9 @@ use Rattle.btree.specs.Keys.{Entry}
 use Rattle.pager.specs.Commit.{IsTurn}
 use Rattle.pager.specs.State.{State as PagerState}
 use Rattle.pager.specs.Turn.{IsBegun}
+use Rattle.index.specs.LawfulState.{IsLawfulState}
 use Rattle.index.specs.State.{Collection}
 use Rattle.index.specs.StateEntries.{Spells}
-use Rattle.index.specs.Documents.{IsUnindexed}
 use Rattle.collections.specs.State.{State}
 use Rattle.collections.specs.View.{disk_history, is_stopped}
 
@@ -19,12 +19,12 @@ pub record IsTurnOf {D : Type 0} (history : D → History) (c : State D)
   pub before : List Entry
   pub begun : IsBegun history began live before
   pub spells_start : Spells before start
-  pub start_state : IsUnindexed start
+  pub start_state : IsLawfulState start
   pub pages : List ℕ
   pub after : List Entry
   pub turn : IsTurn history began c.pager c.root live pages after
   pub spells_now : Spells after now
-  pub now_state : IsUnindexed now
+  pub now_state : IsLawfulState now
 
 -- While nothing has failed and the disk keeps its word: the collections as the turn began, and as they are now.
 abbrev pub HasState : {D : Type 0} → (D → History) → State D

@@ -6,6 +6,7 @@ mod applying;
 mod collections;
 pub mod laws;
 mod mark;
+mod other_keys;
 mod reading;
 mod walk;
 

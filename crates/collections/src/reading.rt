@@ -1,6 +1,6 @@
 //! Collections by their names, and documents by their `_id`.
 
-ghost use Rattle.std.specs.Prelude.{◌≡◌, List, [], is_some, map};
+ghost use Rattle.std.specs.Prelude.{◌≡◌, List, is_some, map};
 ghost use Rattle.std.specs.Option.{option_map};
 ghost use Rattle.bson.specs.Spelling.{frame_of, pairs_bytes};
 ghost use Rattle.bson.specs.Tree.{Pairs};
@@ -10,13 +10,13 @@ ghost use Rattle.index.specs.State.{Collection, find_collection};
 ghost use Rattle.index.specs.StateEntries.{catalogue_entry};
 ghost use Rattle.collections.specs.Calls.{Reads};
 ghost use Rattle.collections.specs.Entries.{AreNextEntries, ReadsEntries, ReadsTree};
-ghost use Rattle.collections.specs.Reading.{AreBytesAt, AreEach, IsBatchOf, IsInTree, IsNameOf, IsOfCollection, IsOfDocument, IsPlaceOf, IsValueAt, LooksUp, OrMemory, ReadsOf, name_in, name_of, stored_at};
+ghost use Rattle.collections.specs.Reading.{AreBytesAt, AreEach, IsBatchOf, IsInTree, IsNameOf, IsOfCollection, IsOfDocument, IsPlaceOf, IsValueAt, LooksUp, OrMemory, ReadsOf, catalogued_in, catalogued_of, name_in, name_of, stored_at};
 
 use crate::applying::refusal_of;
 use crate::collections::Collections;
 use bson::Document;
 use btree::{Batch, Entry, Range, TreeFault, get, scan};
-use index::{catalogue_key, catalogue_number, document_in, document_key, first_key, namespace_in};
+use index::{Catalogued, catalogue_key, catalogue_told, document_in, document_key, first_key, namespace_in};
 use page::Disk;
 use pager::Pager;
 use path::Refusal;
@@ -100,13 +100,13 @@ pub(crate) fn documents_of(alloc: Global, entries: &[Entry]) -> Result<Vec<Docum
     Ok(documents)
 }
 
-/// The number that the catalogue tells of a collection.
-fn number_in(alloc: Global, value: &[u8]) -> Result<u32, Refusal>
-    ensures { (c : Collection) → IsKept c → c.indexes ≡ [] → value.now ≡ (catalogue_entry c).value
-        → OrMemory (λ number. number ≡ c.number) result }
+/// The number and the indexes that the catalogue tells of a collection.
+fn told_in(alloc: Global, value: &[u8]) -> Result<Catalogued, Refusal>
+    ensures { (c : Collection) → IsKept c → value.now ≡ (catalogue_entry c).value
+        → OrMemory (λ told. catalogued_of told ≡ catalogued_in c) result }
 {
-    match catalogue_number(alloc, value)? {
-        Some(number) => Ok(number),
+    match catalogue_told(alloc, value)? {
+        Some(told) => Ok(told),
         None => Err(Refusal::StorageFailed),
     }
 }
@@ -119,8 +119,11 @@ fn name_at(alloc: Global, entry: &Entry) -> Result<Name, Refusal>
     let Some(namespace) = namespace_in(alloc, &entry.key)? else {
         return Err(Refusal::StorageFailed);
     };
-    let number = number_in(alloc, &entry.value)?;
-    Ok(Name { namespace, number })
+    let told = told_in(alloc, &entry.value)?;
+    Ok(Name {
+        namespace,
+        number: told.number,
+    })
 }
 
 /// The collections that entries of the catalogue are of.
@@ -193,17 +196,29 @@ impl<D: Disk> Collections<D> {
         }
     }
 
-    /// The number of the collection of a name, if there is one.
-    pub fn number_of(&mut self, namespace: &str) -> Result<Option<u32>, Refusal>
-        ensures { Reads D.history (λ now found. found
-            ≡ option_map (λ c. c.number) (find_collection now namespace.now))
+    /// The number and the indexes of the collection of a name, if there is one.
+    pub fn catalogued(&mut self, namespace: &str) -> Result<Option<Catalogued>, Refusal>
+        ensures { Reads D.history (λ now found. option_map catalogued_of found
+            ≡ option_map catalogued_in (find_collection now namespace.now))
             result self.old self.new }
     {
         let key = catalogue_key(self.alloc, namespace)?;
         let Some(value) = self.value_at(&key)? else {
             return Ok(None);
         };
-        Ok(Some(number_in(self.alloc, &value)?))
+        Ok(Some(told_in(self.alloc, &value)?))
+    }
+
+    /// The number of the collection of a name, if there is one.
+    pub fn number_of(&mut self, namespace: &str) -> Result<Option<u32>, Refusal>
+        ensures { Reads D.history (λ now found. found
+            ≡ option_map (λ c. c.number) (find_collection now namespace.now))
+            result self.old self.new }
+    {
+        let Some(told) = self.catalogued(namespace)? else {
+            return Ok(None);
+        };
+        Ok(Some(told.number))
     }
 
     /// All collections, in ascending order of their names.

@@ -27,8 +27,7 @@ use Rattle.value_order.specs.Order.{compare, value}
 use Rattle.value_order.specs.KeyText.{tree_text}
 use Rattle.value_order.specs.Laws.{IsKey}
 use Rattle.value_order.specs.TotalLaws.{compare_total}
-use Rattle.index.specs.Documents.{IsUnindexed}
-use Rattle.index.specs.LawfulState.{IsRising}
+use Rattle.index.specs.LawfulState.{IsLawfulState, IsRising}
 use Rattle.index.specs.State.{Collection, find_collection}
 use Rattle.index.specs.StateReads.{find_document}
 use Rattle.index.proofs.FoundLawLemmas.{found_collection, found_document}
@@ -211,7 +210,7 @@ module _ (p : Pairs → Bool) (id : Tree) (asks : AsksForId p id) where
 -- a document that was found in a collection within the limits is within them
 module _ {D : Type 0} (history : D → History) (old new : State D) (number : ℕ) (text : List ℕ) (d : Pairs)
     (reads : ReadsOf history (IsPlaceOf number text) (λ now place (found : Option Pairs). found ≡ stored_at place) (Ok (Some d)) old new) where
-  found_within : (now : List Collection) (place : Place) → IsUnindexed now → IsPlaceOf number text now place → Some d ≡ stored_at place → IsWithin d
+  found_within : (now : List Collection) (place : Place) → IsLawfulState now → IsPlaceOf number text now place → Some d ≡ stored_at place → IsWithin d
   found_within now place state there found =
       let c = place.collection in
       let kept = (found_collection now c.name c state there.numbered.found).0 in

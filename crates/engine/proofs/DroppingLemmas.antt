@@ -37,6 +37,7 @@ use Rattle.engine.proofs.NewCollections.{found_there, IsNumberOf, IsThere, none_
 use Rattle.engine.proofs.OnlyReading.{cause_from, now_same, reads_file, reads_none, reads_on, word_before}
 use Rattle.engine.proofs.PlannedLemmas.{dropped_none, dropped_there}
 use Rattle.engine.proofs.WalkingLemmas.{none_there}
+use Rattle.engine.proofs.UnindexedLemmas.{removes_unindexed}
 
 -- ---- documents taken out from the front
 
@@ -79,7 +80,7 @@ removes_all now c name edits next found left removes un =
     let b = with_documents c [] now in
     let there : find_collection b name ≡ Some d = ap (find_collection b) named ∙ finds_put d now in
     let gone : without_collection name b ≡ without_collection name now = ap (λ (n : List ℕ). without_collection n b) named ∙ without_put d now un.lawful ∙ ap (λ (n : List ℕ). without_collection n now) (sym named) in
-    subst (λ (s : List Collection). Leads next now s × IsUnindexed s) gone (removes now b d led.0 led.1 there refl)
+    subst (λ (s : List Collection). Leads next now s × IsUnindexed s) gone (removes_unindexed edits next name removes now b d led.0 led.1 there refl)
 
 -- ---- the steps, over engines as values
 

@@ -25,6 +25,7 @@ use Rattle.engine.specs.Lawful.{IsStored}
 use Rattle.engine.specs.Opening.{IsRefused}
 use Rattle.engine.proofs.RefusingLemmas.{none_refused}
 use Rattle.engine.proofs.TakingLemmas.{loaded_lawful, taken_spell}
+use Rattle.engine.proofs.UnindexedLemmas.{unindexed_state}
 
 module _ {D : Type 0} (history : D → History) (disk : D) (old new : State D) (opened : files.IsOpened history disk old) where
   word_before : GoesFrom history old new → KeepsWord (disk_history history new) → KeepsWord (disk_history history old)
@@ -52,7 +53,7 @@ module _ {D : Type 0} (history : D → History) (disk : D) (old new : State D) (
           entries = read.entries;
           stands = read.image;
           spells = taken_spell read.entries last (tree_rises history old read.entries read.tree) (loads.loads k read.entries read.tree);
-          state = loads.loaded.state;
+          state = loads.loaded.state.lawful;
         };
       }
 
@@ -85,7 +86,7 @@ module _ {D : Type 0} (history : D → History) (disk : D) (old new : State D) (
         let read = opened.stands (word_before loads.on k2) in
         let one : h.file.entries ≡ read.entries = one_state (reads (now (history disk))) h.file.entries read.entries h.file.stands read.image in
         let stored : All (λ c. All IsStored c.documents) cs = λ i c below. (h.lawful.kept i c below).lawful.stored in
-        none_refused read.entries cs (subst (λ (es : List Entry). Spells es cs) one h.file.spells) h.file.state stored ((loads.loads k2 read.entries read.tree).damaged no_device no_memory);
+        none_refused read.entries cs (subst (λ (es : List Entry). Spells es cs) one h.file.spells) (unindexed_state cs h.lawful h.file.state) stored ((loads.loads k2 read.entries read.tree).damaged no_device no_memory);
     foreign = λ foreign. absurd (loads.kinds.0 foreign);
     later = λ newer. absurd (loads.kinds.1 newer);
     device = λ device k.

@@ -64,3 +64,4 @@ pub mod UpsertLemmas
 pub mod PlannedUpdates
 pub mod PuttingLemmas
 pub mod MeantLemmas
+pub mod UnindexedLemmas

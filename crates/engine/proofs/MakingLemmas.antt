@@ -23,6 +23,7 @@ use Rattle.engine.specs.Writing.{FileCause, Makes, planned_or, Writes}
 use Rattle.engine.specs.declared.engine.Engine.{Engine}
 use Rattle.engine.proofs.OnlyReading.{now_same, word_before, write_cause_from}
 use Rattle.engine.proofs.Sound.{for_memory}
+use Rattle.engine.proofs.UnindexedLemmas.{unindexed_state}
 
 -- what is refused by the file is one of its refusals
 of_cause : {D : Type 0} (history : D → History) (after : List Collection) (old new : Engine D) (e : Refusal) → HasWriteCause history after (file_of old) (file_of new) e → IsOfFile e
@@ -43,7 +44,7 @@ leads_planned edits cs next planned is led = subst (λ (s : List Collection). Le
 module _ {D : Type 0} (history : D → History) where
   -- while an engine runs, its collections have no indexes
   pub unindexed_now : (engine : Engine D) → IsSound history engine → KeepsWord (disk_history history engine) → IsRunning engine → IsUnindexed (world engine).collections
-  unindexed_now engine h k running = (h.file running k).now_state
+  unindexed_now engine h k running = unindexed_state (world engine).collections h.lawful (h.file running k).now_state
 
   -- it was refused before anything was written
   pub makes_none : (planned : Result (List Collection) Refusal) (old new : Engine D) (e : Refusal) → OnlyReads history old new

@@ -23,6 +23,7 @@ use Rattle.engine.proofs.MakingLemmas.{leads_planned, makes_none, makes_written,
 use Rattle.engine.proofs.Numbers.{unused_unused}
 use Rattle.engine.proofs.OnlyReading.{cause_from, now_same, reads_on, word_before}
 use Rattle.engine.proofs.PlannedLemmas.{created_full, created_new, created_there}
+use Rattle.engine.proofs.UnindexedLemmas.{adds_unindexed}
 
 -- the number of the collection of a name is right
 abbrev pub IsNumberOf : List ℕ → List Collection → Option ℕ → Type 0
@@ -110,7 +111,7 @@ module _ (cs : List Collection) (name : List ℕ) (n : ℕ) (new : IsNewFor cs n
   pub created_leads : (edits : List Edit) → AddsCollection [] edits name n → IsUnindexed cs → Leads edits cs (planned_or cs (created cs name)) × IsUnindexed (planned_or cs (created cs name))
   created_leads edits adds un =
       let fresh : uses cs n ≡ false = ap (uses cs) new.number ∙ unused_unused cs in
-      leads_planned edits cs (put_collection (empty_collection name n) cs) (created cs name) created_next (adds cs cs (λ entries spells. spells) un new.missing fresh new.few)
+      leads_planned edits cs (put_collection (empty_collection name n) cs) (created cs name) created_next (adds_unindexed [] edits name n adds cs cs (λ entries spells. spells) un new.missing fresh new.few)
 
 module _ {D : Type 0} (history : D → History) (name : List ℕ) (old mid : Engine D) where
   -- none was found

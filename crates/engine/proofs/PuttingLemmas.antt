@@ -44,6 +44,7 @@ use Rattle.engine.proofs.NotingLemmas.{changes_both, changes_none}
 use Rattle.engine.proofs.Numbers.{unused_unused}
 use Rattle.engine.proofs.OnlyReading.{now_same, reads_none, word_before, write_cause_from}
 use Rattle.engine.proofs.Steps.{drop_step}
+use Rattle.engine.proofs.UnindexedLemmas.{adds_unindexed}
 
 -- ---- edits that put documents
 
@@ -82,7 +83,7 @@ module _ (now : List Collection) (name : List ℕ) (edits : List Edit) (news : L
   leads_new missing few numbered is first adds changes =
       let fresh : uses now number ≡ false = ap (uses now) numbered ∙ unused_unused now in
       let made = empty_collection name number in
-      let one = adds now now (λ entries spells. spells) un missing fresh few in
+      let one = adds_unindexed [] first name number adds now now (λ entries spells. spells) un missing fresh few in
       let two = changes now (put_collection made now) made one.0 one.1 (finds_put made now) refl in
       let last : Collection = record made { documents = put_each news [] } in
       subst (λ (s : List Collection). Leads edits now s × IsUnindexed s) (put_twice last made now refl ∙ sym is) two

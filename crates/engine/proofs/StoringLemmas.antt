@@ -41,6 +41,7 @@ use Rattle.engine.proofs.Checked.{keeps}
 use Rattle.engine.proofs.EditPlaceLemmas.{storable}
 use Rattle.engine.proofs.LawfulSteps.{kept_one, stored_at}
 use Rattle.engine.proofs.Numbers.{unused_unused}
+use Rattle.engine.proofs.UnindexedLemmas.{adds_unindexed}
 
 -- ---- documents by their `_id`s
 
@@ -244,7 +245,7 @@ module _ (cs : List Collection) (name : List ℕ) (h : IsLawfulState cs) where
         good = (stored_at cs name h.kept).1;
         leads = λ un.
             let fresh : uses cs t.number ≡ false = ap (uses cs) numbered ∙ unused_unused cs in
-            subst (λ (c : Collection). Leads edits cs (put_collection c cs) × IsUnindexed (put_collection c cs)) made_so (adds cs cs (λ entries spells. spells) un none fresh few);
+            subst (λ (c : Collection). Leads edits cs (put_collection c cs) × IsUnindexed (put_collection c cs)) made_so (adds_unindexed [] edits name t.number adds cs cs (λ entries spells. spells) un none fresh few);
         known = λ d stored.
             let key = key_under t.number 0 (tree_text (key_of d)) in
             ap (λ (es : List Edit). is_among (edit_keys es) key || has_id before (key_of d)) is

@@ -27,7 +27,7 @@ use Rattle.index.proofs.KeyOfDocument.{among_around, among_middle}
 use Rattle.index.proofs.LawfulLaws.{all_of, put_in}
 use Rattle.index.proofs.MemberLemmas.{Among, first_of, of_all}
 use Rattle.index.proofs.PlaceLemmas.{apart_rest, name_itself}
-use Rattle.index.proofs.StateEditLaws.{adds_collection, put_same, puts_document}
+use Rattle.index.proofs.StateEditLaws.{adds_collection, plain_with, put_same, puts_document}
 use Rattle.collections.specs.Reading.{name_in}
 use Rattle.engine.specs.Documents.{key_of}
 use Rattle.engine.specs.Judging.{AreLoaded, IsLoadingAs, IsName, RefusesOne, Takes, TakesAll, TakesDocument, TakesName, is_numbered, names_of, numbered, stands_behind, with_document_in, with_name}
@@ -195,11 +195,11 @@ name_step now pair next h t =
     let n = t.name in
     let none = none_named n now t.is.behind in
     let room : length now < 1000 = omega (arith, t.is.room, length-map now name_in) in
-    let step = adds_collection now n.0 n.1 h.state t.is.text t.is.short t.is.least t.is.most none.0 none.1 room in
+    let step = adds_collection now n.0 n.1 h.state.lawful t.is.text t.is.short t.is.least t.is.most none.0 none.1 room in
     let made : IsStep now (catalogue_entry (empty_collection n.0 n.1)) (with_name n now) = record {
       leads = step.0;
       loaded = record {
-        state = step.1;
+        state = plain_with now (empty_collection n.0 n.1) h.state refl step.1;
         stored = all_of (λ (c : Collection). All IsStored c.documents) (with_name n now) (λ x there. elim (put_in (empty_collection n.0 n.1) now x h.state.lawful.apart there) [
           | inl e ↦ subst (λ (y : Collection). All IsStored y.documents) (sym e) (λ k d below. absurd (omega (arith, below)))
           | inr g ↦ of_all (λ (c : Collection). All IsStored c.documents) now x h.stored g

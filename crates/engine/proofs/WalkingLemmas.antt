@@ -16,8 +16,7 @@ use Rattle.page.specs.History.{History, KeepsWord}
 use Rattle.path.specs.declared.refusal.Refusal.{Refusal}
 use Rattle.path.specs.declared.refusal.Refusal.TheVariants as refusals
 use Rattle.update.specs.Stored.{fault_if, or_else}
-use Rattle.index.specs.Documents.{IsUnindexed}
-use Rattle.index.specs.LawfulState.{IsStorable}
+use Rattle.index.specs.LawfulState.{IsLawfulState, IsStorable}
 use Rattle.index.specs.State.{Collection, find_collection}
 use Rattle.index.proofs.FoundLawLemmas.{found_collection}
 use Rattle.index.proofs.PlaceLemmas.{found_name}
@@ -112,7 +111,7 @@ batch_first : (limit : ℕ) (rest batch : List Pairs) → AreNext limit rest bat
 batch_first limit rest batch next = sym (take-append-drop (length batch) rest) ∙ ap (λ (xs : List Pairs). xs ++ drop (length batch) rest) (sym next.first)
 
 -- what comes of a lawful collection is within the limits
-next_are_within : (now : List Collection) (walk : Walk) (rest batch : List Pairs) (limit : ℕ) → IsUnindexed now → IsWalk now walk rest → AreNext limit rest batch → All IsWithin batch
+next_are_within : (now : List Collection) (walk : Walk) (rest batch : List Pairs) (limit : ℕ) → IsLawfulState now → IsWalk now walk rest → AreNext limit rest batch → All IsWithin batch
 next_are_within now walk rest batch limit state w next =
     let kept = (found_collection now w.collection.name w.collection state w.numbered.found).0 in
     let rest_all : All IsStorable rest = subst (All IsStorable) (ap (drop (length w.done)) w.all ∙ drop-append_seam w.done rest) (All-drop IsStorable (length w.done) w.collection.documents kept.storable) in

@@ -58,7 +58,7 @@ module _ {D : Type 0} (history : D → History) (old : Engine D) (h : IsSound hi
         has : HasState history file old.told.value.start after
         has run k =
             let l = leads (applies.on.frame k).word running in
-            applies.state old.told.value.start old.told.value.now after h.file l.0 l.1 run k
+            applies.state old.told.value.start old.told.value.now after h.file l.0 l.1.lawful run k
 
     -- nothing of them was
     pub writes_undone : (e : Refusal) → Applies history edits (Err e) old.file file → Writes history after (Err e) old (record old { file = file })
@@ -70,10 +70,10 @@ module _ {D : Type 0} (history : D → History) (old : Engine D) (h : IsSound hi
       ok = tt;
       err = (refl, refl);
       kinds = applies.kinds;
-      cause = λ k. let l = leads (applies.on.frame k).word running in applies.cause k old.told.value.start old.told.value.now after h.file l.0 l.1;
+      cause = λ k. let l = leads (applies.on.frame k).word running in applies.cause k old.told.value.start old.told.value.now after h.file l.0 l.1.lawful;
     }
       where
         has : HasState history file old.told.value.start old.told.value.now
         has run k =
             let l = leads (applies.on.frame k).word running in
-            applies.state old.told.value.start old.told.value.now after h.file l.0 l.1 run k
+            applies.state old.told.value.start old.told.value.now after h.file l.0 l.1.lawful run k

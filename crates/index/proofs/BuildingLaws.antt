@@ -6,11 +6,11 @@ use Rattle.std.proofs.lemmas.List.Concat.{flat_map-append}
 use Rattle.bson.specs.Tree.{Pairs}
 use Rattle.btree.specs.Keys.{Entry, Edit}
 use Rattle.index.specs.Definition.{Definition}
-use Rattle.index.specs.Indexed.{GoesOnBy, catalogue_put}
+use Rattle.index.specs.Indexed.{GoesOnBy}
 use Rattle.index.specs.IndexBuilding.{GoOnFurther, GoWhereTheyLead, PutsOneMore, RemovesOneMore, MakesIndexOfAll, DropsIndexOfAll}
 use Rattle.index.specs.State.{Collection, put_collection}
 use Rattle.index.specs.StateEntries.{catalogue_entry, collection_entries, index_entries, put_of, removal_of, puts, removals, Leads}
-use Rattle.index.specs.StateLaws.{MayBecome, entries_in}
+use Rattle.index.specs.StateLaws.{entries_in}
 use Rattle.index.proofs.ExchangeLaws.{HasKey}
 use Rattle.index.proofs.IndexSteps.{made, drops_index}
 use Rattle.index.proofs.ManyEditsLaws.{goes_on, goes_there}

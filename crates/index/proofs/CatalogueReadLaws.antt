@@ -8,7 +8,7 @@ use Rattle.std.specs.List.{AllByRecursion}
 use Rattle.std.specs.Option.{option_and_then, option_map}
 use Rattle.std.proofs.lemmas.List.{drop_all}
 use Rattle.bson.specs.Lookup.{lookup}
-use Rattle.bson.specs.Tree.{Tree, array, Pairs, Items, no_items, item}
+use Rattle.bson.specs.Tree.{Tree, array, Pairs, Items, no_items}
 use Rattle.bson.specs.Spelling.{Spells as SpellsDocument}
 use Rattle.bson.specs.View.{tree, items_of}
 use Rattle.bson.specs.declared.value.Value.{Value}

@@ -53,7 +53,7 @@ with_lawful e fs here h = record { rises = with_rises e fs h.rises; short = with
 -- ---- what the list makes of a map
 
 -- edits above a key leave what stands there
-untouched : (k : List ℕ) (fs : List Edit) (v : Option (List ℕ)) → Each (λ l. IsUnder k l) (edit_keys fs) → value_after k fs v ≡ v
+pub untouched : (k : List ℕ) (fs : List Edit) (v : Option (List ℕ)) → Each (λ l. IsUnder k l) (edit_keys fs) → value_after k fs v ≡ v
 untouched k [] v h = refl
 untouched k (f ∷ fs) v h =
     ap (λ (o : Ordering). value_after k fs (if is_eq o then f.value else v)) (turned f.key k ∙ ap ordering_reverse h.0) ∙ untouched k fs v h.1

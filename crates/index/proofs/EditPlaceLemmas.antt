@@ -1,10 +1,11 @@
 -- What a binary search among edits tells.
-use Rattle.std.proofs.Common.{◌≡◌, ℕ, zero, suc, ◌+◌, ◌<◌, ◌≤◌, true, false, ◌||◌, List, [], ◌∷◌, length, get_or, set, insert, Result, Ok, Err, refl, sym, ap, ◌∙◌, arith}
-use Rattle.std.specs.List.Sorted.{IsBinarySearchResult, IsSearchInRange}
+use Rattle.std.proofs.Common.{◌≡◌, ℕ, zero, suc, ◌+◌, ◌<◌, ◌≤◌, true, false, ◌||◌, List, [], ◌∷◌, length, get_or, set, insert, Result, Ok, Err, ◌⊎◌, inl, inr, refl, sym, ap, subst, ◌∙◌, arith}
+use Rattle.std.specs.List.Sorted.{IsBinarySearchResult, IsPartitionedBy, IsSearchInRange}
 use Rattle.std.specs.declared.cmp.Ordering.{Ordering}
 use Rattle.std.specs.declared.cmp.Ordering.TheVariants.{Less, Equal, Greater}
 use Rattle.std.specs.Ordering.{is_eq, is_lt, ordering_reverse}
 use Rattle.std.specs.Cmp.Lexicographic.{nat_list_cmp_total}
+use Rattle.std.proofs.lemmas.Bool.{cases_lt}
 use Rattle.std.proofs.lemmas.Cmp.{alike_right}
 use Rattle.std.proofs.lemmas.List.Sorted.{searchable_from_sorted}
 use Rattle.btree.specs.Change.{edit_keys}
@@ -35,6 +36,21 @@ later_above (x ∷ es) zero zero d h lt below = absurd (omega (arith, lt))
 later_above (x ∷ es) zero (suc k) d h lt below = above_at x.key.items es k d h.0 (omega (arith, below))
 later_above (x ∷ es) (suc j) zero d h lt below = absurd (omega (arith, lt))
 later_above (x ∷ es) (suc j) (suc k) d h lt below = later_above es j k d h.1 (omega (arith, lt)) (omega (arith, below))
+
+-- the keys below one come first
+pub below_first : (key : List ℕ) (es : List OwnEdit) → Rises (edit_keys (edits_in es)) → IsPartitionedBy (λ e. is_lt (key_cmp e.key.items key)) es
+below_first key es h i j d le below under = by (cases_lt i j)
+  where
+    less : (o : Ordering) → is_lt o ≡ true → o ≡ Less
+    less Less e = refl
+    less Equal e = absurd cc
+    less Greater e = absurd cc
+
+    by : (i < j) ⊎ (j ≤ i) → is_lt (key_cmp (get_or es i d).key.items key) ≡ true
+    by (inl lt) =
+        ap is_lt (nat_list_cmp_total.trans (get_or es i d).key.items (get_or es j d).key.items key (later_above es i j d h lt below) (less (key_cmp (get_or es j d).key.items key) under))
+    by (inr ge) =
+        let same : j ≡ i = omega (arith, le, ge) in subst (λ (k : ℕ). is_lt (key_cmp (get_or es k d).key.items key) ≡ true) same under
 
 -- ---- where it stands
 

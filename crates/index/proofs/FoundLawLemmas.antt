@@ -24,7 +24,7 @@ use Rattle.index.proofs.SpellableLaws.{Fits, IfFound, field_fits}
 pub found_collection : FoundCollection
 found_collection cs name c h found =
     let there = found_in cs name c found in
-    (kept_of cs c h.lawful there, of_all (λ d. d.indexes ≡ []) cs c h.plain there, sym (found_name cs name c found))
+    (kept_of cs c h there, sym (found_name cs name c found))
 
 pub found_document : FoundDocument
 found_document ds id d all found =

@@ -1,5 +1,5 @@
 -- What is noted of a document in a collection with indexes, and where it leads.
-use Rattle.std.proofs.Common.{◌≡◌, ℕ, ◌≤◌, Bool, true, false, List, [], ◌∷◌, ◌++◌, length, map, Result, Ok, Err, refl, sym, ap, subst, ◌∙◌}
+use Rattle.std.proofs.Common.{◌≡◌, ℕ, ◌≤◌, Bool, true, false, List, [], ◌∷◌, ◌++◌, length, map, Ok, refl, sym, ap, subst, ◌∙◌}
 use Rattle.std.specs.Prelude.{All}
 use Rattle.std.proofs.lemmas.List.{length-map}
 use Rattle.std.specs.Global.{Vec}
@@ -14,7 +14,7 @@ use Rattle.path.specs.declared.refusal.Refusal.TheVariants as refusals
 use Rattle.index.specs.Definition.{Field, Definition}
 use Rattle.index.specs.EditList.{with_edit}
 use Rattle.index.specs.IndexKeys.{has_parallel_arrays}
-use Rattle.index.specs.Indexed.{with_edits, NotesUpTo, NotesSome, entries_at, entries_in_all, InsertsInto, DeletesFrom}
+use Rattle.index.specs.Indexed.{with_edits, NotesSome, entries_at, entries_in_all, InsertsInto, DeletesFrom}
 use Rattle.index.specs.KeyTexts.{encoded_keys, is_too_long, keys_in, keys_in_all}
 use Rattle.index.specs.State.{Collection, key_of, put_collection}
 use Rattle.index.specs.StateEntries.{key_under, document_entry, document_entries, index_entries, puts, removal_of, removals, Leads}

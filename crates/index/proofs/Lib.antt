@@ -54,3 +54,7 @@ pub mod EnteringLemmas
 pub mod EnteringSteps
 pub mod BuildingLaws
 pub mod CatalogueReadLaws
+pub mod FrontLemmas
+pub mod OtherEditLaws
+pub mod OtherKeyLaws
+pub mod OtherPutLemmas

@@ -4,7 +4,7 @@ use Rattle.std.specs.Prelude.{OnErr}
 use Rattle.std.proofs.lemmas.List.{at_drop_more, drop_all}
 use Rattle.btree.specs.Keys.{Edit}
 use Rattle.index.specs.Indexed.{with_edits, NotesUpTo, NotesSome}
-use Rattle.index.proofs.ManyEditsLaws.{goes_further, stops, stays, ends}
+use Rattle.index.proofs.ManyEditsLaws.{goes_further, stops, ends}
 
 -- the edits of lists, those of an element, and that a list has those of its first element and then those of the others
 pub record Adds {X : Type 0} (all : List X → List Edit) (one : X → List Edit) : Type 0 where

@@ -1,12 +1,11 @@
 -- Many edits noted one after the other.
-use Rattle.std.proofs.Common.{◌≡◌, ℕ, List, [], ◌∷◌, ◌++◌, refl, sym, ap, subst, ◌∙◌, append_assoc, append-nil}
+use Rattle.std.proofs.Common.{◌≡◌, List, [], ◌∷◌, ◌++◌, refl, sym, ap, subst, ◌∙◌, append_assoc, append-nil}
 use Rattle.btree.specs.Change.{edit_keys}
-use Rattle.btree.specs.Keys.{Entry, Edit, Rises, change, edit_map}
+use Rattle.btree.specs.Keys.{Entry, Edit, Rises, change}
 use Rattle.index.specs.EditList.{with_edit}
 use Rattle.index.specs.Indexed.{with_edits, NotesUpTo, NotesSome, GoesOnBy}
 use Rattle.index.specs.State.{Collection}
-use Rattle.index.specs.StateEntries.{Spells, entry_keys, Leads}
-use Rattle.index.proofs.EditLemmas.{rises_change}
+use Rattle.index.specs.StateEntries.{Spells, Leads}
 use Rattle.index.proofs.EditListLaws.{with_change, with_rises}
 use Rattle.index.proofs.EditOrderLaws.{change_append}
 

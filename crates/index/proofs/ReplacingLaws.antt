@@ -8,7 +8,7 @@ use Rattle.bson.specs.Tree.{Pairs}
 use Rattle.value_order.specs.KeyText.{tree_text}
 use Rattle.btree.specs.Change.{edit_keys}
 use Rattle.btree.specs.Keys.{Entry, Edit, Rises}
-use Rattle.index.specs.Changes.{IsAscending, is_among, without}
+use Rattle.index.specs.Changes.{IsAscending, is_among}
 use Rattle.index.specs.Definition.{Definition}
 use Rattle.index.specs.IndexKeys.{index_keys}
 use Rattle.index.specs.Indexed.{with_edits, NotesSome, entries_in_all, without_all, replacing_in, ReplacesIn}

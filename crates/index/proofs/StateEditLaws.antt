@@ -1,4 +1,4 @@
--- What one edit makes of a state without indexes: a document put or removed, a collection more, one less.
+-- What one edit makes of a state: a collection more, one less, and without indexes a document put or removed.
 use Rattle.std.proofs.Common.{◌≡◌, ℕ, ◌<◌, ◌≤◌, Bool, true, false, List, [], ◌∷◌, ◌++◌, length, Option, Some, None, option_map, inl, inr, refl, sym, ap, subst, ◌∙◌, arith}
 use Rattle.std.specs.Prelude.{All, IsUtf8, if◌then◌else◌}
 use Rattle.std.specs.Str.{bytes_eq}
@@ -50,7 +50,7 @@ is_kept b c h found = kept_of b c h.lawful (found_in b c.name c found)
 
 -- ---- other documents in a collection
 
-plain_with : (b : List Collection) (new : Collection) → IsUnindexed b → new.indexes ≡ [] → IsLawfulState (put_collection new b) → IsUnindexed (put_collection new b)
+pub plain_with : (b : List Collection) (new : Collection) → IsUnindexed b → new.indexes ≡ [] → IsLawfulState (put_collection new b) → IsUnindexed (put_collection new b)
 plain_with b new h none lawful = record {
   lawful = lawful;
   plain = all_of HasNone (put_collection new b) (λ x g. elim (put_in new b x h.lawful.apart g) [
@@ -191,8 +191,15 @@ module _ (b : List Collection) (c : Collection) (id : Tree) (h : IsUnindexed b) 
 
 -- ---- a collection more, and one less
 
-pub adds_collection : (b : List Collection) (name : List ℕ) (number : ℕ) → IsUnindexed b → IsUtf8 name → length name ≤ 255 → 1 ≤ number → number ≤ 1000 → find_collection b name ≡ None
-    → uses b number ≡ false → length b < 1000 → IsStep (put_of (catalogue_entry (empty_collection name number)) ∷ []) b (put_collection (empty_collection name number) b)
+pub plain_without : (b : List Collection) (name : List ℕ) → IsUnindexed b → IsUnindexed (without_collection name b)
+plain_without b name h = record {
+  lawful = drops_lawful b name h.lawful;
+  plain = all_of HasNone (without_collection name b) (λ x g. of_all HasNone b x h.plain (without_in b name x g));
+}
+
+pub adds_collection : (b : List Collection) (name : List ℕ) (number : ℕ) → IsLawfulState b → IsUtf8 name → length name ≤ 255 → 1 ≤ number → number ≤ 1000 → find_collection b name ≡ None
+    → uses b number ≡ false → length b < 1000
+    → Leads (put_of (catalogue_entry (empty_collection name number)) ∷ []) b (put_collection (empty_collection name number) b) × IsLawfulState (put_collection (empty_collection name number) b)
 adds_collection b name number h utf8 short least most missing unused room =
     let new = empty_collection name number in
     let kept : IsKept new = record {
@@ -206,21 +213,18 @@ adds_collection b name number h utf8 short least most missing unused room =
       distinct = λ i j d lt below. absurd (omega (arith, below));
       few = omega arith;
     } in
-    let lawful = makes_lawful b new h.lawful missing unused kept room in
-    (makes_collection b name number h.lawful missing lawful, plain_with b new h refl lawful)
+    let lawful = makes_lawful b new h missing unused kept room in
+    (makes_collection b name number h missing lawful, lawful)
 
-pub removes_collection : (b : List Collection) (name : List ℕ) (c : Collection) → IsUnindexed b → find_collection b name ≡ Some c → c.documents ≡ []
-    → IsStep (removal (key_under 0 0 (tree_text (words name))) ∷ []) b (without_collection name b)
+pub removes_collection : (b : List Collection) (name : List ℕ) (c : Collection) → IsLawfulState b → find_collection b name ≡ Some c → c.documents ≡ []
+    → Leads (removal (key_under 0 0 (tree_text (words name))) ∷ []) b (without_collection name b) × IsLawfulState (without_collection name b)
 removes_collection b name c h found empty =
     let named : name ≡ c.name = found_name b name c found in
-    let leads : Leads (removals (collection_entries c)) b (without_collection c.name b) = drops_collection b c h.lawful (subst (λ (m : List ℕ). find_collection b m ≡ Some c) named found) in
+    let leads : Leads (removals (collection_entries c)) b (without_collection c.name b) = drops_collection b c h (subst (λ (m : List ℕ). find_collection b m ≡ Some c) named found) in
     let alone : Leads (removal_of (catalogue_entry c) ∷ []) b (without_collection c.name b) =
     subst (λ (ds : List Pairs). Leads (removals (catalogue_entry c ∷ flat_map (document_entries c.number c.indexes) ds)) b (without_collection c.name b)) empty leads in (
       subst (λ (m : List ℕ). Leads (removal (key_under 0 0 (tree_text (words m))) ∷ []) b (without_collection m b)) (sym named) alone,
-      record {
-        lawful = drops_lawful b name h.lawful;
-        plain = all_of HasNone (without_collection name b) (λ x g. of_all HasNone b x h.plain (without_in b name x g));
-      },
+      drops_lawful b name h,
     )
 
 -- ---- of lists of edits

@@ -1,7 +1,6 @@
 -- The way back from what the catalogue says of a collection to its indexes.
-use Rattle.std.specs.Prelude.{ℕ, Option, Some, None, List, [], ◌∷◌}
+use Rattle.std.specs.Prelude.{Option, Some, None, List, [], ◌∷◌}
 use Rattle.std.specs.Option.{option_and_then, option_map}
-use Rattle.std.specs.Global.{Vec}
 use Rattle.bson.specs.Tree.{Tree, document, Items, no_items, item}
 use Rattle.index.specs.Definition.{Definition}
 use Rattle.index.specs.Catalogue.{definition_in}

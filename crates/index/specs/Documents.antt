@@ -1,4 +1,4 @@
--- What puts and removals of documents and of collections make of a state without indexes.
+-- What puts and removals of collections make of a state, and those of documents of one without indexes.
 use Rattle.std.specs.Prelude.{◌≡◌, ℕ, ◌<◌, false, if◌then◌else◌, List, [], ◌∷◌, length, Some, None, All}
 use Rattle.std.specs.Ordering.{is_eq}
 use Rattle.bson.specs.Tree.{Tree, Pairs}
@@ -41,16 +41,17 @@ ChangesDocuments old new number f =
     → find_collection b c.name ≡ Some c → c.number ≡ number
     → let after = with_documents c (f c.documents) b in Leads new a after × IsUnindexed after
 
--- So they lead to one with an empty collection more, where its name and its number are new and there is room.
+-- Wherever the old edits lead to a lawful state, the new ones lead to one with an empty collection more, where its name and its number are new
+-- and there is room.
 abbrev pub AddsCollection : List Edit → List Edit → List ℕ → ℕ → Type 0
 AddsCollection old new name number =
-    (a b : List Collection) → Leads old a b → IsUnindexed b
+    (a b : List Collection) → Leads old a b → IsLawfulState b
     → find_collection b name ≡ None → uses b number ≡ false → length b < 1000
-    → let after = put_collection (empty_collection name number) b in Leads new a after × IsUnindexed after
+    → let after = put_collection (empty_collection name number) b in Leads new a after × IsLawfulState after
 
 -- So they lead to one without a collection, where it has no documents.
 abbrev pub RemovesCollection : List Edit → List Edit → List ℕ → Type 0
 RemovesCollection old new name =
-    (a b : List Collection) (c : Collection) → Leads old a b → IsUnindexed b
+    (a b : List Collection) (c : Collection) → Leads old a b → IsLawfulState b
     → find_collection b name ≡ Some c → c.documents ≡ []
-    → let after = without_collection name b in Leads new a after × IsUnindexed after
+    → let after = without_collection name b in Leads new a after × IsLawfulState after

@@ -9,16 +9,15 @@ use Rattle.bson.specs.Spelling.{frame_of, pairs_bytes}
 use Rattle.value_order.specs.KeyText.{tree_text}
 use Rattle.value_order.specs.Laws.{IsKey}
 use Rattle.value_order.specs.Order.{value, compare}
-use Rattle.index.specs.Documents.{IsUnindexed}
 use Rattle.index.specs.State.{Collection, key_of, find_collection, put_collection, without_collection}
 use Rattle.index.specs.StateReads.{find_document}
 use Rattle.index.specs.LawfulState.{IsStorable, IsKept, IsLawfulState}
 
--- A collection that is found is within the limits and has no index, and it has the name.
+-- A collection that is found is within the limits, and it has the name.
 abbrev pub FoundCollection : Type 0
 FoundCollection =
-    (cs : List Collection) (name : List ℕ) (c : Collection) → IsUnindexed cs → find_collection cs name ≡ Some c
-    → IsKept c × (c.indexes ≡ []) × (c.name ≡ name)
+    (cs : List Collection) (name : List ℕ) (c : Collection) → IsLawfulState cs → find_collection cs name ≡ Some c
+    → IsKept c × (c.name ≡ name)
 
 -- A document that is found may be stored, and the order calls its `_id` equal.
 abbrev pub FoundDocument : Type 0

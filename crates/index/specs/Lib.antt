@@ -27,3 +27,4 @@ pub mod Indexed
 pub mod IndexBuilding
 pub mod CatalogueReading
 pub mod Entering
+pub mod OtherKeys

@@ -15,15 +15,15 @@ use std::marker::Model;
 
 /// An edit with its bytes: a value that is put at a key, or none, where the key is removed.
 #[derive(Drop)]
-struct OwnEdit {
-    key: Vec<u8>,
-    value: Option<Vec<u8>>,
+pub(crate) struct OwnEdit {
+    pub(crate) key: Vec<u8>,
+    pub(crate) value: Option<Vec<u8>>,
 }
 
 /// Edits in ascending order of their keys, one at each, short enough for the tree.
 #[derive(Drop)]
 pub struct Edits {
-    edits: Vec<OwnEdit>,
+    pub(crate) edits: Vec<OwnEdit>,
 }
 
 impl Model for Edits {

@@ -28,6 +28,18 @@ pub fn first_key(alloc: Global, collection: u32, index: u32) -> Result<Vec<u8>, 
     key_under(alloc, collection, index, &[])
 }
 
+/// Where the entries of an encoded key begin in the index of a number: their keys without the texts of `_id`s.
+pub fn index_key(
+    alloc: Global,
+    collection: u32,
+    index: u32,
+    key: &[u8],
+) -> Result<Vec<u8>, NoMemory>
+    ensures { IfOk result (λ front. front.items ≡ key_under collection index key.now) }
+{
+    key_under(alloc, collection, index, key)
+}
+
 /// The key of a document in the collection of a number, by the ascending text of its `_id`.
 pub fn document_key(alloc: Global, number: u32, id: &[u8]) -> Result<Vec<u8>, NoMemory>
     ensures { IfOk result (λ key. key.items ≡ key_under number 0 id.now) }

@@ -2,7 +2,7 @@
 
 ghost use Rattle.index.specs.FoundLaws.{FieldIsKey, FindsPut, FoundCollection, FoundDocument, PutTwice, ShortIsKey, StoredIsKey, WithoutPut};
 
-/// A collection that is found is within the limits and has no index.
+/// A collection that is found is within the limits.
 pub fn found_collection()
     ensures { FoundCollection }
 {}

@@ -22,6 +22,7 @@ mod indexed_edits;
 mod indexed_entries;
 mod keys;
 pub mod laws;
+mod other_keys;
 mod replacing_edits;
 mod state_edits;
 pub mod state_laws;
@@ -32,9 +33,10 @@ pub use changes::{KeyChanges, entry_key};
 pub use definition::{IndexField, IndexSpec};
 pub use edits::Edits;
 pub use entering::{Keyed, stay_indexed};
-pub use entry_keys::{catalogue_key, document_key, first_key};
+pub use entry_keys::{catalogue_key, document_key, first_key, index_key};
 pub use entry_reading::{catalogue_number, document_in, namespace_in};
 pub use keys::keys_in_all;
+pub use other_keys::{end_of, is_another};
 
 /// The most bytes of the texts of a key's values together.
 pub const KEY_LIMIT: usize = 500;

@@ -4,6 +4,7 @@ ghost use Rattle.index.specs.KeptLaws.{KeptWithDocument, KeptWithoutDocument, Ke
 ghost use Rattle.index.specs.StateReads.{FindsCollection, FindsDocument, ListsCollections, ListsDocuments, ListsIndex, TellsDocument};
 ghost use Rattle.index.specs.StateRows.{FirstIsLawful, FirstState};
 ghost use Rattle.index.specs.StateLaws.{SpelledOnce, SpellsOne, EntriesFit, LeadsOn, OrderIsFree, EditsSwap, MakesCollection, MakesLawful, DropsCollection, DropsLawful, StaysLawful, InsertsDocument, DeletesDocument, ReplacesDocument, MakesIndex, DropsIndex, NotesIndexes};
+ghost use Rattle.index.specs.OtherKeys.{TellsOtherKey, TellsOtherPut};
 
 /// The entries of a state, byte by byte.
 pub fn first_state()
@@ -154,4 +155,14 @@ pub fn kept_without_index()
 /// It does so with its indexes noted for a document.
 pub fn kept_noted()
     ensures { KeptNoted }
+{}
+
+/// An entry for a key and another `_id` stands in an index where a document of another `_id` has the key.
+pub fn tells_other_key()
+    ensures { TellsOtherKey }
+{}
+
+/// So it is of entries that were put for an index that is being made.
+pub fn tells_other_put()
+    ensures { TellsOtherPut }
 {}

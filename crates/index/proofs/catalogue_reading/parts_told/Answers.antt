@@ -1,5 +1,4 @@
-use Rattle.std.proofs.Common.{◌≡◌, List, Some, option_map, sym, ap, ◌∙◌}
-use Rattle.index.specs.Definition.{Definition}
+use Rattle.std.proofs.Common.{◌≡◌, Some, option_map, sym, ap, ◌∙◌}
 use Rattle.index.proofs.CatalogueReadLaws.{same_list}
 use Rattle.index.proofs.ReadingLemmas.{same_number}
 use Rattle.index.proofs.catalogue_reading.parts_told.Goals as goal

@@ -1,4 +1,4 @@
-use Rattle.std.proofs.Common.{ℕ, ◌<◌, ◌≤◌, List, map, length, ◌∙◌, arith}
+use Rattle.std.proofs.Common.{ℕ, ◌<◌, List, map, length, ◌∙◌, arith}
 use Rattle.index.specs.Changes.{without}
 use Rattle.index.specs.Indexed.{without_all}
 use Rattle.index.specs.View.{texts_of}

@@ -1,38 +1,28 @@
-use Rattle.std.proofs.Common.{subst, ◌≡◌, Ok, Err, Some, None, ◌∙◌}
+use Rattle.std.proofs.Common.{subst, ◌≡◌, Ok, Err, Some, None}
 use Rattle.std.specs.Option.{option_map}
 use Rattle.std.proofs.lemmas.Result.{err_from_is_err_and}
 use Rattle.index.specs.State.{find_collection}
-use Rattle.collections.specs.Reading.{IsInTree, IsValueAt}
+use Rattle.index.specs.declared.catalogue_reading.Catalogued.{Catalogued}
+use Rattle.std.specs.Prelude.{Option}
+use Rattle.collections.specs.Reading.{catalogued_in, catalogued_of}
 use Rattle.collections.proofs.FoundLemmas.{none_numbered, one_numbered}
 use Rattle.collections.proofs.ReadingLemmas.{reads_on, reads_refused}
 use Rattle.collections.proofs.collections.Collections.number_of.Goals as goal
 
-pub returns-in_err-value : goal.returns-in_err-value
-returns-in_err-value g c =
+pub returns-in_err-catalogued : goal.returns-in_err-catalogued
+returns-in_err-catalogued g c =
     let name = c.args.namespace.now in
-    let p = err_from_is_err_and c.from_residual-in_err-value.result c.from_residual-in_err-value.ensures.1 in
-    rw (p.1, p.2) (reads_refused g.D.Disk.history (IsInTree (IsValueAt c.deref.result.now)) (λ now found. found ≡ option_map (λ c. c.number) (find_collection now name)) c.args.self.now c.value_at.new.self c.in_err-value.field-0.0 c.in_err-value.ensures)
+    let p = err_from_is_err_and c.from_residual.result c.from_residual.ensures.1 in
+    rw (p.1, p.2) (reads_refused g.D.Disk.history (λ now found. option_map catalogued_of found ≡ option_map catalogued_in (find_collection now name)) (λ now found. found ≡ option_map (λ c. c.number) (find_collection now name)) c.args.self.now c.catalogued.new.self c.in_err-catalogued.field-0.0 c.in_err-catalogued.ensures)
 
 pub returns-in_default : goal.returns-in_default
 returns-in_default g c =
     let name = c.args.namespace.now in
-    let key = c.deref.result.now in
-    reads_on g.D.Disk.history (IsInTree (IsValueAt key)) (λ now found. found ≡ option_map (λ c. c.number) (find_collection now name)) c.args.self.now c.value_at.new.self c.in_ok-value.field-0 (Ok None) c.in_ok-value.ensures
-    (λ now p. none_numbered now name key (c.deref.ensures.value ∙ c.in_ok-key.ensures) (subst (IsInTree (IsValueAt key) now) c.in_default.is p))
-
-pub returns-in_err-number_in : goal.returns-in_err-number_in
-returns-in_err-number_in g c =
-    let name = c.args.namespace.now in
-    let key = c.deref.result.now in
-    let e = c.in_err-number_in.field-0.0 in
-    let p = err_from_is_err_and c.from_residual-in_err-number_in.result c.from_residual-in_err-number_in.ensures.1 in
-    rw (p.1, p.2) (reads_on g.D.Disk.history (IsInTree (IsValueAt key)) (λ now found. found ≡ option_map (λ c. c.number) (find_collection now name)) c.args.self.now c.value_at.new.self c.in_ok-value.field-0 (Err e) c.in_ok-value.ensures
-    (λ now p. one_numbered now name key (c.deref.ensures.value ∙ c.in_ok-key.ensures) c.in-Some.value (Err e) (subst (IsInTree (IsValueAt key) now) c.in-Some.is p) (λ of kept plain same. c.in_err-number_in.ensures of kept plain (c.deref-2.ensures.value ∙ same))))
+    reads_on g.D.Disk.history (λ now found. option_map catalogued_of found ≡ option_map catalogued_in (find_collection now name)) (λ now found. found ≡ option_map (λ c. c.number) (find_collection now name)) c.args.self.now c.catalogued.new.self c.in_ok-catalogued.field-0 (Ok None) c.in_ok-catalogued.ensures
+    (λ now told. none_numbered (find_collection now name) (subst (λ (found : Option Catalogued). option_map catalogued_of found ≡ option_map catalogued_in (find_collection now name)) c.in_default.is told))
 
 pub returns : goal.returns
 returns g c =
     let name = c.args.namespace.now in
-    let key = c.deref.result.now in
-    let n = c.in_ok-number_in.field-0 in
-    reads_on g.D.Disk.history (IsInTree (IsValueAt key)) (λ now found. found ≡ option_map (λ c. c.number) (find_collection now name)) c.args.self.now c.value_at.new.self c.in_ok-value.field-0 (Ok (Some n)) c.in_ok-value.ensures
-    (λ now p. one_numbered now name key (c.deref.ensures.value ∙ c.in_ok-key.ensures) c.in-Some.value (Ok n) (subst (IsInTree (IsValueAt key) now) c.in-Some.is p) (λ of kept plain same. c.in_ok-number_in.ensures of kept plain (c.deref-2.ensures.value ∙ same)))
+    reads_on g.D.Disk.history (λ now found. option_map catalogued_of found ≡ option_map catalogued_in (find_collection now name)) (λ now found. found ≡ option_map (λ c. c.number) (find_collection now name)) c.args.self.now c.catalogued.new.self c.in_ok-catalogued.field-0 (Ok (Some c.in-Some.told.number)) c.in_ok-catalogued.ensures
+    (λ now told. one_numbered c.in-Some.told (find_collection now name) (subst (λ (found : Option Catalogued). option_map catalogued_of found ≡ option_map catalogued_in (find_collection now name)) c.in-Some.is told))

@@ -8,7 +8,7 @@ use Rattle.engine.specs.Dropping.{Removes}
 use Rattle.engine.specs.Removing.{deleted}
 use Rattle.engine.specs.View.{world}
 use Rattle.engine.proofs.Deleting.{deleted_lawful}
-use Rattle.engine.proofs.MakingLemmas.{makes_none}
+use Rattle.engine.proofs.MakingLemmas.{makes_none, unindexed_now}
 use Rattle.engine.proofs.OnlyReading.{reads_none}
 use Rattle.engine.proofs.RemovingLemmas.{remove_stopped, removes_nothing, removes_written, removal_leads, taken_storable}
 use Rattle.engine.proofs.WalkingLemmas.{none_there, some_there}
@@ -32,7 +32,7 @@ returns-in_err-note_removed-clause-makes g c =
     let ds = c.args.deletions.now in
     rw (p.1, p.2) (makes_none g.D.Disk.history (Ok (deleted now name ds)) c.args.self.now c.args.self.now c.in_err-note_removed.field-0.0 (reads_none g.D.Disk.history c.args.self.now c.requires.sound)
     (λ k.
-    let un = (c.requires.sound.file (sym c.is_stopped.ensures ∙ c.if-is_stopped.false) k).now_state in
+    let un = unindexed_now g.D.Disk.history c.args.self.now c.requires.sound k (sym c.is_stopped.ensures ∙ c.if-is_stopped.false) in
     let kept = subst (All IsStorable) (sym c.deref.ensures.value) (taken_storable now name ds c.args.taken.now (c.requires.taken k) un) in
     inr (inl (c.in_err-note_removed.ensures kept))))
 
@@ -53,7 +53,7 @@ write-requires g c κs within =
           c.requires.sound,
           (
             deleted_lawful now name ds c.requires.sound.lawful,
-            λ k running. removal_leads now name ds taken (c.requires.taken k) edits some (c.requires.sound.file running k).now_state removes,
+            λ k running. removal_leads now name ds taken (c.requires.taken k) edits some (unindexed_now g.D.Disk.history c.args.self.now c.requires.sound k running) removes,
           ),
         ),
       ),

@@ -1,0 +1,48 @@
+-- What a range of entries and a list of edits tell of other keys.
+use Rattle.std.proofs.Common.{◌≡◌, ℕ, false, true, Bool, not, ◌||◌, List, map, Option, refl, sym, ap, ◌∙◌}
+use Rattle.std.specs.Prelude.{is_some}
+use Rattle.std.specs.List.{list_any}
+use Rattle.std.specs.Option.{option_map}
+use Rattle.btree.specs.Change.{edit_keys}
+use Rattle.btree.specs.Keys.{Edit, Entry, Rises, change, window}
+use Rattle.btree.specs.Scan.{entry_in, within}
+use Rattle.btree.specs.declared.scanning.Batch.{Batch}
+use Rattle.btree.specs.declared.scanning.Entry.{Entry as OwnEntry}
+use Rattle.btree.specs.declared.scanning.Range.{Range}
+use Rattle.index.specs.Changes.{is_among}
+use Rattle.index.specs.OtherKeys.{has_other_key, is_another, leaves_another, puts_another, IsEndOf}
+use Rattle.index.specs.State.{Collection}
+use Rattle.index.specs.StateEntries.{key_under}
+use Rattle.index.proofs.OtherEditLaws.{after_edits, in_range}
+use Rattle.collections.specs.OtherKeys.{TellsOtherKey}
+use Rattle.collections.specs.Reading.{IsBatchOf, IsInTree}
+use Rattle.collections.proofs.FoundLemmas.{whole_batch}
+use Rattle.collections.proofs.ReadingLemmas.{next_same}
+
+any_map : {X Y : Type 0} (f : X → Y) (p : Y → Bool) (xs : List X) → list_any p (map f xs) ≡ list_any (λ x. p (f x)) xs
+any_map f p [] = refl
+any_map f p (x ∷ xs) = ap (λ b. p (f x) || b) (any_map f p xs)
+
+module _ (now : List Collection) (edits : List Edit) (number index : ℕ) (key id front : List ℕ) (range : Range) (batch : Batch) (rises : Rises (edit_keys edits))
+    (front_is : front ≡ key_under number index key) (from : range.from.now ≡ front) (ends : IsEndOf front (option_map (λ b. b.now) range.to)) (end : is_some batch.next ≡ false)
+    (p : IsInTree (IsBatchOf range) now batch) where
+  abbrev left : Entry → Bool
+  left = leaves_another front id edits
+
+  -- the entries that the edits leave are all in the batch
+  all_there : list_any (λ x. left (entry_in x)) batch.entries.items ≡ list_any left p.entries
+  all_there =
+      sym (any_map entry_in left batch.entries.items)
+      ∙ ap (list_any left) (whole_batch range.limit (within range p.entries) (map entry_in batch.entries.items) (option_map (λ v. v.items) batch.next) (next_same batch.next ∙ end) p.right)
+      ∙ ap (λ (k : List ℕ). list_any left (window k (option_map (λ b. b.now) range.to) p.entries)) from
+      ∙ in_range front id (option_map (λ b. b.now) range.to) (λ k. not (is_among (edit_keys edits) k)) p.entries ends
+
+  pub tells_other : TellsOtherKey edits number index key id now (puts_another front id edits || list_any (λ x. left (entry_in x)) batch.entries.items)
+  tells_other = record {
+    entries = p.entries;
+    spells = p.spells;
+    state = p.state;
+    right = ap (λ (b : Bool). puts_another front id edits || b) all_there
+        ∙ sym (after_edits (is_another front id) edits p.entries rises p.spells.rises)
+        ∙ ap (λ (k : List ℕ). list_any (λ x. is_another k id x.key) (change edits p.entries)) front_is;
+  }

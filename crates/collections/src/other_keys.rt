@@ -1,0 +1,52 @@
+//! Whether a document of another `_id` has a key in an index.
+
+ghost use Rattle.std.specs.Prelude.{◌≡◌};
+ghost use Rattle.std.specs.List.{list_any};
+ghost use Rattle.btree.specs.Scan.{entry_in};
+ghost use Rattle.index.specs.OtherKeys.{leaves_another};
+ghost use Rattle.collections.specs.Calls.{Reads};
+ghost use Rattle.collections.specs.OtherKeys.{TellsOtherKey};
+
+use crate::collections::Collections;
+use btree::{Entry, Range};
+use index::{Edits, end_of, index_key, is_another};
+use page::Disk;
+use path::Refusal;
+
+/// Whether one of these entries that the edits leave has a key that goes on from this front, and not by this text.
+fn leaves_another(entries: &[Entry], edits: &Edits, front: &[u8], id: &[u8]) -> bool
+    ensures { result ≡ list_any (λ x. leaves_another front.now id.now edits.now (entry_in x))
+        entries.now }
+{
+    entries
+        .iter()
+        .any(|entry| is_another(&entry.key, front, id) && !edits.has(&entry.key))
+}
+
+impl<D: Disk> Collections<D> {
+    /// Whether an index has an entry for this encoded key and for another `_id` than the one of this text, once the edits are
+    /// put into the tree. It reads all entries of the key.
+    pub fn has_other_key(
+        &mut self,
+        edits: &Edits,
+        number: u32,
+        index: u32,
+        key: &[u8],
+        id: &[u8],
+    ) -> Result<bool, Refusal>
+        ensures { Reads D.history (TellsOtherKey edits.now number index key.now id.now)
+            result self.old self.new }
+    {
+        let front = index_key(self.alloc, number, index, key)?;
+        let end = end_of(self.alloc, &front)?;
+        let batch = self.entries_in(Range {
+            from: &front,
+            to: end.as_deref(),
+            limit: usize::MAX,
+        })?;
+        if batch.next.is_some() {
+            return Err(Refusal::StorageFailed);
+        }
+        Ok(edits.puts_other(&front, id) || leaves_another(&batch.entries, edits, &front, id))
+    }
+}

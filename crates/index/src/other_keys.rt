@@ -1,0 +1,90 @@
+//! Entries of an index that stand for a key and for another `_id` than a given one.
+
+ghost use Rattle.std.specs.Prelude.{◌≡◌, ◌+◌, ◌<◌, ◌≤◌, ◌&&◌, ◌++◌, [], ◌∷◌, false, true, IfOk, is_some, length, option_map};
+ghost use Rattle.std.specs.Ordering.{is_lt};
+ghost use Rattle.std.specs.List.Sorted.{IsPartitionPoint};
+ghost use Rattle.btree.specs.Change.{edit_keys};
+ghost use Rattle.btree.specs.Keys.{Each, Rises, key_cmp};
+ghost use Rattle.index.specs.EditList.{edits_in};
+ghost use Rattle.index.specs.OtherKeys.{IsEndOf, is_another, puts_another};
+
+use crate::edits::{Edits, OwnEdit};
+use bson::NoMemory;
+use std::alloc::Global;
+
+/// Whether a key goes on from this front, and not by this text.
+pub fn is_another(key: &[u8], front: &[u8], id: &[u8]) -> bool
+    ensures { result ≡ is_another front.now id.now key.now }
+{
+    if !key.starts_with(front) {
+        return false;
+    }
+    let (_, rest) = key.split_at(front.len());
+    rest != id
+}
+
+/// The first bytes and then one that is above the next one.
+fn above(alloc: Global, first: &[u8], next: u8) -> Result<Vec<u8>, NoMemory>
+    requires { next < 255 }
+    ensures { IfOk result (λ key. key.items ≡ first.now ++ (next + 1) ∷ []) }
+{
+    let mut key = first.to_vec(alloc)?;
+    key.push(next + 1)?;
+    Ok(key)
+}
+
+/// A key above all that go on from this front, if there is one.
+pub fn end_of(alloc: Global, front: &[u8]) -> Result<Option<Vec<u8>>, NoMemory>
+    ensures { IfOk result (λ end. IsEndOf front.now (option_map (λ v. v.items) end)) }
+{
+    for at in (0..front.len()).rev() {
+        if front[at] < u8::MAX {
+            return Ok(Some(above(alloc, &front[..at], front[at])?));
+        }
+    }
+    Ok(None)
+}
+
+/// How many of the edits come before a key.
+fn count_below(edits: &[OwnEdit], key: &[u8]) -> usize
+    requires { Rises (edit_keys (edits_in edits.now)) }
+    ensures bound { result ≤ length edits.now }
+    ensures cut { IsPartitionPoint (λ e. is_lt (key_cmp e.key.items key.now) ≡ true)
+        (λ e. is_lt (key_cmp e.key.items key.now) ≡ false) edits.now result }
+{
+    edits.partition_point(|edit| edit.key.as_slice().cmp(key).is_lt())
+}
+
+/// Whether an edit puts an entry whose key goes on from this front, and not by this text.
+fn puts_another(edit: &OwnEdit, front: &[u8], id: &[u8]) -> bool
+    ensures { result ≡ (is_some edit.now.value && is_another front.now id.now edit.now.key.items) }
+{
+    edit.value.is_some() && is_another(&edit.key, front, id)
+}
+
+/// Whether one of the edits, which aren't below this front, puts an entry whose key goes on from it and not by this text.
+fn puts_from(edits: &[OwnEdit], front: &[u8], id: &[u8]) -> bool
+    requires rises { Rises (edit_keys (edits_in edits.now)) }
+    requires above { Each (λ e. is_lt (key_cmp e.key.items front.now) ≡ false) edits.now }
+    ensures { result ≡ puts_another front.now id.now (edits_in edits.now) }
+{
+    'edits: for edit in edits {
+        if !edit.key.starts_with(front) {
+            return false;
+        }
+        if puts_another(edit, front, id) {
+            return true;
+        }
+    }
+    false
+}
+
+impl Edits {
+    /// Whether an entry is put whose key goes on from this front, and not by this text.
+    pub fn puts_other(&self, front: &[u8], id: &[u8]) -> bool
+        ensures { result ≡ puts_another front.now id.now self.now }
+    {
+        let (_, from) = self.edits.split_at(count_below(&self.edits, front));
+        puts_from(from, front, id)
+    }
+}
