@@ -58,3 +58,4 @@ pub mod FrontLemmas
 pub mod OtherEditLaws
 pub mod OtherKeyLaws
 pub mod OtherPutLemmas
+pub mod EditLookLemmas
