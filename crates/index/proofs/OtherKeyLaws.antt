@@ -1,32 +1,31 @@
 -- An entry of another `_id` stands for a key in an index where a document of another `_id` has the key.
-use Rattle.std.proofs.Common.{◌≡◌, ℕ, ◌<◌, ◌≤◌, ◌^◌, ◌≢◌, Bool, true, false, not, ◌&&◌, List, [], ◌∷◌, ◌++◌, map, Option, Some, None, ◌⊎◌, inl, inr, refl, sym, ap, subst, ◌∙◌, arith, append_assoc}
-use Rattle.std.specs.Prelude.{All, is_some, if◌then◌else◌}
+use Rattle.std.proofs.Common.{◌≡◌, ℕ, ◌<◌, ◌^◌, ◌≢◌, Bool, true, false, not, ◌&&◌, List, [], ◌∷◌, ◌++◌, Option, Some, None, ◌⊎◌, inl, inr, refl, sym, ap, subst, ◌∙◌, arith, append_assoc}
+use Rattle.std.specs.Prelude.{is_some, if◌then◌else◌}
 use Rattle.std.specs.Int.{w32, to_be_bytes}
-use Rattle.std.specs.List.{flat_map, list_any}
+use Rattle.std.specs.List.{flat_map}
 use Rattle.std.specs.Ordering.{is_eq, is_lt}
 use Rattle.std.specs.declared.cmp.Ordering.{Ordering}
 use Rattle.std.specs.declared.cmp.Ordering.TheVariants.{Less, Equal, Greater}
 use Rattle.bson.specs.Tree.{Pairs}
 use Rattle.value_order.specs.KeyText.{tree_text}
 use Rattle.value_order.specs.Order.{compare}
-use Rattle.btree.specs.Keys.{Edit, Entry, Rises, before, behind, change, edit_map, key_cmp, keep_if, value_at}
+use Rattle.btree.specs.Keys.{Entry, before, behind, change, edit_map, key_cmp, keep_if, value_at}
 use Rattle.index.specs.Changes.{is_among}
-use Rattle.index.specs.Definition.{Definition, IsDefinition}
+use Rattle.index.specs.Definition.{Definition}
 use Rattle.index.specs.KeyTexts.{key_bytes, encoded_keys}
 use Rattle.index.specs.LawfulState.{IsStorable, IsKept}
 use Rattle.index.specs.OtherKeys.{is_another, has_other_key, another_has, TellsOtherKey, TellsOtherPut}
-use Rattle.index.specs.State.{Collection, key_of, find_collection}
-use Rattle.index.specs.StateEntries.{entry_keys, index_entry, index_entries, key_under, put_of, puts}
-use Rattle.index.specs.StateReads.{SpellsLawful}
-use Rattle.index.proofs.EditLemmas.{key_itself, value_after, change_value, rises_change}
-use Rattle.index.proofs.EntryLemmas.{IsOneOf, IsKeyOf, key_among, keyed_among, same_first, same_second, same_rest, same_id, same_text}
-use Rattle.index.proofs.ExchangeLaws.{value_entry, entry_value}
-use Rattle.index.proofs.FrontLemmas.{IsAnother, another_told, another_there}
+use Rattle.index.specs.State.{Collection, key_of}
+use Rattle.index.specs.StateEntries.{index_entry, index_entries, key_under, put_of, puts}
+use Rattle.index.proofs.EditLemmas.{key_itself, value_after, change_value}
+use Rattle.index.proofs.EntryLemmas.{IsOneOf, key_among, keyed_among, same_first, same_second, same_rest, same_id, same_text}
+use Rattle.index.proofs.ExchangeLaws.{value_entry}
+use Rattle.index.proofs.FrontLemmas.{another_told, another_there}
 use Rattle.index.proofs.HomeLemmas.{Home, kept_of, storable_of, number_fits, one_number}
 use Rattle.index.proofs.KeyOfDocument.{IsEncoded, encoded_of, same_back, test_among, among_test}
-use Rattle.index.proofs.MemberLemmas.{Among, among_append, among_each, among_flat, among_image, among_map, among_of, contains_of, of_all}
+use Rattle.index.proofs.MemberLemmas.{Among, among_append, among_each, among_flat, among_map, among_of, contains_of, of_all}
 use Rattle.index.proofs.OrderLaws.{keys_agree}
-use Rattle.index.proofs.OtherEditLaws.{IsOne, any_told, any_there, one_truth}
+use Rattle.index.proofs.OtherEditLaws.{any_told, any_there, one_truth}
 use Rattle.index.proofs.PlaceLemmas.{found_in}
 use Rattle.index.proofs.ReadLaws.{there_of, in_map, IsUnderBoth, catalogue_under, document_under, key_under_of}
 use Rattle.index.proofs.TellingLaws.{tells_document}

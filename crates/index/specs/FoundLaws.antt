@@ -1,5 +1,5 @@
 -- What is known of what is found in a state.
-use Rattle.std.specs.Prelude.{◌≡◌, ◌≤◌, ℕ, List, [], length, Some, All}
+use Rattle.std.specs.Prelude.{◌≡◌, ◌≤◌, ℕ, List, length, Some, All}
 use Rattle.std.specs.declared.cmp.Ordering.TheVariants.{Equal}
 use Rattle.bson.specs.Tree.{Tree, Pairs}
 use Rattle.bson.specs.Lawful.{IsDocument, IsTree}

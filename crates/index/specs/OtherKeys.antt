@@ -1,5 +1,5 @@
 -- Whether a document of another `_id` has a key in an index, told by the entries of the map.
-use Rattle.std.specs.Prelude.{◌≡◌, ℕ, ◌≢◌, Bool, true, not, ◌&&◌, nat_eq, List, [], ◌++◌, length, drop, Option, Some, is_some, All, Contains}
+use Rattle.std.specs.Prelude.{◌≡◌, ℕ, ◌≢◌, Bool, true, not, ◌&&◌, nat_eq, List, ◌++◌, length, drop, Option, Some, is_some, All, Contains}
 use Rattle.std.specs.List.{flat_map, list_any, starts_with}
 use Rattle.std.specs.Ordering.{is_eq}
 use Rattle.std.specs.Str.{bytes_eq}
