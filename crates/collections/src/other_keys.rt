@@ -1,15 +1,15 @@
-//! Whether a document of another `_id` has a key in an index.
+//! Which documents and keys are there once noted edits are put into the tree.
 
 ghost use Rattle.std.specs.Prelude.{◌≡◌};
 ghost use Rattle.std.specs.List.{list_any};
 ghost use Rattle.btree.specs.Scan.{entry_in};
 ghost use Rattle.index.specs.OtherKeys.{leaves_another};
 ghost use Rattle.collections.specs.Calls.{Reads};
-ghost use Rattle.collections.specs.OtherKeys.{TellsOtherKey};
+ghost use Rattle.collections.specs.OtherKeys.{TellsDocument, TellsOtherKey};
 
 use crate::collections::Collections;
 use btree::{Entry, Range};
-use index::{Edits, end_of, index_key, is_another};
+use index::{Edits, document_key, end_of, index_key, is_another};
 use page::Disk;
 use path::Refusal;
 
@@ -24,6 +24,21 @@ fn leaves_another(entries: &[Entry], edits: &Edits, front: &[u8], id: &[u8]) -> 
 }
 
 impl<D: Disk> Collections<D> {
+    /// Whether there is a document of the `_id` of this text in the collection of a number, once the edits are put into the tree.
+    pub fn has_noted(
+        &mut self,
+        edits: &Edits,
+        number: u32,
+        id: &[u8],
+    ) -> Result<bool, Refusal>
+        ensures { Reads D.history (TellsDocument edits.now number id.now)
+            result self.old self.new }
+    {
+        let key = document_key(self.alloc, number, id)?;
+        let found = self.value_at(&key)?;
+        Ok(edits.puts_at(&key).unwrap_or(found.is_some()))
+    }
+
     /// Whether an index has an entry for this encoded key and for another `_id` than the one of this text, once the edits are
     /// put into the tree. It reads all entries of the key.
     pub fn has_other_key(

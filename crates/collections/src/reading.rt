@@ -140,7 +140,7 @@ fn names_at(alloc: Global, entries: &[Entry]) -> Result<Vec<Name>, Refusal>
 
 impl<D: Disk> Collections<D> {
     /// The value at a key of the turn's tree.
-    fn value_at(&mut self, key: &[u8]) -> Result<Option<Vec<u8>>, Refusal>
+    pub(crate) fn value_at(&mut self, key: &[u8]) -> Result<Option<Vec<u8>>, Refusal>
         ensures { Reads D.history (IsInTree (IsValueAt key.now)) result self.old self.new }
     {
         if self.pager.is_stopped() {

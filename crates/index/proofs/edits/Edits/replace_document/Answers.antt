@@ -1,7 +1,9 @@
 use Rattle.std.proofs.Common.{◌≡◌, ℕ, ◌≤◌, List, ◌∷◌, map, length, refl, sym, ap, subst, ◌∙◌}
 use Rattle.std.specs.List.{flat_map}
+use Rattle.value_order.specs.KeyText.{tree_text}
 use Rattle.btree.specs.Keys.{Entry, Edit}
 use Rattle.index.specs.Indexed.{with_edits, NotesSome, replacing_in, without_all}
+use Rattle.index.specs.State.{key_of}
 use Rattle.index.specs.StateEntries.{document_entry, put_of, puts, removals}
 use Rattle.index.specs.StateLaws.{own_entries}
 use Rattle.index.specs.declared.changes.KeyChanges.{KeyChanges}
