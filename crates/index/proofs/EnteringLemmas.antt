@@ -1,7 +1,7 @@
 -- A document that enters a collection: what isn't refused keeps the documents and the indexes lawful.
-use Rattle.std.proofs.Common.{◌≡◌, ◌≢◌, ℕ, Bool, true, false, List, [], ◌∷◌, ◌++◌, ◌⊎◌, inl, inr, length, map, Option, Some, None, Result, Ok, Err, refl, sym, ap, subst, ◌∙◌, arith}
+use Rattle.std.proofs.Common.{◌≡◌, ℕ, Bool, true, false, List, [], ◌∷◌, ◌++◌, ◌⊎◌, inl, inr, map, Result, Ok, Err, refl, sym, ap, subst, ◌∙◌, arith}
 use Rattle.std.specs.Prelude.{◌&&◌, ◌||◌, not, is_some, if◌then◌else◌, All}
-use Rattle.std.specs.List.{AllPairs, list_any}
+use Rattle.std.specs.List.{list_any}
 use Rattle.std.specs.Ordering.{is_eq, eq_by_cmp}
 use Rattle.std.specs.declared.cmp.Ordering.{Ordering}
 use Rattle.std.specs.declared.cmp.Ordering.TheVariants as orders
@@ -16,14 +16,14 @@ use Rattle.index.specs.Definition.{Field, Definition}
 use Rattle.index.specs.Documents.{put_document}
 use Rattle.index.specs.Entering.{AreIndexed, DocumentWrite, StayIndexed, clashes, entered, is_duplicate, is_other, share_key, with_document}
 use Rattle.index.specs.IndexKeys.{has_parallel_arrays, is_multikey}
-use Rattle.index.specs.KeptLaws.{IsNotedFor, MayEnter, noted}
+use Rattle.index.specs.KeptLaws.{MayEnter, noted}
 use Rattle.index.specs.KeyTexts.{encoded_keys, is_too_long, keys_in, keys_in_all}
 use Rattle.index.specs.LawfulState.{IsIndexOf, IsRising, ShareNoKey}
 use Rattle.index.specs.State.{Collection, key_of}
 use Rattle.index.specs.StateReads.{find_document}
-use Rattle.index.proofs.DocumentPlaces.{IsBetween, IsInstead, placed, turned}
-use Rattle.index.proofs.KeyOfDocument.{among_around, among_there}
-use Rattle.index.proofs.KeptSteps.{all_noted, index_with, index_without, long_map, noted_distinct, noted_fields, noted_for, noted_index, pairs_around, pairs_middle}
+use Rattle.index.proofs.DocumentPlaces.{placed, turned}
+use Rattle.index.proofs.KeyOfDocument.{among_around}
+use Rattle.index.proofs.KeptSteps.{index_with, index_without, long_map, noted_distinct, noted_fields, noted_for, noted_index, pairs_around, pairs_middle}
 use Rattle.index.proofs.LawfulLaws.{all_of}
 use Rattle.index.proofs.MemberLemmas.{Among, among_append, among_map, of_all}
 

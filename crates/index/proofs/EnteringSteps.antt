@@ -1,7 +1,7 @@
 -- Where edits lead by which a document enters a collection.
-use Rattle.std.proofs.Common.{◌≡◌, Bool, true, false, List, [], ◌∷◌, ◌++◌, ◌⊎◌, inl, inr, length, map, take, Option, Some, None, Ok, refl, sym, ap, subst, ◌∙◌}
+use Rattle.std.proofs.Common.{◌≡◌, Bool, true, false, List, [], ◌∷◌, ◌++◌, ◌⊎◌, inl, inr, length, map, take, Some, None, Ok, refl, sym, ap, subst, ◌∙◌}
 use Rattle.std.proofs.Math.Seq.{take-append_seam}
-use Rattle.std.specs.Prelude.{◌≤◌, ◌&&◌, ◌||◌, ℕ, if◌then◌else◌, is_some, not, All}
+use Rattle.std.specs.Prelude.{◌&&◌, ◌||◌, ℕ, if◌then◌else◌, not, All}
 use Rattle.std.specs.List.{list_any}
 use Rattle.std.specs.Ordering.{is_eq}
 use Rattle.std.specs.declared.cmp.Ordering.{Ordering}
@@ -11,7 +11,7 @@ use Rattle.value_order.specs.Order.{compare}
 use Rattle.btree.specs.Keys.{Edit}
 use Rattle.index.specs.Definition.{Definition}
 use Rattle.index.specs.Documents.{put_document}
-use Rattle.index.specs.Entering.{AreIndexed, DocumentWrite, Enters, NotesArrays, becomes_multikey, entered, with_document}
+use Rattle.index.specs.Entering.{DocumentWrite, Enters, NotesArrays, becomes_multikey, entered, with_document}
 use Rattle.index.specs.Indexed.{InsertsInto, NotesIndexesOf, ReplacesIn}
 use Rattle.outcome.specs.Outcome.{unless}
 use Rattle.path.specs.declared.refusal.Refusal.TheVariants as refusals
@@ -24,7 +24,7 @@ use Rattle.index.specs.StateEntries.{Leads}
 use Rattle.index.specs.StateLaws.{AreAlike, MayBecome}
 use Rattle.index.specs.StateReads.{find_document}
 use Rattle.index.proofs.DocumentPlaces.{IsBetween, IsInstead, placed, turned}
-use Rattle.index.proofs.EnteringLemmas.{HasEntered, has_entered, stay_with}
+use Rattle.index.proofs.EnteringLemmas.{has_entered, stay_with}
 use Rattle.index.proofs.FoundLawLemmas.{finds_put, put_twice}
 use Rattle.index.proofs.HomeLemmas.{kept_of}
 use Rattle.index.proofs.KeptSteps.{all_around, all_middle, kept_noted, noted_fields}

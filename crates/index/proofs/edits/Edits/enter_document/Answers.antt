@@ -1,10 +1,8 @@
-use Rattle.std.proofs.Common.{◌≡◌, List, map, Option, Some, None, Bor, Ok, sym, ap, subst, ◌∙◌}
+use Rattle.std.proofs.Common.{List, map, Option, Some, Bor, Ok, sym, ap, subst, ◌∙◌}
 use Rattle.std.specs.Prelude.{IfSome, OnOk, option_map}
-use Rattle.bson.specs.Tree.{Pairs}
 use Rattle.index.specs.Definition.{Definition}
 use Rattle.index.specs.Entering.{AreKeyed, Enters}
 use Rattle.index.specs.Indexed.{InsertsInto, ReplacesIn}
-use Rattle.index.specs.KeptLaws.{noted}
 use Rattle.index.specs.KeyTexts.{keys_in_all}
 use Rattle.index.specs.View.{texts_of}
 use Rattle.index.specs.declared.entering.Keyed.{Keyed}

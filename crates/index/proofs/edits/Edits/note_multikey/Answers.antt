@@ -1,6 +1,5 @@
-use Rattle.std.proofs.Common.{◌≡◌, Bool, false, List, length, map, sym, ap, ◌∙◌}
+use Rattle.std.proofs.Common.{◌≡◌, false, length, map, sym, ap, ◌∙◌}
 use Rattle.std.specs.List.{list_any}
-use Rattle.index.specs.Definition.{Definition}
 use Rattle.index.specs.Entering.{becomes_multikey}
 use Rattle.index.specs.KeptLaws.{noted}
 use Rattle.index.proofs.EnteringSteps.{notes_none, notes_some, noted_so, written_back}

@@ -1,4 +1,4 @@
-use Rattle.std.proofs.Common.{ℕ, ◌≤◌, List, length, sym, ap, subst, ◌∙◌}
+use Rattle.std.proofs.Common.{List, ap, subst, ◌∙◌}
 use Rattle.btree.specs.Keys.{Entry, Edit}
 use Rattle.index.specs.Indexed.{with_edits, NotesSome}
 use Rattle.index.specs.StateEntries.{index_entries, removals}
