@@ -1,18 +1,19 @@
 -- What a range of entries and a list of edits tell of other keys.
-use Rattle.std.proofs.Common.{◌≡◌, ℕ, false, true, Bool, not, ◌||◌, List, [], ◌∷◌, map, Option, Some, None, refl, sym, ap, ◌∙◌}
+use Rattle.std.proofs.Common.{◌≡◌, ℕ, false, true, Bool, not, ◌||◌, List, [], ◌∷◌, map, Option, Some, None, refl, sym, ap, arith, ◌∙◌}
 use Rattle.std.specs.Prelude.{is_some, unwrap_or}
 use Rattle.std.specs.Global.{Vec}
 use Rattle.std.specs.List.{list_any}
 use Rattle.std.specs.Option.{option_map}
+use Rattle.std.proofs.lemmas.List.{length-map}
+use Rattle.btree.specs.Calls.{IsBatch}
 use Rattle.btree.specs.Change.{edit_keys}
 use Rattle.btree.specs.Keys.{Edit, Entry, Rises, change, value_at, window}
 use Rattle.btree.specs.Scan.{entry_in, within}
 use Rattle.btree.specs.declared.scanning.Batch.{Batch}
-use Rattle.btree.specs.declared.scanning.Entry.{Entry as OwnEntry}
 use Rattle.btree.specs.declared.scanning.Range.{Range}
 use Rattle.index.specs.Changes.{is_among}
 use Rattle.index.specs.EditList.{edit_at}
-use Rattle.index.specs.OtherKeys.{has_other_key, is_another, leaves_another, puts_another, IsEndOf}
+use Rattle.index.specs.OtherKeys.{is_another, leaves_another, puts_another, IsEndOf}
 use Rattle.index.specs.State.{Collection}
 use Rattle.index.specs.StateEntries.{key_under}
 use Rattle.index.proofs.EditLookLemmas.{put_what_they_have}
@@ -21,6 +22,14 @@ use Rattle.collections.specs.OtherKeys.{TellsDocument, TellsOtherKey}
 use Rattle.collections.specs.Reading.{IsBatchOf, IsInTree, IsValueAt}
 use Rattle.collections.proofs.FoundLemmas.{whole_batch}
 use Rattle.collections.proofs.ReadingLemmas.{next_same}
+
+-- no vector holds more than all entries of a range
+pub not_more : (now : List Collection) (range : Range) (batch : Batch) → range.limit ≡ 18446744073709551615 → IsInTree (IsBatchOf range) now batch → is_some batch.next ≡ true → ⊥
+not_more now range batch limit p more = by (option_map (λ v. v.items) batch.next) (next_same batch.next ∙ more) p.right
+  where
+    by : (next : Option (List ℕ)) → is_some next ≡ true → IsBatch range.limit (within range p.entries) (map entry_in batch.entries.items) next → ⊥
+    by None more right = cc
+    by (Some key) more right = omega (arith, limit, right.full, length-map batch.entries.items entry_in, batch.entries.ok.0, batch.entries.ok.1, batch.entries.small)
 
 any_map : {X Y : Type 0} (f : X → Y) (p : Y → Bool) (xs : List X) → list_any p (map f xs) ≡ list_any (λ x. p (f x)) xs
 any_map f p [] = refl

@@ -1,5 +1,5 @@
 -- What a walk makes of the documents from its key on.
-use Rattle.std.proofs.Common.{◌≡◌, ◌⊎◌, ℕ, suc, ◌+◌, ◌-◌, ◌*◌, ◌<◌, ◌≤◌, Bool, true, false, not, List, [], ◌∷◌, ◌++◌, length, map, take, drop, refl, sym, ◌∙◌, ap, subst, arith, inl, inr, length-append, append_assoc}
+use Rattle.std.proofs.Common.{◌≡◌, ◌⊎◌, ℕ, suc, ◌+◌, ◌*◌, ◌<◌, ◌≤◌, Bool, true, false, not, List, [], ◌∷◌, ◌++◌, length, map, take, drop, refl, sym, ◌∙◌, ap, subst, arith, inl, inr, length-append, append_assoc}
 use Rattle.std.specs.Prelude.{◌&&◌, Option, Some, None, All, Result, Ok}
 use Rattle.std.specs.Option.{option_map}
 use Rattle.std.specs.Global.{Vec}
@@ -10,7 +10,7 @@ use Rattle.std.proofs.lemmas.List.{length-drop, length-map, length-take, take-ap
 use Rattle.std.proofs.lemmas.List.Elements.{All-drop, All-take}
 use Rattle.std.proofs.Math.Seq.{drop-append_seam, take-length}
 use Rattle.bson.specs.Tree.{Pairs}
-use Rattle.page.specs.History.{History, KeepsWord}
+use Rattle.page.specs.History.{History}
 use Rattle.btree.specs.Calls.{IsBatch}
 use Rattle.btree.specs.Keys.{Each, Entry, IsNotUnder, IsUnder, is_within, keep_if, key_cmp, window}
 use Rattle.btree.specs.Scan.{entry_in, within}
@@ -27,9 +27,8 @@ use Rattle.pager.specs.Capacity.{TreesFit}
 use Rattle.path.specs.declared.refusal.Refusal.{Refusal}
 use Rattle.collections.specs.Calls.{Reads}
 use Rattle.collections.specs.Reading.{AreEach, IsBatchOf, IsInTree, IsOfDocument, OrMemory, ReadsOf}
-use Rattle.collections.specs.Standing.{HasState, IsTurnOf}
+use Rattle.collections.specs.Standing.{IsTurnOf}
 use Rattle.collections.specs.State.{State}
-use Rattle.collections.specs.View.{disk_history, is_stopped}
 use Rattle.collections.specs.Walk.{AreAhead, AreBehind, AreNext, BeginsWalk, GoesOnWalking, IsWalk, next_key}
 use Rattle.collections.specs.declared.walk.Walk.{Walk}
 use Rattle.collections.proofs.FoundLemmas.{each_document}

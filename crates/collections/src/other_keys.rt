@@ -1,9 +1,10 @@
 //! Which documents and keys are there once noted edits are put into the tree.
 
-ghost use Rattle.std.specs.Prelude.{◌≡◌};
+ghost use Rattle.std.specs.Prelude.{◌≡◌, ◌||◌};
 ghost use Rattle.std.specs.List.{list_any};
 ghost use Rattle.btree.specs.Scan.{entry_in};
-ghost use Rattle.index.specs.OtherKeys.{leaves_another};
+ghost use Rattle.index.specs.EditList.{IsEditList};
+ghost use Rattle.index.specs.OtherKeys.{leaves_another, puts_another};
 ghost use Rattle.collections.specs.Calls.{Reads};
 ghost use Rattle.collections.specs.OtherKeys.{TellsDocument, TellsOtherKey};
 
@@ -21,6 +22,18 @@ fn leaves_another(entries: &[Entry], edits: &Edits, front: &[u8], id: &[u8]) -> 
     entries
         .iter()
         .any(|entry| is_another(&entry.key, front, id) && !edits.has(&entry.key))
+}
+
+/// Whether one of the edits puts such an entry, or they leave one.
+fn tells_another(entries: &[Entry], edits: &Edits, front: &[u8], id: &[u8]) -> bool
+    ensures told { result ≡ (puts_another front.now id.now edits.now
+        || list_any (λ x. leaves_another front.now id.now edits.now (entry_in x)) entries.now) }
+    ensures lawful { IsEditList edits.now }
+{
+    if edits.puts_other(front, id) {
+        return true;
+    }
+    leaves_another(entries, edits, front, id)
 }
 
 impl<D: Disk> Collections<D> {
@@ -62,6 +75,6 @@ impl<D: Disk> Collections<D> {
         if batch.next.is_some() {
             return Err(Refusal::StorageFailed);
         }
-        Ok(edits.puts_other(&front, id) || leaves_another(&batch.entries, edits, &front, id))
+        Ok(tells_another(&batch.entries, edits, &front, id))
     }
 }

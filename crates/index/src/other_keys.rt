@@ -5,7 +5,7 @@ ghost use Rattle.std.specs.Ordering.{is_lt};
 ghost use Rattle.std.specs.List.Sorted.{IsPartitionPoint};
 ghost use Rattle.btree.specs.Change.{edit_keys};
 ghost use Rattle.btree.specs.Keys.{Each, Rises, key_cmp};
-ghost use Rattle.index.specs.EditList.{edits_in};
+ghost use Rattle.index.specs.EditList.{IsEditList, edits_in};
 ghost use Rattle.index.specs.OtherKeys.{IsEndOf, is_another, puts_another};
 
 use crate::edits::{Edits, OwnEdit};
@@ -82,7 +82,8 @@ fn puts_from(edits: &[OwnEdit], front: &[u8], id: &[u8]) -> bool
 impl Edits {
     /// Whether an entry is put whose key goes on from this front, and not by this text.
     pub fn puts_other(&self, front: &[u8], id: &[u8]) -> bool
-        ensures { result ≡ puts_another front.now id.now self.now }
+        ensures puts { result ≡ puts_another front.now id.now self.now }
+        ensures lawful { IsEditList self.now }
     {
         let (_, from) = self.edits.split_at(count_below(&self.edits, front));
         puts_from(from, front, id)

@@ -1,6 +1,5 @@
-use Rattle.std.proofs.Common.{subst, sym, ◌≡◌, Ok, Err, Some, None, ◌∙◌}
+use Rattle.std.proofs.Common.{subst, ◌≡◌, Ok, Err, Some, None, ◌∙◌}
 use Rattle.std.proofs.lemmas.Result.{err_from_is_err_and}
-use Rattle.bson.specs.Tree.{Pairs}
 use Rattle.collections.specs.Reading.{AreBytesAt, IsPlaceOf, stored_at}
 use Rattle.collections.proofs.FoundLemmas.{none_stored, one_stored}
 use Rattle.collections.proofs.ReadingLemmas.{asked_on, asked_refused}

@@ -1,11 +1,11 @@
-use Rattle.std.proofs.Common.{rules, subst, sym, Ok, Err, refl}
+use Rattle.std.proofs.Common.{subst, sym, Ok, Err, refl}
 use Rattle.std.specs.Prelude.{Result}
 use Rattle.std.specs.Global.{Vec}
 use Rattle.btree.specs.declared.scanning.Entry.{Entry}
 use Rattle.path.specs.declared.refusal.Refusal.{Refusal}
 use Rattle.collections.specs.Entries.{ReadsEntries}
 use Rattle.collections.specs.State.{State}
-use Rattle.collections.proofs.ReadingLemmas.{AnswersAs, entries_there}
+use Rattle.collections.proofs.ReadingLemmas.{entries_there}
 use Rattle.collections.proofs.collections.Collections.entries.Goals as goal
 use Rattle.collections.proofs.collections.Collections.entries.Goals.{in-Ok, in-Err}
 

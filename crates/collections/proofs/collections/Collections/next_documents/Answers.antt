@@ -1,10 +1,9 @@
-use Rattle.std.proofs.Common.{◌≡◌, ◌+◌, ◌<◌, [], arith, length, take, Ok, Err, ◌∙◌, ap, refl, subst, sym, Some, Vec}
+use Rattle.std.proofs.Common.{◌≡◌, ◌+◌, ◌<◌, [], arith, length, take, Ok, Err, ◌∙◌, ap, subst, sym, Some, Vec}
 use Rattle.std.specs.Global.{Global}
 use Rattle.std.specs.Option.{option_map}
 use Rattle.std.proofs.lemmas.Result.{err_from_is_err_and}
 use Rattle.bson.specs.Tree.{Pairs}
 use Rattle.btree.specs.declared.scanning.Range.{Range}
-use Rattle.index.specs.State.{Collection}
 use Rattle.index.specs.StateEntries.{key_under}
 use Rattle.path.specs.declared.refusal.Refusal.TheVariants as refusals
 use Rattle.collections.specs.Reading.{AreEach, IsBatchOf, IsInTree, IsOfDocument}

@@ -1,10 +1,9 @@
 use Rattle.std.proofs.Common.{rules, subst, sym, Ok, Err, ℕ}
 use Rattle.std.specs.Prelude.{Option, Result}
 use Rattle.std.specs.Global.{Vec}
-use Rattle.btree.specs.declared.scanning.Batch.{Batch}
 use Rattle.path.specs.declared.refusal.Refusal.{Refusal}
 use Rattle.collections.specs.Calls.{Reads}
-use Rattle.collections.specs.Reading.{IsBatchOf, IsInTree, IsValueAt}
+use Rattle.collections.specs.Reading.{IsInTree, IsValueAt}
 use Rattle.collections.specs.State.{State}
 use Rattle.collections.proofs.ReadingLemmas.{reads_failed, reads_there}
 use Rattle.collections.proofs.collections.Collections.value_at.Goals as goal

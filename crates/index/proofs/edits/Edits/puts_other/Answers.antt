@@ -25,8 +25,8 @@ puts_from-requires-clause-above c =
     let cut : IsCut front c.self.inside.edits.items n = subst (λ (es : List OwnEdit). IsCut front es n) c.deref-2.ensures.value c.count_below.ensures.cut in
     subst (Each (λ (e : OwnEdit). is_lt (key_cmp e.key.items front) ≡ false)) (sym there) (above_all front c.args.id.now n c.self.inside.edits.items cut.1)
 
-pub returns : goal.returns
-returns c =
+pub returns-clause-puts : goal.returns-clause-puts
+returns-clause-puts c =
     let front = c.args.front.now in
     let id = c.args.id.now in
     let n = c.count_below.result in
