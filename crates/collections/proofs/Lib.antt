@@ -6,6 +6,8 @@ pub mod LawLemmas
 pub mod MarkLemmas
 pub mod OpenLemmas
 pub mod OtherKeyLemmas
+pub mod CauseLemmas
+pub mod AnyLemmas
 pub mod ReadingLemmas
 pub mod StandingLemmas
 pub mod WalkLemmas
