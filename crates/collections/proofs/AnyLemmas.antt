@@ -1,5 +1,5 @@
 -- Looks at the tree one after the other, until one finds what is looked for.
-use Rattle.std.proofs.Common.{◌≡◌, inl, inr, ℕ, suc, ◌+◌, ◌<◌, ◌≤◌, Bool, true, false, ◌||◌, ◌&&◌, List, [], ◌∷◌, length, drop, get_or, map, Result, Ok, Err, refl, sym, ap, ◌∙◌, arith, drop-cons}
+use Rattle.std.proofs.Common.{◌≡◌, inl, inr, ℕ, zero, suc, ◌+◌, ◌<◌, ◌≤◌, Bool, true, false, ◌||◌, ◌&&◌, List, [], ◌∷◌, length, drop, get_or, map, Result, Ok, Err, refl, sym, ap, ◌∙◌, arith, drop-cons}
 use Rattle.std.specs.Global.{Vec}
 use Rattle.std.proofs.lemmas.List.{drop_all}
 use Rattle.page.specs.History.{History, KeepsWord}
@@ -104,6 +104,16 @@ left_step xs i x within is =
     let next : suc i ≡ i + 1 = omega arith in
     drop-cons xs i x within ∙ (λ j. sym is j ∷ drop (next j) xs)
 
+abbrev rest_of : {X : Type 0} → List X → List X
+rest_of [] = []
+rest_of (x ∷ xs) = xs
+
+rest_drop : {X : Type 0} (i : ℕ) (xs : List X) → rest_of (drop i xs) ≡ drop (suc i) xs
+rest_drop zero [] = refl
+rest_drop zero (x ∷ xs) = refl
+rest_drop (suc i) [] = refl
+rest_drop (suc i) (x ∷ xs) = rest_drop i xs
+
 module _ (number : ℕ) (id : List ℕ) where
   -- the first key that is left, and those behind it
   pub first_key_left : (index : ℕ) (keys : List (Vec ℕ)) (i : ℕ) (item : Vec ℕ) (key : List ℕ) → i < length keys → item ≡ get_or keys i item → key ≡ item.items → (entries : List Entry)
@@ -124,6 +134,31 @@ module _ (number : ℕ) (id : List ℕ) where
       let here : at < length all = omega (arith, within, one_each) in
       (λ j. is_taken number id (left_step is at i within this j) (map (λ k. texts_of k.items) (left_step all at ks here these j)) entries)
       ∙ (λ j. (i.is_unique && any_other_key number (sym numbered j) id (texts_of (sym same j)) entries) || is_taken number id (drop (at + 1) is) (map (λ k. texts_of k.items) (drop (at + 1) all)) entries)
+
+  -- so of one that is unique
+  pub unique_index_left : (is : List Definition) (all : List (Vec (Vec ℕ))) (at : ℕ) (i : Definition) (ks : Vec (Vec ℕ)) (n : ℕ) (keys : List (Vec ℕ)) → at < length is → length all ≡ length is
+      → i ≡ get_or is at i → ks ≡ get_or all at ks → n ≡ i.number → keys ≡ ks.items → i.is_unique ≡ true → (entries : List Entry)
+      → is_taken number id (drop at is) (map (λ k. texts_of k.items) (drop at all)) entries
+      ≡ (any_other_key number n id (texts_of keys) entries || is_taken number id (drop (at + 1) is) (map (λ k. texts_of k.items) (drop (at + 1) all)) entries)
+  unique_index_left is all at i ks n keys within one_each this these numbered same unique entries =
+      first_index_left is all at i ks n keys within one_each this these numbered same entries
+      ∙ ap (λ (b : Bool). (b && any_other_key number n id (texts_of keys) entries) || is_taken number id (drop (at + 1) is) (map (λ k. texts_of k.items) (drop (at + 1) all)) entries) unique
+
+  -- an index that isn't unique is passed over
+  past_index : (i : Definition) (is : List Definition) (all : List (Vec (Vec ℕ))) → i.is_unique ≡ false → (entries : List Entry)
+      → is_taken number id (i ∷ is) (map (λ k. texts_of k.items) all) entries ≡ is_taken number id is (map (λ k. texts_of k.items) (rest_of all)) entries
+  past_index i [] [] plain entries = refl
+  past_index i (j ∷ is) [] plain entries = refl
+  past_index i is (ks ∷ all) plain entries =
+      ap (λ (b : Bool). (b && any_other_key number i.number id (texts_of ks.items) entries) || is_taken number id is (map (λ k. texts_of k.items) all) entries) plain
+
+  pub index_passed : (is : List Definition) (all : List (Vec (Vec ℕ))) (at : ℕ) (i : Definition) → at < length is → i ≡ get_or is at i → i.is_unique ≡ false → (entries : List Entry)
+      → is_taken number id (drop at is) (map (λ k. texts_of k.items) (drop at all)) entries ≡ is_taken number id (drop (at + 1) is) (map (λ k. texts_of k.items) (drop (at + 1) all)) entries
+  index_passed is all at i within this plain entries =
+      let next : suc at ≡ at + 1 = omega arith in
+      ap (λ (js : List Definition). is_taken number id js (map (λ k. texts_of k.items) (drop at all)) entries) (left_step is at i within this)
+      ∙ past_index i (drop (at + 1) is) (drop at all) plain entries
+      ∙ ap (λ (ks : List (Vec (Vec ℕ))). is_taken number id (drop (at + 1) is) (map (λ k. texts_of k.items) ks) entries) (rest_drop at all ∙ ap (λ (n : ℕ). drop n all) next)
 
   pub no_index_left : (is : List Definition) (all : List (Vec (Vec ℕ))) (at : ℕ) → length is ≤ at → (entries : List Entry) → is_taken number id (drop at is) (map (λ k. texts_of k.items) (drop at all)) entries ≡ false
   no_index_left is all at whole entries = ap (λ (js : List Definition). is_taken number id js (map (λ k. texts_of k.items) (drop at all)) entries) (drop_all at is whole)
