@@ -1,6 +1,6 @@
 //! Collections by their names, and documents by their `_id`.
 
-ghost use Rattle.std.specs.Prelude.{◌≡◌, List, is_some, map};
+ghost use Rattle.std.specs.Prelude.{◌≡◌, IfOk, IfSome, List, is_some, map};
 ghost use Rattle.std.specs.Option.{option_map};
 ghost use Rattle.bson.specs.Spelling.{frame_of, pairs_bytes};
 ghost use Rattle.bson.specs.Tree.{Pairs};
@@ -10,7 +10,7 @@ ghost use Rattle.index.specs.State.{Collection, find_collection};
 ghost use Rattle.index.specs.StateEntries.{catalogue_entry};
 ghost use Rattle.collections.specs.Calls.{Reads};
 ghost use Rattle.collections.specs.Entries.{AreNextEntries, ReadsEntries, ReadsTree};
-ghost use Rattle.collections.specs.Reading.{AreBytesAt, AreEach, IsBatchOf, IsInTree, IsNameOf, IsOfCollection, IsOfDocument, IsPlaceOf, IsValueAt, LooksUp, OrMemory, ReadsOf, catalogued_in, catalogued_of, name_in, name_of, stored_at};
+ghost use Rattle.collections.specs.Reading.{AreBytesAt, AreEach, IsBatchOf, IsInTree, IsNameOf, IsOfCollection, IsOfDocument, IsPlaceOf, IsValueAt, IsWithinLimits, LooksUp, OrMemory, ReadsOf, catalogued_in, catalogued_of, name_in, name_of, stored_at};
 
 use crate::applying::refusal_of;
 use crate::collections::Collections;
@@ -102,8 +102,9 @@ pub(crate) fn documents_of(alloc: Global, entries: &[Entry]) -> Result<Vec<Docum
 
 /// The number and the indexes that the catalogue tells of a collection.
 fn told_in(alloc: Global, value: &[u8]) -> Result<Catalogued, Refusal>
-    ensures { (c : Collection) → IsKept c → value.now ≡ (catalogue_entry c).value
+    ensures told { (c : Collection) → IsKept c → value.now ≡ (catalogue_entry c).value
         → OrMemory (λ told. catalogued_of told ≡ catalogued_in c) result }
+    ensures limits { IfOk result IsWithinLimits }
 {
     match catalogue_told(alloc, value)? {
         Some(told) => Ok(told),
@@ -198,9 +199,10 @@ impl<D: Disk> Collections<D> {
 
     /// The number and the indexes of the collection of a name, if there is one.
     pub fn catalogued(&mut self, namespace: &str) -> Result<Option<Catalogued>, Refusal>
-        ensures { Reads D.history (λ now found. option_map catalogued_of found
+        ensures reads { Reads D.history (λ now found. option_map catalogued_of found
             ≡ option_map catalogued_in (find_collection now namespace.now))
             result self.old self.new }
+        ensures limits { IfOk result (λ found. IfSome found IsWithinLimits) }
     {
         let key = catalogue_key(self.alloc, namespace)?;
         let Some(value) = self.value_at(&key)? else {
