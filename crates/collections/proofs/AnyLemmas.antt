@@ -1,5 +1,5 @@
 -- Looks at the tree one after the other, until one finds what is looked for.
-use Rattle.std.proofs.Common.{◌≡◌, inl, inr, ℕ, zero, suc, ◌+◌, ◌<◌, ◌≤◌, Bool, true, false, ◌||◌, ◌&&◌, List, [], ◌∷◌, length, drop, get_or, map, Result, Ok, Err, refl, sym, ap, ◌∙◌, arith, drop-cons}
+use Rattle.std.proofs.Common.{◌≡◌, inl, inr, ℕ, zero, suc, ◌+◌, ◌<◌, ◌≤◌, Bool, true, false, ◌||◌, ◌&&◌, List, [], ◌∷◌, length, drop, get_or, map, Ok, Err, refl, sym, ap, ◌∙◌, arith, drop-cons}
 use Rattle.std.specs.Global.{Vec}
 use Rattle.std.proofs.lemmas.List.{drop_all}
 use Rattle.page.specs.History.{History, KeepsWord}
@@ -12,7 +12,7 @@ use Rattle.index.specs.State.{Collection}
 use Rattle.index.specs.View.{texts_of}
 use Rattle.index.specs.StateEntries.{Spells}
 use Rattle.index.proofs.SpelledLaws.{spelled_once}
-use Rattle.collections.specs.Calls.{GoesFrom, HasCause, Reads}
+use Rattle.collections.specs.Calls.{GoesFrom, Reads}
 use Rattle.collections.specs.OtherKeys.{TellsOf, any_other_key, is_taken}
 use Rattle.collections.specs.Standing.{HasState, IsTurnOf}
 use Rattle.collections.specs.State.{State}

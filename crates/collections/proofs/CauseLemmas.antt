@@ -1,5 +1,5 @@
 -- Causes of refusals between two moments are causes between earlier and later ones.
-use Rattle.std.proofs.Common.{◌≡◌, ◌⊎◌, inl, inr, true, List, sym, ◌∙◌, arith}
+use Rattle.std.proofs.Common.{inl, inr, List, sym, ◌∙◌, arith}
 use Rattle.page.specs.History.{History, KeepsWord}
 use Rattle.btree.specs.Store.{HasNoPage}
 use Rattle.path.specs.declared.refusal.Refusal.{Refusal}
@@ -7,7 +7,7 @@ use Rattle.path.specs.declared.refusal.Refusal.{Refusal}
 use Rattle.index.specs.State.{Collection}
 use Rattle.collections.specs.Calls.{GoesFrom, HasCause, HasFailed, HasWriteCause}
 use Rattle.collections.specs.State.{State}
-use Rattle.collections.specs.View.{disk_history, is_stopped, pages_of}
+use Rattle.collections.specs.View.{disk_history, pages_of}
 use Rattle.collections.proofs.StandingLemmas.{stopped_same}
 
 module _ {D : Type 0} (history : D → History) where

@@ -8,6 +8,7 @@ pub mod OpenLemmas
 pub mod OtherKeyLemmas
 pub mod CauseLemmas
 pub mod AnyLemmas
+pub mod TakenLemmas
 pub mod ReadingLemmas
 pub mod StandingLemmas
 pub mod WalkLemmas

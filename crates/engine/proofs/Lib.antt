@@ -65,3 +65,5 @@ pub mod PlannedUpdates
 pub mod PuttingLemmas
 pub mod MeantLemmas
 pub mod UnindexedLemmas
+pub mod EnteringLemmas
+pub mod EnteringSteps

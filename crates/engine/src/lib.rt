@@ -13,6 +13,7 @@ mod delete;
 mod documents;
 mod drop_collection;
 mod engine;
+mod entering;
 mod find;
 mod get_more;
 mod hello;

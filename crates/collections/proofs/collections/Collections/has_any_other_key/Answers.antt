@@ -1,9 +1,7 @@
-use Rattle.std.proofs.Common.{◌+◌, Bool, true, false, Ok, Result, drop, ap, sym, ◌∙◌, subst}
+use Rattle.std.proofs.Common.{◌+◌, Bool, Ok, drop, sym, ◌∙◌, subst}
 use Rattle.std.proofs.lemmas.Result.{err_from_is_err_and}
-use Rattle.btree.specs.Keys.{Entry}
 use Rattle.index.specs.OtherKeys.{has_other_key}
 use Rattle.index.specs.View.{texts_of}
-use Rattle.path.specs.declared.refusal.Refusal.{Refusal}
 use Rattle.collections.specs.Calls.{Reads}
 use Rattle.collections.specs.OtherKeys.{TellsOf, any_other_key}
 use Rattle.collections.proofs.AnyLemmas.{first_key_left, looks_begin, looks_failed, looks_found, looks_none, looks_step, looks_stopped, no_key_left}

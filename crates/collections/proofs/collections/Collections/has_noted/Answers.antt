@@ -1,4 +1,4 @@
-use Rattle.std.proofs.Common.{Ok, ap, ◌∙◌, sym}
+use Rattle.std.proofs.Common.{Ok, ◌∙◌, sym}
 use Rattle.std.specs.Prelude.{is_some, unwrap_or}
 use Rattle.std.specs.Option.{option_map}
 use Rattle.index.specs.EditList.{edit_at}

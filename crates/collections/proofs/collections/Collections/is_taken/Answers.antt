@@ -1,11 +1,9 @@
-use Rattle.std.proofs.Common.{◌+◌, ◌&&◌, Bool, true, false, Ok, Result, drop, map, ap, sym, ◌∙◌, subst}
+use Rattle.std.proofs.Common.{◌+◌, Bool, Ok, drop, map, sym, ◌∙◌, subst}
 use Rattle.std.proofs.lemmas.Result.{err_from_is_err_and}
-use Rattle.btree.specs.Keys.{Entry}
 use Rattle.index.specs.View.{texts_of}
-use Rattle.path.specs.declared.refusal.Refusal.{Refusal}
 use Rattle.collections.specs.Calls.{Reads}
 use Rattle.collections.specs.OtherKeys.{TellsOf, any_other_key, is_taken}
-use Rattle.collections.proofs.AnyLemmas.{first_index_left, index_passed, looks_begin, looks_failed, looks_found, looks_none, looks_skip, looks_step, looks_stopped, no_index_left, unique_index_left}
+use Rattle.collections.proofs.AnyLemmas.{index_passed, looks_begin, looks_failed, looks_found, looks_none, looks_skip, looks_step, looks_stopped, no_index_left, unique_index_left}
 use Rattle.collections.proofs.collections.Collections.is_taken.Goals as goal
 
 pub indexes-init : goal.indexes-init
