@@ -57,7 +57,7 @@ module _ {D : Type 0} (history : D → History) (old : Engine D) (h : IsSound hi
         told (Ok b) x is p =
             p.right
             ∙ ap (λ (t : List ℕ). is_taken home.number t home.indexes.items (map (λ ks. texts_of ks.items) keyed.keys.items) (change edits p.entries)) is.spelled
-            ∙ keys_told cs x.name home edits x.collection is.noted p.state p.entries p.spells d keyed.keys.items is.storable is.keyed
+            ∙ keys_told cs x.name home edits x.collection is.noted p.state p.entries p.spells d keyed.keys.items is.storable is.keys
         told (Err e) x is cause = cause
 
     -- its `_id` is there

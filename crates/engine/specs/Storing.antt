@@ -1,5 +1,5 @@
 -- Documents that are noted as edits of the file, to be stored in a collection.
-use Rattle.std.specs.Prelude.{◌≡◌, ◌⊎◌, Bool, false, not, is_some, ℕ, List, Option, Some, None, Result, Ok, Err, MatchResult}
+use Rattle.std.specs.Prelude.{◌≡◌, ◌⊎◌, Bool, true, false, not, is_some, ℕ, List, Option, Some, None, Result, Ok, Err, MatchResult}
 use Rattle.std.specs.List.{list_any}
 use Rattle.bson.specs.Tree.{Pairs}
 use Rattle.page.specs.History.{History, KeepsWord}
@@ -85,7 +85,7 @@ pub record IsBeside (home : Catalogued) (edits : List Edit) (text : List ℕ) (k
   pub noted : AreNoted cs x.name home edits x.collection
   pub storable : IsStorable keyed.document.now
   pub spelled : text ≡ tree_text (key_of keyed.document.now)
-  pub keyed : AreKeyed home.indexes.items keyed
+  pub keys : AreKeyed home.indexes.items keyed
 
 abbrev pub TellsDuplicate : Bool → Keyed → List Collection → Beside → Bool → Type 0
 TellsDuplicate is_new keyed cs x found =
