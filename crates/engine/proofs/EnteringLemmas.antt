@@ -4,7 +4,7 @@ use Rattle.std.specs.Prelude.{is_some, not, option_map}
 use Rattle.std.specs.Global.{Vec}
 use Rattle.std.specs.List.{list_any}
 use Rattle.bson.specs.Spelling.{frame_of, pairs_bytes}
-use Rattle.bson.specs.Tree.{Pairs}
+use Rattle.bson.specs.Tree.{Pairs, Tree}
 use Rattle.value_order.specs.KeyText.{tree_text}
 use Rattle.btree.specs.Keys.{Edit, Entry, change, value_at}
 use Rattle.outcome.specs.Outcome.{◌>>=◌, unless}
@@ -12,10 +12,11 @@ use Rattle.path.specs.declared.refusal.Refusal.{Refusal}
 use Rattle.path.specs.declared.refusal.Refusal.TheVariants as refusals
 use Rattle.collections.specs.OtherKeys.{is_taken}
 use Rattle.collections.proofs.TakenLemmas.{taken_told}
-use Rattle.index.specs.Definition.{Definition}
+use Rattle.index.specs.Definition.{Definition, Field}
 use Rattle.index.specs.Entering.{AreKeyed, DocumentWrite, Enters, clashes, entered, is_duplicate, with_document}
 use Rattle.index.specs.KeptLaws.{noted}
-use Rattle.index.specs.KeyTexts.{encoded_keys, keys_in_all}
+use Rattle.index.specs.IndexKeys.{has_parallel_arrays}
+use Rattle.index.specs.KeyTexts.{encoded_keys, is_too_long, keys_in, keys_in_all}
 use Rattle.index.specs.LawfulState as states
 use Rattle.index.specs.LawfulState.{IsStorable}
 use Rattle.index.specs.State.{Collection, find_collection, put_collection}
@@ -28,7 +29,10 @@ use Rattle.index.proofs.EnteringLemmas.{HasEntered, has_entered}
 use Rattle.index.proofs.EntryLemmas.{id_is_key}
 use Rattle.index.proofs.FoundLawLemmas.{finds_put, put_twice}
 use Rattle.index.proofs.IndexedLaws.{known}
-use Rattle.index.proofs.ReadLaws.{finds_document}
+use Rattle.index.proofs.HomeLemmas.{kept_of}
+use Rattle.index.proofs.MemberLemmas.{Among, of_all}
+use Rattle.index.proofs.PlaceLemmas.{found_in}
+use Rattle.index.proofs.ReadLaws.{document_some, finds_document}
 use Rattle.engine.specs.Documents.{key_of}
 use Rattle.engine.specs.Insert.{is_full}
 use Rattle.engine.specs.Storing.{AreNoted, HasNoted, IsReplaced, entering, write_of}
@@ -64,6 +68,37 @@ module _ (cs : List Collection) (name : List ℕ) (home : Catalogued) (edits : L
       (λ t. is_taken (sym noted.numbered t) (tree_text (key_of d)) home.indexes.items (sym encoded t) (change edits entries))
       ∙ (λ t. is_taken c.number (tree_text (key_of d)) (sym noted.indexed t) (map (λ i. encoded_keys i.fields d) (sym noted.indexed t)) (change edits entries))
       ∙ taken_told (change edits entries) now c d (spells_after entries spells) (finds_put c cs) good
+
+-- ---- documents that are there
+
+not_refused : (fs : List Field) (d : Pairs) → keys_in fs d ≡ Ok (encoded_keys fs d) → (is_too_long fs d ≡ false) × (has_parallel_arrays fs d ≡ false)
+not_refused fs d keyed = by (is_too_long fs d) (has_parallel_arrays fs d) keyed
+  where
+    by : (a b : Bool) → unless a refusals.KeyTooLong (unless b refusals.CannotIndexParallelArrays (Ok (encoded_keys fs d))) ≡ Ok (encoded_keys fs d) → (a ≡ false) × (b ≡ false)
+    by true b e = absurd cc
+    by false true e = absurd cc
+    by false false e = (refl, refl)
+
+-- a document that each index takes is taken by all
+all_keyed : (is : List Definition) (d : Pairs) → ((i : Definition) → Among i is → keys_in i.fields d ≡ Ok (encoded_keys i.fields d)) → keys_in_all is d ≡ Ok (map (λ i. encoded_keys i.fields d) is)
+all_keyed is d each = λ t. unless (long is each t) refusals.KeyTooLong (unless (parallel is each t) refusals.CannotIndexParallelArrays (Ok (map (λ i. encoded_keys i.fields d) is)))
+  where
+    long : (js : List Definition) → ((i : Definition) → Among i js → keys_in i.fields d ≡ Ok (encoded_keys i.fields d)) → list_any (λ i. is_too_long i.fields d) js ≡ false
+    long [] h = refl
+    long (j ∷ js) h = let rest = long js (λ i there. h i (inr there)) in λ t. (not_refused j.fields d (h j (inl refl))).0 t || rest t
+
+    parallel : (js : List Definition) → ((i : Definition) → Among i js → keys_in i.fields d ≡ Ok (encoded_keys i.fields d)) → list_any (λ i. has_parallel_arrays i.fields d) js ≡ false
+    parallel [] h = refl
+    parallel (j ∷ js) h = let rest = parallel js (λ i there. h i (inr there)) in λ t. (not_refused j.fields d (h j (inl refl))).1 t || rest t
+
+-- a document of the collection has keys in each of its indexes
+pub stored_keyed : (cs : List Collection) (name : List ℕ) (home : Catalogued) (edits : List Edit) (c : Collection) → AreNoted cs name home edits c → states.IsLawfulState cs → (id : Tree) (d : Pairs)
+    → find_document c.documents id ≡ Some d → keys_in_all c.indexes d ≡ Ok (map (λ i. encoded_keys i.fields d) c.indexes)
+stored_keyed cs name home edits c noted_so lawful id d there =
+    let state = (noted_so.leads lawful).1 in
+    let kept = kept_of (put_collection c cs) c state (found_in (put_collection c cs) c.name c (finds_put c cs)) in
+    let stands = (document_some c.documents id d there).0 in
+    all_keyed c.indexes d (λ i listed. of_all (λ e. keys_in i.fields e ≡ Ok (encoded_keys i.fields e)) c.documents d (of_all (states.IsIndexOf c.documents) c.indexes i kept.indexes listed).keys stands)
 
 -- ---- what becomes of it
 

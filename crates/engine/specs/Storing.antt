@@ -87,10 +87,12 @@ pub record IsBeside (home : Catalogued) (edits : List Edit) (text : List ℕ) (k
   pub spelled : text ≡ tree_text (key_of keyed.document.now)
   pub keys : AreKeyed home.indexes.items keyed
 
-abbrev pub TellsDuplicate : Bool → Keyed → List Collection → Beside → Bool → Type 0
-TellsDuplicate is_new keyed cs x found =
-    found ≡ is_duplicate x.collection (record { is_new = is_new; document = keyed.document.now })
+-- It is told whether it is a duplicate there, and that the collections are lawful.
+pub record TellsDuplicate (is_new : Bool) (keyed : Keyed) (cs : List Collection) (x : Beside) (found : Bool) : Type 0 where
+  pub told : found ≡ is_duplicate x.collection (record { is_new = is_new; document = keyed.document.now })
+  pub lawful : states.IsLawfulState cs
 
-abbrev pub TellsTaken : Keyed → List Collection → Beside → Bool → Type 0
-TellsTaken keyed cs x found =
-    found ≡ list_any (clashes x.collection.documents keyed.document.now) x.collection.indexes
+-- so whether one of its keys in a unique index is another document's
+pub record TellsTaken (keyed : Keyed) (cs : List Collection) (x : Beside) (found : Bool) : Type 0 where
+  pub told : found ≡ list_any (clashes x.collection.documents keyed.document.now) x.collection.indexes
+  pub lawful : states.IsLawfulState cs
