@@ -1,6 +1,6 @@
 -- The steps by which a document enters its collection, over engines as values.
 use Rattle.std.proofs.Common.{◌≡◌, ◌≢◌, ◌⊎◌, inl, inr, ℕ, Bool, true, false, ◌||◌, ◌&&◌, List, map, Option, Some, None, Result, Ok, Err, refl, sym, ap, subst, ◌∙◌}
-use Rattle.std.specs.Prelude.{MatchResult, is_some, not}
+use Rattle.std.specs.Prelude.{MatchResult, is_some, not, option_map}
 use Rattle.std.specs.List.{list_any}
 use Rattle.bson.specs.Tree.{Pairs}
 use Rattle.page.specs.History.{History, KeepsWord}
@@ -114,6 +114,13 @@ module _ {D : Type 0} (history : D → History) (old : Engine D) (h : IsSound hi
 memory_or : {P : Type 0} (e : Refusal) → (e ≢ refusals.OutOfMemory → P) → (e ≡ refusals.OutOfMemory) ⊎ P
 memory_or refusals.OutOfMemory h = inl refl
 memory_or e h = inr (h (λ f. absurd cc))
+
+-- a document that is in place of none is new
+pub is_new_where_none : {X Y : Type 0} (f : X → Y) (o : Option X) (b : Bool) → is_some o ≡ not b → b ≡ not (is_some (option_map f o))
+is_new_where_none f None true e = refl
+is_new_where_none f None false e = absurd cc
+is_new_where_none f (Some x) true e = absurd cc
+is_new_where_none f (Some x) false e = refl
 
 module _ {D : Type 0} (history : D → History) (old : Engine D) (name : List ℕ) (home : Catalogued) (before : List Edit) (was : Option Pairs) (d : Pairs) where
   abbrev NotesIt : Catalogued → List Edit → Result (Unit {0}) Refusal → Engine D → Type 0

@@ -117,12 +117,11 @@ impl<D: Disk> Engine<D> {
             return Err(Refusal::DuplicateKey);
         }
         match replaced {
-            None => edits.enter_document(namespace, home, &id, None, &keyed)?,
+            None => Ok(edits.enter_document(namespace, home, &id, None, &keyed)?),
             Some(old) => {
                 let old = Keyed::new(self.alloc, &home.indexes, old)?;
-                edits.enter_document(namespace, home, &id, Some(&old), &keyed)?;
+                Ok(edits.enter_document(namespace, home, &id, Some(&old), &keyed)?)
             }
         }
-        Ok(())
     }
 }
