@@ -16,9 +16,10 @@ use crate::limits::within_limits;
 use crate::matching::matches;
 use crate::pipeline::{Pipeline, run_stages};
 use crate::stage::Stage;
-use bson::{Document, NoMemory};
+use bson::{Document, NoMemory, RawDoc};
 use filter::{AsDocument, laws};
 use path::Refusal;
+use std::alloc::Global;
 
 /// The stages behind a `$match` in front.
 fn behind_match(stages: &[Stage]) -> &[Stage]
@@ -51,6 +52,16 @@ pub(crate) fn takes(stages: &[Stage], document: &Document) -> bool
     }
 }
 
+/// The same of a document that stays its bytes.
+fn takes_raw(alloc: Global, stages: &[Stage], document: &RawDoc<'_>) -> Result<bool, NoMemory>
+    ensures { IfOk result (λ answer. answer ≡ takes (map stage_of stages.now) document.now) }
+{
+    match stages.first() {
+        Some(Stage::Match(filter)) => filter.matches_raw(alloc, document),
+        _ => Ok(true),
+    }
+}
+
 impl Pipeline {
     /// Whether it takes a document at all: where its first stage is a `$match`, whether that matches. It makes the same
     /// of the documents that it takes as of all of them. It takes no memory.
@@ -58,6 +69,13 @@ impl Pipeline {
         ensures { result ≡ takes (pipeline_of self.now) document.now }
     {
         takes(&self.stages, document)
+    }
+
+    /// The same of a document that stays its bytes.
+    pub fn takes_raw(&self, alloc: Global, document: &RawDoc<'_>) -> Result<bool, NoMemory>
+        ensures { IfOk result (λ answer. answer ≡ takes (pipeline_of self.now) document.now) }
+    {
+        takes_raw(alloc, &self.stages, document)
     }
 
     /// What the pipeline makes of lent documents that are within the limits, where it groups them before all else but a

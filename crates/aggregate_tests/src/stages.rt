@@ -1,6 +1,7 @@
 //! `$match`, `$sort`, `$skip`, `$limit`, `$count`, and stages one after the other.
 
 use crate::outcomes::{documents, first_wrong, pipeline};
+use bson::{RawDoc, encode};
 use std::test::*;
 
 const SOURCE: &str =
@@ -83,12 +84,14 @@ const ONLY_WHAT_A_LEADING_MATCH_MATCHES_IS_TAKEN_CASES: [(&str, bool); 4] = [
 fn only_what_a_leading_match_matches_is_taken(rt: HostRuntime) -> Result<(), Fail> {
     let all = documents(rt.alloc(), "[{_id: 1, a: 2}]")?;
     let first = all.first().ok_or("no document")?;
+    let bytes = encode(rt.alloc(), first)?;
     'ONLY_WHAT_A_LEADING_MATCH_MATCHES_IS_TAKEN_CASES: for (
         text,
         takes,
     ) in ONLY_WHAT_A_LEADING_MATCH_MATCHES_IS_TAKEN_CASES {
-        let taken = pipeline(rt.alloc(), text)?.map_or(!takes, |pipeline| pipeline.takes(first));
-        assert!(rt; taken == takes);
+        let pipeline = pipeline(rt.alloc(), text)?.ok().ok_or("refused")?;
+        assert!(rt; pipeline.takes(first) == takes);
+        assert!(rt; pipeline.takes_raw(rt.alloc(), &RawDoc::new(&bytes)?)? == takes);
     }
     Ok(())
 }

@@ -3,7 +3,7 @@ use Rattle.std.proofs.Common.{◌≡◌, ℕ, ◌+◌, ◌-◌, ◌^◌, ◌<◌
 use Rattle.std.specs.Int.{w32, to_le_bytes}
 use Rattle.std.specs.Str.{bytes_eq}
 use Rattle.std.proofs.lemmas.Bool.{le-ltb}
-use Rattle.std.proofs.lemmas.List.{length-append, append-nil, take_at, drop_at}
+use Rattle.std.proofs.lemmas.List.{length-append, append-nil, take_all, take_at, drop_at}
 use Rattle.bson.specs.declared.fault.BsonFault.{BsonFault}
 use Rattle.bson.specs.declared.kind.Kind.{Kind}
 use Rattle.bson.specs.Tree.{Scalar, text, binary, object_id, boolean, date, null, int32, timestamp, int64, min_key, max_key, Tree, scalar, document, array, Pairs, no_pairs, pair}
@@ -179,6 +179,17 @@ element_step bytes k name value rest wanted e first =
 
 -- ---- a whole document
 
+-- what spells a document is read whole
+pub document_whole : (bytes : List ℕ) (ps : Pairs) → Spells bytes ps → document_at bytes ≡ Ok (ps, length bytes)
+document_whole bytes ps s = ap document_at (sym (append-nil bytes)) ∙ document_again bytes ps [] s
+
+-- so no other length is read there
+pub no_other_length : (bytes : List ℕ) (ps : Pairs) (n : ℕ) → only_length (document_at bytes) ≡ Ok n → Spells bytes ps → n ≡ length bytes
+no_other_length bytes ps n e s = ok_is n (length bytes) (sym e ∙ ap only_length (document_whole bytes ps s))
+
+pub no_fault : (bytes : List ℕ) (ps : Pairs) (f : BsonFault) → only_length (document_at bytes) ≡ Err f → Spells bytes ps → ⊥
+no_fault bytes ps f e s = let both = sym e ∙ ap only_length (document_whole bytes ps s) in cc
+
 pub document_spelled-is : (bytes : List ℕ) (ps : Pairs) → Spells bytes ps → document_spelled bytes ≡ ps
 document_spelled-is bytes ps s = ap document_spelled (sym (append-nil bytes)) ∙ ap document_or_none (document_again bytes ps [] s)
 
@@ -211,6 +222,11 @@ raw_found bytes n fits e =
     let took = document_takes bytes (found.0, n) fits found.1 in
     let same = document_spelled-is (take n bytes) found.0 took.1 in
     record { within = took.0; spells = subst (Spells (take n bytes)) (sym same) took.1; gives = ap only_document found.1 ∙ ap (λ (ps : Pairs). Ok ps) (sym same) }
+
+-- bytes of which all were read spell a document
+pub all_found : (bytes : List ℕ) (n : ℕ) → IsBytes bytes → only_length (document_at bytes) ≡ Ok n → n ≡ length bytes → Spells bytes (document_spelled bytes)
+all_found bytes n fits e is =
+    subst (λ xs. Spells xs (document_spelled xs)) (take_all n bytes (omega (arith, is))) (raw_found bytes n fits e).spells
 
 -- what is spelled at the front is what reading found
 pub raw_only : (bytes front rest : List ℕ) (ps : Pairs) → Spells front ps → bytes ≡ front ++ rest → only_document (document_at bytes) ≡ Ok ps

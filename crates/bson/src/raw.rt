@@ -8,7 +8,7 @@ ghost use Rattle.bson.specs.Lookup.{lookup};
 ghost use Rattle.bson.specs.Spelling.{Spells, HasNoDocument};
 ghost use Rattle.bson.specs.Reading.{document_at};
 ghost use Rattle.bson.specs.FirstFault.{FirstFault};
-ghost use Rattle.bson.specs.Raw.{only_document};
+ghost use Rattle.bson.specs.Raw.{document_spelled, only_document};
 ghost use Rattle.bson.specs.declared.fault.BsonFault.TheVariants as faults;
 
 use crate::MOST_LEVELS;
@@ -87,6 +87,14 @@ impl<'a> RawDoc<'a> {
             }
             Err(fault) => Err(fault),
         }
+    }
+
+    /// The document that bytes spell, all of them, as whoever wrote or checked them knows.
+    pub(crate) fn spelled_by(bytes: &'a [u8]) -> RawDoc<'a>
+        requires { Spells bytes.now (document_spelled bytes.now) }
+        ensures { result ≡ document_spelled bytes.now }
+    {
+        RawDoc { bytes }
     }
 
     /// The document's bytes, all of them.

@@ -49,3 +49,19 @@ fn looks_into_no_value(rt: HostRuntime) -> Result<(), Fail> {
     assert!(rt; both_refuse(rt.alloc(), twice, BsonFault::Repeated));
     Ok(())
 }
+
+#[test]
+fn keeps_a_document_and_nothing_else(rt: HostRuntime) -> Result<(), Fail> {
+    let spelled = SpelledDocument::read(Vec::from_slice(rt.alloc(), HELLO)?).ok_or("hello")?;
+    assert_eq!(rt; spelled.bytes(), HELLO);
+    assert_eq!(rt; spelled.raw().bytes(), HELLO);
+    let document = spelled.document(rt.alloc())?;
+    assert_eq!(rt; encode(rt.alloc(), &document)?.as_slice(), HELLO);
+    // a byte behind it, and one too few
+    let mut longer = Vec::from_slice(rt.alloc(), HELLO)?;
+    longer.push(0)?;
+    assert!(rt; SpelledDocument::read(longer).is_none());
+    let shorter = Vec::from_slice(rt.alloc(), &HELLO[..21])?;
+    assert!(rt; SpelledDocument::read(shorter).is_none());
+    Ok(())
+}

@@ -1,9 +1,9 @@
 -- What is found in the tree is what the collections have.
-use Rattle.std.proofs.Common.{◌≡◌, ℕ, zero, suc, ◌+◌, ◌<◌, ◌≤◌, true, false, List, [], ◌∷◌, ◌++◌, length, map, take, get_or, refl, sym, ◌∙◌, ap, subst, arith, length-append}
+use Rattle.std.proofs.Common.{◌≡◌, ℕ, zero, suc, ◌+◌, ◌<◌, ◌≤◌, true, false, List, [], ◌∷◌, ◌++◌, length, map, take, get_or, refl, sym, ◌∙◌, ap, subst, arith, length-append, append_assoc}
 use Rattle.std.specs.Prelude.{Option, Some, None, is_some, All, Result, Ok, Err}
 use Rattle.std.specs.Option.{option_map}
 use Rattle.std.specs.Global.{Vec}
-use Rattle.std.proofs.lemmas.List.{length-map, take_all}
+use Rattle.std.proofs.lemmas.List.{append-nil, length-map, take_all}
 use Rattle.std.proofs.lemmas.List.Elements.{All-head, All-tail}
 use Rattle.bson.specs.Spelling.{frame_of, pairs_bytes}
 use Rattle.bson.specs.Tree.{Pairs}
@@ -170,6 +170,34 @@ each_same [] [] each = refl
 each_same [] (y ∷ ys) each = absurd each
 each_same (x ∷ xs) [] each = absurd each
 each_same (x ∷ xs) (y ∷ ys) each = (λ i. each.0 i ∷ each_same xs ys each.1 i)
+
+-- the documents of the entries that are left, behind those that were made of the others
+pub record AreMade (ds made : List Pairs) (left : List OwnEntry) : Type 0 where
+  pub others : List Pairs
+  pub each : AreEach IsOfDocument left others
+  pub all : ds ≡ made ++ others
+
+pub one_left : (ds made : List Pairs) (entry : OwnEntry) (left : List OwnEntry) → AreMade ds made (entry ∷ left) → (d : Pairs) × IsOfDocument entry d × ((next : List Pairs) → next ≡ made ++ d ∷ [] → AreMade ds next left)
+one_left ds made entry left h = by_others h.others h.each h.all
+  where
+    by_others : (others : List Pairs) → AreEach IsOfDocument (entry ∷ left) others → ds ≡ made ++ others → (d : Pairs) × IsOfDocument entry d × ((next : List Pairs) → next ≡ made ++ d ∷ [] → AreMade ds next left)
+    by_others [] each all = absurd each
+    by_others (d ∷ others) each all = (
+      d,
+      each.0,
+      λ next is. record {
+        others = others;
+        each = each.1;
+        all = all ∙ sym (append_assoc made (d ∷ []) others) ∙ ap (λ (xs : List Pairs). xs ++ others) (sym is);
+      },
+    )
+
+pub none_left : (ds made : List Pairs) (left : List OwnEntry) → left ≡ [] → AreMade ds made left → made ≡ ds
+none_left ds made left none h = by_others h.others (subst (λ (es : List OwnEntry). AreEach IsOfDocument es h.others) none h.each) h.all
+  where
+    by_others : (others : List Pairs) → AreEach IsOfDocument [] others → ds ≡ made ++ others → made ≡ ds
+    by_others [] each all = sym (all ∙ append-nil made)
+    by_others (d ∷ others) each all = absurd each
 
 front_same : {X : Type 0} (x y : X) (xs ys : List X) → x ∷ xs ≡ y ∷ ys → x ≡ y
 front_same x y xs ys e = cc

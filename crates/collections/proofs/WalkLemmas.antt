@@ -1,6 +1,6 @@
 -- What a walk makes of the documents from its key on.
-use Rattle.std.proofs.Common.{◌≡◌, ◌⊎◌, ℕ, suc, ◌+◌, ◌*◌, ◌<◌, ◌≤◌, Bool, true, false, not, List, [], ◌∷◌, ◌++◌, length, map, take, drop, refl, sym, ◌∙◌, ap, subst, arith, inl, inr, length-append, append_assoc}
-use Rattle.std.specs.Prelude.{◌&&◌, Option, Some, None, All, Result, Ok}
+use Rattle.std.proofs.Common.{◌≡◌, ◌⊎◌, ℕ, suc, ◌+◌, ◌-◌, ◌*◌, ◌<◌, ◌≤◌, Bool, true, false, not, List, [], ◌∷◌, ◌++◌, length, map, take, drop, refl, sym, ◌∙◌, ap, subst, arith, inl, inr, length-append, append_assoc}
+use Rattle.std.specs.Prelude.{◌&&◌, Option, Some, None, All, IfOk, Result, Ok, Err}
 use Rattle.std.specs.Option.{option_map}
 use Rattle.std.specs.Global.{Vec}
 use Rattle.std.specs.Ordering.{is_lt}
@@ -15,6 +15,7 @@ use Rattle.btree.specs.Calls.{IsBatch}
 use Rattle.btree.specs.Keys.{Each, Entry, IsNotUnder, IsUnder, is_within, keep_if, key_cmp, window}
 use Rattle.btree.specs.Scan.{entry_in, within}
 use Rattle.btree.specs.declared.scanning.Batch.{Batch}
+use Rattle.btree.specs.declared.scanning.Entry.{Entry as OwnEntry}
 use Rattle.btree.specs.declared.scanning.Range.{Range}
 use Rattle.btree.proofs.KeyLemmas.{not_under_itself}
 use Rattle.index.specs.Batches.{documents_at}
@@ -29,10 +30,11 @@ use Rattle.collections.specs.Calls.{Reads}
 use Rattle.collections.specs.Reading.{AreEach, IsBatchOf, IsInTree, IsOfDocument, OrMemory, ReadsOf}
 use Rattle.collections.specs.Standing.{IsTurnOf}
 use Rattle.collections.specs.State.{State}
-use Rattle.collections.specs.Walk.{AreAhead, AreBehind, AreNext, BeginsWalk, GoesOnWalking, IsWalk, next_key}
+use Rattle.collections.specs.View.{disk_history, is_stopped}
+use Rattle.collections.specs.Walk.{AreAhead, AreBehind, AreNext, BeginsWalk, GoesOnWalking, HasNext, IsWalk, StepsOn, next_key}
 use Rattle.collections.specs.declared.walk.Walk.{Walk}
 use Rattle.collections.proofs.FoundLemmas.{each_document}
-use Rattle.collections.proofs.ReadingLemmas.{asks_on}
+use Rattle.collections.proofs.ReadingLemmas.{asked_on, asks_on}
 
 -- ---- documents from a key on
 
@@ -305,3 +307,29 @@ module _ (now : List Collection) (walk : Walk) (rest : List Pairs) (w : IsWalk n
       room = omega (arith, w.room, sum, length-drop (length documents) rest);
     },
   )
+
+-- ---- what is made of a batch
+
+module _ {D : Type 0} (history : D → History) (old new : State D) (walk after : Walk) (limit : ℕ) (batch : Vec OwnEntry) (r : Result (Vec Pairs) Refusal) where
+  stepped : (now : List Collection) (rest ds : List Pairs) (r : Result (Vec Pairs) Refusal) → StepsOn limit after now rest ds → OrMemory (λ (v : Vec Pairs). v.items ≡ ds) r → OrMemory (λ (v : Vec Pairs). StepsOn limit after now rest v.items) r
+  stepped now rest ds (Ok v) step same = subst (StepsOn limit after now rest) (sym same) step
+  stepped now rest ds (Err e) step is = is
+
+  -- the documents that its entries are
+  pub made_of : ReadsOf history (λ now rest. IsWalk now walk rest) (λ now rest (x : Vec OwnEntry). HasNext limit after now rest x.items) (Ok batch) old new
+      → ((ds : List Pairs) → AreEach IsOfDocument batch.items ds → OrMemory (λ (v : Vec Pairs). v.items ≡ ds) r)
+      → ReadsOf history (λ now rest. IsWalk now walk rest) (λ now rest (x : Vec Pairs). StepsOn limit after now rest x.items) r old new
+  made_of reads made =
+      asked_on history (λ now rest. IsWalk now walk rest) (λ now rest (x : Vec Pairs). StepsOn limit after now rest x.items) old new
+      (λ now rest (x : Vec OwnEntry). HasNext limit after now rest x.items) batch r reads
+      (λ now rest w p. stepped now rest (take (length batch.items) rest) r p.1 (made (take (length batch.items) rest) p.0))
+
+-- there are as many as entries
+pub ends_made : {B : Type 0} (entries : List OwnEntry) (r : Result (Vec Pairs) Refusal) → IfOk r (λ (v : Vec Pairs). length v.items ≡ length entries) → (entries ≡ []) ⊎ B → IfOk r (λ (v : Vec Pairs). (v.items ≡ []) ⊎ B)
+ends_made entries (Ok v) same (inl none) = inl (nothing v.items (same ∙ ap length none))
+  where
+    nothing : (ds : List Pairs) → length ds ≡ 0 → ds ≡ []
+    nothing [] e = refl
+    nothing (d ∷ ds) e = absurd (omega (arith, e))
+ends_made entries (Ok v) same (inr less) = inr less
+ends_made entries (Err e) same ends = tt

@@ -3,11 +3,12 @@ use Rattle.std.specs.Prelude.{◌≡◌, ℕ, ◌≤◌, ⊤, false, List, [], �
 use Rattle.std.specs.Option.{option_map}
 use Rattle.bson.specs.Tree.{Pairs}
 use Rattle.btree.specs.Keys.{Each, IsNotUnder, IsUnder}
+use Rattle.btree.specs.declared.scanning.Entry.{Entry as OwnEntry}
 use Rattle.index.specs.State.{Collection}
 use Rattle.index.specs.StateEntries.{document_entry, key_under}
 use Rattle.page.specs.History.{History, KeepsWord}
 use Rattle.collections.specs.declared.walk.Walk.{Walk}
-use Rattle.collections.specs.Reading.{IsNumbered}
+use Rattle.collections.specs.Reading.{AreEach, IsNumbered, IsOfDocument}
 use Rattle.collections.specs.Standing.{HasState}
 use Rattle.collections.specs.State.{State}
 use Rattle.collections.specs.View.{disk_history, is_stopped}
@@ -54,6 +55,12 @@ pub record AreNext (limit : ℕ) (rest batch : List Pairs) : Type 0 where
 abbrev pub StepsOn : ℕ → Walk → List Collection → List Pairs → List Pairs → Type 0
 StepsOn limit walk now rest batch =
     AreNext limit rest batch × IsWalk now walk (drop (length batch) rest)
+
+-- The entries of a batch of the documents to come, and the walk behind it.
+abbrev pub HasNext : ℕ → Walk → List Collection → List Pairs → List OwnEntry → Type 0
+HasNext limit walk now rest entries =
+    let documents = take (length entries) rest in
+    AreEach IsOfDocument entries documents × StepsOn limit walk now rest documents
 
 -- Whatever becomes of the documents behind it, a walk goes on with those that are still to come.
 abbrev pub GoesOnWalking : Type 0

@@ -20,9 +20,7 @@ fn leaves_another(entries: &[Entry], edits: &Edits, front: &[u8], id: &[u8]) -> 
     ensures { result ≡ list_any (λ x. leaves_another front.now id.now edits.now (entry_in x))
         entries.now }
 {
-    entries
-        .iter()
-        .any(|entry| is_another(&entry.key, front, id) && !edits.has(&entry.key))
+    entries.iter().any(|entry| is_another(&entry.key, front, id) && !edits.has(&entry.key))
 }
 
 /// Whether one of the edits puts such an entry, or they leave one.

@@ -1,6 +1,6 @@
 //! Collections by their names, and documents by their `_id`.
 
-ghost use Rattle.std.specs.Prelude.{◌≡◌, IfOk, IfSome, List, is_some, map};
+ghost use Rattle.std.specs.Prelude.{◌≡◌, IfOk, IfSome, List, is_some, length, map};
 ghost use Rattle.std.specs.Option.{option_map};
 ghost use Rattle.bson.specs.Spelling.{frame_of, pairs_bytes};
 ghost use Rattle.bson.specs.Tree.{Pairs};
@@ -14,9 +14,11 @@ ghost use Rattle.collections.specs.Reading.{AreBytesAt, AreEach, IsBatchOf, IsIn
 
 use crate::applying::refusal_of;
 use crate::collections::Collections;
-use bson::Document;
+use bson::{Document, SpelledDocument};
 use btree::{Batch, Entry, Range, TreeFault, get, scan};
-use index::{Catalogued, catalogue_key, catalogue_told, document_in, document_key, first_key, namespace_in};
+use index::{
+    Catalogued, catalogue_key, catalogue_told, document_in, document_key, first_key, namespace_in,
+};
 use page::Disk;
 use pager::Pager;
 use path::Refusal;
@@ -90,12 +92,40 @@ fn document_of(alloc: Global, value: &[u8]) -> Result<Document, Refusal>
 
 /// The documents that entries are.
 pub(crate) fn documents_of(alloc: Global, entries: &[Entry]) -> Result<Vec<Document>, Refusal>
-    ensures { (ds : List Pairs) → AreEach IsOfDocument entries.now ds
+    ensures reads { (ds : List Pairs) → AreEach IsOfDocument entries.now ds
         → OrMemory (λ documents. documents.items ≡ ds) result }
+    ensures count { IfOk result (λ documents. length documents.items ≡ length entries.now) }
 {
-    let mut documents = Vec::new(alloc);
+    let mut documents = Vec::with_capacity(alloc, entries.len())?;
     for entry in entries {
         documents.push(document_of(alloc, &entry.value)?)?;
+    }
+    Ok(documents)
+}
+
+/// The document that an entry's value is, kept as its bytes.
+fn spelled_in(value: Vec<u8>) -> Result<SpelledDocument, Refusal>
+    ensures { (d : Pairs) → IsStorable d → value.items ≡ frame_of (pairs_bytes d)
+        → OrMemory (λ document. document ≡ d) result }
+{
+    match SpelledDocument::read(value) {
+        Some(document) => Ok(document),
+        None => Err(Refusal::StorageFailed),
+    }
+}
+
+/// The documents that entries are, kept as their bytes.
+pub(crate) fn spelled_of(
+    alloc: Global,
+    entries: Vec<Entry>,
+) -> Result<Vec<SpelledDocument>, Refusal>
+    ensures reads { (ds : List Pairs) → AreEach IsOfDocument entries.items ds
+        → OrMemory (λ documents. documents.items ≡ ds) result }
+    ensures count { IfOk result (λ documents. length documents.items ≡ length entries.items) }
+{
+    let mut documents = Vec::with_capacity(alloc, entries.len())?;
+    'entries: for entry in entries {
+        documents.push(spelled_in(entry.value)?)?;
     }
     Ok(documents)
 }

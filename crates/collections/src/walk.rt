@@ -1,13 +1,13 @@
 //! Walks through the documents of a collection, a few at a time.
 
-ghost use Rattle.std.specs.Prelude.{◌≡◌, ◌⊎◌, ◌<◌, ◌≤◌, [], IfOk, OnErr};
+ghost use Rattle.std.specs.Prelude.{◌≡◌, ◌⊎◌, ◌<◌, ◌≤◌, [], IfOk};
 ghost use Rattle.collections.specs.Reading.{ReadsOf};
-ghost use Rattle.collections.specs.Walk.{BeginsWalk, GoesOnWalking, IsWalk, StepsOn};
+ghost use Rattle.collections.specs.Walk.{BeginsWalk, GoesOnWalking, HasNext, IsWalk, StepsOn};
 
 use crate::collections::Collections;
-use crate::reading::documents_of;
-use bson::{Document, NoMemory};
-use btree::Range;
+use crate::reading::{documents_of, spelled_of};
+use bson::{Document, NoMemory, SpelledDocument};
+use btree::{Entry, Range};
 use index::first_key;
 use page::Disk;
 use path::Refusal;
@@ -35,7 +35,35 @@ impl<D: Disk> Collections<D> {
         })
     }
 
-    /// The next documents of a walk, at most so many, and none at its end. What lies behind it may have changed since.
+    /// The entries of the next documents of a walk, at most so many, and none at its end. What lies behind it may have
+    /// changed since.
+    fn next_batch(&mut self, walk: &mut Walk, limit: usize) -> Result<Vec<Entry>, Refusal>
+        requires { 0 < limit }
+        ensures reads { ReadsOf D.history (λ now rest. IsWalk now walk.old rest)
+            (λ now rest batch. HasNext limit walk.new now rest batch.items)
+            result self.old self.new }
+        ensures ends { IfOk result (λ batch. (batch.items ≡ []) ⊎ (walk.new.left < walk.old.left)) }
+        ensures left { walk.new.left ≤ walk.old.left }
+        ensures number { walk.new.number ≡ walk.old.number }
+    {
+        let Some(from) = &walk.next else {
+            return Ok(Vec::new(self.alloc));
+        };
+        let to = first_key(self.alloc, walk.number, 1)?;
+        let batch = self.entries_in(Range {
+            from,
+            to: Some(&to),
+            limit,
+        })?;
+        let Some(left) = walk.left.checked_sub(batch.entries.len()) else {
+            return Err(Refusal::StorageFailed);
+        };
+        walk.next = batch.next;
+        walk.left = left;
+        Ok(batch.entries)
+    }
+
+    /// The next documents of a walk, at most so many, and none at its end.
     pub fn next_documents(
         &mut self,
         walk: &mut Walk,
@@ -48,24 +76,27 @@ impl<D: Disk> Collections<D> {
         ensures ends { IfOk result (λ batch. (batch.items ≡ []) ⊎ (walk.new.left < walk.old.left)) }
         ensures left { walk.new.left ≤ walk.old.left }
         ensures number { walk.new.number ≡ walk.old.number }
-        ensures err { OnErr result (walk.new ≡ walk.old) }
     {
-        let Some(from) = &walk.next else {
-            return Ok(Vec::new(self.alloc));
-        };
-        let to = first_key(self.alloc, walk.number, 1)?;
-        let batch = self.entries_in(Range {
-            from,
-            to: Some(&to),
-            limit,
-        })?;
-        let documents = documents_of(self.alloc, &batch.entries)?;
-        let Some(left) = walk.left.checked_sub(documents.len()) else {
-            return Err(Refusal::StorageFailed);
-        };
-        walk.next = batch.next;
-        walk.left = left;
-        Ok(documents)
+        let batch = self.next_batch(walk, limit)?;
+        documents_of(self.alloc, &batch)
+    }
+
+    /// The same, kept as their bytes: nothing of them is copied or built.
+    pub fn next_spelled(
+        &mut self,
+        walk: &mut Walk,
+        limit: usize,
+    ) -> Result<Vec<SpelledDocument>, Refusal>
+        requires { 0 < limit }
+        ensures reads { ReadsOf D.history (λ now rest. IsWalk now walk.old rest)
+            (λ now rest batch. StepsOn limit walk.new now rest batch.items)
+            result self.old self.new }
+        ensures ends { IfOk result (λ batch. (batch.items ≡ []) ⊎ (walk.new.left < walk.old.left)) }
+        ensures left { walk.new.left ≤ walk.old.left }
+        ensures number { walk.new.number ≡ walk.old.number }
+    {
+        let batch = self.next_batch(walk, limit)?;
+        spelled_of(self.alloc, batch)
     }
 }
 

@@ -1,5 +1,6 @@
 -- Documents that are counted as they come.
-use Rattle.std.proofs.Common.{◌≡◌, ℕ, min, ◌+◌, ◌-◌, ◌^◌, ◌≤◌, ◌<◌, Bool, true, false, List, [], ◌∷◌, ◌++◌, length, refl, ap, ◌∙◌, arith, length-append}
+use Rattle.std.proofs.Common.{◌≡◌, ℕ, min, ◌+◌, ◌-◌, ◌^◌, ◌≤◌, ◌<◌, Bool, true, false, List, [], ◌∷◌, ◌++◌, length, drop, get_or, refl, sym, ap, ◌∙◌, add-one, drop-cons, arith, length-append}
+use Rattle.std.proofs.lemmas.List.{drop_all}
 use Rattle.std.specs.List.{filter}
 use Rattle.std.proofs.lemmas.List.Elements.{filter-append}
 use Rattle.bson.specs.Tree.{Pairs}
@@ -13,13 +14,45 @@ pub record AreCounted (rules : Conditions) (count : ℕ) (all left : List Pairs)
   pub small : count < 2 ^ 64
   pub sum : min (count + length (matching rules left)) (2 ^ 64 - 1) ≡ min (length (matching rules all)) (2 ^ 64 - 1)
 
-filter_fewer : {X : Type 0} (p : X → Bool) (xs : List X) → length (filter p xs) ≤ length xs
+pub filter_fewer : {X : Type 0} (p : X → Bool) (xs : List X) → length (filter p xs) ≤ length xs
 filter_fewer p [] = omega arith
 filter_fewer p (x ∷ xs) = at (p x) refl (filter_fewer p xs)
   where
     at : (b : Bool) → p x ≡ b → length (filter p xs) ≤ length xs → length (filter p (x ∷ xs)) ≤ length (x ∷ xs)
     at true e later = rw e (omega (arith, later))
     at false e later = rw e (omega (arith, later))
+
+-- one document
+pub one_counted : (rules : Conditions) (d : Pairs) → matches rules d ≡ true → 1 ≡ length (matching rules (d ∷ []))
+one_counted rules d is = let passes : matching rules (d ∷ []) ≡ d ∷ [] = rw is refl in ap length (sym passes)
+
+pub none_of_one : (rules : Conditions) (d : Pairs) → matches rules d ≡ false → 0 ≡ length (matching rules (d ∷ []))
+none_of_one rules d is = let over : matching rules (d ∷ []) ≡ [] = rw is refl in ap length (sym over)
+
+-- So many were counted of those before a place, and the others are still to come.
+pub record IsCountedTo (rules : Conditions) (documents : List Pairs) (count index : ℕ) : Type 0 where
+  pub few : count ≤ index
+  pub sum : count + length (matching rules (drop index documents)) ≡ length (matching rules documents)
+
+module _ (rules : Conditions) (documents : List Pairs) where
+  pub counted_on : (count more next index : ℕ) (d : Pairs) → index < length documents → d ≡ get_or documents index d → more ≡ length (matching rules (d ∷ [])) → next ≡ count + more → IsCountedTo rules documents count index → IsCountedTo rules documents next (index + 1)
+  counted_on count more next index d lt is one sum h =
+      let step : drop index documents ≡ d ∷ drop (index + 1) documents = drop_step documents index d lt is in
+      let parts : length (matching rules (drop index documents)) ≡ more + length (matching rules (drop (index + 1) documents)) =
+      ap (λ (ds : List Pairs). length (matching rules ds)) step ∙ ap length (filter-append (matches rules) (d ∷ []) (drop (index + 1) documents))
+      ∙ length-append (matching rules (d ∷ [])) (matching rules (drop (index + 1) documents)) ∙ ap (λ (n : ℕ). n + length (matching rules (drop (index + 1) documents))) (sym one) in
+      record {
+        few = omega (arith, h.few, one, sum, filter_fewer (matches rules) (d ∷ []));
+        sum = omega (arith, h.sum, parts, sum);
+      }
+    where
+      drop_step : (ds : List Pairs) (i : ℕ) (d : Pairs) → i < length ds → d ≡ get_or ds i d → drop i ds ≡ d ∷ drop (i + 1) ds
+      drop_step ds i d lt is = drop-cons ds i d lt ∙ (λ j. sym is j ∷ drop (sym (add-one i) j) ds)
+
+  pub counted_all : (count index : ℕ) → length documents ≤ index → IsCountedTo rules documents count index → count ≡ length (matching rules documents)
+  counted_all count index le h =
+      let none : drop index documents ≡ [] = drop_all index documents le in
+      omega (arith, h.sum, ap (λ (ds : List Pairs). length (matching rules ds)) none)
 
 module _ (rules : Conditions) where
   pub none_counted : (all : List Pairs) → length all < 2 ^ 64 → AreCounted rules 0 all all

@@ -21,7 +21,9 @@ pub mod NotingLemmas
 pub mod Finding
 pub mod NeededLemmas
 pub mod Applied
+pub mod WriteSteps
 pub mod UpdatingLoop
+pub mod StatementLoop
 pub mod LawfulUpdates
 pub mod ReadingLaws
 pub mod EmptyImage
@@ -49,6 +51,9 @@ pub mod MeantDeletions
 pub mod RemovingLemmas
 pub mod TakenLemmas
 pub mod MeantUpdates
+pub mod MeantWrites
+pub mod WriteLawLemmas
+pub mod WritePlaceLemmas
 pub mod ListedUpdates
 pub mod OnlyReading
 pub mod WritingLemmas

@@ -1,5 +1,5 @@
 -- Updates go alike on the documents that their statements may mean and on all of them.
-use Rattle.std.proofs.Common.{◌≡◌, ℕ, suc, ◌+◌, Bool, true, false, List, [], ◌∷◌, ◌++◌, Option, Some, None, Result, Ok, Err, refl, sym, ap, subst, ◌∙◌, arith, append_assoc}
+use Rattle.std.proofs.Common.{◌≡◌, ℕ, suc, Bool, true, false, List, [], ◌∷◌, ◌++◌, Option, Some, None, Result, Ok, Err, refl, sym, ap, subst, ◌∙◌, arith, append_assoc}
 use Rattle.std.specs.Prelude.{not, ◌||◌, ◌&&◌, if◌then◌else◌, option_map, All}
 use Rattle.std.specs.List.{filter}
 use Rattle.std.specs.Ordering.{is_eq}
@@ -80,7 +80,7 @@ lift_meant x new ms xs ys (Ok c) (Err f) h = h
 lift_meant x new ms xs ys (Err e) (Ok d) h = h
 
 -- what becomes of a document, and then of the others
-abbrev one_step : UpdateStatement → Changed → Pairs → List Pairs → Bool → Result Pairs Refusal → Bool → Result Changed Refusal
+abbrev pub one_step : UpdateStatement → Changed → Pairs → List Pairs → Bool → Result Pairs Refusal → Bool → Result Changed Refusal
 one_step s so_far x ds m r multi =
     if not m then update_from s (passed_over x so_far) ds else
     (r >>= (λ new. if multi then update_from s (changed_to x new so_far) ds else
@@ -182,7 +182,7 @@ place_alike new (other x ∷ ms) up free = at (compare (key_of new) (key_of x)) 
 abbrev pub listed_with : List Pairs → ℕ → ℕ → Items → Listed
 listed_with ds matched modified upserted = record { documents = ds; matched = matched; modified = modified; upserted = upserted }
 
-record BothRun (ms : List Marked) (l m : Listed) : Type 0 where
+pub record BothRun (ms : List Marked) (l m : Listed) : Type 0 where
   pub next : List Marked
   pub matched : ℕ
   pub modified : ℕ
@@ -193,7 +193,7 @@ record BothRun (ms : List Marked) (l m : Listed) : Type 0 where
   pub rising : IsRising (all_of next)
   pub stored : All IsStored (all_of next)
 
-abbrev RunsAlike : List Marked → Result Listed Refusal → Result Listed Refusal → Type 0
+abbrev pub RunsAlike : List Marked → Result Listed Refusal → Result Listed Refusal → Type 0
 RunsAlike ms (Ok l) (Ok m) = BothRun ms l m
 RunsAlike ms (Err e) (Err f) = e ≡ f
 RunsAlike ms (Ok l) (Err f) = ⊥
@@ -251,7 +251,7 @@ module _ (i : ℕ) (s : UpdateStatement) (ms : List Marked) (a n : ℕ) (u : Ite
   abbrev ends : Listed → Changed → Result Listed Refusal
   ends l changed = if not changed.found && s.upsert then upsert_listed i s l else Ok (listed_to l changed)
 
-  run_alike : NoneIs (matches s.filter) (others_of ms) → NoneIs (has_key_of (made_of s)) (others_of ms) → RunsAlike ms (run_listed i s few) (run_listed i s whole)
+  pub run_alike : NoneIs (matches s.filter) (others_of ms) → NoneIs (has_key_of (made_of s)) (others_of ms) → RunsAlike ms (run_listed i s few) (run_listed i s whole)
   run_alike none free =
       at (update_from s (none_changed few) (meant_of ms)) (update_from s (none_changed whole) (all_of ms)) refl (from_alike s ms [] [] false a n none)
     where
@@ -300,28 +300,32 @@ from_next ms next (Err e) (Err f) same h = h
 from_next ms next (Ok l) (Err f) same h = h
 from_next ms next (Err e) (Ok m) same h = h
 
+-- what no statement means, the first doesn't, nor do the later ones
+module _ (s : UpdateStatement) (ss : List UpdateStatement) (xs : List Pairs) where
+  pub first_unmatched : NoneIs (is_updated (s ∷ ss)) xs → NoneIs (matches s.filter) xs
+  first_unmatched none = Each-map (λ x. is_updated (s ∷ ss) x ≡ false) (λ x. matches s.filter x ≡ false) xs (λ x e. or_first (matches s.filter x) (is_updated ss x) e) none
+
+  pub later_unmatched : NoneIs (is_updated (s ∷ ss)) xs → NoneIs (is_updated ss) xs
+  later_unmatched none = Each-map (λ x. is_updated (s ∷ ss) x ≡ false) (λ x. is_updated ss x ≡ false) xs (λ x e. or_second (matches s.filter x) (is_updated ss x) e) none
+
+  both : (x : Pairs) → has_key_of (made_of s ++ made_by ss) x ≡ (has_key_of (made_of s) x || has_key_of (made_by ss) x)
+  both x = list_any-append (λ d. is_eq (compare (key_of d) (key_of x))) (made_of s) (made_by ss)
+
+  pub first_free : NoneIs (has_key_of (made_by (s ∷ ss))) xs → NoneIs (has_key_of (made_of s)) xs
+  first_free free = Each-map (λ x. has_key_of (made_by (s ∷ ss)) x ≡ false) (λ x. has_key_of (made_of s) x ≡ false) xs (λ x e. or_first (has_key_of (made_of s) x) (has_key_of (made_by ss) x) (sym (both x) ∙ e)) free
+
+  pub later_free : NoneIs (has_key_of (made_by (s ∷ ss))) xs → NoneIs (has_key_of (made_by ss)) xs
+  later_free free = Each-map (λ x. has_key_of (made_by (s ∷ ss)) x ≡ false) (λ x. has_key_of (made_by ss) x ≡ false) xs (λ x e. or_second (has_key_of (made_of s) x) (has_key_of (made_by ss) x) (sym (both x) ∙ e)) free
+
 each_alike : (i : ℕ) (ss : List UpdateStatement) (ms : List Marked) (a n : ℕ) (u : Items) → All (λ (s : UpdateStatement). IsRead s.change) ss → IsRising (all_of ms) → All IsStored (all_of ms)
     → NoneIs (is_updated ss) (others_of ms) → NoneIs (has_key_of (made_by ss)) (others_of ms) → RunsAlike ms (run_each i ss (listed_with (meant_of ms) a n u)) (run_each i ss (listed_with (all_of ms) a n u))
 each_alike i [] ms a n u read rising stored none free = record { next = ms; matched = a; modified = n; upserted = u; among = refl; all = refl; rest = refl; rising = rising; stored = stored }
 each_alike i (s ∷ ss) ms a n u read rising stored none free =
-    at (run_listed i s (listed_with (meant_of ms) a n u)) (run_listed i s (listed_with (all_of ms) a n u)) (run_alike i s ms a n u (read 0 s (omega arith)) rising stored first free_first)
-    (λ next k l v up kept same. each_alike (suc i) ss next k l v (λ j d below. read (suc j) d (omega arith)) up kept (subst (NoneIs (is_updated ss)) (sym same) second) (subst (NoneIs (has_key_of (made_by ss))) (sym same) free_second))
+    at (run_listed i s (listed_with (meant_of ms) a n u)) (run_listed i s (listed_with (all_of ms) a n u))
+    (run_alike i s ms a n u (read 0 s (omega arith)) rising stored (first_unmatched s ss (others_of ms) none) (first_free s ss (others_of ms) free))
+    (λ next k l v up kept same. each_alike (suc i) ss next k l v (λ j d below. read (suc j) d (omega arith)) up kept (subst (NoneIs (is_updated ss)) (sym same) (later_unmatched s ss (others_of ms) none))
+    (subst (NoneIs (has_key_of (made_by ss))) (sym same) (later_free s ss (others_of ms) free)))
   where
-    first : NoneIs (matches s.filter) (others_of ms)
-    first = Each-map (λ x. is_updated (s ∷ ss) x ≡ false) (λ x. matches s.filter x ≡ false) (others_of ms) (λ x e. or_first (matches s.filter x) (is_updated ss x) e) none
-
-    second : NoneIs (is_updated ss) (others_of ms)
-    second = Each-map (λ x. is_updated (s ∷ ss) x ≡ false) (λ x. is_updated ss x ≡ false) (others_of ms) (λ x e. or_second (matches s.filter x) (is_updated ss x) e) none
-
-    both : (x : Pairs) → has_key_of (made_of s ++ made_by ss) x ≡ (has_key_of (made_of s) x || has_key_of (made_by ss) x)
-    both x = list_any-append (λ d. is_eq (compare (key_of d) (key_of x))) (made_of s) (made_by ss)
-
-    free_first : NoneIs (has_key_of (made_of s)) (others_of ms)
-    free_first = Each-map (λ x. has_key_of (made_by (s ∷ ss)) x ≡ false) (λ x. has_key_of (made_of s) x ≡ false) (others_of ms) (λ x e. or_first (has_key_of (made_of s) x) (has_key_of (made_by ss) x) (sym (both x) ∙ e)) free
-
-    free_second : NoneIs (has_key_of (made_by ss)) (others_of ms)
-    free_second = Each-map (λ x. has_key_of (made_by (s ∷ ss)) x ≡ false) (λ x. has_key_of (made_by ss) x ≡ false) (others_of ms) (λ x e. or_second (has_key_of (made_of s) x) (has_key_of (made_by ss) x) (sym (both x) ∙ e)) free
-
     at : (r t : Result Listed Refusal) → RunsAlike ms r t
         → ((next : List Marked) (k l : ℕ) (v : Items) → IsRising (all_of next) → All IsStored (all_of next) → others_of next ≡ others_of ms
         → RunsAlike next (run_each (suc i) ss (listed_with (meant_of next) k l v)) (run_each (suc i) ss (listed_with (all_of next) k l v)))
@@ -348,12 +352,15 @@ module _ (ss : List UpdateStatement) (ds : List Pairs) (read : All (λ (s : Upda
   all : all_of marks ≡ ds
   all = mark_all (is_meant ss) ds
 
+  pub none_updated : NoneIs (is_updated ss) (others_of marks)
+  none_updated = Each-map (λ x. is_meant ss x ≡ false) (λ x. is_updated ss x ≡ false) (others_of marks) (λ x e. or_first (is_updated ss x) (has_key_of (made_by ss) x) e) (mark_others (is_meant ss) ds)
+
+  pub none_made : NoneIs (has_key_of (made_by ss)) (others_of marks)
+  none_made = Each-map (λ x. is_meant ss x ≡ false) (λ x. has_key_of (made_by ss) x ≡ false) (others_of marks) (λ x e. or_second (is_updated ss x) (has_key_of (made_by ss) x) e) (mark_others (is_meant ss) ds)
+
   runs : RunsAlike marks (run_each 0 ss (listed_with among 0 0 no_items)) (run_each 0 ss (listed_with ds 0 0 no_items))
   runs =
-      let none = mark_others (is_meant ss) ds in
-      let first = Each-map (λ x. is_meant ss x ≡ false) (λ x. is_updated ss x ≡ false) (others_of marks) (λ x e. or_first (is_updated ss x) (has_key_of (made_by ss) x) e) none in
-      let second = Each-map (λ x. is_meant ss x ≡ false) (λ x. has_key_of (made_by ss) x ≡ false) (others_of marks) (λ x e. or_second (is_updated ss x) (has_key_of (made_by ss) x) e) none in
-      let here = each_alike 0 ss marks 0 0 no_items read (subst IsRising (sym all) rising) (subst (All IsStored) (sym all) stored) first second in
+      let here = each_alike 0 ss marks 0 0 no_items read (subst IsRising (sym all) rising) (subst (All IsStored) (sym all) stored) none_updated none_made in
       subst (λ (xs : List Pairs). RunsAlike marks (run_each 0 ss (listed_with among 0 0 no_items)) (run_each 0 ss (listed_with xs 0 0 no_items))) all
       (subst (λ (xs : List Pairs). RunsAlike marks (run_each 0 ss (listed_with xs 0 0 no_items)) (run_each 0 ss (listed_with (all_of marks) 0 0 no_items))) (mark_meant (is_meant ss) ds) here)
 

@@ -189,7 +189,7 @@ abbrev pub put_marked : Pairs → List Marked → List Marked
 put_marked new [] = meant new ∷ []
 put_marked new (m ∷ ms) = by_order (compare (key_of new) (key_of (document_of m))) (meant new ∷ m ∷ ms) (meant new ∷ ms) (m ∷ put_marked new ms)
 
-marked_all : (new : Pairs) (ms : List Marked) → all_of (put_marked new ms) ≡ put_document new (all_of ms)
+pub marked_all : (new : Pairs) (ms : List Marked) → all_of (put_marked new ms) ≡ put_document new (all_of ms)
 marked_all new [] = refl
 marked_all new (m ∷ ms) = at (compare (key_of new) (key_of (document_of m))) (marked_all new ms)
   where
@@ -205,10 +205,10 @@ goes_front new [] h = refl
 goes_front new (d ∷ ds) h = ap (λ (r : Ordering). by_order r (new ∷ d ∷ ds) (new ∷ ds) (d ∷ put_document new ds)) h.0
 
 -- these are the documents that are meant, and the others stay
-abbrev HasPut : List Marked → List Marked → List Pairs → Type 0
+abbrev pub HasPut : List Marked → List Marked → List Pairs → Type 0
 HasPut ms after ds = (meant_of after ≡ ds) × (others_of after ≡ others_of ms)
 
-marked_meant : (new : Pairs) (ms : List Marked) → Ascends (all_of ms) → Untied (others_of ms) (key_of new) → HasPut ms (put_marked new ms) (put_document new (meant_of ms))
+pub marked_meant : (new : Pairs) (ms : List Marked) → Ascends (all_of ms) → Untied (others_of ms) (key_of new) → HasPut ms (put_marked new ms) (put_document new (meant_of ms))
 marked_meant new [] up free = (refl, refl)
 marked_meant new (meant d ∷ ms) up free = at (compare (key_of new) (key_of d)) (marked_meant new ms up.1 free)
   where

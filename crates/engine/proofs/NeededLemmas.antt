@@ -3,7 +3,7 @@ use Rattle.std.proofs.Common.{◌≡◌, ℕ, zero, suc, ◌≤◌, Bool, true, 
 use Rattle.std.specs.Prelude.{None, All}
 use Rattle.std.specs.List.{filter}
 use Rattle.std.proofs.lemmas.List.{take-append-drop, append-nil}
-use Rattle.std.proofs.lemmas.List.Elements.{filter-append}
+use Rattle.std.proofs.lemmas.List.Elements.{All-append as append_all, All-cons, All-nil, filter-append}
 use Rattle.bson.specs.Tree.{Pairs}
 use Rattle.aggregate.specs.Limits.{first_fault, limit_fault}
 use Rattle.aggregate.specs.Pipeline.{run}
@@ -75,14 +75,13 @@ module _ (stages : List Stage) where
   pub none_of_within : AreOfWithin stages []
   none_of_within = record { seen = []; enough = none_is_enough stages; within = refl }
 
-  pub batch_of_within : (few next batch : List Pairs) → ((seen : List Pairs) → IsEnough stages few seen → IsEnough stages next (seen ++ filter (takes stages) batch)) → All IsWithin batch → AreOfWithin stages few → AreOfWithin stages next
+  pub batch_of_within : (few next batch : List Pairs) → ((seen : List Pairs) → IsEnough stages few seen → IsEnough stages next (seen ++ filter (takes stages) batch)) → All IsWithin (filter (takes stages) batch) → AreOfWithin stages few → AreOfWithin stages next
   batch_of_within few next batch on all h =
       let taken = filter (takes stages) batch in
       record {
         seen = h.seen ++ taken;
         enough = on h.seen h.enough;
-        within = within-fault 65535 (h.seen ++ taken) (All-append (λ d. limit_fault 65535 d ≡ None) h.seen taken (fault-within 65535 h.seen h.within)
-            (All-filter (λ d. limit_fault 65535 d ≡ None) (takes stages) batch (fault-within 65535 batch (none_at_fault batch all))));
+        within = within-fault 65535 (h.seen ++ taken) (All-append (λ d. limit_fault 65535 d ≡ None) h.seen taken (fault-within 65535 h.seen h.within) (fault-within 65535 taken (none_at_fault taken all)));
       }
 
   pub are_within : (few last : List Pairs) → ((seen : List Pairs) → IsEnough stages few seen → IsEnough stages last seen) → AreOfWithin stages few → All IsWithin last
@@ -115,37 +114,49 @@ module _ (stages : List Stage) (before all : List Pairs) where
   pub takes_none : IsTaking stages before all before all
   takes_none = record { front = []; split = refl; enough = λ seen h. subst (IsEnough stages before) (sym (append-nil seen)) h }
 
-  pub takes_one : (x : Pairs) (now left next : List Pairs) → takes stages x ≡ true
-      → ((seen : List Pairs) → IsEnough stages now seen → takes stages x ≡ true → IsEnough stages next (seen ++ x ∷ []))
-      → IsTaking stages before all now (x ∷ left) → IsTaking stages before all next left
-  takes_one x now left next is on h = record {
+  pub takes_next : (x : Pairs) (now left next : List Pairs) → ((seen : List Pairs) → IsEnough stages now seen → IsEnough stages next (seen ++ filter (takes stages) (x ∷ []))) → IsTaking stages before all now (x ∷ left) → IsTaking stages before all next left
+  takes_next x now left next on h = record {
     front = h.front ++ x ∷ [];
     split = h.split ∙ sym (append_assoc h.front (x ∷ []) left);
-    enough = λ seen e. subst (IsEnough stages next) (behind seen) (on (seen ++ filter p h.front) (h.enough seen e) is);
+    enough = λ seen e. subst (IsEnough stages next) (behind seen) (on (seen ++ filter p h.front) (h.enough seen e));
   }
     where
-      passes : filter p (x ∷ []) ≡ x ∷ []
-      passes = rw is refl
-
-      behind : (seen : List Pairs) → (seen ++ filter p h.front) ++ x ∷ [] ≡ seen ++ filter p (h.front ++ x ∷ [])
-      behind seen =
-          append_assoc seen (filter p h.front) (x ∷ [])
-          ∙ ap (λ (ys : List Pairs). seen ++ ys) (sym (filter-append p h.front (x ∷ []) ∙ ap (λ (ys : List Pairs). filter p h.front ++ ys) passes))
-
-  pub takes_not : (x : Pairs) (now left : List Pairs) → takes stages x ≡ false → IsTaking stages before all now (x ∷ left) → IsTaking stages before all now left
-  takes_not x now left is h = record {
-    front = h.front ++ x ∷ [];
-    split = h.split ∙ sym (append_assoc h.front (x ∷ []) left);
-    enough = λ seen e. subst (λ (ys : List Pairs). IsEnough stages now (seen ++ ys)) same (h.enough seen e);
-  }
-    where
-      over : filter p (x ∷ []) ≡ []
-      over = rw is refl
-
-      same : filter p h.front ≡ filter p (h.front ++ x ∷ [])
-      same = sym (filter-append p h.front (x ∷ []) ∙ ap (λ (ys : List Pairs). filter p h.front ++ ys) over ∙ append-nil (filter p h.front))
+      behind : (seen : List Pairs) → (seen ++ filter p h.front) ++ filter p (x ∷ []) ≡ seen ++ filter p (h.front ++ x ∷ [])
+      behind seen = append_assoc seen (filter p h.front) (filter p (x ∷ [])) ∙ ap (λ (ys : List Pairs). seen ++ ys) (sym (filter-append p h.front (x ∷ [])))
 
   pub takes_all : (now left : List Pairs) → left ≡ [] → IsTaking stages before all now left → (seen : List Pairs) → IsEnough stages before seen → IsEnough stages now (seen ++ filter (takes stages) all)
   takes_all now left none h seen e =
       let whole : h.front ≡ all = sym (append-nil h.front) ∙ ap (λ (ys : List Pairs). h.front ++ ys) (sym none) ∙ sym h.split in
       subst (λ (ys : List Pairs). IsEnough stages now (seen ++ filter (takes stages) ys)) whole (h.enough seen e)
+
+-- ---- one document
+
+module _ (stages : List Stage) (x : Pairs) where
+  taken_alone : takes stages x ≡ true → filter (takes stages) (x ∷ []) ≡ x ∷ []
+  taken_alone is = rw is refl
+
+  passed_alone : takes stages x ≡ false → filter (takes stages) (x ∷ []) ≡ []
+  passed_alone is = rw is refl
+
+  pub passed_enough : takes stages x ≡ false → (now seen : List Pairs) → IsEnough stages now seen → IsEnough stages now (seen ++ filter (takes stages) (x ∷ []))
+  passed_enough is now seen h = subst (IsEnough stages now) (sym (append-nil seen) ∙ ap (λ (ys : List Pairs). seen ++ ys) (sym (passed_alone is))) h
+
+  pub passed_within : takes stages x ≡ false → All IsWithin (filter (takes stages) (x ∷ []))
+  passed_within is = subst (All IsWithin) (sym (passed_alone is)) (All-nil IsWithin)
+
+  -- a document that was built of its bytes is the same
+  pub taken_enough : takes stages x ≡ true → (now next : List Pairs) (built : Pairs) → built ≡ x → ((seen : List Pairs) → IsEnough stages now seen → takes stages built ≡ true → IsEnough stages next (seen ++ built ∷ []))
+      → (seen : List Pairs) → IsEnough stages now seen → IsEnough stages next (seen ++ filter (takes stages) (x ∷ []))
+  taken_enough is now next built same on seen h =
+      subst (IsEnough stages next) (ap (λ (ys : List Pairs). seen ++ ys) (ap (λ (d : Pairs). d ∷ []) same ∙ sym (taken_alone is))) (on seen h (ap (takes stages) same ∙ is))
+
+  pub taken_within : takes stages x ≡ true → IsWithin x → All IsWithin (filter (takes stages) (x ∷ []))
+  taken_within is within = subst (All IsWithin) (sym (taken_alone is)) (All-cons IsWithin x [] within (All-nil IsWithin))
+
+-- ---- documents within the limits, one by one
+
+pub within_next : (p : Pairs → Bool) (x : Pairs) (left : List Pairs) → All IsWithin (filter p (x ∷ [])) → All IsWithin (filter p left) → All IsWithin (filter p (x ∷ left))
+within_next p x left one later = subst (All IsWithin) (sym (filter-append p (x ∷ []) left)) (append_all IsWithin (filter p (x ∷ [])) (filter p left) one later)
+
+pub within_none : (p : Pairs → Bool) (left : List Pairs) → left ≡ [] → All IsWithin (filter p left)
+within_none p left none = subst (λ (ds : List Pairs). All IsWithin (filter p ds)) (sym none) (All-nil IsWithin)

@@ -22,9 +22,11 @@ use Rattle.engine.specs.Merging.{is_meant, Listed, listed_in, makes_any, not_lis
 use Rattle.engine.specs.Putting.{IsFullFor, IsMeant, IsUpdate, MeansIn, PutsIn}
 use Rattle.engine.specs.Refusals.{ok_reply}
 use Rattle.engine.specs.Update.{counts_reply, judged, not_updated, run_all, run_statements, spelled, Updated, update_reply}
-use Rattle.engine.specs.Updating.{HasNone, IsRun, IsRunOf, listed_of}
+use Rattle.engine.specs.Updating.{EndsAs, HasNone, IsDone, IsRan, IsRun, IsRunOf, listed_of, news_of}
 use Rattle.engine.specs.World.{documents_or_none, or_empty, unused}
+use Rattle.engine.specs.declared.statements.Ran.{Ran}
 use Rattle.engine.specs.declared.statements.Run.{Run}
+use Rattle.engine.specs.declared.statements.Tally.{Tally}
 use Rattle.engine.specs.declared.updates.Meant.{Meant}
 use Rattle.engine.specs.declared.updates.Updates.{Updates}
 use Rattle.engine.proofs.LawfulSteps.{stored_at}
@@ -55,8 +57,8 @@ pub record Comes (now : List Collection) (name : List ℕ) (ss : List UpdateStat
   pub is : run_statements name 0 ss (not_updated now) ≡ Ok after
   pub says : update_reply after ≡ counts_reply r.tally.matched r.tally.modified r.tally.upserted
   pub quiet : after.modified ≡ 0 → after.upserted ≡ no_items → HasNone r.tally
-  pub storable : All IsStorable r.news.items
-  pub puts : PutsIn (find_collection now name) now name m.number m.is_new r.news.items after.collections
+  pub storable : All IsStorable (news_of r.writes.items)
+  pub puts : PutsIn (find_collection now name) now name m.number m.is_new (news_of r.writes.items) after.collections
 
 module _ (now : List Collection) (name : List ℕ) (ss : List UpdateStatement) (m : Meant) (h : IsLawfulState now) (read : All (λ (s : UpdateStatement). IsRead s.change) ss) where
   abbrev planned : Result Updated Refusal
@@ -93,10 +95,10 @@ module _ (now : List Collection) (name : List ℕ) (ss : List UpdateStatement) (
           (subst (All IsStored) (sym are) (All-filter (is_meant ss) IsStored c.documents kept.1))
 
       abbrev all_listed : Listed
-      all_listed = record (listed_of r) { documents = put_each r.news.items c.documents }
+      all_listed = record (listed_of r) { documents = put_each (news_of r.writes.items) c.documents }
 
       listed : run_of c.documents ≡ Ok all_listed
-      listed = done_alike ss c.documents read kept.0 kept.1 r.news.items (listed_of r) (ap run_of (sym are) ∙ is) (ap (put_each r.news.items) (sym are) ∙ up.puts)
+      listed = done_alike ss c.documents read kept.0 kept.1 (news_of r.writes.items) (listed_of r) (ap run_of (sym are) ∙ is) (ap (put_each (news_of r.writes.items)) (sym are) ∙ up.puts)
 
       abbrev after_there : Updated
       after_there = listed_in c now all_listed
@@ -107,8 +109,8 @@ module _ (now : List Collection) (name : List ℕ) (ss : List UpdateStatement) (
         is = all_there ∙ ap (each_in c now) listed;
         says = refl;
         quiet = λ none made. (none, made);
-        storable = up.storable;
-        puts = subst (λ (o : Option Collection). PutsIn o now name m.number m.is_new r.news.items after_there.collections) (sym found) (old, numbered, refl);
+        storable = up.written.storable;
+        puts = subst (λ (o : Option Collection). PutsIn o now name m.number m.is_new (news_of r.writes.items) after_there.collections) (sym found) (old, numbered, refl);
       }
 
   -- ---- a missing one
@@ -135,17 +137,17 @@ module _ (now : List Collection) (name : List ℕ) (ss : List UpdateStatement) (
       comes_new numbered new r is run =
           let up = up_missing r run in
           let after = listed_in made now (listed_of r) in
-          let put : put_each r.news.items [] ≡ r.documents.items = ap (put_each r.news.items) (sym empty) ∙ up.puts in
-          let same : after.collections ≡ put_collection (record (empty_collection name m.number) { documents = put_each r.news.items [] }) now =
+          let put : put_each (news_of r.writes.items) [] ≡ r.documents.items = ap (put_each (news_of r.writes.items)) (sym empty) ∙ up.puts in
+          let same : after.collections ≡ put_collection (record (empty_collection name m.number) { documents = put_each (news_of r.writes.items) [] }) now =
           λ k. put_collection (record { name = name; number = sym numbered k; documents = sym put k; indexes = [] }) now in
           record {
             after = after;
             is = all_made ∙ ap (each_in made now) (ap run_of (sym empty) ∙ is);
             says = refl;
             quiet = λ none made. (none, made);
-            storable = up.storable;
-            puts = subst (λ (o : Option Collection). PutsIn o now name m.number m.is_new r.news.items after.collections) (sym missing)
-                (subst (λ (b : Bool). PutsIn None now name m.number b r.news.items after.collections) (sym new) (few, numbered, same));
+            storable = up.written.storable;
+            puts = subst (λ (o : Option Collection). PutsIn o now name m.number m.is_new (news_of r.writes.items) after.collections) (sym missing)
+                (subst (λ (b : Bool). PutsIn None now name m.number b (news_of r.writes.items) after.collections) (sym new) (few, numbered, same));
           }
 
     -- none makes one
@@ -173,9 +175,9 @@ module _ (now : List Collection) (name : List ℕ) (ss : List UpdateStatement) (
             is = none_done;
             says = ap (λ (l : Listed). counts_reply l.matched l.modified l.upserted) (sym same);
             quiet = λ a b. none;
-            storable = up.storable;
-            puts = subst (λ (o : Option Collection). PutsIn o now name m.number m.is_new r.news.items now) (sym missing)
-                (subst (λ (b : Bool). PutsIn None now name m.number b r.news.items now) (sym old) (run.quiet none, refl));
+            storable = up.written.storable;
+            puts = subst (λ (o : Option Collection). PutsIn o now name m.number m.is_new (news_of r.writes.items) now) (sym missing)
+                (subst (λ (b : Bool). PutsIn None now name m.number b (news_of r.writes.items) now) (sym old) (ap news_of (run.quiet none), refl));
           }
 
   -- ---- either
@@ -236,20 +238,44 @@ module _ (ss : List UpdateStatement) (m : Meant) (read : All (λ (s : UpdateStat
         let x = comes now name ss m h read meant r is run in
         ap (λ (q : Result Updated Refusal). q >>= judged) x.is ∙ too_long x.after reply (said ∙ ap ok_reply (sym x.says)) long
 
-    pub updates_done : (u : Updates) → u.number ≡ m.number → u.is_new ≡ m.is_new → u.news.items ≡ r.news.items → u.reply ≡ reply → length (spelled reply) ≤ 1048555 → IsUpdate now name ss u
-    updates_done u number new news replied short =
+    pub updates_done : (u : Updates) → u.number ≡ m.number → u.is_new ≡ m.is_new → u.writes.items ≡ r.writes.items → u.reply ≡ reply → length (spelled reply) ≤ 1048555 → IsUpdate now name ss u
+    updates_done u number new writes replied short =
         let x = comes now name ss m h read meant r is run in
+        let news : news_of u.writes.items ≡ news_of r.writes.items = ap news_of writes in
         let says : reply ≡ ok_reply (update_reply x.after) = said ∙ ap ok_reply (sym x.says) in
         record {
           after = x.after;
           planned = ap (λ (q : Result Updated Refusal). q >>= judged) x.is ∙ is_judged x.after reply says short;
           says = replied ∙ says;
-          quiet = λ none made. news ∙ run.quiet (x.quiet none made);
+          quiet = λ none made. writes ∙ run.quiet (x.quiet none made);
           storable = subst (All IsStorable) (sym news) x.storable;
-          puts = subst (λ (n : ℕ). PutsIn (find_collection now name) now name n u.is_new u.news.items x.after.collections) (sym number)
-              (subst (λ (b : Bool). PutsIn (find_collection now name) now name m.number b u.news.items x.after.collections) (sym new)
+          puts = subst (λ (n : ℕ). PutsIn (find_collection now name) now name n u.is_new (news_of u.writes.items) x.after.collections) (sym number)
+              (subst (λ (b : Bool). PutsIn (find_collection now name) now name m.number b (news_of u.writes.items) x.after.collections) (sym new)
               (subst (λ (ds : List Pairs). PutsIn (find_collection now name) now name m.number m.is_new ds x.after.collections) (sym news) x.puts));
         }
+
+  module _ (keeps_old : Bool) (x : Ran) (ran : IsRan keeps_old ss m.documents.items x) where
+    -- what the reply says, of the counts
+    abbrev says : Tally → Pairs
+    says t = ok_reply (counts_reply t.matched t.modified t.upserted)
+
+    pub ran_refused : (e : Refusal) → x.end ≡ Err e → (run_all name ss now ≡ Err e) ⊎ (e ≡ refusals.OutOfMemory)
+    ran_refused e is = updates_refused e (λ other. subst (EndsAs ss m.documents.items x.writes.items) is ran.end)
+
+    module _ (t : Tally) (is : x.end ≡ Ok t) (reply : Pairs) (said : reply ≡ says t) where
+      done : IsDone ss m.documents.items x.writes.items t
+      done = subst (EndsAs ss m.documents.items x.writes.items) is ran.end
+
+      said_so : reply ≡ says_run done.run
+      said_so = said ∙ ap says (sym done.tally)
+
+      pub ran_long : 1048555 < length (spelled reply) → run_all name ss now ≡ Err refusals.BSONObjectTooLarge
+      ran_long long = updates_long done.run done.planned done.is reply said_so long
+
+      pub ran_done : length (spelled reply) ≤ 1048555 → IsUpdate now name ss (record { number = m.number; is_new = m.is_new; writes = x.writes; reply = reply })
+      ran_done short =
+          let u : Updates = record { number = m.number; is_new = m.is_new; writes = x.writes; reply = reply } in
+          updates_done done.run done.planned done.is reply said_so u refl refl (sym done.writes) refl short
 
 -- a collection for a document that a statement makes would be one too many
 pub full_refused : (now : List Collection) (name : List ℕ) (ss : List UpdateStatement) (e : Refusal) → IsFullFor now name ss e → run_all name ss now ≡ Err e

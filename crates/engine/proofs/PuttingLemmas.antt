@@ -1,7 +1,7 @@
 -- What an update puts into the file.
-use Rattle.std.proofs.Common.{◌≡◌, ◌≢◌, ◌+◌, ◌<◌, ◌≤◌, inl, inr, ℕ, Bool, true, false, List, [], length, drop, get_or, Option, Some, None, Result, Ok, Err, refl, sym, ap, subst, ◌∙◌}
+use Rattle.std.proofs.Common.{◌≡◌, ◌≢◌, ◌+◌, ◌<◌, ◌≤◌, inl, inr, ℕ, Bool, true, false, List, [], ◌∷◌, length, drop, get_or, Option, Some, None, Result, Ok, Err, refl, sym, ap, subst, ◌∙◌, arith}
 use Rattle.std.specs.Prelude.{All, nat_lt}
-use Rattle.std.proofs.lemmas.List.{drop_all}
+use Rattle.std.proofs.lemmas.List.{drop_all, get_or-map, length-map}
 use Rattle.bson.specs.Tree.{Pairs, no_pairs}
 use Rattle.value_order.specs.KeyText.{tree_text}
 use Rattle.page.specs.History.{History, KeepsWord}
@@ -32,11 +32,12 @@ use Rattle.engine.specs.Refusals.{ok_reply}
 use Rattle.engine.specs.Step.{ChangesNone}
 use Rattle.engine.specs.Trying.{Tries}
 use Rattle.engine.specs.Update.{judged, not_updated, run_all, run_statements, run_update, spelled, Updated, update_reply}
-use Rattle.engine.specs.Updating.{MayBePut}
+use Rattle.engine.specs.Updating.{MayBePut, news_of}
 use Rattle.engine.specs.View.{world}
 use Rattle.engine.specs.World.{unused, World}
 use Rattle.engine.specs.Writing.{Makes, planned_or, Writes}
 use Rattle.engine.specs.declared.engine.Engine.{Engine}
+use Rattle.engine.specs.declared.statements.Write.{Write}
 use Rattle.engine.specs.declared.updates.Updates.{Updates}
 use Rattle.engine.proofs.LawfulSteps.{statements_lawful}
 use Rattle.engine.proofs.MakingLemmas.{leads_planned, makes_none, makes_written, performs_done, performs_refused, planned_is, unindexed_now, with_reply}
@@ -50,6 +51,10 @@ use Rattle.engine.proofs.UnindexedLemmas.{adds_unindexed}
 
 pub may_be_stored : (d : Pairs) → MayBePut d → length (tree_text (key_of d)) ≤ 500 → IsStorable d
 may_be_stored d may short = record { lawful = may.lawful; size = may.size; depth = may.depth; key = may.key; short = short }
+
+-- the document of a write
+pub news_at : (ws : List Write) (i : ℕ) (w : Write) → i < length ws → w ≡ get_or ws i w → (i < length (news_of ws)) × (w.new ≡ get_or (news_of ws) i w.new)
+news_at ws i w within is = (omega (arith, within, length-map ws (λ (v : Write). v.new)), ap (λ (v : Write). v.new) is ∙ sym (get_or-map (λ (v : Write). v.new) ws i w w.new within))
 
 -- documents that are left to be put
 abbrev pub PutsLeft : List Edit → List Edit → ℕ → List Pairs → List Pairs → Type 0
@@ -88,54 +93,58 @@ module _ (now : List Collection) (name : List ℕ) (edits : List Edit) (news : L
       let last : Collection = record made { documents = put_each news [] } in
       subst (λ (s : List Collection). Leads edits now s × IsUnindexed s) (put_twice last made now refl ∙ sym is) two
 
+none_put : (ws : List Write) → news_of ws ≡ [] → ws ≡ []
+none_put [] e = refl
+none_put (w ∷ ws) e = absurd cc
+
 module _ (now : List Collection) (name : List ℕ) (ss : List UpdateStatement) (x : Updates) (is : IsUpdate now name ss x) where
   -- what is planned of the collections
   pub planned_after : updated name ss now ≡ Ok is.after.collections
   planned_after = ap (λ (r : Result Updated Refusal). r >>= (λ u. let q : Result (List Collection) Refusal = Ok u.collections in q)) is.planned
 
-  pub updates_lead : (edits : List Edit) → (x.is_new ≡ false → x.news.items ≢ []) → IsUnindexed now → NotesUpdates name x edits → Leads edits now is.after.collections × IsUnindexed is.after.collections
+  pub updates_lead : (edits : List Edit) → (x.is_new ≡ false → x.writes.items ≢ []) → IsUnindexed now → NotesUpdates name x edits → Leads edits now is.after.collections × IsUnindexed is.after.collections
   updates_lead edits some un notes = at (find_collection now name) x.is_new refl refl is.puts notes.begins
     where
-      at : (o : Option Collection) (new : Bool) → find_collection now name ≡ o → x.is_new ≡ new → PutsIn o now name x.number x.is_new x.news.items is.after.collections
+      at : (o : Option Collection) (new : Bool) → find_collection now name ≡ o → x.is_new ≡ new → PutsIn o now name x.number x.is_new (news_of x.writes.items) is.after.collections
           → BeginsWith x.is_new name x.number notes.first → Leads edits now is.after.collections × IsUnindexed is.after.collections
       at (Some c) new found new_is puts begins =
           let none : notes.first ≡ [] = subst (λ (b : Bool). BeginsWith b name x.number notes.first) puts.0 begins in
-          leads_in now name edits x.news.items x.number is.after.collections un c found puts.1 puts.2
-          (subst (λ (es : List Edit). ChangesDocuments es edits x.number (put_each x.news.items)) none notes.puts)
+          leads_in now name edits (news_of x.writes.items) x.number is.after.collections un c found puts.1 puts.2
+          (subst (λ (es : List Edit). ChangesDocuments es edits x.number (put_each (news_of x.writes.items))) none notes.puts)
       at None true missing new_is puts begins =
-          let there = subst (λ (b : Bool). PutsIn None now name x.number b x.news.items is.after.collections) new_is puts in
+          let there = subst (λ (b : Bool). PutsIn None now name x.number b (news_of x.writes.items) is.after.collections) new_is puts in
           let adds = subst (λ (b : Bool). BeginsWith b name x.number notes.first) new_is begins in
-          leads_new now name edits x.news.items x.number is.after.collections un missing there.0 there.1 there.2 notes.first adds notes.puts
+          leads_new now name edits (news_of x.writes.items) x.number is.after.collections un missing there.0 there.1 there.2 notes.first adds notes.puts
       at None false missing new_is puts begins =
-          let there = subst (λ (b : Bool). PutsIn None now name x.number b x.news.items is.after.collections) new_is puts in
-          absurd (some new_is there.0)
+          let there = subst (λ (b : Bool). PutsIn None now name x.number b (news_of x.writes.items) is.after.collections) new_is puts in
+          absurd (some new_is (none_put x.writes.items there.0))
 
   module _ (h : IsLawfulState now) where
     -- where nothing is put all is as it was
-    pub nothing_updated : x.news.items ≡ [] → x.is_new ≡ false → is.after.collections ≡ now
-    nothing_updated none old = at (find_collection now name) refl (subst (λ (b : Bool). PutsIn (find_collection now name) now name x.number b x.news.items is.after.collections) old is.puts)
+    pub nothing_updated : x.writes.items ≡ [] → x.is_new ≡ false → is.after.collections ≡ now
+    nothing_updated none old = at (find_collection now name) refl (subst (λ (b : Bool). PutsIn (find_collection now name) now name x.number b (news_of x.writes.items) is.after.collections) old is.puts)
       where
-        at : (o : Option Collection) → find_collection now name ≡ o → PutsIn o now name x.number false x.news.items is.after.collections → is.after.collections ≡ now
+        at : (o : Option Collection) → find_collection now name ≡ o → PutsIn o now name x.number false (news_of x.writes.items) is.after.collections → is.after.collections ≡ now
         at (Some c) found puts =
             let found_so : find_collection now c.name ≡ Some c = ap (find_collection now) (sym (found_name now name c found)) ∙ found in
-            puts.2 ∙ ap (λ (ds : List Pairs). put_collection (record c { documents = put_each ds c.documents }) now) none ∙ put_same c now h.apart found_so
+            puts.2 ∙ ap (λ (ds : List Pairs). put_collection (record c { documents = put_each ds c.documents }) now) (ap news_of none) ∙ put_same c now h.apart found_so
         at None missing puts = puts.1
 
   -- a collection that is made wasn't there before
   pub old_where_same : is.after.collections ≡ now → x.is_new ≡ false
   old_where_same same = at (find_collection now name) x.is_new refl refl is.puts
     where
-      at : (o : Option Collection) (new : Bool) → find_collection now name ≡ o → x.is_new ≡ new → PutsIn o now name x.number x.is_new x.news.items is.after.collections → x.is_new ≡ false
+      at : (o : Option Collection) (new : Bool) → find_collection now name ≡ o → x.is_new ≡ new → PutsIn o now name x.number x.is_new (news_of x.writes.items) is.after.collections → x.is_new ≡ false
       at (Some c) new found new_is puts = puts.0
       at None false missing new_is puts = new_is
       at None true missing new_is puts =
-          let there = subst (λ (b : Bool). PutsIn None now name x.number b x.news.items is.after.collections) new_is puts in
-          let made : Collection = record (empty_collection name x.number) { documents = put_each x.news.items [] } in
+          let there = subst (λ (b : Bool). PutsIn None now name x.number b (news_of x.writes.items) is.after.collections) new_is puts in
+          let made : Collection = record (empty_collection name x.number) { documents = put_each (news_of x.writes.items) [] } in
           let has : find_collection now name ≡ Some made = ap (λ (cs : List Collection). find_collection cs name) (sym same ∙ there.2) ∙ finds_put made now in
           absurd (let no = sym missing ∙ has in cc)
 
   -- nothing is put where no statement changes a document or makes one
-  pub nothing_put : (w : World) → w.collections ≡ now → ChangesNone w (update (record { namespace = name; statements = ss })) → x.news.items ≡ []
+  pub nothing_put : (w : World) → w.collections ≡ now → ChangesNone w (update (record { namespace = name; statements = ss })) → x.writes.items ≡ []
   nothing_put w same none =
       let s = step_of (run_statements name 0 ss (not_updated now)) judged is.after is.planned in
       let counts = none s.0 (ap (λ (cs : List Collection). run_statements name 0 ss (not_updated cs)) same ∙ s.1) in
@@ -170,7 +179,7 @@ module _ {D : Type 0} (history : D → History) (name : List ℕ) (ss : List Upd
 
   module _ (h : IsSound history old) (x : Updates) (is : KeepsWord (disk_history history old) → IsUpdate (world old).collections name ss x) where
     -- nothing is put, and nothing written
-    pub puts_nothing : x.news.items ≡ [] → x.is_new ≡ false → Makes history (plan (world old).collections) (Ok tt) old old
+    pub puts_nothing : x.writes.items ≡ [] → x.is_new ≡ false → Makes history (plan (world old).collections) (Ok tt) old old
     puts_nothing none still = record {
       sound = h;
       goes = laws.goes_from_itself history old.file;
@@ -183,10 +192,10 @@ module _ {D : Type 0} (history : D → History) (name : List ℕ) (ss : List Upd
     }
 
     -- no memory for the edits
-    pub puts_unnoted : (e : Refusal) → (All IsStorable x.news.items → e ≡ refusals.OutOfMemory) → Makes history (plan (world old).collections) (Err e) old old
+    pub puts_unnoted : (e : Refusal) → (All IsStorable (news_of x.writes.items) → e ≡ refusals.OutOfMemory) → Makes history (plan (world old).collections) (Err e) old old
     puts_unnoted e memory = makes_none history (plan (world old).collections) old old e (reads_none history old h) (λ k. inr (inl (memory (is k).storable)))
 
-    pub puts_lead : (edits : List Edit) → (x.is_new ≡ false → x.news.items ≢ []) → (All IsStorable x.news.items → NotesUpdates name x edits)
+    pub puts_lead : (edits : List Edit) → (x.is_new ≡ false → x.writes.items ≢ []) → (All IsStorable (news_of x.writes.items) → NotesUpdates name x edits)
         → KeepsWord (disk_history history old) → IsRunning old
         → Leads edits (world old).collections (planned_or (world old).collections (plan (world old).collections)) × IsUnindexed (planned_or (world old).collections (plan (world old).collections))
     puts_lead edits some notes k running =
@@ -288,7 +297,7 @@ module _ {D : Type 0} (history : D → History) (name : List ℕ) (ss : List Upd
             }
 
         -- the collections stayed as they were, and no document changed on the way there
-        pub changes_same : (x.news.items ≡ [] → x.is_new ≡ false → has_changes new ≡ has_changes mid) → KeepsWord (disk_history history new) → (world new).collections ≡ (world old).collections
+        pub changes_same : (x.writes.items ≡ [] → x.is_new ≡ false → has_changes new ≡ has_changes mid) → KeepsWord (disk_history history new) → (world new).collections ≡ (world old).collections
             → ChangesNone (world old) (update (record { namespace = name; statements = ss })) → has_changes new ≡ has_changes old
         changes_same still k stays none =
             let u = its_update k in

@@ -1,9 +1,12 @@
 -- Documents that are selected as they come, up to so many.
-use Rattle.std.proofs.Common.{◌≡◌, ℕ, zero, suc, ◌≤◌, ◌<◌, Bool, true, false, List, [], ◌∷◌, ◌++◌, length, take, refl, sym, ap, ◌∙◌, arith, append_assoc, length-append}
-use Rattle.std.specs.List.{filter}
+use Rattle.std.proofs.Common.{◌≡◌, ℕ, zero, suc, ◌≤◌, ◌<◌, Bool, true, false, List, [], ◌∷◌, ◌++◌, length, take, refl, sym, ap, ◌∙◌, arith, inl, inr, append_assoc, length-append}
+use Rattle.std.specs.List.{filter, list_all}
 use Rattle.std.proofs.lemmas.List.{take_all, append-nil, length-take}
 use Rattle.std.proofs.lemmas.List.Elements.{filter-append}
 use Rattle.std.proofs.Math.Seq.{take-append_seam}
+use Rattle.bson.specs.Tree.{Pairs}
+use Rattle.path.specs.declared.refusal.Refusal.{Refusal}
+use Rattle.engine.specs.Looking.{HasReadCause, is_within}
 
 -- What was found, and behind it what is selected of those that are left: up to so many, what is wanted of all.
 pub record IsSelecting {X : Type 0} (p : X → Bool) (most : ℕ) (before all now left : List X) : Type 0 where
@@ -78,3 +81,24 @@ module _ {X : Type 0} (p : X → Bool) (most : ℕ) where
   enough_selected now all left full h =
       let same : length now ≡ most = omega (arith, full, h.few) in
       sym (ap (λ (n : ℕ). take n (now ++ filter p left)) (sym same) ∙ take-append_seam now (filter p left)) ∙ h.same
+
+-- ---- documents over the limits
+
+over_first : (p : Pairs → Bool) (d : Pairs) (left : List Pairs) → list_all p (d ∷ []) ≡ false → list_all p (d ∷ left) ≡ false
+over_first p d left over = at (p d) refl
+  where
+    at : (b : Bool) → p d ≡ b → list_all p (d ∷ left) ≡ false
+    at true e = absurd (grind (arith, e, over))
+    at false e = grind (arith, e)
+
+pub over_later : (p : Pairs → Bool) (d : Pairs) (left : List Pairs) → list_all p left ≡ false → list_all p (d ∷ left) ≡ false
+over_later p d left over = at (p d) refl
+  where
+    at : (b : Bool) → p d ≡ b → list_all p (d ∷ left) ≡ false
+    at true e = grind (arith, e, over)
+    at false e = grind (arith, e)
+
+-- why one of them is refused is why all are
+pub cause_of_all : (d : Pairs) (left all : List Pairs) (e : Refusal) → (list_all is_within (d ∷ left) ≡ false → list_all is_within all ≡ false) → HasReadCause (d ∷ []) e → HasReadCause all e
+cause_of_all d left all e on (inl is) = inl is
+cause_of_all d left all e on (inr (is, over)) = inr (is, on (over_first is_within d left over))

@@ -28,7 +28,7 @@ use Rattle.collections.specs.View.{disk_history, is_changed, is_stopped}
 use Rattle.collections.specs.Walk.{AreNext, BeginsWalk, IsWalk, StepsOn}
 use Rattle.collections.specs.declared.walk.Walk.{Walk}
 use Rattle.engine.specs.Lawful.{IsWithin}
-use Rattle.engine.specs.Looking.{Looks, LooksOf, is_within}
+use Rattle.engine.specs.Looking.{HasReadCause, Looks, LooksOf, is_within}
 use Rattle.engine.specs.View.{world}
 use Rattle.engine.specs.declared.engine.Engine.{Engine}
 use Rattle.engine.specs.World.{documents_of}
@@ -134,6 +134,11 @@ module _ {D : Type 0} (history : D → History) (old new : State D) (walk after 
           let within = next_are_within now walk rest batch.items limit t.now_state w (reads.answers k start now has rest w).0 in
           let both : true ≡ false = sym (within_all batch.items within) ∙ over in
           absurd cc
+
+  -- and so does what is refused of one of its documents, unless memory ran out
+  pub read_refused : (e : Refusal) → HasReadCause batch.items e → {X : Type 0} (Q : List Collection → List Pairs → X → Type 0) → ReadsOf history (λ now rest. IsWalk now walk rest) Q (Err e) old new
+  read_refused e (inl is) Q = record { on = reads.on; unchanged = reads.unchanged; same = reads.same; answers = λ k start now has rest w. inl is }
+  read_refused e (inr (is, over)) {X} Q = subst (λ (e : Refusal). ReadsOf {X = X} history (λ now rest. IsWalk now walk rest) Q (Err e) old new) (sym is) (judged over Q)
 
 -- ---- a walk so far
 

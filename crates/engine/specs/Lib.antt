@@ -19,6 +19,9 @@ pub mod Lawful
 pub mod Places
 pub mod Redoing
 pub mod Known
+pub mod DocumentWrite
+pub mod Writes
+pub mod WriteLaws
 pub mod Updating
 pub mod View
 pub mod Laws

@@ -14,6 +14,7 @@ use Rattle.engine.specs.Lawful.{IsLawfulState}
 use Rattle.engine.specs.Merging.{is_meant, makes_any, put_each}
 use Rattle.engine.specs.Refusals.{ok_reply}
 use Rattle.engine.specs.Update.{Updated, run_all, update_reply}
+use Rattle.engine.specs.Updating.{news_of}
 use Rattle.engine.specs.World.{unused}
 use Rattle.engine.specs.declared.updates.Meant.{Meant}
 use Rattle.engine.specs.declared.updates.Updates.{Updates}
@@ -64,9 +65,9 @@ pub record IsUpdate (now : List Collection) (name : List ℕ) (ss : List UpdateS
   pub after : Updated
   pub planned : run_all name ss now ≡ Ok after
   pub says : x.reply ≡ ok_reply (update_reply after)
-  pub quiet : after.modified ≡ 0 → after.upserted ≡ no_items → x.news.items ≡ []
-  pub storable : All IsStorable x.news.items
-  pub puts : PutsIn (find_collection now name) now name x.number x.is_new x.news.items
+  pub quiet : after.modified ≡ 0 → after.upserted ≡ no_items → x.writes.items ≡ []
+  pub storable : All IsStorable (news_of x.writes.items)
+  pub puts : PutsIn (find_collection now name) now name x.number x.is_new (news_of x.writes.items)
       after.collections
 
 -- So they are where the documents are those that the statements may mean.
@@ -93,4 +94,4 @@ BeginsWith true name number edits = AddsCollection [] edits name number
 pub record NotesUpdates (name : List ℕ) (x : Updates) (edits : List Edit) : Type 0 where
   pub first : List Edit
   pub begins : BeginsWith x.is_new name x.number first
-  pub puts : ChangesDocuments first edits x.number (put_each x.news.items)
+  pub puts : ChangesDocuments first edits x.number (put_each (news_of x.writes.items))

@@ -1,6 +1,6 @@
 //! `aggregate`: what a pipeline makes of the documents of a collection.
 
-ghost use Rattle.std.specs.Prelude.{◌≡◌, ◌≤◌, ◌<◌, true, Some, All, IfOk, List, [], ◌∷◌, ◌++◌, length, drop};
+ghost use Rattle.std.specs.Prelude.{◌≡◌, ◌≤◌, ◌<◌, true, Some, All, IfErr, IfOk, List, [], ◌∷◌, ◌++◌, length, drop};
 ghost use Rattle.std.specs.List.{filter};
 ghost use Rattle.bson.specs.Tree.{Pairs};
 ghost use Rattle.outcome.specs.Outcome.{Gives};
@@ -13,7 +13,7 @@ ghost use Rattle.engine.specs.Aggregate.{run_aggregate, AreEnough};
 ghost use Rattle.engine.specs.Cursors.{batch_of, first_batch};
 ghost use Rattle.engine.specs.Durable.{has_changes, IsSound};
 ghost use Rattle.engine.specs.Lawful.{IsWithin};
-ghost use Rattle.engine.specs.Looking.{Looks};
+ghost use Rattle.engine.specs.Looking.{HasReadCause, Looks};
 ghost use Rattle.engine.specs.Performing.{Performs};
 ghost use Rattle.engine.specs.View.{world, IsSendable, Runs};
 ghost use Rattle.engine.specs.World.{documents_of};
@@ -22,7 +22,7 @@ use crate::STORED_LIMIT;
 use crate::batch_reply::{BatchKind, batch_reply};
 use crate::connection::ConnId;
 use crate::engine::Engine;
-use crate::looking::next_within;
+use crate::looking::{BATCH, built_within};
 use crate::shared_document::SharedDocument;
 use aggregate::Pipeline;
 use bson::{Document, NoMemory, SpelledDocument};
@@ -85,22 +85,45 @@ fn with_one_more(
     Ok(these)
 }
 
+/// These documents and one more, if a pipeline takes it; `StorageFailed` where it is over the limits of those that are stored.
+fn with_taken(
+    alloc: Global,
+    pipeline: &Pipeline,
+    these: Vec<Document>,
+    room: &mut usize,
+    document: &SpelledDocument,
+) -> Result<Vec<Document>, Refusal>
+    ensures enough { (seen : List Pairs) → IsEnough (pipeline_of pipeline.now) these.items seen
+        → IfOk result (λ v. IsEnough (pipeline_of pipeline.now) v.items
+        (seen ++ filter (takes (pipeline_of pipeline.now)) (document.now ∷ []))) }
+    ensures within { IfOk result
+        (λ _. All IsWithin (filter (takes (pipeline_of pipeline.now)) (document.now ∷ []))) }
+    ensures refuses { IfErr result (HasReadCause (document.now ∷ [])) }
+{
+    if !pipeline.takes_raw(alloc, &document.raw())? {
+        return Ok(these);
+    }
+    let built = built_within(alloc, document)?;
+    Ok(with_one_more(alloc, pipeline, these, room, built)?)
+}
+
 /// These documents and those of more that a pipeline takes.
 fn with_more(
     alloc: Global,
     pipeline: &Pipeline,
     mut these: Vec<Document>,
     room: &mut usize,
-    documents: Vec<Document>,
-) -> Result<Vec<Document>, NoMemory>
-    ensures { (seen : List Pairs) → IsEnough (pipeline_of pipeline.now) these.items seen
+    documents: Vec<SpelledDocument>,
+) -> Result<Vec<Document>, Refusal>
+    ensures enough { (seen : List Pairs) → IsEnough (pipeline_of pipeline.now) these.items seen
         → IfOk result (λ v. IsEnough (pipeline_of pipeline.now) v.items
         (seen ++ filter (takes (pipeline_of pipeline.now)) documents.items)) }
+    ensures within { IfOk result
+        (λ _. All IsWithin (filter (takes (pipeline_of pipeline.now)) documents.items)) }
+    ensures refuses { IfErr result (HasReadCause documents.items) }
 {
     'documents: for document in documents {
-        if pipeline.takes(&document) {
-            these = with_one_more(alloc, pipeline, these, room, document)?;
-        }
+        these = with_taken(alloc, pipeline, these, room, &document)?;
     }
     Ok(these)
 }
@@ -135,7 +158,7 @@ fn needed_in<D: Disk>(
     let mut needed = Vec::new(alloc);
     let mut room = ROOM;
     'walk: while !are_enough(pipeline, needed.len()) {
-        let documents = next_within(file, &mut walk)?;
+        let documents = file.next_spelled(&mut walk, BATCH)?;
         if documents.is_empty() {
             return Ok(only_needed(alloc, pipeline, needed)?);
         }

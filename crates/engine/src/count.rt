@@ -1,6 +1,6 @@
 //! `count`: how many documents match.
 
-ghost use Rattle.std.specs.Prelude.{◌≡◌, IfOk, List, length};
+ghost use Rattle.std.specs.Prelude.{◌≡◌, IfOk, List, [], ◌∷◌, length};
 ghost use Rattle.bson.specs.Tree.{Pairs};
 ghost use Rattle.collections.specs.Reading.{IsNumbered, ReadsOf};
 ghost use Rattle.engine.specs.Count.{run_count};
@@ -12,23 +12,40 @@ ghost use Rattle.engine.specs.View.{world, IsSendable};
 ghost use Rattle.engine.specs.World.{documents_of};
 
 use crate::engine::Engine;
-use crate::find::matches;
 use crate::looking::BATCH;
 use crate::reply::total_reply;
-use bson::Document;
+use bson::{Document, NoMemory, SpelledDocument};
 use collections::Collections;
 use filter::Filter;
 use page::Disk;
 use path::Refusal;
+use std::alloc::Global;
+
+/// One where a document matches a filter, and none where it doesn't. No more of it is read than the filter asks for.
+fn count_one(alloc: Global, document: &SpelledDocument, filter: &Filter) -> Result<usize, NoMemory>
+    ensures { IfOk result (λ count. count
+        ≡ length (matching filter.now (document.now ∷ []))) }
+{
+    if filter.matches_raw(alloc, &document.raw())? {
+        Ok(1)
+    } else {
+        Ok(0)
+    }
+}
 
 /// How many documents match a filter.
-fn count_matching(documents: &[Document], filter: &Filter) -> usize
-    ensures { result ≡ length (matching filter.now documents.now) }
+fn count_matching(
+    alloc: Global,
+    documents: &[SpelledDocument],
+    filter: &Filter,
+) -> Result<usize, NoMemory>
+    ensures { IfOk result (λ count. count ≡ length (matching filter.now documents.now)) }
 {
-    documents
-        .iter()
-        .filter(|document| matches(filter, document))
-        .count()
+    let mut count = 0usize;
+    'documents: for document in documents {
+        count += count_one(alloc, document, filter)?;
+    }
+    Ok(count)
 }
 
 /// How many of so many are left after those that are skipped and up to the limit; a limit of 0 is none.
@@ -41,6 +58,7 @@ fn within_window(count: usize, skip: usize, limit: usize) -> usize
 
 /// How many documents of the collection of a number in a file match a filter. None of them is kept.
 fn count_in<D: Disk>(
+    alloc: Global,
     file: &mut Collections<D>,
     number: u32,
     filter: &Filter,
@@ -55,11 +73,11 @@ fn count_in<D: Disk>(
     let mut walk = file.walk(number)?;
     let mut count = 0usize;
     'walk: loop {
-        let documents = file.next_documents(&mut walk, BATCH)?;
+        let documents = file.next_spelled(&mut walk, BATCH)?;
         if documents.is_empty() {
             return Ok(count);
         }
-        count = count.saturating_add(count_matching(&documents, filter));
+        count = count.saturating_add(count_matching(alloc, &documents, filter)?);
     }
 }
 
@@ -75,7 +93,7 @@ impl<D: Disk> Engine<D> {
         let Some(number) = self.number_of(namespace)? else {
             return Ok(0);
         };
-        count_in(&mut self.file, number, filter)
+        count_in(self.alloc, &mut self.file, number, filter)
     }
 
     /// Counts the documents that match a filter, after those that are skipped and up to the limit.

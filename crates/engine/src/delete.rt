@@ -22,7 +22,7 @@ use crate::find::matches;
 use crate::looking::Selects;
 use crate::reply::total_reply;
 use crate::shared_document::SharedDocument;
-use bson::{Document, NoMemory, Value};
+use bson::{Document, NoMemory, RawDoc, Value};
 use commands::Deletion;
 use filter::Filter;
 use index::Edits;
@@ -139,6 +139,22 @@ pub(crate) fn after_deletions(
     })
 }
 
+/// Whether a statement matches a document that stays its bytes.
+fn is_deleted(
+    alloc: Global,
+    deletions: &[Deletion],
+    document: &RawDoc<'_>,
+) -> Result<bool, NoMemory>
+    ensures { IfOk result (λ answer. answer ≡ is_deleted deletions.now document.now) }
+{
+    'deletions: for deletion in deletions {
+        if deletion.filter.matches_raw(alloc, document)? {
+            return Ok(true);
+        }
+    }
+    Ok(false)
+}
+
 /// The documents that a statement of a delete matches.
 #[derive(Drop)]
 struct Matched<'a> {
@@ -152,6 +168,10 @@ impl Selects for Matched<'_> {
         self.deletions
             .iter()
             .any(|deletion| matches(&deletion.filter, document))
+    }
+
+    fn selects_raw(&self, alloc: Global, document: &RawDoc<'_>) -> Result<bool, NoMemory> {
+        is_deleted(alloc, self.deletions, document)
     }
 
     fn asked_id(&self) -> Option<&Value> {

@@ -12,7 +12,7 @@ ghost use Rattle.value_order.specs.KeyText.{tree_text};
 ghost use Rattle.value_order.specs.declared.TheConstants.{KEY_LIMIT};
 
 use crate::STORED_LIMIT;
-use bson::{Document, Value};
+use bson::{Document, NoMemory, RawDoc, Value};
 use path::Refusal;
 use std::alloc::Global;
 use std::cmp::Ordering;
@@ -30,6 +30,16 @@ fn id_or<'a>(document: &'a Document, none: &'a Value) -> &'a Value
     match document.get(ID) {
         Some(id) => id,
         None => none,
+    }
+}
+
+/// The `_id` of a document that stays its bytes, or null in its place.
+pub(crate) fn read_id(alloc: Global, document: &RawDoc<'_>) -> Result<Value, NoMemory>
+    ensures { IfOk result (λ id. tree id ≡ key_of document.now) }
+{
+    match document.get(ID) {
+        Some(id) => id.value(alloc),
+        None => Ok(Value::Null),
     }
 }
 

@@ -1,19 +1,18 @@
 //! What commands look up in the file.
 
-ghost use Rattle.std.specs.Prelude.{◌≡◌, ◌⊎◌, ◌<◌, ◌≤◌, Bool, All, IfOk, IfSome, OnOk, [], ◌∷◌, ◌++◌, length, take};
+ghost use Rattle.std.specs.Prelude.{◌≡◌, ◌≤◌, Bool, All, IfOk, IfErr, IfSome, OnOk, [], ◌∷◌, ◌++◌, length, take};
 ghost use Rattle.std.specs.List.{filter, list_all};
 ghost use Rattle.std.specs.Option.{option_map};
 ghost use Rattle.bson.specs.Tree.{Pairs};
 ghost use Rattle.bson.specs.View.{tree};
 ghost use Rattle.filter.specs.Matches.{matches};
 ghost use Rattle.collections.specs.Reading.{IsNumbered, IsPlaceOf, IsWithinLimits, ReadsOf, catalogued_in, catalogued_of, stored_at};
-ghost use Rattle.collections.specs.Walk.{IsWalk, StepsOn};
 ghost use Rattle.index.specs.State.{find_collection};
 ghost use Rattle.engine.specs.ById.{AsksForId, found_alone};
 ghost use Rattle.engine.specs.Durable.{IsSound};
 ghost use Rattle.engine.specs.Find.{matching};
 ghost use Rattle.engine.specs.Lawful.{IsWithin};
-ghost use Rattle.engine.specs.Looking.{Looks, LooksOf, is_within};
+ghost use Rattle.engine.specs.Looking.{HasReadCause, Looks, LooksOf, is_within};
 ghost use Rattle.engine.specs.World.{documents_of};
 
 use crate::STORED_LIMIT;
@@ -21,8 +20,8 @@ use crate::by_id::{asked_id, id_key};
 use crate::engine::Engine;
 use crate::find::matches;
 use crate::shared_document::SharedDocument;
-use bson::{Document, NoMemory, Value};
-use collections::{Collections, Walk};
+use bson::{Document, NoMemory, RawDoc, SpelledDocument, Value};
+use collections::Collections;
 use filter::Filter;
 use index::Catalogued;
 use page::Disk;
@@ -41,6 +40,10 @@ pub(crate) trait Selects {
     fn selects(&self, document: &Document) -> bool
         ensures { result ≡ selects self.now document.now };
 
+    /// The same of one that stays its bytes. No more of it is read than has to be.
+    fn selects_raw(&self, alloc: Global, document: &RawDoc<'_>) -> Result<bool, NoMemory>
+        ensures { IfOk result (λ answer. answer ≡ selects self.now document.now) };
+
     /// The `_id` that each of them has, if they are looked for by one.
     fn asked_id(&self) -> Option<&Value>
         ensures { IfSome result (λ v. AsksForId (selects self.now) (tree v.now)) };
@@ -51,6 +54,10 @@ impl Selects for Filter {
 
     fn selects(&self, document: &Document) -> bool {
         matches(self, document)
+    }
+
+    fn selects_raw(&self, alloc: Global, document: &RawDoc<'_>) -> Result<bool, NoMemory> {
+        self.matches_raw(alloc, document)
     }
 
     fn asked_id(&self) -> Option<&Value> {
@@ -67,22 +74,17 @@ pub(crate) fn are_within(documents: &[Document]) -> bool
         .all(|document| limits_fault(document, STORED_LIMIT).is_none())
 }
 
-/// The next documents of a walk. A disk may give some that are over the limits of those that are stored.
-pub(crate) fn next_within<D: Disk>(
-    file: &mut Collections<D>,
-    walk: &mut Walk,
-) -> Result<Vec<Document>, Refusal>
-    ensures reads { ReadsOf D.history (λ now rest. IsWalk now walk.old rest)
-        (λ now rest batch. StepsOn 64 walk.new now rest batch.items)
-        result file.old file.new }
-    ensures within { IfOk result (λ batch. All IsWithin batch.items) }
-    ensures ends { IfOk result (λ batch. (batch.items ≡ []) ⊎ (walk.new.left < walk.old.left)) }
+/// The document, with values of its own; `StorageFailed` where it is over the limits of those that are stored, as a disk may
+/// give some.
+pub(crate) fn built_within(alloc: Global, document: &SpelledDocument) -> Result<Document, Refusal>
+    ensures built { IfOk result (λ d. (d ≡ document.now) × IsWithin d) }
+    ensures refuses { IfErr result (HasReadCause (document.now ∷ [])) }
 {
-    let documents = file.next_documents(walk, BATCH)?;
-    if !are_within(&documents) {
+    let built = document.document(alloc)?;
+    if limits_fault(&built, STORED_LIMIT).is_some() {
         return Err(Refusal::StorageFailed);
     }
-    Ok(documents)
+    Ok(built)
 }
 
 /// Puts a document, if it is looked for, behind the ones that were found, up to so many.
@@ -91,19 +93,22 @@ fn select_one<S: Selects>(
     which: &S,
     most: usize,
     found: &mut Vec<SharedDocument>,
-    document: Document,
-) -> Result<(), NoMemory>
+    document: &SpelledDocument,
+) -> Result<(), Refusal>
     requires { length found.old.items ≤ most }
-    ensures { OnOk result (found.new.items
-        ≡ take most (found.old.items ++ filter (S.selects which.now) (document ∷ []))) }
+    ensures puts { OnOk result (found.new.items
+        ≡ take most (found.old.items ++ filter (S.selects which.now) (document.now ∷ []))) }
+    ensures within { OnOk result (All IsWithin found.old.items → All IsWithin found.new.items) }
+    ensures refuses { IfErr result (HasReadCause (document.now ∷ [])) }
 {
     if found.len() == most {
         return Ok(());
     }
-    if !which.selects(&document) {
+    if !which.selects_raw(alloc, &document.raw())? {
         return Ok(());
     }
-    found.push(SharedDocument::new(alloc, document)?)?;
+    let built = built_within(alloc, document)?;
+    found.push(SharedDocument::new(alloc, built)?)?;
     Ok(())
 }
 
@@ -113,14 +118,16 @@ fn select<S: Selects>(
     which: &S,
     most: usize,
     found: &mut Vec<SharedDocument>,
-    documents: Vec<Document>,
-) -> Result<(), NoMemory>
+    documents: Vec<SpelledDocument>,
+) -> Result<(), Refusal>
     requires { length found.old.items ≤ most }
-    ensures { OnOk result (found.new.items
+    ensures puts { OnOk result (found.new.items
         ≡ take most (found.old.items ++ filter (S.selects which.now) documents.items)) }
+    ensures within { OnOk result (All IsWithin found.old.items → All IsWithin found.new.items) }
+    ensures refuses { IfErr result (HasReadCause documents.items) }
 {
     'documents: for document in documents {
-        select_one(alloc, which, most, found, document)?;
+        select_one(alloc, which, most, found, &document)?;
     }
     Ok(())
 }
@@ -144,7 +151,7 @@ fn selected_in<D: Disk, S: Selects>(
     let mut walk = file.walk(number)?;
     let mut found = Vec::new(alloc);
     'walk: while found.len() < most {
-        let documents = next_within(file, &mut walk)?;
+        let documents = file.next_spelled(&mut walk, BATCH)?;
         if documents.is_empty() {
             return Ok(found);
         }

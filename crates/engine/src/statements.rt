@@ -1,7 +1,8 @@
 //! The statements of an update, run over documents in memory.
 
-ghost use Rattle.std.specs.Prelude.{◌≡◌, ◌≢◌, true, ◌≤◌, ◌<◌, IfOk, OnOk, IfErr, IfSome, IfNone, Ok, All, length, slice_set};
+ghost use Rattle.std.specs.Prelude.{◌≡◌, ◌≢◌, true, ◌≤◌, ◌<◌, IfOk, OnOk, IfErr, IfSome, IfNone, Ok, Some, All, length, map, slice_index_or, slice_set};
 ghost use Rattle.std.specs.Str.{bytes_eq};
+ghost use Rattle.bson.specs.Tree.{no_pairs};
 ghost use Rattle.bson.specs.Lawful.{IsDocument, pairs_levels};
 ghost use Rattle.bson.specs.Spelling.{Spells, frame_of, pairs_bytes};
 ghost use Rattle.bson.specs.View.{tree, pairs_of};
@@ -12,10 +13,11 @@ ghost use Rattle.update.specs.View.{update_of};
 ghost use Rattle.commands.specs.Update.{UpdateStatement, IsRead};
 ghost use Rattle.engine.specs.Documents.{key_of};
 ghost use Rattle.engine.specs.Lawful.{IsStored, IsWithin};
-ghost use Rattle.engine.specs.Merging.{not_listed, run_each, run_listed, upsert_listed};
+ghost use Rattle.engine.specs.Merging.{one_or_none, run_each, run_listed, upsert_listed};
 ghost use Rattle.engine.specs.Refusals.{total, ok_reply};
 ghost use Rattle.engine.specs.Update.{counted, spelled, upsert_document, upserted_entry, counts_reply};
-ghost use Rattle.engine.specs.Updating.{ChangesAt, document_at, Inserts, IsChange, IsPlaceOf, IsRun, listed_of, RunsMatching, RunsOn};
+ghost use Rattle.engine.specs.Updating.{ChangesAt, document_at, Inserts, IsChange, IsPlaceOf, IsRan, listed_of, RunsMatching, Wrote};
+ghost use Rattle.engine.specs.Writes.{made_write, statement_writes, writes_from};
 
 use crate::STORED_LIMIT;
 use crate::documents::{check_key, compare_ids};
@@ -27,6 +29,7 @@ use commands::UpdateStatement;
 use path::Refusal;
 use std::alloc::{AllocError, Global};
 use std::cmp::Ordering;
+use std::mem;
 use update::{Update, id_of, upsert_base};
 use value_order::compare;
 
@@ -44,14 +47,35 @@ pub(crate) struct Tally {
     upserted: Array,
 }
 
+/// A document that an update writes.
+#[derive(Drop)]
+pub(crate) struct Write {
+    /// Whether it is made, and goes in no other's place.
+    pub(crate) is_new: bool,
+    /// The one in whose place it goes, where that is kept.
+    pub(crate) old: Option<SharedDocument>,
+    pub(crate) new: SharedDocument,
+}
+
 /// What the statements of an update have made of documents so far.
 #[derive(Drop)]
-pub(crate) struct Run {
+struct Run {
     /// The documents, in ascending order of `_id`.
-    pub(crate) documents: Vec<SharedDocument>,
-    /// Those that were changed or made, one after the other. Of one `_id` the last one counts.
-    pub(crate) news: Vec<SharedDocument>,
-    pub(crate) tally: Tally,
+    documents: Vec<SharedDocument>,
+    /// Those that were changed or made, one after the other.
+    writes: Vec<Write>,
+    /// Whether a write keeps the document in whose place it goes.
+    keeps_old: bool,
+    tally: Tally,
+}
+
+/// What the statements of an update came to.
+#[derive(Drop)]
+pub(crate) struct Ran {
+    /// The documents that were changed or made up to the first refusal, one after the other. Of one `_id` the last one counts.
+    pub(crate) writes: Vec<Write>,
+    /// The counts and what was made, or that refusal.
+    pub(crate) end: Result<Tally, Refusal>,
 }
 
 /// One more, up to the greatest count of a reply.
@@ -185,12 +209,24 @@ pub(crate) fn update_reply(alloc: Global, tally: Tally) -> Result<Document, NoMe
     done(reply)
 }
 
-/// Puts a document in the place of another.
-fn put_at(documents: &mut Vec<SharedDocument>, place: usize, document: SharedDocument)
+/// Puts a document in the place of another, which it gives.
+fn replace_at(
+    documents: &mut Vec<SharedDocument>,
+    place: usize,
+    document: SharedDocument,
+) -> SharedDocument
     requires { place < length documents.old.items }
-    ensures { documents.new.items ≡ slice_set documents.old.items place document }
+    ensures new { documents.new.items ≡ slice_set documents.old.items place document }
+    ensures old { result ≡ slice_index_or documents.old.items place no_pairs }
 {
-    documents[place] = document;
+    mem::replace(&mut documents[place], document)
+}
+
+/// The document, if it is to be kept.
+fn if_kept(keeps: bool, document: SharedDocument) -> Option<SharedDocument>
+    ensures { keeps ≡ true → result ≡ Some document }
+{
+    if keeps { Some(document) } else { None }
 }
 
 /// Updates the document at a place.
@@ -201,6 +237,7 @@ fn change_at(alloc: Global, run: &mut Run, place: usize, change: &Update) -> Res
     ensures changes { OnOk result (ChangesAt (update_of change.now) place run.old run.new) }
     ensures refused { IfErr result (λ e. Fails Refusal.OutOfMemory e
         (apply (update_of change.now) 65535 (document_at place run.old))) }
+    ensures same { IfErr result (λ e. e ≢ Refusal.OutOfMemory → run.new ≡ run.old) }
 {
     let found = changed(alloc, change, run.documents[place].document())?;
     run.tally.matched = counted(run.tally.matched);
@@ -208,9 +245,14 @@ fn change_at(alloc: Global, run: &mut Run, place: usize, change: &Update) -> Res
         return Ok(());
     };
     let new = SharedDocument::new(alloc, new)?;
-    run.news.push(new.share()?)?;
+    let old = replace_at(&mut run.documents, place, new.share()?);
+    let old = if_kept(run.keeps_old, old);
+    run.writes.push(Write {
+        is_new: false,
+        old,
+        new,
+    })?;
     run.tally.modified = counted(run.tally.modified);
-    put_at(&mut run.documents, place, new);
     Ok(())
 }
 
@@ -252,18 +294,22 @@ fn place_of(documents: &[SharedDocument], new: &Document) -> Option<usize>
     Some(documents.len())
 }
 
-/// Puts a document that was made among the others; `DuplicateKey` where one has its `_id`.
+/// Writes a document that was made, and puts it among the others; `DuplicateKey` where one has its `_id`.
 fn insert(alloc: Global, run: &mut Run, document: Document) -> Result<(), Refusal>
     requires within { All IsWithin run.old.documents.items }
     requires stored { IsStored document }
     requires readable { IsDocument document }
     ensures { Inserts document result run.old run.new }
 {
-    let Some(place) = place_of(&run.documents, &document) else {
+    let new = SharedDocument::new(alloc, document)?;
+    run.writes.push(Write {
+        is_new: true,
+        old: None,
+        new: new.share()?,
+    })?;
+    let Some(place) = place_of(&run.documents, new.document()) else {
         return Err(Refusal::DuplicateKey);
     };
-    let new = SharedDocument::new(alloc, document)?;
-    run.news.push(new.share()?)?;
     run.documents.insert(place, new)?;
     Ok(())
 }
@@ -279,7 +325,8 @@ fn upsert(
     requires within { All IsWithin run.old.documents.items }
     ensures gives { Gives Refusal.OutOfMemory (λ _. listed_of run.new) result
         (upsert_listed index statement.now (listed_of run.old)) }
-    ensures on { OnOk result (RunsOn run.old run.new) }
+    ensures wrote { Wrote result (map made_write (one_or_none (upsert_document statement.now)))
+        run.old run.new }
 {
     let document = upsert_document(alloc, statement)?;
     let entry = upserted_entry(alloc, index, &document)?;
@@ -301,7 +348,8 @@ fn run_statement(
     requires read { IsRead statement.now.change }
     ensures gives { Gives Refusal.OutOfMemory (λ _. listed_of run.new) result
         (run_listed index statement.now (listed_of run.old)) }
-    ensures on { OnOk result (RunsOn run.old run.new) }
+    ensures wrote { Wrote result (statement_writes statement.now run.old.documents.items)
+        run.old run.new }
 {
     let found = update_matching(alloc, run, statement)?;
     if found {
@@ -324,7 +372,8 @@ fn run_statements(
     requires read { All (λ (s : UpdateStatement). IsRead s.change) statements.now }
     ensures gives { Gives Refusal.OutOfMemory (λ _. listed_of run.new) result
         (run_each 0 statements.now (listed_of run.old)) }
-    ensures on { OnOk result (RunsOn run.old run.new) }
+    ensures wrote { Wrote result (writes_from 0 statements.now (listed_of run.old))
+        run.old run.new }
 {
     'statements: for (index, statement) in statements.iter().enumerate() {
         run_statement(alloc, run, index, statement)?;
@@ -332,28 +381,50 @@ fn run_statements(
     Ok(())
 }
 
+/// A refusal, unless it is want of memory.
+pub(crate) fn unless_memory(refusal: Refusal) -> Result<Refusal, NoMemory>
+    ensures { IfOk result (λ e. (e ≡ refusal) × (refusal ≢ Refusal.OutOfMemory)) }
+{
+    match refusal {
+        Refusal::OutOfMemory => Err(AllocError),
+        _ => Ok(refusal),
+    }
+}
+
 /// Runs statements over documents in ascending order of `_id`, up to the first that is refused.
 pub(crate) fn run_on(
     alloc: Global,
     documents: Vec<SharedDocument>,
     statements: &[UpdateStatement],
-) -> Result<Run, Refusal>
+    keeps_old: bool,
+) -> Result<Ran, NoMemory>
     requires few { length statements.now ≤ 1000 }
     requires within { All IsWithin documents.items }
     requires read { All (λ (s : UpdateStatement). IsRead s.change) statements.now }
-    ensures gives { Gives Refusal.OutOfMemory listed_of result
-        (run_each 0 statements.now (not_listed documents.items)) }
-    ensures from { IfOk result (IsRun documents.items) }
+    ensures { IfOk result (IsRan keeps_old statements.now documents.items) }
 {
     let mut run = Run {
         documents,
-        news: Vec::new(alloc),
+        writes: Vec::new(alloc),
+        keeps_old,
         tally: Tally {
             matched: 0,
             modified: 0,
             upserted: Array::new(alloc),
         },
     };
-    run_statements(alloc, &mut run, statements)?;
-    Ok(run)
+    let result = run_statements(alloc, &mut run, statements);
+    match result {
+        Ok(()) => Ok(Ran {
+            writes: run.writes,
+            end: Ok(run.tally),
+        }),
+        Err(refusal) => {
+            let refusal = unless_memory(refusal)?;
+            Ok(Ran {
+                writes: run.writes,
+                end: Err(refusal),
+            })
+        }
+    }
 }

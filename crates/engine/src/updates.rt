@@ -18,19 +18,19 @@ ghost use Rattle.engine.specs.Putting.{BeginsWith, HasNumber, IsFullFor, IsFullW
 ghost use Rattle.engine.specs.Step.{ChangesNone};
 ghost use Rattle.engine.specs.Trying.{Tries};
 ghost use Rattle.engine.specs.Update.{run_all, run_update};
-ghost use Rattle.engine.specs.Updating.{MayBePut};
+ghost use Rattle.engine.specs.Updating.{MayBePut, news_of};
 ghost use Rattle.engine.specs.View.{world, IsSendable};
 ghost use Rattle.engine.specs.Writing.{Makes};
 
 use crate::REPLY_LIMIT;
 use crate::by_id::asked_id;
-use crate::documents::{compare_id, compare_ids, id_text};
+use crate::documents::{compare_id, compare_ids, id_text, read_id};
 use crate::engine::Engine;
 use crate::find::matches;
 use crate::looking::Selects;
 use crate::shared_document::SharedDocument;
-use crate::statements::{run_on, update_reply, upsert_document};
-use bson::{Document, NoMemory, Value};
+use crate::statements::{Write, run_on, unless_memory, update_reply, upsert_document};
+use bson::{Document, NoMemory, RawDoc, Value};
 use commands::UpdateStatement;
 use index::Edits;
 use page::Disk;
@@ -53,19 +53,8 @@ pub(crate) struct Updates {
     /// Whether the collection is made.
     is_new: bool,
     /// The documents that were changed or made, one after the other.
-    news: Vec<SharedDocument>,
+    writes: Vec<Write>,
     reply: Document,
-}
-
-/// Whether a refusal isn't want of memory, which has to be told.
-fn unless_memory(refusal: Refusal) -> Result<(), Refusal>
-    ensures ok { OnOk result (refusal ≢ Refusal.OutOfMemory) }
-    ensures err { IfErr result (λ e. e ≡ Refusal.OutOfMemory) }
-{
-    match refusal {
-        Refusal::OutOfMemory => Err(Refusal::OutOfMemory),
-        _ => Ok(()),
-    }
 }
 
 /// Adds the document that a statement makes where none matches.
@@ -82,7 +71,10 @@ fn add_made(
     }
     let document = match upsert_document(alloc, statement) {
         Ok(document) => document,
-        Err(refusal) => return unless_memory(refusal),
+        Err(refusal) => {
+            let _refusal = unless_memory(refusal)?;
+            return Ok(());
+        }
     };
     made.push(document)?;
     Ok(())
@@ -125,6 +117,41 @@ fn has_id_of(documents: &[Document], other: &Document) -> bool
         .any(|document| compare_ids(document, other).is_eq())
 }
 
+/// Whether a statement matches a document that stays its bytes.
+fn is_updated_raw(
+    alloc: Global,
+    statements: &[UpdateStatement],
+    document: &RawDoc<'_>,
+) -> Result<bool, NoMemory>
+    ensures { IfOk result (λ answer. answer ≡ is_updated statements.now document.now) }
+{
+    'statements: for statement in statements {
+        if statement.filter.matches_raw(alloc, document)? {
+            return Ok(true);
+        }
+    }
+    Ok(false)
+}
+
+/// Whether one of these documents has the `_id` of another that stays its bytes.
+fn has_id_of_raw(
+    alloc: Global,
+    documents: &[Document],
+    other: &RawDoc<'_>,
+) -> Result<bool, NoMemory>
+    ensures { IfOk result (λ answer. answer ≡ has_key_of documents.now other.now) }
+{
+    if documents.is_empty() {
+        return Ok(false);
+    }
+    let id = read_id(alloc, other)?;
+    Ok(
+        documents
+            .iter()
+            .any(|document| compare_id(document, &id).is_eq()),
+    )
+}
+
 /// Whether all of these have an `_id` equal to this.
 fn all_have(made: &[Document], id: &Value) -> bool
     ensures { result ≡ list_all (λ d. is_eq (compare (key_of d) (tree id.now))) made.now }
@@ -144,6 +171,13 @@ impl Selects for Meaning<'_> {
 
     fn selects(&self, document: &Document) -> bool {
         is_updated(self.statements, document) || has_id_of(self.made, document)
+    }
+
+    fn selects_raw(&self, alloc: Global, document: &RawDoc<'_>) -> Result<bool, NoMemory> {
+        if is_updated_raw(alloc, self.statements, document)? {
+            return Ok(true);
+        }
+        has_id_of_raw(alloc, self.made, document)
     }
 
     fn asked_id(&self) -> Option<&Value> {
@@ -170,36 +204,32 @@ fn updates_of(
     requires within { All IsWithin meant.documents.items }
     requires read { All (λ (s : UpdateStatement). IsRead s.change) statements.now }
     ensures planned { UpdatesOf statements.now meant result }
-    ensures puttable { IfOk result (λ u. All MayBePut u.news.items) }
+    ensures puttable { IfOk result (λ u. All MayBePut (news_of u.writes.items)) }
     ensures number { IfOk result (λ u. (u.number ≡ meant.number) × (u.is_new ≡ meant.is_new)) }
     ensures sendable { IfOk result (λ u. IsSendable u.reply) }
 {
-    let ran = run_on(alloc, meant.documents, statements)?;
-    let reply = update_reply(alloc, ran.tally)?;
+    let ran = run_on(alloc, meant.documents, statements, false)?;
+    let reply = update_reply(alloc, ran.end?)?;
     if REPLY_LIMIT < reply.encoded_len() {
         return Err(Refusal::BSONObjectTooLarge);
     }
     Ok(Updates {
         number: meant.number,
         is_new: meant.is_new,
-        news: ran.news,
+        writes: ran.writes,
         reply,
     })
 }
 
 /// Notes that documents are put into the collection of a number, one after the other.
-fn note_put(
-    alloc: Global,
-    edits: &mut Edits,
-    number: u32,
-    documents: &[SharedDocument],
-) -> Result<(), Refusal>
-    requires { All MayBePut documents.now }
-    ensures { Puts number documents.now result edits.old edits.new }
+fn note_put(alloc: Global, edits: &mut Edits, number: u32, writes: &[Write]) -> Result<(), Refusal>
+    requires { All MayBePut (news_of writes.now) }
+    ensures { Puts number (news_of writes.now) result edits.old edits.new }
 {
-    'documents: for document in documents {
-        let text = id_text(alloc, document.document())?;
-        edits.put_document(number, &text, document.document())?;
+    'writes: for write in writes {
+        let document = write.new.document();
+        let text = id_text(alloc, document)?;
+        edits.put_document(number, &text, document)?;
     }
     Ok(())
 }
@@ -222,25 +252,25 @@ fn first_edits(alloc: Global, namespace: &str, updates: &Updates) -> Result<Edit
 fn edits_of(alloc: Global, namespace: &str, updates: &Updates) -> Result<Edits, Refusal>
     requires short { length namespace.now ≤ 255 }
     requires number { HasNumber updates.now.is_new updates.now.number }
-    requires puttable { All MayBePut updates.now.news.items }
-    ensures { All IsStorable updates.now.news.items
+    requires puttable { All MayBePut (news_of updates.now.writes.items) }
+    ensures { All IsStorable (news_of updates.now.writes.items)
         → MatchResult result (NotesUpdates namespace.now updates.now)
         (λ e. e ≡ Refusal.OutOfMemory) }
 {
     let mut edits = first_edits(alloc, namespace, updates)?;
-    note_put(alloc, &mut edits, updates.number, &updates.news)?;
+    note_put(alloc, &mut edits, updates.number, &updates.writes)?;
     Ok(edits)
 }
 
 /// Whether an update changes nothing.
 fn are_none(updates: &Updates) -> bool
-    ensures all { result ≡ true → (updates.now.news.items ≡ []) × (updates.now.is_new ≡ false) }
-    ensures some { result ≡ false → updates.now.is_new ≡ false → updates.now.news.items ≢ [] }
+    ensures all { result ≡ true → (updates.now.writes.items ≡ []) × (updates.now.is_new ≡ false) }
+    ensures some { result ≡ false → updates.now.is_new ≡ false → updates.now.writes.items ≢ [] }
 {
     if updates.is_new {
         return false;
     }
-    updates.news.is_empty()
+    updates.writes.is_empty()
 }
 
 impl<D: Disk> Engine<D> {
@@ -283,7 +313,7 @@ impl<D: Disk> Engine<D> {
             (IsUpdate (world self.old).collections namespace.now statements.now)
             (λ e. run_all namespace.now statements.now (world self.old).collections ≡ Err e)
             result self.old self.new }
-        ensures puttable { IfOk result (λ u. All MayBePut u.news.items) }
+        ensures puttable { IfOk result (λ u. All MayBePut (news_of u.writes.items)) }
         ensures number { IfOk result (λ u. HasNumber u.is_new u.number) }
         ensures sendable { IfOk result (λ u. IsSendable u.reply) }
     {
@@ -353,14 +383,14 @@ impl<D: Disk> Engine<D> {
         requires short { length namespace.now ≤ 255 }
         requires read { All (λ (s : UpdateStatement). IsRead s.change) statements.now }
         requires sound { IsSound D.history self.old }
-        requires puttable { All MayBePut updates.now.news.items }
+        requires puttable { All MayBePut (news_of updates.now.writes.items) }
         requires number { HasNumber updates.now.is_new updates.now.number }
         requires is { KeepsWord (disk_history D.history self.old)
             → IsUpdate (world self.old).collections namespace.now statements.now updates.now }
         ensures makes { Makes D.history
             (updated namespace.now statements.now (world self.old).collections)
             result self.old self.new }
-        ensures has_changes { updates.now.news.items ≡ [] → updates.now.is_new ≡ false
+        ensures has_changes { updates.now.writes.items ≡ [] → updates.now.is_new ≡ false
             → has_changes self.new ≡ has_changes self.old }
     {
         if are_none(updates) {

@@ -9,7 +9,7 @@ use Rattle.filter.specs.declared.matching.Probe.TheVariants as probes
 -- the parts of the path that is followed
 abbrev pub way : Subject → ℕ
 way (subjects.Whole d) = 0
-way (subjects.Along d path) = length path.now
+way (subjects.Along found rest) = length rest.now
 way (subjects.Alone v) = 0
 
 -- the conditions that are asked of what is found

@@ -1,7 +1,8 @@
 -- What the walk of a path looks for, and what conditions are asked of.
 use Rattle.std.specs.Prelude.{Bool, if◌then◌else◌, Option, None, List, [], ◌∷◌}
 use Rattle.std.specs.List.{list_any}
-use Rattle.bson.specs.Tree.{Tree, document}
+use Rattle.std.specs.Option.{option_map}
+use Rattle.bson.specs.Tree.{Tree}
 use Rattle.bson.specs.View.{tree}
 use Rattle.path.specs.Reach.{Reached, reach, onwards}
 use Rattle.filter.specs.Matches.{passes, Subject, whole, along, alone, some_element, of_document, all_hold}
@@ -13,7 +14,8 @@ use Rattle.filter.specs.declared.matching.Probe.TheVariants as probes
 
 abbrev pub subject_of : Asked → Subject
 subject_of (subjects.Whole d) = whole d.now
-subject_of (subjects.Along d path) = along (reach path.now (document d.now))
+subject_of (subjects.Along found rest) =
+    along (onwards (reach rest.now) (option_map (λ v. tree v.now) found) (None ∷ []))
 subject_of (subjects.Alone v) = alone (tree v.now)
 
 abbrev pub probe_passes : Probe → Bool → Reached → Bool

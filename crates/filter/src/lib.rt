@@ -1,8 +1,8 @@
 //! Filters, sorts and projections: reading one, and what it says of a document.
 //!
 //! `condition` has a filter as it was read, `reading` reads one; `predicate` is what is asked of one value, `matching`
-//! of a document, `element` of one element of an array. `sort` and `projection` read a sort and a projection, `sorting`
-//! and `projecting` apply them.
+//! of a document, `raw_matching` of one that stays its bytes, `element` of one element of an array. `sort` and
+//! `projection` read a sort and a projection, `sorting` and `projecting` apply them.
 #![tactic(auto)]
 
 mod as_document;
@@ -16,6 +16,7 @@ mod operator;
 mod predicate;
 mod projecting;
 mod projection;
+mod raw_matching;
 mod reading;
 mod sort;
 mod sorting;

@@ -3,28 +3,28 @@
 //! A path is followed without a list of what it reaches: the walk ends with the first value that passes. It copies no
 //! value and takes no memory.
 
-ghost use Rattle.std.specs.Prelude.{◌≡◌, ◌||◌, false, Ok, None, Some};
+ghost use Rattle.std.specs.Prelude.{◌≡◌, ◌||◌, false, Ok, None, Some, [], ◌∷◌, option_map};
 ghost use Rattle.std.specs.List.{list_any};
 ghost use Rattle.bson.specs.Tree.{document};
 ghost use Rattle.bson.specs.Lookup.{lookup};
 ghost use Rattle.bson.specs.View.{tree};
 ghost use Rattle.path.specs.Reach.{reach, onwards, in_elements, in_place, items_list};
-ghost use Rattle.filter.specs.Matches.{holds, all_hold, any_holds, matches, some_reached, some_element, of_document, alone};
+ghost use Rattle.filter.specs.Matches.{holds, all_hold, any_holds, matches, some_reached, some_element, of_document, along, alone};
 ghost use Rattle.filter.specs.View.{condition_of};
 ghost use Rattle.filter.specs.Probes.{subject_of, probe_passes, field_passes};
 
 use crate::condition::{Condition, Filter, Predicate};
 use crate::predicate;
 use bson::{Array, Document, NoMemory, Value};
-use path::{Part, Path, item_of_part};
+use path::{Part, item_of_part};
 
 /// What conditions are asked of.
 #[derive(Clone, Copy)]
 enum Subject<'a> {
     /// A document.
     Whole(&'a Document),
-    /// What a path reaches in a document.
-    Along(&'a Document, &'a Path),
+    /// What the parts of a path reach from the value that its first part has led to, or from Missing.
+    Along(Option<&'a Value>, &'a [Part]),
     /// One element of an array, as it stands.
     Alone(&'a Value),
 }
@@ -47,6 +47,14 @@ impl Filter {
     {
         Ok(all_hold(self, Subject::Whole(document)))
     }
+}
+
+/// Whether all of it holds of what a path reaches, by the value that its first part leads to and the other parts.
+pub(crate) fn all_hold_along(filter: &Filter, found: Option<&Value>, rest: &[Part]) -> bool
+    ensures { result ≡ all_hold filter.now
+        (along (onwards (reach rest.now) (option_map (λ v. tree v.now) found.entry) (None ∷ []))) }
+{
+    all_hold(filter, Subject::Along(found, rest))
 }
 
 /// Whether all of it holds of one element of an array, as it stands.
@@ -100,7 +108,10 @@ fn holds(condition: &Condition, subject: Subject<'_>) -> bool
         Condition::NotAll(filter) => !all_hold(filter, subject),
         Condition::NotAny(filter) => !any_holds(filter, subject),
         Condition::At(path, filter) => match subject {
-            Subject::Whole(document) => all_hold(filter, Subject::Along(document, path)),
+            Subject::Whole(document) => {
+                let (part, rest) = path.split_first();
+                all_hold(filter, Subject::Along(document.get(part.as_str()), rest))
+            }
             _ => false,
         },
         Condition::Is(predicate) => finds(Probe::Predicate(predicate), subject),
@@ -116,10 +127,8 @@ fn finds(probe: Probe<'_>, subject: Subject<'_>) -> bool
 {
     match subject {
         Subject::Whole(_) => false,
-        Subject::Along(document, path) => {
-            let (part, rest) = path.split_first();
-            finds_in_field(probe, document, part, rest, false)
-        }
+        Subject::Along(Some(value), rest) => finds_from(probe, value, rest),
+        Subject::Along(None, _) => missing_passes(probe),
         Subject::Alone(value) => passes(probe, true, value),
     }
 }

@@ -1,5 +1,5 @@
 //! Each growth refused: `tests/each_growth filter_tests` runs these tests once for each of them. Wherever memory runs
-//! out, that is the answer; what a filter holds of takes no memory.
+//! out, that is the answer; what a filter holds of takes no memory, but where it is asked of bytes.
 
 use bson::*;
 use filter::*;
@@ -30,7 +30,18 @@ fn reads(alloc: Global, filter: &Document, document: &Document) -> bool {
             return false;
         }
     }
-    filter.matches(document) == Ok(true)
+    filter.matches(document) == Ok(true) && matches_bytes(alloc, &filter, document)
+}
+
+/// Whether it holds of the document's bytes, or want of memory is answered.
+fn matches_bytes(alloc: Global, filter: &Filter, document: &Document) -> bool {
+    let Ok(bytes) = encode(alloc, document) else {
+        return true;
+    };
+    let Ok(raw) = RawDoc::new(&bytes) else {
+        return false;
+    };
+    filter.matches_raw(alloc, &raw) != Ok(false)
 }
 
 #[test]

@@ -6,7 +6,7 @@ use notation::document;
 use std::alloc::Global;
 use std::test::*;
 
-/// Whether the filter holds of the document, and its copy too.
+/// Whether the filter holds of the document and of its bytes, and its copy too.
 fn holds(alloc: Global, filter: &str, source: &str) -> Result<bool, Fail> {
     let Ok(filter) = Filter::read(alloc, &document(alloc, filter)?) else {
         return Err(Fail::from("refused"));
@@ -16,6 +16,10 @@ fn holds(alloc: Global, filter: &str, source: &str) -> Result<bool, Fail> {
     let found = filter.matches(&source)?;
     if found != copy.matches(&source)? {
         return Err(Fail::from("another copy"));
+    }
+    let bytes = encode(alloc, &source)?;
+    if found != filter.matches_raw(alloc, &RawDoc::new(&bytes)?)? {
+        return Err(Fail::from("another answer of the bytes"));
     }
     Ok(found)
 }

@@ -20,6 +20,8 @@ mod keys;
 #[cfg(test)]
 mod limits;
 #[cfg(test)]
+mod other_keys;
+#[cfg(test)]
 mod random;
 #[cfg(test)]
 mod reading;

@@ -165,34 +165,62 @@ pub fn value(alloc: Global, text: &str) -> Result<Value, Fault> {
         let Some((first, after)) = rest.split_first() else {
             break;
         };
-        rest = after;
-        match *first {
-            b'{' => reader.begin(Value::Document(Document::new(alloc)))?,
-            b'[' => reader.begin(Value::Array(Array::new(alloc)))?,
-            b'}' | b']' => reader.end()?,
-            b' ' | b',' | b':' => {}
-            b'"' => {
-                let (name, left) = cut(after, Some(b'"'));
-                reader.name(text_of(name)?)?;
-                rest = left.split_first().map_or(left, |(_, left)| left);
-            }
-            b'\'' => {
-                let (string, left) = cut(after, Some(b'\''));
-                let string = Text::from_str(alloc, text_of(string)?)?;
-                reader.put(Value::String(string))?;
-                rest = left.split_first().map_or(left, |(_, left)| left);
-            }
-            _ => rest = bare(&mut reader, first, after)?,
-        }
+        rest = piece(&mut reader, *first, after)?;
     }
     reader.whole.ok_or(Fault::Text)
 }
 
+/// One piece of the text, which begins with this byte: a mark, a name or a value. What stands behind it is left.
+fn piece<'a>(reader: &mut Reader, first: u8, after: &'a [u8]) -> Result<&'a [u8], Fault> {
+    match first {
+        b'"' => quoted_name(reader, after),
+        b'\'' => quoted_string(reader, after),
+        b'{' | b'}' | b'[' | b']' | b' ' | b',' | b':' => {
+            mark(reader, first)?;
+            Ok(after)
+        }
+        _ => bare(reader, first, after),
+    }
+}
+
+/// A byte that begins or ends a document or an array, or stands between values.
+fn mark(reader: &mut Reader, byte: u8) -> Result<(), Fault> {
+    let alloc = reader.alloc;
+    match byte {
+        b'{' => reader.begin(Value::Document(Document::new(alloc))),
+        b'[' => reader.begin(Value::Array(Array::new(alloc))),
+        b'}' | b']' => reader.end(),
+        _ => Ok(()),
+    }
+}
+
+/// A name in double quotes.
+fn quoted_name<'a>(reader: &mut Reader, after: &'a [u8]) -> Result<&'a [u8], Fault> {
+    let (name, left) = cut(after, Some(b'"'));
+    reader.name(text_of(name)?)?;
+    Ok(behind_quote(left))
+}
+
+/// A string in single quotes.
+fn quoted_string<'a>(reader: &mut Reader, after: &'a [u8]) -> Result<&'a [u8], Fault> {
+    let (string, left) = cut(after, Some(b'\''));
+    let string = Text::from_str(reader.alloc, text_of(string)?)?;
+    reader.put(Value::String(string))?;
+    Ok(behind_quote(left))
+}
+
+fn behind_quote(left: &[u8]) -> &[u8] {
+    match left {
+        [_, left @ ..] => left,
+        [] => left,
+    }
+}
+
 /// A bare word: a name, where a colon stands behind it, or a value.
-fn bare<'a>(reader: &mut Reader, first: &u8, after: &'a [u8]) -> Result<&'a [u8], Fault> {
+fn bare<'a>(reader: &mut Reader, first: u8, after: &'a [u8]) -> Result<&'a [u8], Fault> {
     let (more, left) = cut(after, None);
     let mut bytes = Vec::with_capacity(reader.alloc, more.len())?;
-    bytes.push(*first)?;
+    bytes.push(first)?;
     bytes.extend_from_slice(more)?;
     let found = text_of(&bytes)?;
     if left.first() == Some(&b':') {

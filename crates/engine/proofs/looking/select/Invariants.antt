@@ -1,3 +1,8 @@
+use Rattle.std.proofs.Common.{◌≡◌, false}
+use Rattle.std.specs.Prelude.{All}
+use Rattle.std.specs.List.{list_all}
+use Rattle.engine.specs.Lawful.{IsWithin}
+use Rattle.engine.specs.Looking.{is_within}
 use Rattle.engine.proofs.SelectLemmas.{IsSelecting}
 use Rattle.engine.proofs.looking.select.Given as goal
 
@@ -6,4 +11,6 @@ invariant-documents g l = record {
   can : (goal.iterator-documents g).can_next l.document-iterator;
   finite : (goal.iterator-documents g).is_finite l.document-iterator;
   so : IsSelecting (g.S.Selects.selects l.which) l.most l.fn.found.items l.fn.documents.items l.found.items l.document-iterator.rest.items;
+  over : list_all is_within l.document-iterator.rest.items ≡ false → list_all is_within l.fn.documents.items ≡ false;
+  within : All IsWithin l.fn.found.items → All IsWithin l.found.items;
 }

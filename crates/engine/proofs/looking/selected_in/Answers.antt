@@ -1,14 +1,11 @@
 use Rattle.std.proofs.Common.{◌≡◌, List, Vec, Global, length, take, sym, ap, subst, arith}
-use Rattle.std.specs.Prelude.{All}
 use Rattle.std.specs.List.{filter}
-use Rattle.std.proofs.lemmas.List.Elements.{All-append, All-filter, All-take}
 use Rattle.std.proofs.lemmas.Result.{err_from_is_err_and}
 use Rattle.bson.specs.Tree.{Pairs}
 use Rattle.collections.specs.Reading.{IsNumbered}
 use Rattle.collections.specs.Walk.{StepsOn}
-use Rattle.engine.specs.Lawful.{IsWithin}
 use Rattle.engine.proofs.SelectLemmas.{AreSelected, all_selected, batch_selected, enough_selected, none_selected}
-use Rattle.engine.proofs.WalkingLemmas.{HasCome, answered, asks_memory, asks_stopped, begins, ends, fails, forgets, none_there, steps}
+use Rattle.engine.proofs.WalkingLemmas.{answered, asks_memory, asks_stopped, begins, ends, fails, none_there, read_refused, steps}
 use Rattle.engine.proofs.looking.selected_in.Goals as goal
 
 pub returns-then-is_stopped-clause-reads : goal.returns-then-is_stopped-clause-reads
@@ -36,14 +33,14 @@ returns-in_err-documents-clause-reads g c =
     let p = g.S.Selects.selects c.args.which.now in
     let e = err_from_is_err_and c.from_residual-in_err-documents.result c.from_residual-in_err-documents.ensures.1 in
     rw (e.1, e.2) (fails g.D.Disk.history c.args.number (λ all left. AreSelected p c.args.most c.walk.found.items all left) c.args.file.now c.walk.file c.walk.walk c.walk.invariant.come
-    (λ now rest (batch : Vec Pairs Global). StepsOn 64 c.next_within.new.walk now rest batch.items)
-    (λ now of (found : Vec Pairs Global). found.items ≡ take c.args.most (filter p of.documents)) c.next_within.new.file c.in_err-documents.field-0.0 c.in_err-documents.ensures.reads)
+    (λ now rest (batch : Vec Pairs Global). StepsOn 64 c.next_spelled.new.walk now rest batch.items)
+    (λ now of (found : Vec Pairs Global). found.items ≡ take c.args.most (filter p of.documents)) c.next_spelled.new.self c.in_err-documents.field-0.0 c.in_err-documents.ensures.reads)
 
 pub returns-then-is_empty-clause-reads : goal.returns-then-is_empty-clause-reads
 returns-then-is_empty-clause-reads g c =
     let p = g.S.Selects.selects c.args.which.now in
     ends g.D.Disk.history c.args.number (λ all left. AreSelected p c.args.most c.walk.found.items all left) c.args.file.now c.walk.file c.walk.walk c.walk.invariant.come
-    c.next_within.new.file c.next_within.new.walk 64 c.in_ok-documents.documents c.in_ok-documents.ensures.reads
+    c.next_spelled.new.self c.next_spelled.new.walk 64 c.in_ok-documents.documents c.in_ok-documents.ensures.reads
     (λ all (found : Vec Pairs Global). found.items ≡ take c.args.most (filter p all)) c.walk.found (none_there c.in_ok-documents.documents (sym c.if-is_empty.ensures))
     (λ all h. all_selected p c.args.most c.walk.found.items all h)
 
@@ -53,21 +50,20 @@ walk-preserved g c =
     let batch = c.in_ok-documents.documents.items in
     record {
       come = steps g.D.Disk.history c.args.number (λ all left. AreSelected p c.args.most c.walk.found.items all left) c.args.file.now c.walk.file c.walk.walk c.walk.invariant.come
-          c.next_within.new.file c.next_within.new.walk 64 c.in_ok-documents.documents c.in_ok-documents.ensures.reads (λ all left. AreSelected p c.args.most c.select.new.found.items all left)
-          (λ all left h. batch_selected p c.args.most c.walk.found.items c.select.new.found.items batch all left c.in_ok-select.ensures h);
-      within = subst (λ (ds : List Pairs). All IsWithin ds) (sym c.in_ok-select.ensures)
-          (All-take IsWithin c.args.most _ (All-append IsWithin c.walk.found.items (filter p batch) c.walk.invariant.within (All-filter p IsWithin batch c.in_ok-documents.ensures.within)));
+          c.next_spelled.new.self c.next_spelled.new.walk 64 c.in_ok-documents.documents c.in_ok-documents.ensures.reads (λ all left. AreSelected p c.args.most c.select.new.found.items all left)
+          (λ all left h. batch_selected p c.args.most c.walk.found.items c.select.new.found.items batch all left c.in_ok-select.ensures.puts h);
+      within = c.in_ok-select.ensures.within c.walk.invariant.within;
     }
 
 pub returns-in_err-select-clause-reads : goal.returns-in_err-select-clause-reads
 returns-in_err-select-clause-reads g c =
     let p = g.S.Selects.selects c.args.which.now in
     let e = err_from_is_err_and c.from_residual-in_err-select.result c.from_residual-in_err-select.ensures.1 in
-    let come : HasCome g.D.Disk.history c.args.number (λ all left. Unit {0}) c.args.file.now c.next_within.new.file c.next_within.new.walk =
-    steps g.D.Disk.history c.args.number (λ all left. AreSelected p c.args.most c.walk.found.items all left) c.args.file.now c.walk.file c.walk.walk c.walk.invariant.come
-    c.next_within.new.file c.next_within.new.walk 64 c.in_ok-documents.documents c.in_ok-documents.ensures.reads (λ all left. Unit {0}) (λ all left h. tt) in
-    rw e.1 (forgets g.D.Disk.history c.args.number (λ all left. Unit {0}) c.args.file.now c.next_within.new.file c.next_within.new.walk come
-    (λ now of (found : Vec Pairs Global). found.items ≡ take c.args.most (filter p of.documents)) e.0 e.2)
+    rw (e.1, e.2) (fails g.D.Disk.history c.args.number (λ all left. AreSelected p c.args.most c.walk.found.items all left) c.args.file.now c.walk.file c.walk.walk c.walk.invariant.come
+    (λ now rest (batch : Vec Pairs Global). StepsOn 64 c.next_spelled.new.walk now rest batch.items)
+    (λ now of (found : Vec Pairs Global). found.items ≡ take c.args.most (filter p of.documents)) c.next_spelled.new.self c.in_err-select.field-0.0
+    (read_refused g.D.Disk.history c.walk.file c.next_spelled.new.self c.walk.walk c.next_spelled.new.walk 64 c.in_ok-documents.documents c.in_ok-documents.ensures.reads c.in_err-select.field-0.0 c.in_err-select.ensures.refuses
+    (λ now rest (batch : Vec Pairs Global). StepsOn 64 c.next_spelled.new.walk now rest batch.items)))
 
 pub returns-clause-reads : goal.returns-clause-reads
 returns-clause-reads g c =

@@ -1,14 +1,24 @@
-use Rattle.std.proofs.Common.{refl, sym, ◌∙◌}
-use Rattle.engine.specs.Merging.{run_each}
+use Rattle.std.proofs.Common.{◌≡◌, Err, refl, sym, subst}
+use Rattle.path.specs.declared.refusal.Refusal.{Refusal}
+use Rattle.engine.specs.Merging.{not_listed}
+use Rattle.engine.specs.Updating.{IsRan, listed_of}
 use Rattle.engine.specs.declared.statements.Run.{Run}
-use Rattle.engine.proofs.UpdatingLoop.{ran_from}
+use Rattle.engine.proofs.StatementLoop.{ran_to_end, ran_to_refusal}
 use Rattle.engine.proofs.statements.run_on.Goals as goal
 
-pub returns-clause-gives : goal.returns-clause-gives
-returns-clause-gives c =
-    (λ i. run_each 0 c.args.statements.now (record { documents = c.args.documents.items; matched = 0; modified = 0; upserted = sym c.new-2.ensures i })) ∙ c.in_ok-run_statements.ensures.gives
+pub returns-in-Ok : goal.returns-in-Ok
+returns-in-Ok c =
+    let ds = c.args.documents.items in
+    let start : Run = record { documents = c.args.documents; writes = c.new.result; keeps_old = c.args.keeps_old; tally = record { matched = 0; modified = 0; upserted = c.new-2.result } } in
+    let begun : listed_of start ≡ not_listed ds = λ i. record { documents = ds; matched = 0; modified = 0; upserted = c.new-2.ensures i } in
+    ran_to_end start c.run_statements-result.new.run ds refl c.new.ensures.items c.args.statements.now c.args.keeps_old refl begun c.in-Ok.ensures.gives c.in-Ok.ensures.wrote
 
-pub returns-clause-from : goal.returns-clause-from
-returns-clause-from c =
-    let start : Run = record { documents = c.args.documents; news = c.new.result; tally = record { matched = 0; modified = 0; upserted = c.new-2.result } } in
-    ran_from start c.run_statements.new.run c.args.documents.items refl c.new.ensures.items c.in_ok-run_statements.ensures.on
+pub returns-in_ok-refusal-in-Err : goal.returns-in_ok-refusal-in-Err
+returns-in_ok-refusal-in-Err c =
+    let ds = c.args.documents.items in
+    let new = c.run_statements-result.new.run in
+    let start : Run = record { documents = c.args.documents; writes = c.new.result; keeps_old = c.args.keeps_old; tally = record { matched = 0; modified = 0; upserted = c.new-2.result } } in
+    let begun : listed_of start ≡ not_listed ds = λ i. record { documents = ds; matched = 0; modified = 0; upserted = c.new-2.ensures i } in
+    let planned = c.in_ok-refusal-in-Err.ensures in
+    subst (λ (e : Refusal). IsRan c.args.keeps_old c.args.statements.now ds (record { writes = new.writes; end = Err e })) (sym planned.0)
+    (ran_to_refusal start new ds refl c.new.ensures.items c.args.statements.now c.args.keeps_old refl begun c.in-Err.refusal planned.1 c.in-Err.ensures.gives c.in-Err.ensures.wrote)

@@ -37,7 +37,7 @@ returns-in_err-change_at c =
     let match : matches c.args.statement.now.filter d ≡ true =
     (λ i. matches (sym c.statement.view_is i).filter (sym here i)) ∙ sym c.matches.ensures ∙ c.if-matches.true in
     let no = subst (λ (s : UpdateStatement). Fails refusals.OutOfMemory c.in_err-change_at.field-0.0 (apply s.change 65535 d)) c.statement.view_is c.in_err-change_at.ensures.refused in
-    rw (p.1, p.2) (refused_one c.args.statement.now c.args.run.now now c.places.found c.places.place c.places.invariant below c.in_err-change_at.field-0.0 match no)
+    rw (p.1, p.2) (refused_one c.args.statement.now c.args.run.now now c.places.found c.places.place c.places.invariant below c.in_err-change_at.field-0.0 c.change_at.new.run match no c.in_err-change_at.ensures.same)
 
 pub returns-then-not-statement : goal.returns-then-not-statement
 returns-then-not-statement c =

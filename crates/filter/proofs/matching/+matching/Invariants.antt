@@ -20,7 +20,7 @@ abbrev pub decreases-holds : goal.decreases-holds
 decreases-holds l = 8 * weight (condition_of l.condition.now) + 3 * way l.subject + 1
 
 abbrev pub decreases-finds : goal.decreases-finds
-decreases-finds l = 8 * asked l.probe + 3 * way l.subject + 5
+decreases-finds l = 8 * asked l.probe + 3 * way l.subject + 6
 
 abbrev pub decreases-finds_from : goal.decreases-finds_from
 decreases-finds_from l = 8 * asked l.probe + 3 * length l.parts.now + 5

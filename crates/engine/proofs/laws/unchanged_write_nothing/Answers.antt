@@ -1,0 +1,5 @@
+use Rattle.engine.proofs.WriteLawLemmas.{unchanged_write_nothing}
+use Rattle.engine.proofs.laws.unchanged_write_nothing.Goals as goal
+
+pub returns : goal.returns
+returns c = unchanged_write_nothing

@@ -1,0 +1,5 @@
+use Rattle.engine.proofs.WriteLawLemmas.{writes_join}
+use Rattle.engine.proofs.laws.writes_join.Goals as goal
+
+pub returns : goal.returns
+returns c = writes_join

@@ -1,0 +1,5 @@
+use Rattle.engine.proofs.WritePlaceLemmas.{writes_replace}
+use Rattle.engine.proofs.laws.writes_replace.Goals as goal
+
+pub returns : goal.returns
+returns c = writes_replace

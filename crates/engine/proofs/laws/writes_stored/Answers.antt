@@ -1,0 +1,5 @@
+use Rattle.engine.proofs.WriteLawLemmas.{writes_stored}
+use Rattle.engine.proofs.laws.writes_stored.Goals as goal
+
+pub returns : goal.returns
+returns c = writes_stored
