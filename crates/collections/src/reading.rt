@@ -35,7 +35,7 @@ pub struct Name {
 }
 
 /// The value at a key of the tree below a root page.
-fn value_below<D: Disk>(
+pub(crate) fn value_below<D: Disk>(
     alloc: Global,
     pager: &mut Pager<D>,
     root: u32,
@@ -47,7 +47,7 @@ fn value_below<D: Disk>(
 }
 
 /// The entries of a range of that tree.
-fn entries_below<D: Disk>(
+pub(crate) fn entries_below<D: Disk>(
     alloc: Global,
     pager: &mut Pager<D>,
     root: u32,
