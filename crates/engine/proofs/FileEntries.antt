@@ -536,7 +536,7 @@ steps_on all done (pair ∷ pairs) p last rises s (next, takes, later) =
 
 module _ (all : List Entry) (end : Progress) (s : Stands all all end) where
   -- what is owed stands among those of indexes
-  owed_seen : (x : Entry) → Among x s.owed → Among x (only is_of_index all)
+  pub owed_seen : (x : Entry) → Among x s.owed → Among x (only is_of_index all)
   owed_seen x h =
       let k = s.owing x h in
       only_there is_of_index all x (s.there x h) (key_some k.collection x (kept_of end.now k.collection s.loaded.lawful k.there) k.is)
