@@ -99,7 +99,7 @@ module _ {D : Type 0} (history : D → History) (edits : List Edit) (test : List
 
 -- ---- keys and indexes, one after the other
 
-left_step : {X : Type 0} (xs : List X) (i : ℕ) (x : X) → i < length xs → x ≡ get_or xs i x → drop i xs ≡ x ∷ drop (i + 1) xs
+pub left_step : {X : Type 0} (xs : List X) (i : ℕ) (x : X) → i < length xs → x ≡ get_or xs i x → drop i xs ≡ x ∷ drop (i + 1) xs
 left_step xs i x within is =
     let next : suc i ≡ i + 1 = omega arith in
     drop-cons xs i x within ∙ (λ j. sym is j ∷ drop (next j) xs)

@@ -12,3 +12,4 @@ pub mod TakenLemmas
 pub mod ReadingLemmas
 pub mod StandingLemmas
 pub mod WalkLemmas
+pub mod TreeReadLemmas
