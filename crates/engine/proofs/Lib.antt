@@ -34,7 +34,9 @@ mod UndoneCursors
 pub mod CursorLives
 pub mod ResultLemmas
 pub mod OpeningLemmas
+pub mod OnceLists
 pub mod TakingLemmas
+pub mod FileEntries
 pub mod RefusingLemmas
 pub mod EntryLoops
 pub mod StoredTextLemmas

@@ -39,6 +39,15 @@ listed_of now = map bare now
 abbrev pub stands_behind : Collection → Collection → Bool
 stands_behind n m = is_lt (slice_cmp nat_cmp m.name n.name) && not (m.number == n.number)
 
+-- one of these indexes has this number
+abbrev pub has_number : ℕ → List Definition → Bool
+has_number n is = list_any (λ i. i.number == n) is
+
+-- no two of them have one number
+abbrev pub are_apart : List Definition → Bool
+are_apart [] = true
+are_apart (i ∷ is) = not (has_number i.number is) && are_apart is
+
 -- The entry of a collection within the limits, which may follow those that the catalogue has so far.
 pub record IsName (listed : List Collection) (pair : Entry) (n : Collection) : Type 0 where
   pub pair_is : pair ≡ catalogue_entry n
@@ -73,7 +82,13 @@ pub record IsIndexable (indexes : List Definition) (d : Pairs) : Type 0 where
   pub keys : keys_in_all indexes d ≡ Ok (keys_among indexes d)
   pub noted : list_any (becomes_multikey d) indexes ≡ false
 
--- The entry of a document that may be stored in this collection.
+-- The entry of a document that may be stored in a collection of this number.
+pub record IsDocumentAt (number : ℕ) (pair : Entry) (document : Pairs) : Type 0 where
+  pub pair_is : pair ≡ document_entry number document
+  pub stored : IsStored document
+  pub readable : IsDocument document
+
+-- The entry of a document that may be stored in this collection, with its indexes.
 pub record IsStoredAt (c : Collection) (pair : Entry) (document : Pairs) : Type 0 where
   pub pair_is : pair ≡ document_entry c.number document
   pub stored : IsStored document

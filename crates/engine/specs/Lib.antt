@@ -33,6 +33,7 @@ pub mod Judging
 pub mod Committing
 pub mod Opening
 pub mod Writing
+pub mod Loading
 pub mod Looking
 pub mod ById
 pub mod Performing

@@ -18,6 +18,7 @@ mod find;
 mod get_more;
 mod hello;
 mod insert;
+mod judging;
 mod kill_cursors;
 pub mod laws;
 mod list_collections;
