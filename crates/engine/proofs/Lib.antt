@@ -38,6 +38,7 @@ pub mod OnceLists
 pub mod TakingLemmas
 pub mod FileEntries
 pub mod RefusingLemmas
+pub mod JudgingLemmas
 pub mod EntryLoops
 pub mod StoredTextLemmas
 pub mod FileBatches

@@ -55,7 +55,7 @@ use Rattle.engine.proofs.TakingLemmas.{find_there}
 
 -- ---- lists
 
-any_none : {X : Type 0} (f : X → Bool) (xs : List X) → ((x : X) → Among x xs → f x ≡ false) → list_any f xs ≡ false
+pub any_none : {X : Type 0} (f : X → Bool) (xs : List X) → ((x : X) → Among x xs → f x ≡ false) → list_any f xs ≡ false
 any_none f [] h = refl
 any_none f (x ∷ xs) h = ap (λ (b : Bool). b || list_any f xs) (h x (inl refl)) ∙ any_none f xs (λ y there. h y (inr there))
 
@@ -141,7 +141,7 @@ bare_kept c kept = record {
 
 -- ---- the documents' entries
 
-document_spells : (d : Pairs) → IsStorable d → SpellsDocument (frame_of (pairs_bytes d)) d
+pub document_spells : (d : Pairs) → IsStorable d → SpellsDocument (frame_of (pairs_bytes d)) d
 document_spells d h = record { lawful = h.lawful; spelled = refl; size = omega (arith, h.size) }
 
 -- a document's entry in the one is that of the document in the other

@@ -3,7 +3,7 @@ use Rattle.std.specs.Prelude.{is_some}
 use Rattle.std.specs.Option.{option_map}
 use Rattle.bson.specs.View.{tree}
 use Rattle.engine.proofs.StoredTextLemmas.{is_stored}
-use Rattle.engine.proofs.loading.stored_text.Goals as goal
+use Rattle.engine.proofs.judging.stored_text.Goals as goal
 
 none_of : {X : Type 0} (o : Option X) → is_some o ≡ false → o ≡ None
 none_of None is = refl
