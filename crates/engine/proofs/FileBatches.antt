@@ -57,7 +57,7 @@ module _ {D : Type 0} (history : D → History) where
   failed_from a b c first k (inl stopped) = inl (sym (stopped_same history a.pager b.pager first.on.stays) ∙ stopped)
   failed_from a b c first k (inr more) = inr (omega (arith, more, (first.on.frame k).failures))
 
-  as_read : {X : Type 0} (P : List Entry → X → Type 0) (r : Result X Refusal) (old new : State D) → ReadsTree history P r old new → IsRead history old new
+  pub as_read : {X : Type 0} (P : List Entry → X → Type 0) (r : Result X Refusal) (old new : State D) → ReadsTree history P r old new → IsRead history old new
   as_read P r old new reads = record { on = reads.on; same = reads.same; stays = reads.stays }
 
 -- ---- faults

@@ -42,6 +42,7 @@ pub mod JudgingLemmas
 pub mod EntryLoops
 pub mod StoredTextLemmas
 pub mod FileBatches
+pub mod LoadingLemmas
 pub mod FileLemmas
 pub mod LookingLemmas
 pub mod ByIdLemmas

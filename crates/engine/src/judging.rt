@@ -38,8 +38,7 @@ pub(crate) struct Named {
 pub(crate) fn number_in(key: &[u8]) -> Option<u32>
     ensures some { (number : ℕ) (text : List ℕ) → number < 2 ^ 32
         → key.now ≡ key_under number 0 text → IfSome result (λ n. n ≡ number) }
-    ensures none { (number : ℕ) (text : List ℕ) → key.now ≡ key_under number 0 text
-        → IfNone result ⊥ }
+    ensures none { IfNone result (length key.now < 4) }
 {
     let (number, _) = key.split_first_chunk::<4>()?;
     Some(u32::from_be_bytes(*number))
