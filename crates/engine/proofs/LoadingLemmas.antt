@@ -187,3 +187,36 @@ module _ (all : List Entry) (names : List Collection) (p : Progress) (pair : Ent
         let same = number_stored t.collection t.document t.listed t.is in
         none t.collection t.document (sym same) (ap (λ (n : ℕ). numbered n (listed_of p.now)) same ∙ t.listed) t.is t.keyed
     document_refused more none next (inr (inr t)) = no_key t.is
+
+pub of_index : (pair : Entry) (index : ℕ) → index ≡ index_in pair.key → (index ≡ 0 → ⊥) → is_of_index pair ≡ true
+of_index pair index is more = by (index_in pair.key == 0) refl
+  where
+    by : (b : Bool) → (index_in pair.key == 0) ≡ b → not b ≡ true
+    by true zero = absurd (more (is ∙ eqb-true (index_in pair.key) 0 zero))
+    by false other = refl
+
+-- ---- an entry
+
+module _ {D : Type 0} (history : D → History) (file : State D) (pair : Entry) (p next : Progress) where
+  abbrev Taken : List Entry → Unit {0} → Type 0
+  Taken all u = Takes all p pair next
+
+  abbrev Refused : List Entry → Type 0
+  Refused all = Refuses all p pair
+
+  pub key_judged : (r : Result (Unit {0}) OpenFault) → OnOk r (next ≡ record p { seen = p.seen + 1 }) → IfErr r (λ e. e ≡ faults.Memory) → 8 ≤ length pair.key → is_of_index pair ≡ true → Judges history Taken Refused r file file
+  key_judged (Ok u) ok err long is = judged_so history Taken Refused file file u (read_none history file) (λ k all has. inr (inr (record { long = long; is = is; next_is = ok })))
+  key_judged (Err e) ok err long is = judged_fault history Taken Refused file file e (read_none history file) (λ all. inl err)
+
+  pub name_judged : {W : Type 0} (r : Result (Unit {0}) OpenFault) → OnOk r (TakesName p pair next) → IfErr r (λ e. IsFaultOf e W) → ((all : List Entry) → W → Refuses all p pair) → Judges history Taken Refused r file file
+  name_judged (Ok u) ok err on = judged_so history Taken Refused file file u (read_none history file) (λ k all has. inl ok)
+  name_judged (Err e) ok err on = judged_fault history Taken Refused file file e (read_none history file) (λ all. fault_of e (on all) err)
+
+  pub document_judged : (W : List Entry → Type 0) (r : Result (Unit {0}) OpenFault) (new : State D) → Judges history (λ all (u : Unit {0}). TakesDocument all p pair next) W r file new → ((all : List Entry) → W all → Refuses all p pair)
+      → Judges history Taken Refused r file new
+  document_judged W (Ok u) new judged on = judged_as history (λ all (u : Unit {0}). TakesDocument all p pair next) W Taken Refused file new u u judged (λ all t. inr (inl t))
+  document_judged W (Err e) new judged on = failed_as history (λ all (u : Unit {0}). TakesDocument all p pair next) W Taken Refused file new e judged on
+
+pub ok_on : {A B : Type 0} {X E : Type 0} (r : Result X E) → (A → B) → OnOk r A → OnOk r B
+ok_on (Ok x) on h = on h
+ok_on (Err e) on h = h
