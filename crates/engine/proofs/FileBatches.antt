@@ -181,6 +181,11 @@ module _ {D : Type 0} (history : D → History) (from : List ℕ) (limit : ℕ) 
       judged_failed history (λ all. AreNextEntries from limit all batch) Takes_these Refuses_one (HasTaken from p last) (λ all. RefusesOne all p (entries_from (Some from) all)) old mid new
       (as_read history (AreNextEntries from limit) (Ok batch) old mid reads) reads.answers fault h (λ all next refuses. subst (RefusesOne all p) (sym next.is) (refuses_more all p pairs _ refuses))
 
+pub unread_batch : {D : Type 0} (history : D → History) (from : List ℕ) (limit : ℕ) (p last : Progress) (old new : State D) (refusal : Refusal) (fault : OpenFault) → ReadsTree history (AreNextEntries from limit) (Err refusal) old new
+    → (fault ≡ faults.Device → refusal ≡ refusals.StorageFailed) → (fault ≡ faults.Device) ⊎ (fault ≡ faults.Memory) → LoadsBatch history from (Err fault) p last old new
+unread_batch history from limit p last old new refusal fault reads device kinds =
+    judged_unread history (HasTaken from p last) (λ all. RefusesOne all p (entries_from (Some from) all)) (AreNextEntries from limit) old new refusal fault reads device kinds
+
 -- ---- all of them
 
 -- some first entries were taken

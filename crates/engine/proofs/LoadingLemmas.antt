@@ -25,8 +25,8 @@ use Rattle.collections.specs.View.{disk_history}
 use Rattle.engine.specs.Documents.{key_of}
 use Rattle.engine.specs.FileOpening.{IsRead, Judges}
 use Rattle.engine.specs.Judging.{HasItsKeys, IsDocumentAt, IsFaultOf, IsIndexable, IsLoadingAs, IsName, IsStoredAt, Progress, Refuses, RefusesOne, Takes, TakesAll, TakesDocument, TakesKey, TakesName, index_in, is_of_index, key_count, keys_among, listed_of, numbered, with_document_at}
-use Rattle.engine.proofs.EntryLoops.{fault_of}
-use Rattle.engine.proofs.FileBatches.{as_read, failed_as, judged_as, judged_damaged, judged_failed, judged_fault, judged_memory, judged_so, judged_then, judged_unread, read_none, read_on}
+use Rattle.engine.proofs.EntryLoops.{fault_of, refuses_here, refuses_next, takes_end, takes_next}
+use Rattle.engine.proofs.FileBatches.{as_read, failed_as, judged_as, judged_damaged, judged_failed, judged_fault, judged_memory, judged_so, judged_then, judged_unread, read_none, read_on, word_before}
 use Rattle.engine.proofs.JudgingLemmas.{document_of, same_stored, stored_at}
 use Rattle.engine.proofs.Steps.{drop_step}
 use Rattle.engine.proofs.TakingLemmas.{document_loaded, found_at}
@@ -220,3 +220,53 @@ module _ {D : Type 0} (history : D → History) (file : State D) (pair : Entry) 
 pub ok_on : {A B : Type 0} {X E : Type 0} (r : Result X E) → (A → B) → OnOk r A → OnOk r B
 ok_on (Ok x) on h = on h
 ok_on (Err e) on h = h
+
+-- ---- entries, one after the other
+
+-- what is left of the entries takes or refuses what all of them do
+pub record ComesTo (entries : List OwnEntry) (i : ℕ) (first p : Progress) (all : List Entry) : Type 0 where
+  pub takes : (last : Progress) → TakesAll all p (map entry_in (drop i entries)) last → TakesAll all first (map entry_in entries) last
+  pub refuses : RefusesOne all p (map entry_in (drop i entries)) → RefusesOne all first (map entry_in entries)
+
+-- The first of the entries were taken.
+pub record TakesUpTo {D : Type 0} (history : D → History) (entries : List OwnEntry) (i : ℕ) (first p : Progress) (old new : State D) : Type 0 where
+  pub read : IsRead history old new
+  pub so_far : KeepsWord (disk_history history new) → (all : List Entry) → HasEntries history old all → ComesTo entries i first p all
+
+pub entries_none : {D : Type 0} (history : D → History) (entries : List OwnEntry) (first : Progress) (file : State D) → TakesUpTo history entries 0 first first file file
+entries_none history entries first file = record { read = read_none history file; so_far = λ k all has. record { takes = λ last h. h; refuses = λ h. h } }
+
+module _ {D : Type 0} (history : D → History) (entries : List OwnEntry) (i : ℕ) (first p : Progress) (old mid : State D) (up : TakesUpTo history entries i first p old mid) where
+  abbrev Takes_these : Progress → List Entry → Unit {0} → Type 0
+  Takes_these last all u = TakesAll all first (map entry_in entries) last
+
+  abbrev Refuses_one : List Entry → Type 0
+  Refuses_one all = RefusesOne all first (map entry_in entries)
+
+  module _ (x : OwnEntry) (within : i < length entries) (is : x ≡ get_or entries i x) (next : Progress) (new : State D) where
+    abbrev Takes_this : List Entry → Unit {0} → Type 0
+    Takes_this all u = Takes all p (entry_in x) next
+
+    abbrev Refuses_this : List Entry → Type 0
+    Refuses_this all = Refuses all p (entry_in x)
+
+    pub entries_step : Judges history Takes_this Refuses_this (Ok tt) mid new → TakesUpTo history entries (i + 1) first next old new
+    entries_step judged = record {
+      read = read_on history old mid new up.read judged.read;
+      so_far = λ k all has.
+          let k_mid = word_before history mid new judged.read k in
+          let so = up.so_far k_mid all has in
+          let t = judged.answers k all (up.read.stays k_mid all has) in
+          record {
+            takes = λ last later. so.takes last (takes_next all entries i x within is p next last t later);
+            refuses = λ later. so.refuses (refuses_next all entries i x within is p next t later);
+          };
+    }
+
+    pub entries_failed : (fault : OpenFault) (last : Progress) → Judges history Takes_this Refuses_this (Err fault) mid new → Judges history (Takes_these last) Refuses_one (Err fault) old new
+    entries_failed fault last judged =
+        judged_failed history (ComesTo entries i first p) Takes_this Refuses_this (Takes_these last) Refuses_one old mid new up.read up.so_far fault judged
+        (λ all so refuses. so.refuses (refuses_here all entries i x within is p refuses))
+
+  pub entries_end : length entries ≤ i → Judges history (Takes_these p) Refuses_one (Ok tt) old mid
+  entries_end whole = judged_so history (Takes_these p) Refuses_one old mid tt up.read (λ k all has. (up.so_far k all has).takes p (takes_end all entries i p whole))
