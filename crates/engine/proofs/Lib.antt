@@ -36,6 +36,8 @@ pub mod ResultLemmas
 pub mod OpeningLemmas
 pub mod OnceLists
 pub mod TakingLemmas
+pub mod EntriesSoFar
+pub mod DocumentEntries
 pub mod FileEntries
 pub mod RefusingLemmas
 pub mod JudgingLemmas
