@@ -1,16 +1,12 @@
 -- A document more in what the entries of a file stand for: its entries in indexes stand among all, and are no other document's.
-use Rattle.std.proofs.Common.{◌≡◌, ◌≢◌, ◌⊎◌, ℕ, ◌+◌, ◌<◌, ◌≤◌, ◌^◌, Bool, true, false, not, ◌&&◌, ◌||◌, List, [], ◌∷◌, ◌++◌, length, map, Some, None, inl, inr, refl, sym, ap, subst, ◌∙◌, arith, append-nil, append_assoc, length-append}
-use Rattle.std.specs.Prelude.{All, ◌==◌, if◌then◌else◌, Option, take, drop}
-use Rattle.std.specs.Int.{w32, to_be_bytes, from_be_bytes}
-use Rattle.std.specs.List.{AllPairs, flat_map, list_all, list_any}
-use Rattle.std.specs.declared.cmp.Ordering.TheVariants as orders
-use Rattle.std.proofs.lemmas.Bool.Decides.{nat_tests}
+use Rattle.std.proofs.Common.{◌≡◌, ◌≢◌, ◌⊎◌, ℕ, ◌+◌, Bool, true, false, not, ◌&&◌, ◌||◌, List, [], ◌∷◌, ◌++◌, length, map, Some, None, inl, inr, refl, sym, ap, subst, ◌∙◌, arith, append_assoc, length-append}
+use Rattle.std.specs.Prelude.{◌==◌, if◌then◌else◌, Option}
+use Rattle.std.specs.Int.{w32, to_be_bytes}
+use Rattle.std.specs.List.{flat_map, list_any}
 use Rattle.std.proofs.lemmas.List.{length-map}
-use Rattle.std.proofs.lemmas.Nat.{from_be_bytes-to_be_bytes_4}
 use Rattle.bson.specs.Tree.{Pairs}
 use Rattle.value_order.specs.KeyText.{tree_text}
-use Rattle.value_order.specs.Order.{compare}
-use Rattle.btree.specs.Keys.{Each, Entry, IsUnder, Rises, keep_if, value_at}
+use Rattle.btree.specs.Keys.{Entry, IsUnder, value_at}
 use Rattle.btree.proofs.KeyLemmas.{not_under_itself}
 use Rattle.index.specs.Changes.{is_among}
 use Rattle.index.specs.Definition.{Definition}
@@ -20,23 +16,23 @@ use Rattle.index.specs.KeyTexts.{encoded_keys, entry_key, key_bytes}
 use Rattle.index.specs.IndexKeys.{index_keys}
 use Rattle.index.specs.LawfulState.{IsKept as IsIndexKept, IsStorable}
 use Rattle.index.specs.OtherKeys.{has_other_key, is_another}
-use Rattle.index.specs.State.{Collection, find_collection, key_of, put_collection, words}
-use Rattle.index.specs.StateEntries.{IsEntryOf, Spells, catalogue_entry, collection_entries, document_entry, entry_keys, index_entries, index_entry, key_under, state_entries}
+use Rattle.index.specs.State.{Collection, key_of}
+use Rattle.index.specs.StateEntries.{catalogue_entry, document_entry, index_entries, index_entry, key_under}
 use Rattle.index.proofs.DocumentPlaces.{IsBetween, placed}
-use Rattle.index.proofs.EntryLemmas.{IsDocumentOf, IsKeyOf, IsOneOf, document_among, keyed_among, same_first, same_rest, same_second, same_text}
+use Rattle.index.proofs.EntryLemmas.{IsDocumentOf, IsKeyOf, same_first, same_rest, same_second, same_text}
 use Rattle.index.proofs.ExchangeLaws.{value_entry}
 use Rattle.index.proofs.FrontLemmas.{another_there}
-use Rattle.index.proofs.HomeLemmas.{home_of, inside_of, kept_of, listed_of as indexed_of, number_fits, one_index, one_number, same_ends, same_index, storable_of}
+use Rattle.index.proofs.HomeLemmas.{inside_of, kept_of, number_fits, one_index, one_number, storable_of}
 use Rattle.index.proofs.KeyOfDocument.{among_around, among_middle, among_there, same_keys, test_among}
-use Rattle.index.proofs.MemberLemmas.{Among, among_append, among_back, among_each, among_flat, among_front, among_image, among_map, among_of, contains_of}
+use Rattle.index.proofs.MemberLemmas.{Among, among_append, among_back, among_each, among_flat, among_front, among_image, among_map}
 use Rattle.index.proofs.OtherEditLaws.{any_there, any_told}
 use Rattle.index.proofs.PlaceLemmas.{among_put, found_split}
 use Rattle.index.proofs.LawfulLaws.{put_in}
 use Rattle.index.proofs.SetLemmas.{set_sorted}
 use Rattle.collections.specs.IndexChecks.{has_entry, is_empty_at, lacks_any, lacks_key, lacks_one}
-use Rattle.engine.specs.Judging.{AreLoaded, HasItsKeys, IsIndexable, IsLoadingAs, IsStoredAt, Makes, Progress, Takes, TakesAll, TakesDocument, TakesKey, TakesName, bare, index_in, is_of_index, key_count, keys_among, listed_of, nothing_read, numbered, with_document_at, with_document_in}
-use Rattle.engine.proofs.OnceLists.{AreOnce, all_within, once_append, once_fits, once_flat, once_map, only, only_append, only_there, only_told, sorted_once}
-use Rattle.engine.proofs.TakingLemmas.{IsFoundAt, document_loaded, find_there, found_at, is_storable, kept_with, name_loaded, none_loaded, put_last}
+use Rattle.engine.specs.Judging.{AreLoaded, HasItsKeys, IsStoredAt, Progress, bare, key_count, keys_among, listed_of, numbered, with_document_at, with_document_in}
+use Rattle.engine.proofs.OnceLists.{AreOnce, once_append, once_flat, once_map, sorted_once}
+use Rattle.engine.proofs.TakingLemmas.{document_loaded, find_there, is_storable, kept_with}
 use Rattle.engine.proofs.EntriesSoFar.{IsKeyed, IsPlain, Stands, index_fits, not_both, one_of_one, seen_same, under_none}
 
 -- ---- what a check of keys tells

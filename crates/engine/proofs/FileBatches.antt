@@ -1,6 +1,6 @@
 -- The entries of a file, judged batch after batch.
 use Rattle.std.proofs.Common.{◌≡◌, ◌≢◌, ◌⊎◌, arith, ℕ, List, [], ◌∷◌, ◌++◌, inl, inr, refl, sym, ap, ◌∙◌, subst, map, Some, None, append-nil, append_assoc}
-use Rattle.std.specs.Prelude.{Ok, Err, Result, IfErr, MatchResult, Option}
+use Rattle.std.specs.Prelude.{Ok, Err, Result, Option}
 use Rattle.std.specs.Global.{Vec}
 use Rattle.page.specs.History.{History, KeepsWord}
 use Rattle.btree.specs.Keys.{Entry}
@@ -12,15 +12,14 @@ use Rattle.roots.specs.declared.opening.OpenFault.TheVariants as faults
 use Rattle.path.specs.declared.refusal.Refusal.{Refusal}
 use Rattle.path.specs.declared.refusal.Refusal.TheVariants as refusals
 use Rattle.index.specs.State.{Collection}
-use Rattle.collections.specs.Calls.{GoesFrom, HasCause, HasFailed}
+use Rattle.collections.specs.Calls.{HasCause, HasFailed}
 use Rattle.collections.specs.Entries.{AreNextEntries, HasEntries, ReadsTree, entries_from}
-use Rattle.collections.specs.Standing.{HasState}
 use Rattle.collections.specs.State.{State}
 use Rattle.collections.specs.View.{disk_history, pages_of}
 use Rattle.collections.proofs.ReadingLemmas.{window_all}
 use Rattle.collections.proofs.StandingLemmas.{stopped_same}
 use Rattle.engine.specs.FileOpening.{HasFault, HasTaken, IsOfEntries, IsRead, Judges, LoadsBatch, LoadsEntries, LoadsFile}
-use Rattle.engine.specs.Judging.{AreLoaded, IsFaultOf, Makes, MakesNone, Progress, RefusesOne, Takes, TakesAll, nothing_read}
+use Rattle.engine.specs.Judging.{AreLoaded, IsFaultOf, Makes, MakesNone, Progress, RefusesOne, TakesAll, nothing_read}
 
 -- ---- lists of entries, one behind the other
 

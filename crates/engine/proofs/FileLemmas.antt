@@ -1,18 +1,16 @@
 -- A file is opened, and its entries are read.
-use Rattle.std.proofs.Common.{◌≡◌, ◌≢◌, ◌<◌, arith, false, true, ℕ, List, [], inl, inr, refl, sym, ap, ◌∙◌, subst}
+use Rattle.std.proofs.Common.{◌≡◌, ◌<◌, arith, false, true, ℕ, List, inl, inr, refl, sym, ap, ◌∙◌, subst}
 use Rattle.std.specs.Prelude.{All, Ok, Err}
 use Rattle.page.specs.History.{History, Sector, KeepsWord, IsImage, now, reads}
-use Rattle.page.specs.Crash.{GoesOn, LeavesNow, LeavesOnly, ReadsOnly}
+use Rattle.page.specs.Crash.{GoesOn, LeavesOnly}
 use Rattle.page.proofs.Moments.{goes_further, leaves_further, leaves_now, reads_moments}
 use Rattle.btree.specs.Keys.{Entry}
 use Rattle.roots.specs.declared.opening.OpenFault.{OpenFault}
-use Rattle.roots.specs.Image.{StandsFor}
 use Rattle.roots.proofs.OneMap.{one_state}
 use Rattle.index.specs.State.{Collection}
 use Rattle.index.specs.StateEntries.{Spells}
 use Rattle.collections.specs.Calls.{GoesFrom, HasFailed}
 use Rattle.collections.specs.Opening as files
-use Rattle.collections.specs.Standing.{HasState}
 use Rattle.collections.specs.State.{State}
 use Rattle.collections.specs.View.{disk_history, is_stopped}
 use Rattle.collections.proofs.EntryLemmas.{tree_rises}

@@ -1,9 +1,8 @@
 -- What is judged of one entry of a file.
-use Rattle.std.proofs.Common.{◌≡◌, ◌≢◌, ℕ, suc, ◌<◌, ◌≤◌, Bool, true, false, not, ◌&&◌, List, [], ◌∷◌, ◌++◌, length, map, Result, Ok, Err, inl, inr, refl, sym, ap, subst, ◌∙◌, arith, eqb-true, eq-eqb}
-use Rattle.std.specs.Prelude.{All, IsUtf8, ◌==◌}
+use Rattle.std.proofs.Common.{◌≡◌, ◌≢◌, ℕ, suc, ◌≤◌, Bool, true, false, not, ◌&&◌, List, [], ◌∷◌, ◌++◌, length, Ok, Err, inl, inr, refl, sym, ap, subst, ◌∙◌, arith, eqb-true, eq-eqb}
+use Rattle.std.specs.Prelude.{IsUtf8, ◌==◌}
 use Rattle.std.specs.List.{AllByRecursion, AllPairs, list_any}
-use Rattle.bson.specs.Lawful.{IsDocument}
-use Rattle.bson.specs.Spelling.{frame_of, pairs_bytes, Spells as SpellsDocument}
+use Rattle.bson.specs.Spelling.{frame_of, pairs_bytes}
 use Rattle.bson.proofs.TreeLaws.{one_spelling}
 use Rattle.bson.specs.Tree.{Pairs}
 use Rattle.btree.specs.Keys.{Entry}
@@ -19,7 +18,6 @@ use Rattle.index.proofs.LawfulLaws.{all_of, pairs_of}
 use Rattle.index.proofs.MemberLemmas.{Among, first_of}
 use Rattle.index.proofs.OtherEditLaws.{any_there}
 use Rattle.engine.specs.Judging.{IsDocumentAt, IsIndexable, IsStoredAt, are_apart, has_number, keys_among}
-use Rattle.engine.specs.Lawful.{IsStored}
 use Rattle.engine.proofs.RefusingLemmas.{any_none, document_spells}
 use Rattle.engine.proofs.TakingLemmas.{both_true, is_storable}
 

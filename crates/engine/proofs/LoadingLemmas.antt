@@ -1,8 +1,6 @@
 -- How one entry after the other is taken, and what its judgement comes to.
-use Rattle.std.proofs.Common.{◌≡◌, ◌≢◌, ◌⊎◌, ℕ, ◌+◌, ◌<◌, ◌≤◌, true, false, List, [], ◌∷◌, length, map, drop, get_or, Ok, Err, Some, inl, inr, refl, sym, ap, subst, ◌∙◌, arith, eqb-true}
-use Rattle.std.specs.Prelude.{IfErr, OnOk, Result, Bool, Option, ◌==◌, ◌^◌, not, if◌then◌else◌}
-use Rattle.std.specs.Global.{Vec}
-use Rattle.std.proofs.lemmas.List.{drop_all}
+use Rattle.std.proofs.Common.{◌≡◌, ◌⊎◌, ℕ, ◌+◌, ◌<◌, ◌≤◌, true, false, List, [], ◌∷◌, length, map, drop, get_or, Ok, Err, Some, inl, inr, refl, sym, ap, subst, ◌∙◌, arith, eqb-true}
+use Rattle.std.specs.Prelude.{IfErr, OnOk, Result, Bool, ◌==◌, ◌^◌, not, if◌then◌else◌}
 use Rattle.page.specs.History.{History, KeepsWord}
 use Rattle.bson.specs.Tree.{Pairs}
 use Rattle.btree.specs.Keys.{Entry}
@@ -24,11 +22,10 @@ use Rattle.collections.specs.State.{State}
 use Rattle.collections.specs.View.{disk_history}
 use Rattle.engine.specs.Documents.{key_of}
 use Rattle.engine.specs.FileOpening.{IsRead, Judges}
-use Rattle.engine.specs.Judging.{HasItsKeys, IsDocumentAt, IsFaultOf, IsIndexable, IsLoadingAs, IsName, IsStoredAt, Progress, Refuses, RefusesOne, Takes, TakesAll, TakesDocument, TakesKey, TakesName, index_in, is_of_index, key_count, keys_among, listed_of, numbered, with_document_at}
+use Rattle.engine.specs.Judging.{HasItsKeys, IsDocumentAt, IsFaultOf, IsIndexable, IsLoadingAs, IsName, IsStoredAt, Progress, Refuses, RefusesOne, Takes, TakesAll, TakesDocument, TakesName, index_in, is_of_index, key_count, keys_among, listed_of, numbered, with_document_at}
 use Rattle.engine.proofs.EntryLoops.{fault_of, refuses_here, refuses_next, takes_end, takes_next}
-use Rattle.engine.proofs.FileBatches.{as_read, failed_as, judged_as, judged_damaged, judged_failed, judged_fault, judged_memory, judged_so, judged_then, judged_unread, read_none, read_on, word_before}
-use Rattle.engine.proofs.JudgingLemmas.{document_of, same_stored, stored_at}
-use Rattle.engine.proofs.Steps.{drop_step}
+use Rattle.engine.proofs.FileBatches.{as_read, failed_as, judged_as, judged_damaged, judged_failed, judged_fault, judged_memory, judged_so, judged_unread, read_none, read_on, word_before}
+use Rattle.engine.proofs.JudgingLemmas.{document_of, same_stored}
 use Rattle.engine.proofs.TakingLemmas.{document_loaded, found_at}
 
 -- ---- a document

@@ -1,5 +1,5 @@
 -- No entry of lawful collections is refused, and they have as many entries of indexes as their documents have keys.
-use Rattle.std.proofs.Common.{◌≡◌, ◌≢◌, ◌⊎◌, ℕ, suc, ◌+◌, ◌<◌, ◌≤◌, Bool, true, false, not, ◌&&◌, ◌||◌, List, [], ◌∷◌, ◌++◌, length, map, Some, None, inl, inr, refl, sym, ap, subst, ◌∙◌, arith, append_assoc, eqb-true, Result, Ok}
+use Rattle.std.proofs.Common.{◌≡◌, ◌⊎◌, ℕ, ◌+◌, ◌<◌, ◌≤◌, Bool, true, false, not, ◌&&◌, ◌||◌, List, [], ◌∷◌, ◌++◌, length, map, Some, inl, inr, refl, sym, ap, subst, ◌∙◌, arith, append_assoc, eqb-true, Result, Ok}
 use Rattle.std.specs.Prelude.{All, ◌==◌, if◌then◌else◌, Option}
 use Rattle.std.specs.List.{list_all, list_any}
 use Rattle.std.specs.Cmp.{nat_cmp_is}
@@ -27,7 +27,7 @@ use Rattle.index.specs.Changes.{is_among}
 use Rattle.index.specs.Definition.{Definition, Field}
 use Rattle.index.specs.Entering.{becomes_multikey}
 use Rattle.index.specs.IndexKeys.{has_parallel_arrays, is_multikey}
-use Rattle.index.specs.KeyTexts.{encoded_keys, entry_key, is_too_long, keys_in, keys_in_all}
+use Rattle.index.specs.KeyTexts.{encoded_keys, entry_key, is_too_long, keys_in}
 use Rattle.index.specs.LawfulState.{AreNamedApart, AreNumberedApart, IsIndexOf, IsKept as IsIndexKept, IsLawfulState as IsIndexLawful, IsStorable, ShareNoKey}
 use Rattle.index.specs.OtherKeys.{another_has, has_other_key}
 use Rattle.index.specs.State.{Collection, key_of, put_collection, words}
@@ -37,7 +37,7 @@ use Rattle.index.proofs.CatalogueEntries.{same_value, text_size}
 use Rattle.index.proofs.EntryLemmas.{IsDocumentOf, IsKeyOf, IsOneOf, document_among, keyed_among, same_first, same_rest, same_words}
 use Rattle.index.proofs.ExchangeLaws.{entry_value}
 use Rattle.index.proofs.FitLaws.{key_size}
-use Rattle.index.proofs.HomeLemmas.{Home, document_or_key, inside_of, kept_of, listed_of as indexed_of, not_inside, number_fits, one_number, storable_of}
+use Rattle.index.proofs.HomeLemmas.{document_or_key, inside_of, kept_of, listed_of as indexed_of, not_inside, number_fits, one_number, storable_of}
 use Rattle.index.proofs.KeyOfDocument.{among_test}
 use Rattle.index.proofs.LawfulLaws.{all_of}
 use Rattle.index.proofs.MemberLemmas.{Among, among_append, among_back, among_front, among_image, among_map, contains_of, first_of, of_all, of_pairs}
@@ -47,7 +47,7 @@ use Rattle.index.proofs.PlaceLemmas.{apart_rest, name_itself}
 use Rattle.index.proofs.ReadLaws.{in_map, there_of}
 use Rattle.index.proofs.WindowLemmas.{under_cmp}
 use Rattle.collections.specs.IndexChecks.{has_entry, is_empty_at, lacks_any, lacks_key, lacks_one}
-use Rattle.engine.specs.Judging.{HasItsKeys, IsIndexable, IsStoredAt, MakesNone, Progress, RefusesOne, Takes, TakesAll, bare, is_of_index, key_count, keys_among, listed_of, nothing_read, numbered, stands_behind, with_document_at}
+use Rattle.engine.specs.Judging.{HasItsKeys, IsIndexable, MakesNone, Progress, RefusesOne, Takes, bare, is_of_index, key_count, keys_among, listed_of, nothing_read, numbered, stands_behind, with_document_at}
 use Rattle.engine.specs.Lawful.{IsStored}
 use Rattle.engine.proofs.EntriesSoFar.{IsPlain, Stands, catalogue_none, document_none, key_some, nothing_stands}
 use Rattle.engine.proofs.FileEntries.{all_stand, each_before, one_step, owed_seen}
@@ -351,6 +351,9 @@ module _ (all : List Entry) (cs : List Collection) (spells : Spells all cs) (law
       }),
     )
 
+    abbrev with_it : Collection → Pairs → Progress
+    with_it e d = record { now = with_document_at e.number d p.now; keys = p.keys + key_count (keys_among e.indexes d); seen = p.seen }
+
     takes_document : (d : Pairs) → Among d c.documents → pair ≡ document_entry c.number d → (next : Progress) × Takes all p pair next
     takes_document d inside is =
         let first : Among (catalogue_entry c) all = in_map all cs holds c (catalogue_entry c) there (inl refl) in
@@ -363,7 +366,7 @@ module _ (all : List Entry) (cs : List Collection) (spells : Spells all cs) (law
         let e = told.collection in
         let like = same_catalogue c e kept (kept_so_far e told.there) (plain_one p.now (catalogue_entry c) told) in
         (
-          record { now = with_document_at e.number d p.now; keys = p.keys + key_count (keys_among e.indexes d); seen = p.seen },
+          with_it e d,
           inr (inl (record {
             collection = bare e;
             document = d;
@@ -375,7 +378,7 @@ module _ (all : List Entry) (cs : List Collection) (spells : Spells all cs) (law
               indexable = subst (λ (is : List Definition). IsIndexable is d) like.indexes (indexable_in c d kept inside);
             };
             keyed = (λ k. lacks_any (sym like.number k) (tree_text (key_of d)) (sym like.indexes k) (keys_among (sym like.indexes k) d) all) ∙ has_its_keys all cs spells lawful c there d inside;
-            next_is = refl;
+            next_is = refl {a = with_it e d};
           })),
         )
 

@@ -1,5 +1,5 @@
 -- What is kept of the collections while the entries of a file are taken.
-use Rattle.std.proofs.Common.{◌≡◌, ◌⊎◌, ℕ, ◌<◌, Bool, true, false, not, ◌&&◌, ◌||◌, List, [], ◌∷◌, ◌++◌, length, map, Some, None, inl, inr, refl, sym, ap, subst, ◌∙◌, arith, eqb-true}
+use Rattle.std.proofs.Common.{◌≡◌, ℕ, ◌<◌, Bool, true, false, not, ◌&&◌, ◌||◌, List, [], ◌∷◌, ◌++◌, length, map, Some, None, inl, inr, refl, sym, ap, subst, ◌∙◌, arith, eqb-true}
 use Rattle.std.specs.Prelude.{All, ◌==◌, if◌then◌else◌, Option, codes, unwrap_or}
 use Rattle.std.specs.List.{list_all, list_any}
 use Rattle.std.specs.Option.{option_and_then}
@@ -16,7 +16,6 @@ use Rattle.bson.specs.Lawful.{IsDocument}
 use Rattle.btree.specs.Keys.{Entry}
 use Rattle.btree.proofs.ListLemmas.{map_append}
 use Rattle.update.specs.Stored.{no_array}
-use Rattle.index.specs.Definition.{Definition}
 use Rattle.index.specs.Documents.{put_document, with_documents}
 use Rattle.index.specs.Entering.{AreIndexed, clashes}
 use Rattle.index.specs.KeptLaws.{noted}

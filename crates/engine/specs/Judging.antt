@@ -1,5 +1,5 @@
 -- How the entries of a file are judged, one after the other, and what they make of the collections.
-use Rattle.std.specs.Prelude.{◌≡◌, ◌≢◌, ◌⊎◌, ℕ, ◌+◌, ◌<◌, ◌≤◌, Bool, true, false, ◌==◌, ◌&&◌, ◌||◌, not, List, [], ◌∷◌, length, map, take, drop, if◌then◌else◌, Option, Some, None, All, Ok}
+use Rattle.std.specs.Prelude.{◌≡◌, ◌≢◌, ◌⊎◌, ℕ, ◌+◌, ◌<◌, ◌≤◌, Bool, true, false, ◌==◌, ◌&&◌, not, List, [], ◌∷◌, length, map, take, drop, if◌then◌else◌, Option, Some, None, All, Ok}
 use Rattle.std.specs.Int.{w32, from_be_bytes}
 use Rattle.std.specs.Global.{Vec}
 use Rattle.std.specs.List.{list_all, list_any}

@@ -1,4 +1,4 @@
-use Rattle.std.proofs.Common.{◌≡◌, ◌≤◌, true, false, Option, Some, [], length, map, inr, refl, sym, ap, subst, ◌∙◌, arith}
+use Rattle.std.proofs.Common.{◌≡◌, ◌≤◌, true, false, Option, Some, length, inr, refl, sym, ap, subst, ◌∙◌, arith}
 use Rattle.std.specs.Prelude.{ℕ, List, IfSome, IsUtf8, string_bytes}
 use Rattle.std.specs.List.{AllByRecursion}
 use Rattle.std.specs.Option.{option_map}
@@ -6,7 +6,6 @@ use Rattle.std.proofs.lemmas.List.{length-map}
 use Rattle.bson.specs.Spelling.{frame_of, pairs_bytes}
 use Rattle.value_order.specs.KeyText.{tree_text}
 use Rattle.btree.specs.Keys.{Entry}
-use Rattle.btree.specs.Scan.{entry_in}
 use Rattle.index.specs.Definition.{Definition, IsDefinition}
 use Rattle.index.specs.State.{words}
 use Rattle.index.specs.StateEntries.{catalogue_value, key_under}

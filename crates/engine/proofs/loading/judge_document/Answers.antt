@@ -1,4 +1,4 @@
-use Rattle.std.proofs.Common.{◌≡◌, List, ℕ, Bool, true, Ok, Err, map, ap, subst, ◌∙◌}
+use Rattle.std.proofs.Common.{◌≡◌, List, Bool, true, Ok, Err, map, ap, subst, ◌∙◌}
 use Rattle.btree.specs.Scan.{entry_in}
 use Rattle.index.specs.Definition.{Definition}
 use Rattle.collections.specs.Entries.{ReadsTree}

@@ -1,10 +1,6 @@
-use Rattle.std.proofs.Common.{List, Ok, Err, map, subst}
-use Rattle.std.specs.Prelude.{Result}
-use Rattle.btree.specs.Keys.{Entry}
+use Rattle.std.proofs.Common.{Ok, Err, map, subst}
 use Rattle.btree.specs.Scan.{entry_in}
-use Rattle.collections.specs.Entries.{AreNextEntries, entries_from}
-use Rattle.roots.specs.declared.opening.OpenFault.{OpenFault}
-use Rattle.engine.specs.FileOpening.{HasTaken, Judges}
+use Rattle.engine.specs.FileOpening.{Judges}
 use Rattle.engine.specs.Judging.{RefusesOne, TakesAll}
 use Rattle.engine.specs.Loading.{progress_of}
 use Rattle.engine.proofs.FileBatches.{batch_refused, batch_taken, unread_batch}

@@ -1,5 +1,4 @@
-use Rattle.std.proofs.Common.{◌≡◌, List, [], map, sym, ap, subst, ◌∙◌, Ok, Err, Some, None}
-use Rattle.index.specs.State.{Collection}
+use Rattle.std.proofs.Common.{◌≡◌, [], map, sym, ap, subst, ◌∙◌, Ok, Err, Some, None}
 use Rattle.engine.specs.FileOpening.{LoadsBatch}
 use Rattle.engine.specs.Judging.{AreLoaded, Progress, listed_of}
 use Rattle.engine.specs.Loading.{named_as, progress_of}

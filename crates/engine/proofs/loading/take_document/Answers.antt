@@ -1,4 +1,4 @@
-use Rattle.std.proofs.Common.{◌≡◌, List, Some, map, sym, ap, subst, ◌∙◌}
+use Rattle.std.proofs.Common.{◌≡◌, Some, map, sym, ap, subst}
 use Rattle.btree.specs.Scan.{entry_in}
 use Rattle.engine.specs.Known.{Known}
 use Rattle.engine.specs.Judging.{IsLoadingAs, numbered}

@@ -1,4 +1,3 @@
-use Rattle.btree.specs.Scan.{entry_in}
 use Rattle.engine.specs.Loading.{progress_of}
 use Rattle.engine.proofs.LoadingLemmas.{entries_end, entries_failed, entries_step}
 use Rattle.engine.proofs.loading.take_entries.Goals as goal

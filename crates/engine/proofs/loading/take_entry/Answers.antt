@@ -1,10 +1,9 @@
 use Rattle.std.proofs.Common.{◌≡◌, ◌<◌, ◌^◌, ℕ, List, Some, map, sym, ap, subst, ◌∙◌, ◌≤◌, length}
-use Rattle.std.specs.Prelude.{OnOk}
 use Rattle.btree.specs.Scan.{entry_in}
 use Rattle.index.specs.State.{Collection}
 use Rattle.index.specs.StateEntries.{key_under}
 use Rattle.bson.specs.Tree.{Pairs}
-use Rattle.engine.specs.Judging.{HasItsKeys, IsStoredAt, Progress, index_in, listed_of, numbered}
+use Rattle.engine.specs.Judging.{HasItsKeys, IsStoredAt, index_in, listed_of, numbered}
 use Rattle.engine.specs.Loading.{named_as, progress_of}
 use Rattle.engine.specs.declared.loading.Loading.{Loading}
 use Rattle.engine.proofs.LoadingLemmas.{document_judged, document_refused, key_judged, name_judged, name_refused, of_index, ok_on}
