@@ -1,6 +1,6 @@
 -- A collection that is made, and one that is dropped.
 use Rattle.std.proofs.Common.{◌≡◌, ℕ, zero, suc, ◌+◌, ◌≤◌, Bool, true, false, List, [], ◌∷◌, length, remove, set, Option, Some, None, Result, Ok, Err, refl, sym, ap, subst, ◌∙◌, arith}
-use Rattle.std.specs.Prelude.{◌==◌, ◌||◌, ◌&&◌, not, nat_le, if◌then◌else◌, is_some, All, codes}
+use Rattle.std.specs.Prelude.{◌==◌, ◌||◌, ◌&&◌, not, nat_le, if◌then◌else◌, is_some, All}
 use Rattle.std.specs.List.{AllPairs}
 use Rattle.std.specs.Str.{bytes_eq}
 use Rattle.std.specs.Cmp.Lexicographic.{slice_cmp}
@@ -8,7 +8,7 @@ use Rattle.std.specs.Ordering.{nat_cmp}
 use Rattle.std.specs.declared.cmp.Ordering.TheVariants as orders
 use Rattle.std.proofs.lemmas.List.{set-get_or}
 use Rattle.std.proofs.lemmas.List.Elements.{All-cons, All-head, All-tail}
-use Rattle.bson.specs.Tree.{Pairs, pair, no_pairs}
+use Rattle.bson.specs.Tree.{Pairs, no_pairs}
 use Rattle.outcome.specs.Outcome.{◌>>=◌, unless}
 use Rattle.path.specs.declared.refusal.Refusal.{Refusal}
 use Rattle.path.specs.declared.refusal.Refusal.TheVariants as refusals
@@ -20,8 +20,7 @@ use Rattle.index.specs.LawfulState.{AreNamedApart, AreNumberedApart}
 use Rattle.engine.specs.Places.{IsThere, collection_at, no_collection}
 use Rattle.engine.specs.Insert.{is_full}
 use Rattle.engine.specs.Create.{created, run_create}
-use Rattle.engine.specs.DropCollection.{dropped, run_drop}
-use Rattle.engine.specs.Refusals.{int, words}
+use Rattle.engine.specs.DropCollection.{drop_reply, dropped, index_count, run_drop}
 use Rattle.engine.proofs.Growing.{put_found}
 use Rattle.engine.proofs.Ordered.{without_there}
 
@@ -93,7 +92,7 @@ dropped_differs cs name next e same =
 
 module _ (w : World) (name : List ℕ) where
   abbrev reply : Pairs
-  reply = pair (codes "nIndexesWas") (int 1) (pair (codes "ns") (words name) no_pairs)
+  reply = drop_reply (index_count w.collections name) name
 
   pub run_drop-is : (cs : List Collection) → dropped w.collections name ≡ Ok cs → run_drop w (record { namespace = name }) ≡ Ok (record w { collections = cs }, reply)
   unfolding run_drop

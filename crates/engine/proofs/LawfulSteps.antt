@@ -37,11 +37,11 @@ use Rattle.engine.proofs.Applied.{upserted_stored}
 use Rattle.engine.proofs.LawfulUpdates.{SameKeys, from_kept, changed_lawful}
 use Rattle.commands.specs.ListCollections.{ListCollections}
 use Rattle.engine.specs.Create.{created, run_create}
-use Rattle.engine.specs.DropCollection.{dropped, run_drop}
+use Rattle.engine.specs.DropCollection.{drop_reply, dropped, index_count, run_drop}
 use Rattle.engine.specs.ListCollections.{names_in, listed, run_list_collections}
 use Rattle.engine.proofs.Creating.{dropped_lawful}
 use Rattle.engine.proofs.Listing.{go_into_one}
-use Rattle.engine.specs.Refusals.{int, total, words, ok_reply}
+use Rattle.engine.specs.Refusals.{int, total, ok_reply}
 use Rattle.commands.specs.Command.{Command, ping, insert as insert_of, find as find_of, count as count_of_all, delete, update, aggregate, create as create_of, drop as drop_of, list_collections, command_of, IsBounded, get_more, kill_cursors, hello}
 use Rattle.engine.specs.Lawful.{IsStored, IsWithin, IsKept, IsLawfulState, IsLawful, AreLawfulCursors}
 use Rattle.index.specs.LawfulState.{IsRising, AreNamedApart, AreNumberedApart}
@@ -354,10 +354,10 @@ good_create w name h short = λ x e.
 good_drop : (w : World) (name : List ℕ) → IsLawful w → length name ≤ 255 → Good (run_drop w (record { namespace = name }))
 unfolding run_drop
 good_drop w name h short = λ x e.
-    let reply = pair (codes "nIndexesWas") (int 1) (pair (codes "ns") (words name) no_pairs) in
+    let reply = drop_reply (index_count w.collections name) name in
     let s = step_of (dropped w.collections name) (λ cs. let r : Result (World × Pairs) Refusal = Ok (record w { collections = cs }, reply) in r) x e in
     let same : (record w { collections = s.0 }, reply) ≡ x = cc in
-    subst (λ (y : World × Pairs). IsLawful y.0 × IsSendable (ok_reply y.1)) same (record { collections = dropped_lawful w.collections name s.0 h.collections s.1; cursors = h.cursors }, drop-sendable name short)
+    subst (λ (y : World × Pairs). IsLawful y.0 × IsSendable (ok_reply y.1)) same (record { collections = dropped_lawful w.collections name s.0 h.collections s.1; cursors = h.cursors }, drop-sendable (index_count w.collections name) name short)
 
 good_list_collections : (w : World) (c : ListCollections) → IsLawful w → length c.database ≤ 63 → Good (run_list_collections w c)
 unfolding run_list_collections

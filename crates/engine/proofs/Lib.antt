@@ -17,6 +17,7 @@ pub mod Located
 pub mod Growing
 pub mod Deleting
 pub mod LostLemmas
+pub mod TakingOutLemmas
 pub mod NotingLemmas
 pub mod Finding
 pub mod NeededLemmas
@@ -49,6 +50,7 @@ pub mod GivingLemmas
 pub mod MergingLemmas
 pub mod MeantDeletions
 pub mod RemovingLemmas
+pub mod CataloguedLemmas
 pub mod TakenLemmas
 pub mod MeantUpdates
 pub mod MeantWrites

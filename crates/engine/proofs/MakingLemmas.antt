@@ -7,6 +7,7 @@ use Rattle.path.specs.declared.refusal.Refusal.TheVariants as refusals
 use Rattle.outcome.specs.Outcome.{◌>>=◌}
 use Rattle.btree.specs.Keys.{Edit}
 use Rattle.index.specs.Documents.{IsUnindexed}
+use Rattle.index.specs.LawfulState.{IsLawfulState}
 use Rattle.index.specs.State.{Collection}
 use Rattle.index.specs.StateEntries.{Leads}
 use Rattle.collections.specs.Calls.{HasCause, HasWriteCause, IsOfFile}
@@ -46,6 +47,10 @@ module _ {D : Type 0} (history : D → History) where
   pub unindexed_now : (engine : Engine D) → IsSound history engine → KeepsWord (disk_history history engine) → IsRunning engine → IsUnindexed (world engine).collections
   unindexed_now engine h k running = unindexed_state (world engine).collections h.lawful (h.file running k).now_state
 
+  -- and they are lawful
+  pub lawful_now : (engine : Engine D) → IsSound history engine → KeepsWord (disk_history history engine) → IsRunning engine → IsLawfulState (world engine).collections
+  lawful_now engine h k running = (h.file running k).now_state
+
   -- it was refused before anything was written
   pub makes_none : (planned : Result (List Collection) Refusal) (old new : Engine D) (e : Refusal) → OnlyReads history old new
       → (KeepsWord (disk_history history new) → (planned ≡ Err e) ⊎ HasCause history (file_of old) (file_of new) e) → Makes history planned (Err e) old new
@@ -83,6 +88,35 @@ module _ {D : Type 0} (history : D → History) where
             (subst (λ (cs : List Collection). HasWriteCause history (planned_or cs (plan cs)) mid.file new.file e) (now_same history old mid reads) (w.cause k))),
       );
       refused = w.err.1 ∙ reads.changes;
+    }
+
+  -- what was made behind reads
+  module _ (plan : List Collection → Result (List Collection) Refusal) (old mid new : Engine D) (reads : OnlyReads history old mid) where
+    pub makes_behind : (r : Result (Unit {0}) Refusal) → Makes history (plan (world mid).collections) r mid new → Makes history (plan (world old).collections) r old new
+    makes_behind (Ok tt) m = record {
+      sound = m.sound;
+      goes = laws.goes_further history old.file mid.file new.file reads.goes m.goes;
+      start = m.start ∙ ap (λ (k : Known). k.start) reads.told;
+      cursors = m.cursors ∙ reads.cursors;
+      does = λ k. ap plan (sym (now_same history old mid reads)) ∙ m.does k;
+      refused = tt;
+    }
+    makes_behind (Err e) m = record {
+      sound = m.sound;
+      goes = laws.goes_further history old.file mid.file new.file reads.goes m.goes;
+      start = m.start ∙ ap (λ (k : Known). k.start) reads.told;
+      cursors = m.cursors ∙ reads.cursors;
+      does = λ k.
+          let d = m.does k in
+          let same = now_same history old mid reads in (
+            d.0 ∙ same,
+            elim d.1 [
+              | inl is ↦ inl (ap plan (sym same) ∙ is)
+              | inr cause ↦ inr (write_cause_from history old.file mid.file new.file reads.goes (word_before history mid.file new.file m.goes k) (planned_or (world old).collections (plan (world old).collections)) e
+                  (subst (λ (cs : List Collection). HasWriteCause history (planned_or cs (plan cs)) mid.file new.file e) same cause))
+            ],
+          );
+      refused = m.refused ∙ reads.changes;
     }
 
 -- the collections that are planned, and this reply

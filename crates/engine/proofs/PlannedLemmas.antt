@@ -8,10 +8,10 @@ use Rattle.path.specs.declared.refusal.Refusal.{Refusal}
 use Rattle.path.specs.declared.refusal.Refusal.TheVariants as refusals
 use Rattle.index.specs.State.{Collection, find_collection, put_collection, without_collection}
 use Rattle.engine.specs.Create.{created, run_create}
-use Rattle.engine.specs.DropCollection.{dropped, run_drop}
+use Rattle.engine.specs.DropCollection.{drop_reply, dropped, index_count, run_drop}
 use Rattle.engine.specs.Insert.{inserted, run_insert}
 use Rattle.engine.specs.Lawful.{IsLawful, IsLawfulState}
-use Rattle.engine.specs.Refusals.{int, words}
+use Rattle.engine.specs.Refusals.{int}
 use Rattle.engine.specs.Numbering.{IsTooMany}
 use Rattle.engine.specs.World.{World, with_documents}
 use Rattle.engine.specs.Writing.{planned_or}
@@ -58,7 +58,7 @@ module _ (w : World) (name : List ℕ) where
   unfolding run_create
   run_creates = refl
 
-  pub run_drops : run_drop w (record { namespace = name }) ≡ with_reply w (pair (codes "nIndexesWas") (int 1) (pair (codes "ns") (words name) no_pairs)) (dropped w.collections name)
+  pub run_drops : run_drop w (record { namespace = name }) ≡ with_reply w (drop_reply (index_count w.collections name) name) (dropped w.collections name)
   unfolding run_drop
   run_drops = refl
 

@@ -38,6 +38,7 @@ pub mod ById
 pub mod Performing
 pub mod Merging
 pub mod Removing
+pub mod TakingOut
 pub mod Putting
 pub mod Trying
 pub mod Numbering

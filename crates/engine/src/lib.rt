@@ -25,6 +25,7 @@ mod loading;
 mod looking;
 mod numbering;
 mod refusal;
+mod removing;
 mod reply;
 mod shared_document;
 mod statements;
