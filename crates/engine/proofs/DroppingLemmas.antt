@@ -31,7 +31,7 @@ use Rattle.engine.specs.Looking.{Looks, LooksOf, OnlyReads}
 use Rattle.engine.specs.Performing.{Performs}
 use Rattle.engine.specs.Redoing.{without_each}
 use Rattle.engine.specs.Refusals.{ok_reply}
-use Rattle.engine.specs.TakingOut.{AreThere, HasHome, IsCatalogued, IsIndexable, TakesOut}
+use Rattle.engine.specs.TakingOut.{AreThere, HasHome, IsHome, IsIndexable, TakesOut}
 use Rattle.engine.specs.View.{world}
 use Rattle.engine.specs.World.{World, indexes_or_none}
 use Rattle.engine.specs.Writing.{Makes, planned_or, Writes}
@@ -51,7 +51,7 @@ module _ (now : List Collection) where
       subst (λ (s : List Collection). Leads [] now s × IsLawfulState s) (sym (put_same c now apart found)) ((λ entries spells. spells), lawful)
 
   -- those of a batch were taken out
-  pub left_on : (c : Collection) (home : Catalogued) (edits next : List Edit) → IsCatalogued now c home → (rest batch : List Pairs) → IsLeft now c edits rest → batch ≡ take (length batch) rest
+  pub left_on : (c : Collection) (home : Catalogued) (edits next : List Edit) → IsHome now c home → (rest batch : List Pairs) → IsLeft now c edits rest → batch ≡ take (length batch) rest
       → TakesOut edits next home.number home.indexes.items batch → IsLeft now c next (drop (length batch) rest)
   left_on c home edits next catalogued rest batch left first takes lawful =
       let led = left lawful in
@@ -154,7 +154,7 @@ pub record IsEmptiedTo {D : Type 0} (history : D → History) (home : Catalogued
       → Left home walk after (world old).collections c
 
 -- the indexes of the collection refuse none of its documents
-indexable_there : (now : List Collection) (c : Collection) (home : Catalogued) → IsLawfulState now → IsCatalogued now c home → All (IsIndexable home.indexes.items) c.documents
+indexable_there : (now : List Collection) (c : Collection) (home : Catalogued) → IsLawfulState now → IsHome now c home → All (IsIndexable home.indexes.items) c.documents
 indexable_there now c home state catalogued =
     subst (λ (is : List Definition). All (IsIndexable is) c.documents) catalogued.indexed (all_indexable c (kept_of now c state (found_in now c.name c catalogued.numbered.found)))
 

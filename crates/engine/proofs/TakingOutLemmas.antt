@@ -1,20 +1,23 @@
 -- Documents that are noted as removed with their entries in indexes, one after the other, and what that leaves.
-use Rattle.std.proofs.Common.{◌≡◌, ◌⊎◌, inl, inr, ℕ, zero, suc, ◌+◌, ◌<◌, ◌≤◌, Bool, true, false, List, [], ◌∷◌, ◌++◌, length, take, drop, map, get_or, Option, Some, None, Ok, refl, sym, ap, subst, ◌∙◌, arith}
-use Rattle.std.specs.Prelude.{⊤, if◌then◌else◌, unwrap_or, All}
+use Rattle.std.proofs.Common.{◌≡◌, ◌≢◌, ◌⊎◌, inl, inr, ℕ, zero, suc, ◌+◌, ◌<◌, ◌≤◌, Bool, true, false, List, [], ◌∷◌, ◌++◌, length, take, drop, map, get_or, Option, Some, Ok, Err, refl, sym, ap, subst, ◌∙◌, arith}
+use Rattle.std.specs.Prelude.{if◌then◌else◌, unwrap_or, All}
 use Rattle.std.specs.Ordering.{is_eq}
 use Rattle.std.specs.declared.cmp.Ordering.{Ordering}
 use Rattle.std.specs.declared.cmp.Ordering.TheVariants as orders
 use Rattle.std.proofs.lemmas.Cmp.{tied_itself}
 use Rattle.std.proofs.lemmas.List.{drop-map, drop_all}
+use Rattle.std.proofs.lemmas.List.Elements.{All-cons, All-drop, All-head}
 use Rattle.bson.specs.Tree.{Pairs, Tree}
 use Rattle.value_order.specs.Order.{compare}
 use Rattle.value_order.specs.TotalLaws.{compare_total}
 use Rattle.btree.specs.Keys.{Edit}
+use Rattle.path.specs.declared.refusal.Refusal.{Refusal}
+use Rattle.path.specs.declared.refusal.Refusal.TheVariants as refusals
 use Rattle.index.specs.Definition.{Definition}
 use Rattle.index.specs.Documents.{with_documents, without_document}
 use Rattle.index.specs.Indexed.{DeletesFrom}
-use Rattle.index.specs.KeyTexts.{encoded_keys, keys_in}
-use Rattle.index.specs.LawfulState.{IsIndexOf, IsKept, IsLawfulState}
+use Rattle.index.specs.KeyTexts.{encoded_keys, keys_in, keys_in_all}
+use Rattle.index.specs.LawfulState.{IsKept, IsLawfulState}
 use Rattle.index.specs.State.{Collection, find_collection, put_collection}
 use Rattle.index.specs.StateEntries.{Leads}
 use Rattle.index.specs.StateLaws.{MayBecome}
@@ -23,13 +26,14 @@ use Rattle.index.proofs.FoundLawLemmas.{finds_put, put_twice}
 use Rattle.index.proofs.HomeLemmas.{kept_of, listed_of, storable_of}
 use Rattle.index.proofs.KeptSteps.{kept_without_document}
 use Rattle.index.proofs.LawfulLaws.{all_of, stays_lawful}
-use Rattle.index.proofs.MemberLemmas.{Among, of_all}
+use Rattle.index.proofs.MemberLemmas.{of_all}
 use Rattle.index.proofs.PlaceLemmas.{found_in}
 use Rattle.index.proofs.StateEditLaws.{put_same}
 use Rattle.engine.specs.Documents.{key_of}
 use Rattle.engine.specs.Redoing.{without_each}
 use Rattle.engine.specs.TakingOut.{AreThere, IsIndexable, TakesOut}
 use Rattle.engine.proofs.EnteringLemmas.{all_keyed}
+use Rattle.engine.proofs.EnteringSteps.{memory_or}
 use Rattle.engine.proofs.Steps.{drop_step}
 
 -- ---- one document among others
@@ -96,6 +100,20 @@ module _ {X : Type 0} (lent : X → Pairs) (old mid : List Edit) (number : ℕ) 
 
   pub takes_all : length all ≤ i → TakesLeft old mid number indexes (map lent all) (map lent (drop i all)) → TakesOut old mid number indexes (map lent all)
   takes_all whole left = left mid (subst (TakesOut mid mid number indexes) (sym (ap (map lent) (drop_all i all whole))) (takes_none mid number indexes))
+
+  -- what holds of all of them holds of the one at hand
+  pub item_all : (P : Pairs → Type 0) (x : X) (d : Pairs) → i < length all → x ≡ get_or all i x → d ≡ lent x → All P (map lent all) → All P (d ∷ [])
+  item_all P x d within is same each =
+      let step : map lent (drop i all) ≡ d ∷ map lent (drop (i + 1) all) = ap (map lent) (drop_step all i x within is) ∙ ap (λ (e : Pairs). e ∷ map lent (drop (i + 1) all)) (sym same) in
+      let left : All P (d ∷ map lent (drop (i + 1) all)) = subst (All P) (drop-map lent i all ∙ step) (All-drop P i (map lent all) each) in
+      All-cons P d [] (All-head P d (map lent (drop (i + 1) all)) left) (λ k e below. absurd (omega (arith, below)))
+
+-- an index that doesn't refuse a document is refused its keys for want of memory alone
+pub keyed_memory : (indexes : List Definition) (d : Pairs) (e : Refusal) → All (IsIndexable indexes) (d ∷ []) → (e ≢ refusals.OutOfMemory → keys_in_all indexes d ≡ Err e) → e ≡ refusals.OutOfMemory
+keyed_memory indexes d e all refused = elim (memory_or e refused) [
+  | inl memory ↦ memory
+  | inr is ↦ (let both : Ok (map (λ i. encoded_keys i.fields d) indexes) ≡ Err e = sym (All-head (IsIndexable indexes) d [] all).keyed ∙ is in absurd cc)
+]
 
 -- ---- the documents of a collection
 

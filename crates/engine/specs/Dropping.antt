@@ -9,7 +9,7 @@ use Rattle.index.specs.LawfulState.{IsLawfulState}
 use Rattle.index.specs.State.{Collection}
 use Rattle.index.specs.StateEntries.{Leads}
 use Rattle.index.specs.declared.catalogue_reading.Catalogued.{Catalogued}
-use Rattle.engine.specs.TakingOut.{IsCatalogued, IsIndexable}
+use Rattle.engine.specs.TakingOut.{IsHome, IsIndexable}
 
 -- The edits lead to the collections with these documents alone in one of them.
 abbrev pub IsLeft : List Collection → Collection → List Edit → List Pairs → Type 0
@@ -23,13 +23,13 @@ pub record Emptied : Type 0 where
 
 -- The catalogue has this of it, and the edits leave all its documents.
 pub record IsFilled (home : Catalogued) (edits : List Edit) (now : List Collection) (c : Collection) : Type 0 where
-  pub catalogued : IsCatalogued now c home
+  pub catalogued : IsHome now c home
   pub leads : IsLeft now c edits c.documents
 
 -- The edits leave those documents that are still to come in a walk.
 pub record IsEmptying (home : Catalogued) (walk : Walk) (edits : List Edit) (now : List Collection) (x : Emptied)
     : Type 0 where
-  pub catalogued : IsCatalogued now x.collection home
+  pub catalogued : IsHome now x.collection home
   pub walks : IsWalk now walk x.rest
   pub indexable : IsLawfulState now → All (IsIndexable home.indexes.items) x.rest
   pub leads : IsLeft now x.collection edits x.rest

@@ -16,8 +16,8 @@ use Rattle.index.specs.declared.catalogue_reading.Catalogued.{Catalogued}
 use Rattle.engine.specs.Documents.{key_of}
 use Rattle.engine.specs.Redoing.{without_each}
 
--- The collection is there, and the catalogue has this of it.
-pub record IsCatalogued (now : List Collection) (c : Collection) (home : Catalogued) : Type 0 where
+-- The collection is there, and this is what the catalogue has of it.
+pub record IsHome (now : List Collection) (c : Collection) (home : Catalogued) : Type 0 where
   pub numbered : IsNumbered now c home.number
   pub indexed : c.indexes ≡ home.indexes.items
 
@@ -25,7 +25,7 @@ pub record IsCatalogued (now : List Collection) (c : Collection) (home : Catalog
 pub record HasHome (now : List Collection) (name : List ℕ) (home : Catalogued) : Type 0 where
   pub collection : Collection
   pub found : find_collection now name ≡ Some collection
-  pub catalogued : IsCatalogued now collection home
+  pub catalogued : IsHome now collection home
 
 -- ---- documents
 
