@@ -23,7 +23,6 @@ use Rattle.engine.specs.World.{World}
 use Rattle.engine.specs.Writing.{FileCause, Makes, planned_or, Writes}
 use Rattle.engine.specs.declared.engine.Engine.{Engine}
 use Rattle.engine.proofs.OnlyReading.{now_same, word_before, write_cause_from}
-use Rattle.engine.proofs.Sound.{for_memory}
 use Rattle.engine.proofs.UnindexedLemmas.{unindexed_state}
 
 -- what is refused by the file is one of its refusals
@@ -130,7 +129,7 @@ module _ {D : Type 0} (history : D → History) (reply : Pairs) (planned : Resul
     sound = h;
     goes = laws.goes_from_itself history old.file;
     start = refl;
-    does = λ k. (refl, inr (for_memory history old.file old.file (answered (world old) run).0));
+    does = λ k. (refl, inr (inl refl, λ k. inl (inl refl)));
     refused = refl;
   }
 
