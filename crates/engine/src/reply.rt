@@ -111,11 +111,7 @@ pub(crate) fn total_reply(alloc: Global, number: usize) -> Result<Document, NoMe
 }
 
 /// The reply of a `drop` of a collection with so many indexes, that of `_id` among them.
-pub(crate) fn drop_reply(
-    alloc: Global,
-    count: usize,
-    namespace: &str,
-) -> Result<Document, NoMemory>
+pub(crate) fn drop_reply(alloc: Global, count: usize, namespace: &str) -> Result<Document, NoMemory>
     requires { count ≤ 1000 }
     ensures { IfOk result (λ d. d ≡ ok_reply (drop_reply count namespace.now)) }
 {

@@ -35,7 +35,7 @@ write-requires g c κs within =
             after,
             λ k running.
                 let led = drop_leads g.D.Disk.history name c.args.home.now c.args.self.now c.requires.sound c.requires.home c.note_emptied.new.self c.new-edits.result c.note_emptied.new.edits c.new-edits.ensures
-                    c.in_ok-note_emptied.ensures c.remove_collection.new.self c.in_ok-remove_collection.ensures.leads k running in
+                c.in_ok-note_emptied.ensures c.remove_collection.new.self c.in_ok-remove_collection.ensures.leads k running in
                 (led.0, unindexed_state (planned_or now (dropped now name)) after led.1),
           ),
         ),
