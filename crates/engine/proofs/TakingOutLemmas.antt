@@ -32,6 +32,7 @@ use Rattle.index.proofs.StateEditLaws.{put_same}
 use Rattle.engine.specs.Documents.{key_of}
 use Rattle.engine.specs.Redoing.{without_each}
 use Rattle.engine.specs.TakingOut.{AreThere, IsIndexable, TakesOut}
+use Rattle.engine.proofs.EditPlaceLemmas.{goes_first}
 use Rattle.engine.proofs.EnteringLemmas.{all_keyed}
 use Rattle.engine.proofs.EnteringSteps.{memory_or}
 use Rattle.engine.proofs.Steps.{drop_step}
@@ -127,16 +128,13 @@ all_indexable c kept = all_of (IsIndexable c.indexes) c.documents (λ d stands. 
 pub first_there : (d : Pairs) (ds : List Pairs) → find_document (d ∷ ds) (key_of d) ≡ Some d
 first_there d ds = ap (λ (o : Ordering). if is_eq o then Some d else find_document ds (key_of d)) (tied_itself compare_total (key_of d))
 
-first_out : (d : Pairs) (ds : List Pairs) → without_document (key_of d) (d ∷ ds) ≡ ds
-first_out d ds = ap (λ (o : Ordering). if is_eq o then ds else d ∷ without_document (key_of d) ds) (tied_itself compare_total (key_of d))
-
 -- the first ones
 pub front_there : (n : ℕ) (ds : List Pairs) → AreThere (take n ds) ds
 front_there zero ds = tt
 front_there (suc n) [] = tt
-front_there (suc n) (d ∷ ds) = (first_there d ds, subst (AreThere (take n ds)) (sym (first_out d ds)) (front_there n ds))
+front_there (suc n) (d ∷ ds) = (first_there d ds, subst (AreThere (take n ds)) (sym (goes_first d ds)) (front_there n ds))
 
 pub front_out : (n : ℕ) (ds : List Pairs) → without_each (take n ds) ds ≡ drop n ds
 front_out zero ds = refl
 front_out (suc n) [] = refl
-front_out (suc n) (d ∷ ds) = ap (without_each (take n ds)) (first_out d ds) ∙ front_out n ds
+front_out (suc n) (d ∷ ds) = ap (without_each (take n ds)) (goes_first d ds) ∙ front_out n ds

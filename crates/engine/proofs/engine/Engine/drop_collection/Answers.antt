@@ -1,4 +1,4 @@
-use Rattle.std.proofs.Common.{◌+◌, Ok, sym, subst, ap, ◌∙◌, arith}
+use Rattle.std.proofs.Common.{ℕ, ◌+◌, Ok, sym, subst, ap, ◌∙◌}
 use Rattle.std.proofs.lemmas.Result.{err_from_is_err_and}
 use Rattle.engine.specs.DropCollection.{run_drop}
 use Rattle.engine.specs.View.{world, IsSendable}
