@@ -61,7 +61,7 @@ around (x ∷ ds) id d is = by (is_eq (compare id (key_of x))) is (around ds id 
 
 -- ---- what edits take out
 
-takes_one : (old new : List Edit) (number : ℕ) (indexes : List Definition) (d : Pairs) → DeletesFrom old new number indexes d → TakesOut old new number indexes (d ∷ [])
+pub takes_one : (old new : List Edit) (number : ℕ) (indexes : List Definition) (d : Pairs) → DeletesFrom old new number indexes d → TakesOut old new number indexes (d ∷ [])
 takes_one old new number indexes d deletes a b c leads lawful found numbered indexed there =
     let s = around c.documents (key_of d) d there.0 in
     let now : Collection = record c { documents = s.front ++ s.back } in
@@ -109,7 +109,7 @@ module _ {X : Type 0} (lent : X → Pairs) (old mid : List Edit) (number : ℕ) 
       let left : All P (d ∷ map lent (drop (i + 1) all)) = subst (All P) (drop-map lent i all ∙ step) (All-drop P i (map lent all) each) in
       All-cons P d [] (All-head P d (map lent (drop (i + 1) all)) left) (λ k e below. absurd (omega (arith, below)))
 
--- an index that doesn't refuse a document is refused its keys for want of memory alone
+-- where the indexes refuse a document nothing, its keys were refused for want of memory
 pub keyed_memory : (indexes : List Definition) (d : Pairs) (e : Refusal) → All (IsIndexable indexes) (d ∷ []) → (e ≢ refusals.OutOfMemory → keys_in_all indexes d ≡ Err e) → e ≡ refusals.OutOfMemory
 keyed_memory indexes d e all refused = elim (memory_or e refused) [
   | inl memory ↦ memory
