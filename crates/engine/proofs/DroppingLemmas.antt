@@ -1,6 +1,6 @@
 -- A collection's documents are noted as removed, batch after batch.
 use Rattle.std.proofs.Common.{◌≡◌, ◌⊎◌, ◌+◌, ◌<◌, inl, inr, ℕ, zero, suc, Bool, true, false, List, [], length, take, drop, Option, Some, None, Result, Ok, Err, refl, sym, ap, subst, ◌∙◌, arith}
-use Rattle.std.specs.Prelude.{◌==◌, not, All}
+use Rattle.std.specs.Prelude.{◌==◌, not, is_some, All}
 use Rattle.std.specs.Global.{Vec}
 use Rattle.std.proofs.lemmas.Bool.Decides.{nat_tests}
 use Rattle.std.proofs.lemmas.List.Elements.{All-drop, All-take}
@@ -14,6 +14,7 @@ use Rattle.collections.specs.State.{State}
 use Rattle.collections.specs.Walk.{BeginsWalk, IsWalk, StepsOn}
 use Rattle.collections.specs.declared.walk.Walk.{Walk}
 use Rattle.collections.proofs.StandingLemmas.{stopped_same}
+use Rattle.outcome.specs.Outcome.{unless}
 use Rattle.index.specs.Definition.{Definition}
 use Rattle.index.specs.Documents.{RemovesCollection, with_documents}
 use Rattle.index.specs.LawfulState.{AreNamedApart, IsLawfulState}
@@ -37,11 +38,22 @@ use Rattle.engine.specs.World.{World, indexes_or_none}
 use Rattle.engine.specs.Writing.{Makes, planned_or, Writes}
 use Rattle.engine.specs.declared.engine.Engine.{Engine}
 use Rattle.engine.proofs.CataloguedLemmas.{IsCatalogueOf, has_home, not_catalogued}
-use Rattle.engine.proofs.MakingLemmas.{lawful_now, makes_behind, makes_none, makes_written, performs_done, performs_refused, planned_is}
+use Rattle.engine.proofs.MakingLemmas.{lawful_now, makes_behind, makes_none, makes_written, performs_done, performs_refused, planned_is, with_reply}
 use Rattle.engine.proofs.OnlyReading.{cause_from, now_same, reads_file, reads_none, reads_on, word_before}
-use Rattle.engine.proofs.PlannedLemmas.{dropped_none, dropped_there, run_drops}
 use Rattle.engine.proofs.TakingOutLemmas.{all_indexable, front_out, front_there}
 use Rattle.engine.proofs.WalkingLemmas.{none_there}
+
+-- ---- what a drop comes to
+
+pub dropped_none : (cs : List Collection) (name : List ℕ) → find_collection cs name ≡ None → dropped cs name ≡ Err refusals.NamespaceNotFound
+dropped_none cs name none = ap (λ (o : Option Collection). unless (not (is_some o)) refusals.NamespaceNotFound (Ok (without_collection name cs))) none
+
+pub dropped_there : (cs : List Collection) (name : List ℕ) (c : Collection) → find_collection cs name ≡ Some c → dropped cs name ≡ Ok (without_collection name cs)
+dropped_there cs name c found = ap (λ (o : Option Collection). unless (not (is_some o)) refusals.NamespaceNotFound (Ok (without_collection name cs))) found
+
+pub run_drops : (w : World) (name : List ℕ) → run_drop w (record { namespace = name }) ≡ with_reply w (drop_reply (index_count w.collections name) name) (dropped w.collections name)
+unfolding run_drop
+run_drops w name = refl
 
 -- ---- the collection that is emptied
 

@@ -1,14 +1,14 @@
 -- What is planned of the collections is lawful, and commands reply by it.
 use Rattle.std.proofs.Common.{◌≡◌, ◌<◌, ◌≤◌, ℕ, Bool, true, false, List, [], length, Option, Some, None, Result, Ok, Err, refl, sym, ap, ◌∙◌, arith}
-use Rattle.std.specs.Prelude.{not, nat_le, is_some, codes}
+use Rattle.std.specs.Prelude.{nat_le, is_some, codes}
 use Rattle.std.proofs.lemmas.Bool.Decides.{nat_tests}
 use Rattle.bson.specs.Tree.{Pairs, no_pairs, pair}
 use Rattle.outcome.specs.Outcome.{unless}
 use Rattle.path.specs.declared.refusal.Refusal.{Refusal}
 use Rattle.path.specs.declared.refusal.Refusal.TheVariants as refusals
-use Rattle.index.specs.State.{Collection, find_collection, put_collection, without_collection}
+use Rattle.index.specs.State.{Collection, find_collection, put_collection}
 use Rattle.engine.specs.Create.{created, run_create}
-use Rattle.engine.specs.DropCollection.{drop_reply, dropped, index_count, run_drop}
+use Rattle.engine.specs.DropCollection.{dropped}
 use Rattle.engine.specs.Insert.{inserted, run_insert}
 use Rattle.engine.specs.Lawful.{IsLawful, IsLawfulState}
 use Rattle.engine.specs.Refusals.{int}
@@ -58,10 +58,6 @@ module _ (w : World) (name : List ℕ) where
   unfolding run_create
   run_creates = refl
 
-  pub run_drops : run_drop w (record { namespace = name }) ≡ with_reply w (drop_reply (index_count w.collections name) name) (dropped w.collections name)
-  unfolding run_drop
-  run_drops = refl
-
 -- ---- what a create comes to
 
 module _ (cs : List Collection) (name : List ℕ) where
@@ -84,11 +80,3 @@ module _ (cs : List Collection) (name : List ℕ) where
     created_new few =
         let room : nat_le 1000 (length cs) ≡ false = grind (arith, nat_tests) in
         created_none ∙ ap (λ (b : Bool). unless b refusals.TooMany (Ok made)) room
-
--- ---- what a drop comes to
-
-pub dropped_none : (cs : List Collection) (name : List ℕ) → find_collection cs name ≡ None → dropped cs name ≡ Err refusals.NamespaceNotFound
-dropped_none cs name none = ap (λ (o : Option Collection). unless (not (is_some o)) refusals.NamespaceNotFound (Ok (without_collection name cs))) none
-
-pub dropped_there : (cs : List Collection) (name : List ℕ) (c : Collection) → find_collection cs name ≡ Some c → dropped cs name ≡ Ok (without_collection name cs)
-dropped_there cs name c found = ap (λ (o : Option Collection). unless (not (is_some o)) refusals.NamespaceNotFound (Ok (without_collection name cs))) found
