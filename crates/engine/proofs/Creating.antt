@@ -21,6 +21,7 @@ use Rattle.engine.specs.Places.{IsThere, collection_at, no_collection}
 use Rattle.engine.specs.Insert.{is_full}
 use Rattle.engine.specs.Create.{created, run_create}
 use Rattle.engine.specs.DropCollection.{drop_reply, dropped, index_count, run_drop}
+use Rattle.engine.specs.Writing.{planned_or}
 use Rattle.engine.proofs.Growing.{put_found}
 use Rattle.engine.proofs.Ordered.{without_there}
 
@@ -173,3 +174,10 @@ dropped_lawful cs name next h e =
     let p = passed (not (is_some (find_collection cs name))) refusals.NamespaceNotFound (Ok (without_collection name cs)) next e in
     let now : without_collection name cs ≡ next = cc in
     subst IsLawfulState now (without_lawful cs name h)
+
+pub dropped_planned_lawful : (cs : List Collection) (name : List ℕ) → IsLawfulState cs → IsLawfulState (planned_or cs (dropped cs name))
+dropped_planned_lawful cs name h = by (dropped cs name) refl
+  where
+    by : (planned : Result (List Collection) Refusal) → dropped cs name ≡ planned → IsLawfulState (planned_or cs planned)
+    by (Ok next) is = dropped_lawful cs name next h is
+    by (Err e) is = h

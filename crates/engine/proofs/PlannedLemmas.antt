@@ -8,14 +8,13 @@ use Rattle.path.specs.declared.refusal.Refusal.{Refusal}
 use Rattle.path.specs.declared.refusal.Refusal.TheVariants as refusals
 use Rattle.index.specs.State.{Collection, find_collection, put_collection}
 use Rattle.engine.specs.Create.{created, run_create}
-use Rattle.engine.specs.DropCollection.{dropped}
 use Rattle.engine.specs.Insert.{inserted, run_insert}
 use Rattle.engine.specs.Lawful.{IsLawful, IsLawfulState}
 use Rattle.engine.specs.Refusals.{int}
 use Rattle.engine.specs.Numbering.{IsTooMany}
 use Rattle.engine.specs.World.{World, with_documents}
 use Rattle.engine.specs.Writing.{planned_or}
-use Rattle.engine.proofs.Creating.{dropped_lawful, run_create-is}
+use Rattle.engine.proofs.Creating.{run_create-is}
 use Rattle.engine.proofs.LawfulSteps.{good_create, good_insert}
 use Rattle.engine.proofs.MakingLemmas.{with_reply}
 use Rattle.engine.proofs.Running.{run_insert-done, run_insert-refused}
@@ -40,9 +39,6 @@ pub created_lawful : (cs : List Collection) (name : List ℕ) → IsLawfulState 
 created_lawful cs name h short = planned_lawful cs (created cs name) h (λ next is.
     let w = world_of_these cs in
     (good_create w name (lawful_world cs h) short (record w { collections = next }, no_pairs) (run_create-is w name next is)).0.collections)
-
-pub dropped_planned_lawful : (cs : List Collection) (name : List ℕ) → IsLawfulState cs → IsLawfulState (planned_or cs (dropped cs name))
-dropped_planned_lawful cs name h = planned_lawful cs (dropped cs name) h (λ next is. dropped_lawful cs name next h is)
 
 -- ---- replies
 

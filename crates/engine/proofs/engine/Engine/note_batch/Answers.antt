@@ -15,7 +15,7 @@ returns-in_err-batch-clause-looks g c =
 
 pub returns-in_err-note_removed-clause-looks : goal.returns-in_err-note_removed-clause-looks
 returns-in_err-note_removed-clause-looks g c =
-    let p = err_from_is_err_and c.from_residual.result c.from_residual.ensures.1 in
+    let p = err_from_is_err_and c.from_residual-in_err-note_removed.result c.from_residual-in_err-note_removed.ensures.1 in
     let lent = map-id c.deref.result.now ∙ c.deref.ensures.value in
     rw (p.1, p.2) (batch_not_removed g.D.Disk.history c.args.self.now c.requires.sound c.requires.running c.args.home.now c.args.walk.now c.next_documents.new.walk c.args.edits.now c.note_removed.new.edits c.next_documents.new.self
     c.in_ok-batch.batch c.in_ok-batch.ensures.reads c.in_err-note_removed.field-0.0

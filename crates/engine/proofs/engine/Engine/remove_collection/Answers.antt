@@ -3,8 +3,8 @@ use Rattle.std.proofs.lemmas.Result.{err_from_is_err_and}
 use Rattle.engine.specs.DropCollection.{dropped}
 use Rattle.engine.specs.View.{world}
 use Rattle.engine.specs.Writing.{planned_or}
+use Rattle.engine.proofs.Creating.{dropped_planned_lawful}
 use Rattle.engine.proofs.DroppingLemmas.{drop_leads, drop_refused, drop_without_memory, drop_written}
-use Rattle.engine.proofs.PlannedLemmas.{dropped_planned_lawful}
 use Rattle.engine.proofs.UnindexedLemmas.{unindexed_state}
 use Rattle.engine.proofs.engine.Engine.remove_collection.Goals as goal
 
