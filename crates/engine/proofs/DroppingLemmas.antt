@@ -38,7 +38,7 @@ use Rattle.engine.specs.World.{World, indexes_or_none}
 use Rattle.engine.specs.Writing.{Makes, planned_or, Writes}
 use Rattle.engine.specs.declared.engine.Engine.{Engine}
 use Rattle.engine.proofs.CataloguedLemmas.{IsCatalogueOf, has_home, not_catalogued}
-use Rattle.engine.proofs.MakingLemmas.{lawful_now, makes_behind, makes_none, makes_written, performs_done, performs_refused, planned_is, with_reply}
+use Rattle.engine.proofs.MakingLemmas.{lawful_now, leads_planned, makes_behind, makes_none, makes_written, performs_done, performs_refused, planned_is, with_reply}
 use Rattle.engine.proofs.OnlyReading.{cause_from, now_same, reads_file, reads_none, reads_on, word_before}
 use Rattle.engine.proofs.TakingOutLemmas.{all_indexable, front_out, front_there}
 use Rattle.engine.proofs.WalkingLemmas.{none_there}
@@ -274,8 +274,8 @@ module _ {D : Type 0} (history : D → History) (name : List ℕ) (home : Catalo
           let t = there (word_before history old.file last.file emptied.reads.goes k) in
           let left : IsLeft cs t.collection edits [] = subst (λ (ds : List Collection). IsLeft ds t.collection edits []) (sym same_last) (emptied.answers k t.collection (filled t)) in
           let found : find_collection cs name ≡ Some t.collection = ap (λ (ds : List Collection). find_collection ds name) same_last ∙ t.found in
-          let led = removes_all cs t.collection name edits next found left removes (lawful_now history last emptied.reads.sound k running) in
-          subst (λ (s : List Collection). Leads next cs s × IsLawfulState s) (sym (ap (planned_or cs) (dropped_there cs name t.collection found))) led
+          leads_planned next cs (without_collection name cs) (Plan cs) (dropped_there cs name t.collection found)
+          (removes_all cs t.collection name edits next found left removes (lawful_now history last emptied.reads.sound k running))
 
       pub drop_written : (r : Result (Unit {0}) Refusal) (new : Engine D) → Writes history (planned_or (world last).collections (Plan (world last).collections)) r last new → Drops r new
       drop_written r new writes =

@@ -12,7 +12,7 @@ use Rattle.commands.specs.View.{documents_at}
 use Rattle.collections.specs.Calls.{HasCause}
 use Rattle.collections.specs.Reading.{IsWithinLimits, catalogued_in, catalogued_of}
 use Rattle.update.specs.Stored.{id_first}
-use Rattle.index.specs.Documents.{AddsCollection, IsUnindexed}
+use Rattle.index.specs.Documents.{AddsCollection}
 use Rattle.index.specs.LawfulState as states
 use Rattle.index.specs.State.{Collection, find_collection, put_collection}
 use Rattle.index.specs.StateEntries.{Leads}
@@ -20,7 +20,6 @@ use Rattle.index.specs.declared.catalogue_reading.Catalogued.{Catalogued}
 use Rattle.engine.specs.Documents.{checked, insert_all, insert_one, key_of}
 use Rattle.engine.specs.Durable.{disk_history, file_of, IsRunning, IsSound}
 use Rattle.engine.specs.Insert.{inserted}
-use Rattle.engine.specs.Lawful.{IsLawfulState}
 use Rattle.engine.specs.Looking.{Looks, OnlyReads}
 use Rattle.engine.specs.Numbering.{IsNewNumber, IsTooMany}
 use Rattle.engine.specs.Storing.{AreNoted, HasNoted, IsAny, IsFull, IsReplaced, Notes, entering}
@@ -30,12 +29,11 @@ use Rattle.engine.specs.World.{collection_of}
 use Rattle.engine.specs.Writing.{Makes, planned_or, Writes}
 use Rattle.engine.specs.declared.engine.Engine.{Engine}
 use Rattle.engine.proofs.EnteringSteps.{memory_or}
-use Rattle.engine.proofs.MakingLemmas.{makes_none, makes_written, planned_is}
+use Rattle.engine.proofs.MakingLemmas.{lawful_now, leads_planned, makes_none, makes_written, planned_is}
 use Rattle.engine.proofs.NewCollections.{IsNumberOf, new_for, not_new}
 use Rattle.engine.proofs.OnlyReading.{cause_from, now_same, reads_on, word_before}
 use Rattle.engine.proofs.Steps.{drop_step}
 use Rattle.engine.proofs.StoringLemmas.{enters_checked, full_of, inserted_full, inserted_there, IsSoFar, noted_new, noted_there, refused_unchecked, so_far_all, so_far_none, so_far_one, so_far_refused}
-use Rattle.engine.proofs.UnindexedLemmas.{unindexed_state}
 
 -- ---- the collection
 
@@ -254,17 +252,11 @@ module _ {D : Type 0} (history : D → History) (name : List ℕ) (all : List Pa
                 (has.noted.leads (subst states.IsLawfulState same state));
           }
 
-      pub stores_leads : IsLawfulState (planned_or (world last).collections (Plan (world last).collections)) → KeepsWord (disk_history history last) → IsRunning last
-          → Leads edits (world last).collections (planned_or (world last).collections (Plan (world last).collections)) × IsUnindexed (planned_or (world last).collections (Plan (world last).collections))
-      stores_leads lawful k running =
+      pub stores_leads : KeepsWord (disk_history history last) → IsRunning last
+          → Leads edits (world last).collections (planned_or (world last).collections (Plan (world last).collections)) × states.IsLawfulState (planned_or (world last).collections (Plan (world last).collections))
+      stores_leads k running =
           let p = planned_there k in
-          let cs = (world last).collections in
-          let led = p.leads (notes.reads.sound.file running k).now_state in
-          let same : planned_or cs (Plan cs) ≡ p.next = ap (planned_or cs) p.is in
-          (
-            subst (Leads edits cs) (sym same) led.0,
-            unindexed_state (planned_or cs (Plan cs)) lawful (subst states.IsLawfulState (sym same) led.1),
-          )
+          leads_planned edits (world last).collections p.next (Plan (world last).collections) p.is (p.leads (lawful_now history last notes.reads.sound k running))
 
       pub stores_written : (r : Result (Unit {0}) Refusal) (new : Engine D) → Writes history (planned_or (world last).collections (Plan (world last).collections)) r last new → Stores r new
       stores_written r new writes =

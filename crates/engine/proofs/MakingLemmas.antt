@@ -37,9 +37,9 @@ pub planned_is : (cs next : List Collection) (planned : Result (List Collection)
 planned_is cs next planned is = is ∙ ap (λ (p : Result (List Collection) Refusal). Ok (planned_or cs p)) (sym is)
 
 -- edits that lead to what is planned
-pub leads_planned : (edits : List Edit) (cs next : List Collection) (planned : Result (List Collection) Refusal) → planned ≡ Ok next → Leads edits cs next × IsUnindexed next
-    → Leads edits cs (planned_or cs planned) × IsUnindexed (planned_or cs planned)
-leads_planned edits cs next planned is led = subst (λ (s : List Collection). Leads edits cs s × IsUnindexed s) (sym (ap (planned_or cs) is)) led
+pub leads_planned : (edits : List Edit) (cs next : List Collection) (planned : Result (List Collection) Refusal) → planned ≡ Ok next → Leads edits cs next × IsLawfulState next
+    → Leads edits cs (planned_or cs planned) × IsLawfulState (planned_or cs planned)
+leads_planned edits cs next planned is led = subst (λ (s : List Collection). Leads edits cs s × IsLawfulState s) (sym (ap (planned_or cs) is)) led
 
 module _ {D : Type 0} (history : D → History) where
   -- while an engine runs, its collections have no indexes

@@ -11,7 +11,6 @@ use Rattle.engine.proofs.Deleting.{deleted_lawful}
 use Rattle.engine.proofs.MakingLemmas.{lawful_now, makes_none}
 use Rattle.engine.proofs.OnlyReading.{reads_none}
 use Rattle.engine.proofs.RemovingLemmas.{remove_stopped, removes_nothing, removes_written, removal_leads, taken_indexable}
-use Rattle.engine.proofs.UnindexedLemmas.{unindexed_state}
 use Rattle.engine.proofs.WalkingLemmas.{none_there, some_there}
 use Rattle.engine.proofs.engine.Engine.remove.Goals as goal
 
@@ -52,19 +51,17 @@ write-requires g c κs within =
     let lent = map-id c.deref.result.now ∙ c.deref.ensures.value in
     let takes : TakesOut [] edits number indexes taken.removed.items =
     subst (λ (ds : List Pairs). TakesOut [] edits number indexes ds) lent
-    (subst (λ (es : List Edit). TakesOut es edits number indexes (map (λ (d : Pairs). d) c.deref.result.now)) c.new-edits.ensures c.in_ok-note_removed.ensures) in
-    let after = deleted_lawful now name ds c.requires.sound.lawful in (
+    (subst (λ (es : List Edit). TakesOut es edits number indexes (map (λ (d : Pairs). d) c.deref.result.now)) c.new-edits.ensures c.in_ok-note_removed.ensures) in (
       search rules,
       (
         search rules,
         (
           c.requires.sound,
           (
-            after,
+            deleted_lawful now name ds c.requires.sound.lawful,
             λ k running.
                 let state = lawful_now g.D.Disk.history c.args.self.now c.requires.sound k running in
-                let led = removal_leads now name ds taken (c.requires.taken k) edits some state takes in
-                (led.0, unindexed_state (deleted now name ds) after led.1),
+                removal_leads now name ds taken (c.requires.taken k) edits some state takes,
           ),
         ),
       ),

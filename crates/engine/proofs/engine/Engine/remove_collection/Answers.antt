@@ -1,11 +1,8 @@
 use Rattle.std.proofs.Common.{rules}
 use Rattle.std.proofs.lemmas.Result.{err_from_is_err_and}
-use Rattle.engine.specs.DropCollection.{dropped}
 use Rattle.engine.specs.View.{world}
-use Rattle.engine.specs.Writing.{planned_or}
 use Rattle.engine.proofs.Creating.{dropped_planned_lawful}
 use Rattle.engine.proofs.DroppingLemmas.{drop_leads, drop_refused, drop_without_memory, drop_written}
-use Rattle.engine.proofs.UnindexedLemmas.{unindexed_state}
 use Rattle.engine.proofs.engine.Engine.remove_collection.Goals as goal
 
 pub returns-in_err-note_emptied : goal.returns-in_err-note_emptied
@@ -24,19 +21,16 @@ pub write-requires : goal.write-requires
 write-requires g c κs within =
     let sound = c.in_ok-note_emptied.ensures.reads.sound in
     let now = (world c.note_emptied.new.self).collections in
-    let name = c.args.namespace.now in
-    let after = dropped_planned_lawful now name sound.lawful in (
+    let name = c.args.namespace.now in (
       search rules,
       (
         search rules,
         (
           sound,
           (
-            after,
-            λ k running.
-                let led = drop_leads g.D.Disk.history name c.args.home.now c.args.self.now c.requires.sound c.requires.home c.note_emptied.new.self c.new-edits.result c.note_emptied.new.edits c.new-edits.ensures
-                c.in_ok-note_emptied.ensures c.remove_collection.new.self c.in_ok-remove_collection.ensures.leads k running in
-                (led.0, unindexed_state (planned_or now (dropped now name)) after led.1),
+            dropped_planned_lawful now name sound.lawful,
+            drop_leads g.D.Disk.history name c.args.home.now c.args.self.now c.requires.sound c.requires.home c.note_emptied.new.self c.new-edits.result c.note_emptied.new.edits c.new-edits.ensures
+                c.in_ok-note_emptied.ensures c.remove_collection.new.self c.in_ok-remove_collection.ensures.leads,
           ),
         ),
       ),

@@ -31,7 +31,7 @@ write-requires g c κs within =
           sound,
           (
             lawful,
-            stores_leads g.D.Disk.history name ds c.args.self.now c.target.new.self c.target.new.edits c.in_ok-home.home c.in_ok-home.ensures.tries c.note_documents.new.self c.note_documents.new.home c.note_documents.new.edits c.in_ok-note_documents.ensures lawful,
+            stores_leads g.D.Disk.history name ds c.args.self.now c.target.new.self c.target.new.edits c.in_ok-home.home c.in_ok-home.ensures.tries c.note_documents.new.self c.note_documents.new.home c.note_documents.new.edits c.in_ok-note_documents.ensures,
           ),
         ),
       ),
