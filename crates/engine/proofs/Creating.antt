@@ -1,23 +1,22 @@
 -- A collection that is made, and one that is dropped.
-use Rattle.std.proofs.Common.{◌≡◌, ℕ, zero, suc, ◌+◌, ◌≤◌, Bool, true, false, List, [], ◌∷◌, length, remove, set, Option, Some, None, Result, Ok, Err, refl, sym, ap, subst, ◌∙◌, arith}
+use Rattle.std.proofs.Common.{◌≡◌, ℕ, zero, suc, ◌+◌, ◌≤◌, Bool, true, false, List, [], ◌∷◌, length, remove, Option, Some, None, Result, Ok, Err, refl, sym, ap, subst, ◌∙◌, arith}
 use Rattle.std.specs.Prelude.{◌==◌, ◌||◌, ◌&&◌, not, nat_le, if◌then◌else◌, is_some, All}
 use Rattle.std.specs.List.{AllPairs}
 use Rattle.std.specs.Str.{bytes_eq}
 use Rattle.std.specs.Cmp.Lexicographic.{slice_cmp}
 use Rattle.std.specs.Ordering.{nat_cmp}
 use Rattle.std.specs.declared.cmp.Ordering.TheVariants as orders
-use Rattle.std.proofs.lemmas.List.{set-get_or}
 use Rattle.std.proofs.lemmas.List.Elements.{All-cons, All-head, All-tail}
 use Rattle.bson.specs.Tree.{Pairs, no_pairs}
 use Rattle.outcome.specs.Outcome.{◌>>=◌, unless}
 use Rattle.path.specs.declared.refusal.Refusal.{Refusal}
 use Rattle.path.specs.declared.refusal.Refusal.TheVariants as refusals
 use Rattle.commands.specs.OutcomeLaws.{passed}
-use Rattle.engine.specs.World.{World, documents_of, documents_or_none, with_documents}
+use Rattle.engine.specs.World.{World, with_documents}
 use Rattle.index.specs.State.{Collection, find_collection, uses, put_collection, without_collection}
 use Rattle.engine.specs.Lawful.{IsKept, IsLawfulState}
 use Rattle.index.specs.LawfulState.{AreNamedApart, AreNumberedApart}
-use Rattle.engine.specs.Places.{IsThere, collection_at, no_collection}
+use Rattle.engine.specs.Places.{IsThere}
 use Rattle.engine.specs.Insert.{is_full}
 use Rattle.engine.specs.Create.{created, run_create}
 use Rattle.engine.specs.DropCollection.{drop_reply, dropped, index_count, run_drop}

@@ -1,9 +1,8 @@
 -- Documents that are noted as removed with their entries in indexes, one after the other, and what that leaves.
-use Rattle.std.proofs.Common.{◌≡◌, ◌≢◌, ◌⊎◌, inl, inr, ℕ, zero, suc, ◌+◌, ◌<◌, ◌≤◌, Bool, true, false, List, [], ◌∷◌, ◌++◌, length, take, drop, map, get_or, Option, Some, Ok, Err, refl, sym, ap, subst, ◌∙◌, arith}
+use Rattle.std.proofs.Common.{◌≡◌, ◌≢◌, inl, inr, ℕ, zero, suc, ◌+◌, ◌<◌, ◌≤◌, Bool, true, false, List, [], ◌∷◌, ◌++◌, length, take, drop, map, get_or, Option, Some, Ok, Err, refl, sym, ap, subst, ◌∙◌, arith}
 use Rattle.std.specs.Prelude.{if◌then◌else◌, unwrap_or, All}
 use Rattle.std.specs.Ordering.{is_eq}
 use Rattle.std.specs.declared.cmp.Ordering.{Ordering}
-use Rattle.std.specs.declared.cmp.Ordering.TheVariants as orders
 use Rattle.std.proofs.lemmas.Cmp.{tied_itself}
 use Rattle.std.proofs.lemmas.List.{drop-map, drop_all}
 use Rattle.std.proofs.lemmas.List.Elements.{All-cons, All-drop, All-head}
@@ -18,7 +17,7 @@ use Rattle.index.specs.Documents.{with_documents, without_document}
 use Rattle.index.specs.Indexed.{DeletesFrom}
 use Rattle.index.specs.KeyTexts.{encoded_keys, keys_in, keys_in_all}
 use Rattle.index.specs.LawfulState.{IsKept, IsLawfulState}
-use Rattle.index.specs.State.{Collection, find_collection, put_collection}
+use Rattle.index.specs.State.{Collection, put_collection}
 use Rattle.index.specs.StateEntries.{Leads}
 use Rattle.index.specs.StateLaws.{MayBecome}
 use Rattle.index.specs.StateReads.{find_document}

@@ -1,5 +1,5 @@
 -- Documents that are noted as removed from the file, batch after batch, until their collection has none.
-use Rattle.std.specs.Prelude.{◌≡◌, ℕ, Bool, false, List, [], All}
+use Rattle.std.specs.Prelude.{◌≡◌, Bool, false, List, [], All}
 use Rattle.bson.specs.Tree.{Pairs}
 use Rattle.btree.specs.Keys.{Edit}
 use Rattle.collections.specs.Walk.{IsWalk}
