@@ -23,7 +23,7 @@ use Rattle.commands.specs.DropCollection.{DropCollection}
 use Rattle.commands.specs.ListCollections.{ListCollections}
 use Rattle.commands.specs.Command.{Command, ping, hello, insert, find, get_more, kill_cursors, count, delete, update, aggregate, create, drop as drop_of, list_collections, command_of}
 use Rattle.aggregate.specs.Pipeline.{run as after_pipeline}
-use Rattle.engine.specs.World.{World, Cursor, documents_of, with_documents, at_rest, untouched, without_cursors}
+use Rattle.engine.specs.World.{collection_of, World, Cursor, documents_of, with_documents, at_rest, untouched, without_cursors}
 use Rattle.index.specs.State.{Collection, put_collection}
 use Rattle.engine.specs.Documents.{insert_all}
 use Rattle.engine.specs.Refusals.{int}
@@ -200,12 +200,12 @@ module _ (k : ℕ) (w : World) (connection : ℕ) (left : List Pairs) (drawn : k
 
   inserted : (c : Insert) → Keeps (run_insert w c)
   unfolding run_insert
-  inserted c = at (is_full w.collections c.namespace) (insert_all (documents_of w.collections c.namespace) c.documents)
+  inserted c = at (is_full w.collections c.namespace) (insert_all (collection_of w.collections c.namespace) c.documents)
     where
-      at : (full : Bool) (r : Result (List Pairs) Refusal)
-          → Keeps (unless full refusals.TooMany (r >>= (λ stored. let x : Result (World × Pairs) Refusal = Ok (record w { collections = put_collection (with_documents w.collections c.namespace stored) w.collections }, pair (codes "n") (int (length c.documents)) no_pairs) in x)))
+      at : (full : Bool) (r : Result Collection Refusal)
+          → Keeps (unless full refusals.TooMany (r >>= (λ next. let x : Result (World × Pairs) Refusal = Ok (record w { collections = put_collection next w.collections }, pair (codes "n") (int (length c.documents)) no_pairs) in x)))
       at true r = same
-      at false (Ok stored) = on (put_collection (with_documents w.collections c.namespace stored) w.collections)
+      at false (Ok next) = on (put_collection next w.collections)
       at false (Err e) = same
 
   counted : (c : Count) → Keeps (run_count w c)

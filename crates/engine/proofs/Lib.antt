@@ -15,6 +15,7 @@ pub mod Numbers
 pub mod Ending
 pub mod Located
 pub mod Growing
+pub mod EnteredLemmas
 pub mod Deleting
 pub mod LostLemmas
 pub mod TakingOutLemmas

@@ -23,7 +23,7 @@ use Rattle.engine.specs.DropCollection.{drop_reply, dropped, index_count, run_dr
 use Rattle.engine.specs.ListCollections.{run_list_collections}
 use Rattle.commands.specs.Command.{Command, ping, hello, insert, find, get_more, kill_cursors, count, delete, update, aggregate, create, drop as drop_of, list_collections, command_of}
 use Rattle.aggregate.specs.Pipeline.{run as after_pipeline}
-use Rattle.engine.specs.World.{World, Cursor, documents_of, with_documents, untouched, are_untouched}
+use Rattle.engine.specs.World.{collection_of, World, Cursor, documents_of, with_documents, untouched, are_untouched}
 use Rattle.index.specs.State.{Collection, put_collection}
 use Rattle.engine.specs.Documents.{insert_all}
 use Rattle.engine.specs.Refusals.{int}
@@ -93,12 +93,12 @@ module _ (w : World) (connection : ℕ) where
 
   inserted : (c : Insert) → Comes (run_insert w c)
   unfolding run_insert
-  inserted c = at (is_full w.collections c.namespace) (insert_all (documents_of w.collections c.namespace) c.documents)
+  inserted c = at (is_full w.collections c.namespace) (insert_all (collection_of w.collections c.namespace) c.documents)
     where
-      at : (full : Bool) (r : Result (List Pairs) Refusal)
-          → Comes (unless full refusals.TooMany (r >>= (λ stored. let x : Result (World × Pairs) Refusal = Ok (record w { collections = put_collection (with_documents w.collections c.namespace stored) w.collections }, pair (codes "n") (int (length c.documents)) no_pairs) in x)))
+      at : (full : Bool) (r : Result Collection Refusal)
+          → Comes (unless full refusals.TooMany (r >>= (λ next. let x : Result (World × Pairs) Refusal = Ok (record w { collections = put_collection next w.collections }, pair (codes "n") (int (length c.documents)) no_pairs) in x)))
       at true r d rests h = h
-      at false (Ok stored) d rests h = h
+      at false (Ok next) d rests h = h
       at false (Err e) d rests h = h
 
   counted : (c : Count) → Comes (run_count w c)

@@ -19,7 +19,6 @@ pub mod Lawful
 pub mod Places
 pub mod Redoing
 pub mod Known
-pub mod DocumentWrite
 pub mod Writes
 pub mod WriteLaws
 pub mod Updating
