@@ -80,7 +80,7 @@ not_refused fs d keyed = by (is_too_long fs d) (has_parallel_arrays fs d) keyed
     by false false e = (refl, refl)
 
 -- a document that each index takes is taken by all
-all_keyed : (is : List Definition) (d : Pairs) → ((i : Definition) → Among i is → keys_in i.fields d ≡ Ok (encoded_keys i.fields d)) → keys_in_all is d ≡ Ok (map (λ i. encoded_keys i.fields d) is)
+pub all_keyed : (is : List Definition) (d : Pairs) → ((i : Definition) → Among i is → keys_in i.fields d ≡ Ok (encoded_keys i.fields d)) → keys_in_all is d ≡ Ok (map (λ i. encoded_keys i.fields d) is)
 all_keyed is d each = λ t. unless (long is each t) refusals.KeyTooLong (unless (parallel is each t) refusals.CannotIndexParallelArrays (Ok (map (λ i. encoded_keys i.fields d) is)))
   where
     long : (js : List Definition) → ((i : Definition) → Among i js → keys_in i.fields d ≡ Ok (encoded_keys i.fields d)) → list_any (λ i. is_too_long i.fields d) js ≡ false

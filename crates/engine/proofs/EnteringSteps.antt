@@ -111,7 +111,7 @@ module _ {D : Type 0} (history : D → History) (old : Engine D) (h : IsSound hi
 -- ---- a document
 
 -- either memory ran out, or it is so
-memory_or : {P : Type 0} (e : Refusal) → (e ≢ refusals.OutOfMemory → P) → (e ≡ refusals.OutOfMemory) ⊎ P
+pub memory_or : {P : Type 0} (e : Refusal) → (e ≢ refusals.OutOfMemory → P) → (e ≡ refusals.OutOfMemory) ⊎ P
 memory_or refusals.OutOfMemory h = inl refl
 memory_or e h = inr (h (λ f. absurd cc))
 

@@ -17,11 +17,10 @@ use Rattle.bson.specs.Spelling.{items_bytes}
 use Rattle.bson.specs.declared.fault.BsonFault.{BsonFault}
 use Rattle.value_order.specs.Order.{compare}
 use Rattle.value_order.specs.TotalLaws.{compare_total}
-use Rattle.engine.specs.World.{World, Cursor, unused, number_or, with_documents, documents_or_none, indexes_or_none, documents_of}
+use Rattle.engine.specs.World.{World, Cursor, collection_of, unused, number_or, with_documents, documents_or_none, indexes_or_none, documents_of}
 use Rattle.index.specs.State.{Collection, find_collection, uses, put_collection}
 use Rattle.outcome.specs.Outcome.{◌>>=◌, unless, or_refused}
-use Rattle.engine.specs.Documents.{key_of, place, checked, insert_one, insert_all}
-use Rattle.update.specs.Stored.{id_first}
+use Rattle.engine.specs.Documents.{key_of, place, insert_all}
 use Rattle.commands.specs.Find.{Query}
 use Rattle.commands.specs.Count.{Count}
 use Rattle.commands.specs.Aggregate.{Aggregate}
@@ -37,11 +36,11 @@ use Rattle.engine.proofs.Applied.{upserted_stored}
 use Rattle.engine.proofs.LawfulUpdates.{SameKeys, from_kept, changed_lawful}
 use Rattle.commands.specs.ListCollections.{ListCollections}
 use Rattle.engine.specs.Create.{created, run_create}
-use Rattle.engine.specs.DropCollection.{dropped, run_drop}
+use Rattle.engine.specs.DropCollection.{drop_reply, dropped, index_count, run_drop}
 use Rattle.engine.specs.ListCollections.{names_in, listed, run_list_collections}
 use Rattle.engine.proofs.Creating.{dropped_lawful}
 use Rattle.engine.proofs.Listing.{go_into_one}
-use Rattle.engine.specs.Refusals.{int, total, words, ok_reply}
+use Rattle.engine.specs.Refusals.{int, total, ok_reply}
 use Rattle.commands.specs.Command.{Command, ping, insert as insert_of, find as find_of, count as count_of_all, delete, update, aggregate, create as create_of, drop as drop_of, list_collections, command_of, IsBounded, get_more, kill_cursors, hello}
 use Rattle.engine.specs.Lawful.{IsStored, IsWithin, IsKept, IsLawfulState, IsLawful, AreLawfulCursors}
 use Rattle.index.specs.LawfulState.{IsRising, AreNamedApart, AreNumberedApart}
@@ -61,7 +60,7 @@ use Rattle.path.specs.declared.refusal.Refusal.{Refusal}
 use Rattle.path.specs.declared.refusal.Refusal.TheVariants as refusals
 use Rattle.commands.specs.OutcomeLaws.{step_of, passed}
 use Rattle.commands.specs.CommandLaws.{bounded}
-use Rattle.engine.proofs.Checked.{keeps}
+use Rattle.engine.proofs.EnteredLemmas.{has_grown}
 use Rattle.engine.proofs.Located.{Gap, There, located}
 use Rattle.engine.proofs.Deleting.{deleted_lawful}
 use Rattle.engine.proofs.Finding.{found_within}
@@ -83,24 +82,6 @@ kept_place ds new next h stored e = at (located compare_total key_of ds (key_of 
         let same : insert ds g.0 new ≡ next = let put = place_gap ds g.0 (key_of new) new g.1 in cc in
         subst Kept same (rises_insert compare_total key_of ds g.0 new h.0 g.1, All-inserted IsStored ds g.0 new g.1.within h.1 stored)
     at (inr t) = let none = place_there ds t.place (key_of new) new h.0 t.within t.same in absurd cc
-
-pub kept_one : (ds : List Pairs) (ps : Pairs) (next : List Pairs) → Kept ds → insert_one ds ps ≡ Ok next → Kept next
-unfolding insert_one
-kept_one ds ps next h e =
-    let s = step_of (checked ps) (λ id. or_refused (place id (id_first ps) ds) refusals.DuplicateKey) next e in
-    let k = keeps ps s.0 s.1 in
-    let there : place (key_of (id_first ps)) (id_first ps) ds ≡ Some next = ap (λ (z : Tree). place z (id_first ps) ds) k.key ∙ some (place s.0 (id_first ps) ds) s.2 in
-    kept_place ds (id_first ps) next h k.lawful there
-  where
-    some : (o : Option (List Pairs)) → or_refused o refusals.DuplicateKey ≡ Ok next → o ≡ Some next
-    some None e = absurd cc
-    some (Some xs) e = let same : xs ≡ next = cc in ap (λ (us : List Pairs). Some us) same
-
-kept_all : (ds : List Pairs) (documents : List Pairs) (next : List Pairs) → Kept ds → insert_all ds documents ≡ Ok next → Kept next
-kept_all ds [] next h e = let same : ds ≡ next = cc in subst Kept same h
-kept_all ds (ps ∷ rest) next h e =
-    let s = step_of (insert_one ds ps) (λ mid. insert_all mid rest) next e in
-    kept_all s.0 rest next (kept_one ds ps s.0 h s.1) s.2
 
 -- ---- collections
 
@@ -181,25 +162,33 @@ Good r = (x : World × Pairs) → r ≡ Ok x → IsLawful x.0 × IsSendable (ok_
 good_one : (w : World) (reply : Pairs) → IsLawful w → IsSendable (ok_reply reply) → Good (Ok (w, reply))
 good_one w reply h s x e = let same : (w, reply) ≡ x = cc in subst (λ (y : World × Pairs). IsLawful y.0 × IsSendable (ok_reply y.1)) same (h, s)
 
+abbrev insert_answer : World → List Pairs → Result Collection Refusal → Result (World × Pairs) Refusal
+insert_answer w documents r = r >>= (λ next. let x : Result (World × Pairs) Refusal = Ok (record w { collections = put_collection next w.collections }, pair (codes "n") (int (length documents)) no_pairs) in x)
+
 pub good_insert : (w : World) (name : List ℕ) (documents : List Pairs) → IsLawful w → length name ≤ 255 → Good (run_insert w (record { namespace = name; documents = documents }))
 unfolding run_insert
 good_insert w name documents h short = at (is_full w.collections name) refl
   where
-    put : (r : Result (List Pairs) Refusal) → is_full w.collections name ≡ false → insert_all (documents_of w.collections name) documents ≡ r
-        → Good (r >>= (λ stored. let x : Result (World × Pairs) Refusal = Ok (record w { collections = put_collection (with_documents w.collections name stored) w.collections }, pair (codes "n") (int (length documents)) no_pairs) in x))
+    put : (r : Result Collection Refusal) → is_full w.collections name ≡ false → insert_all (collection_of w.collections name) documents ≡ r → Good (insert_answer w documents r)
     put (Err e) free is = λ x f. absurd cc
-    put (Ok stored) free is =
-        let kept = kept_all (documents_of w.collections name) documents stored (stored_at w.collections name h.collections.kept) is in
-        let new : Collection = with_documents w.collections name stored in
-        let bounds = number_bounds w.collections name h.collections.kept (room w.collections name free) in
-        let one : IsKept new = record { lawful = record { rising = kept.0; stored = kept.1; unindexed = unindexed_at w.collections name h.collections.kept }; short = short; least = bounds.least; most = bounds.most } in
-        let p = put_kept new w.collections h.collections one free refl in
-        good_one (record w { collections = put_collection new w.collections }) (pair (codes "n") (int (length documents)) no_pairs) (record { collections = p; cursors = h.cursors }) (insert-sendable (length documents))
+    put (Ok next) free is =
+        let cs = w.collections in
+        let grown = has_grown (collection_of cs name) next documents is in
+        let kept = stored_at cs name h.collections.kept in
+        let bounds = number_bounds cs name h.collections.kept (room cs name free) in
+        let one : IsKept next = record {
+          lawful = record { rising = grown.rising kept.0; stored = grown.stored kept.0 kept.1; unindexed = grown.unindexed (unindexed_at cs name h.collections.kept) };
+          short = subst (λ (n : List ℕ). length n ≤ 255) (sym grown.named) short;
+          least = subst (λ (n : ℕ). 1 ≤ n) (sym grown.numbered) bounds.least;
+          most = subst (λ (n : ℕ). n ≤ 1000) (sym grown.numbered) bounds.most;
+        } in
+        let p = put_kept next cs h.collections one (subst (λ (n : List ℕ). is_full cs n ≡ false) (sym grown.named) free)
+        (grown.numbered ∙ ap (λ (n : List ℕ). number_or (unused cs) (find_collection cs n)) (sym grown.named)) in
+        good_one (record w { collections = put_collection next cs }) (pair (codes "n") (int (length documents)) no_pairs) (record { collections = p; cursors = h.cursors }) (insert-sendable (length documents))
 
-    at : (b : Bool) → is_full w.collections name ≡ b
-        → Good (unless b refusals.TooMany (insert_all (documents_of w.collections name) documents >>= (λ stored. let x : Result (World × Pairs) Refusal = Ok (record w { collections = put_collection (with_documents w.collections name stored) w.collections }, pair (codes "n") (int (length documents)) no_pairs) in x)))
+    at : (b : Bool) → is_full w.collections name ≡ b → Good (unless b refusals.TooMany (insert_answer w documents (insert_all (collection_of w.collections name) documents)))
     at true full = λ x f. absurd cc
-    at false free = put (insert_all (documents_of w.collections name) documents) free refl
+    at false free = put (insert_all (collection_of w.collections name) documents) free refl
 
 abbrev fits_in : List Pairs → Type 0
 fits_in ds = length (items_bytes 0 (items_of_documents ds)) ≤ max (900000 - 5) (65535 + 3)
@@ -354,10 +343,10 @@ good_create w name h short = λ x e.
 good_drop : (w : World) (name : List ℕ) → IsLawful w → length name ≤ 255 → Good (run_drop w (record { namespace = name }))
 unfolding run_drop
 good_drop w name h short = λ x e.
-    let reply = pair (codes "nIndexesWas") (int 1) (pair (codes "ns") (words name) no_pairs) in
+    let reply = drop_reply (index_count w.collections name) name in
     let s = step_of (dropped w.collections name) (λ cs. let r : Result (World × Pairs) Refusal = Ok (record w { collections = cs }, reply) in r) x e in
     let same : (record w { collections = s.0 }, reply) ≡ x = cc in
-    subst (λ (y : World × Pairs). IsLawful y.0 × IsSendable (ok_reply y.1)) same (record { collections = dropped_lawful w.collections name s.0 h.collections s.1; cursors = h.cursors }, drop-sendable name short)
+    subst (λ (y : World × Pairs). IsLawful y.0 × IsSendable (ok_reply y.1)) same (record { collections = dropped_lawful w.collections name s.0 h.collections s.1; cursors = h.cursors }, drop-sendable (index_count w.collections name) name short)
 
 good_list_collections : (w : World) (c : ListCollections) → IsLawful w → length c.database ≤ 63 → Good (run_list_collections w c)
 unfolding run_list_collections

@@ -15,8 +15,10 @@ pub mod Numbers
 pub mod Ending
 pub mod Located
 pub mod Growing
+pub mod EnteredLemmas
 pub mod Deleting
 pub mod LostLemmas
+pub mod TakingOutLemmas
 pub mod NotingLemmas
 pub mod Finding
 pub mod NeededLemmas
@@ -55,6 +57,7 @@ pub mod GivingLemmas
 pub mod MergingLemmas
 pub mod MeantDeletions
 pub mod RemovingLemmas
+pub mod CataloguedLemmas
 pub mod TakenLemmas
 pub mod MeantUpdates
 pub mod MeantWrites

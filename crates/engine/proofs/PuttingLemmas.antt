@@ -15,6 +15,7 @@ use Rattle.commands.specs.Update.{UpdateStatement, IsRead}
 use Rattle.collections.specs.Calls.{HasWriteCause}
 use Rattle.collections.proofs.LawLemmas as laws
 use Rattle.index.specs.Documents.{AddsCollection, ChangesDocuments, IsUnindexed, put_document}
+use Rattle.index.specs.LawfulState as states
 use Rattle.index.specs.LawfulState.{IsStorable}
 use Rattle.index.specs.State.{Collection, empty_collection, find_collection, put_collection, uses}
 use Rattle.index.specs.StateEntries.{Leads}
@@ -197,11 +198,12 @@ module _ {D : Type 0} (history : D → History) (name : List ℕ) (ss : List Upd
 
     pub puts_lead : (edits : List Edit) → (x.is_new ≡ false → x.writes.items ≢ []) → (All IsStorable (news_of x.writes.items) → NotesUpdates name x edits)
         → KeepsWord (disk_history history old) → IsRunning old
-        → Leads edits (world old).collections (planned_or (world old).collections (plan (world old).collections)) × IsUnindexed (planned_or (world old).collections (plan (world old).collections))
+        → Leads edits (world old).collections (planned_or (world old).collections (plan (world old).collections)) × states.IsLawfulState (planned_or (world old).collections (plan (world old).collections))
     puts_lead edits some notes k running =
         let cs = (world old).collections in
         let u = is k in
-        leads_planned edits cs u.after.collections (plan cs) (planned_after cs name ss x u) (updates_lead cs name ss x u edits some (unindexed_now history old h k running) (notes u.storable))
+        let led = updates_lead cs name ss x u edits some (unindexed_now history old h k running) (notes u.storable) in
+        leads_planned edits cs u.after.collections (plan cs) (planned_after cs name ss x u) (led.0, led.1.lawful)
 
     pub puts_written : (r : Result (Unit {0}) Refusal) (new : Engine D) → Writes history (planned_or (world old).collections (plan (world old).collections)) r old new → Makes history (plan (world old).collections) r old new
     puts_written r new writes =

@@ -1,11 +1,11 @@
 -- While no command makes an index, collections have none.
-use Rattle.std.proofs.Common.{◌≡◌, ℕ, ◌<◌, false, List, [], length, Some, None, refl}
+use Rattle.std.proofs.Common.{◌≡◌, ℕ, ◌<◌, false, List, length, None, refl}
 use Rattle.btree.specs.Keys.{Edit}
-use Rattle.index.specs.Documents.{AddsCollection, IsUnindexed, RemovesCollection}
+use Rattle.index.specs.Documents.{AddsCollection, IsUnindexed}
 use Rattle.index.specs.LawfulState as states
-use Rattle.index.specs.State.{Collection, empty_collection, find_collection, put_collection, uses, without_collection}
+use Rattle.index.specs.State.{Collection, empty_collection, find_collection, put_collection, uses}
 use Rattle.index.specs.StateEntries.{Leads}
-use Rattle.index.proofs.StateEditLaws.{plain_with, plain_without}
+use Rattle.index.proofs.StateEditLaws.{plain_with}
 use Rattle.engine.specs.Lawful.{IsLawfulState}
 
 pub unindexed_state : (cs : List Collection) → IsLawfulState cs → states.IsLawfulState cs → IsUnindexed cs
@@ -17,8 +17,3 @@ pub adds_unindexed : (old new : List Edit) (name : List ℕ) (number : ℕ) → 
     → Leads new a (put_collection (empty_collection name number) b) × IsUnindexed (put_collection (empty_collection name number) b)
 adds_unindexed old new name number adds a b first un none fresh few =
     let made = adds a b first un.lawful none fresh few in (made.0, plain_with b (empty_collection name number) un refl made.1)
-
--- one less
-pub removes_unindexed : (old new : List Edit) (name : List ℕ) → RemovesCollection old new name → (a b : List Collection) (c : Collection) → Leads old a b → IsUnindexed b
-    → find_collection b name ≡ Some c → c.documents ≡ [] → Leads new a (without_collection name b) × IsUnindexed (without_collection name b)
-removes_unindexed old new name removes a b c first un found empty = ((removes a b c first un.lawful found empty).0, plain_without b name un)

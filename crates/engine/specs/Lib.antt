@@ -19,7 +19,6 @@ pub mod Lawful
 pub mod Places
 pub mod Redoing
 pub mod Known
-pub mod DocumentWrite
 pub mod Writes
 pub mod WriteLaws
 pub mod Updating
@@ -39,6 +38,7 @@ pub mod ById
 pub mod Performing
 pub mod Merging
 pub mod Removing
+pub mod TakingOut
 pub mod Putting
 pub mod Trying
 pub mod Numbering

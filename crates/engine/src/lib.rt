@@ -26,6 +26,7 @@ mod loading;
 mod looking;
 mod numbering;
 mod refusal;
+mod removing;
 mod reply;
 mod shared_document;
 mod statements;
