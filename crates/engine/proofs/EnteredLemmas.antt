@@ -38,13 +38,12 @@ longer_put d ds (inr b) none = let both : true ≡ false = sym (ap is_some (some
 pub record HasGrown (c next : Collection) (by : ℕ) : Type 0 where
   pub named : next.name ≡ c.name
   pub numbered : next.number ≡ c.number
-  pub unindexed : c.indexes ≡ [] → next.indexes ≡ []
   pub rising : IsRising c.documents → IsRising next.documents
   pub stored : IsRising c.documents → All IsStored c.documents → All IsStored next.documents
   pub longer : IsRising c.documents → length next.documents ≡ length c.documents + by
 
 grown_none : (c : Collection) → HasGrown c c 0
-grown_none c = record { named = refl; numbered = refl; unindexed = λ none. none; rising = λ up. up; stored = λ up all. all; longer = λ up. omega arith }
+grown_none c = record { named = refl; numbered = refl; rising = λ up. up; stored = λ up all. all; longer = λ up. omega arith }
 
 grown_one : (c next : Collection) (ps : Pairs) → insert_one c ps ≡ Ok next → HasGrown c next 1
 unfolding insert_one
@@ -56,7 +55,6 @@ grown_one c next ps e =
     record {
       named = ap (λ (n : Collection). n.name) x.is;
       numbered = ap (λ (n : Collection). n.number) x.is;
-      unindexed = λ none. ap (λ (n : Collection). n.indexes) x.is ∙ ap (map (noted d)) none;
       rising = λ up. subst IsRising (sym same) (rising_put d c.documents up);
       stored = λ up all. subst (All IsStored) (sym same) (all_put IsStored d c.documents (placed d c.documents up) all (keeps ps s.0 s.1).lawful);
       longer = λ up. ap length same ∙ longer_put d c.documents (placed d c.documents up) x.is_new;
@@ -72,7 +70,6 @@ has_grown c next (ps ∷ rest) e =
     record {
       named = later.named ∙ first.named;
       numbered = later.numbered ∙ first.numbered;
-      unindexed = λ none. later.unindexed (first.unindexed none);
       rising = λ up. later.rising (first.rising up);
       stored = λ up all. later.stored (first.rising up) (first.stored up all);
       longer = λ up. omega (arith, first.longer up, later.longer (first.rising up));

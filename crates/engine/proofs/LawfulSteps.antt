@@ -17,7 +17,7 @@ use Rattle.bson.specs.Spelling.{items_bytes}
 use Rattle.bson.specs.declared.fault.BsonFault.{BsonFault}
 use Rattle.value_order.specs.Order.{compare}
 use Rattle.value_order.specs.TotalLaws.{compare_total}
-use Rattle.engine.specs.World.{World, Cursor, collection_of, unused, number_or, with_documents, documents_or_none, indexes_or_none, documents_of}
+use Rattle.engine.specs.World.{World, Cursor, collection_of, unused, number_or, with_documents, documents_or_none, documents_of}
 use Rattle.index.specs.State.{Collection, find_collection, uses, put_collection}
 use Rattle.outcome.specs.Outcome.{◌>>=◌, unless, or_refused}
 use Rattle.engine.specs.Documents.{key_of, place, insert_all}
@@ -91,14 +91,6 @@ stored_at (c ∷ cs) name h = at (bytes_eq name c.name) (stored_at cs name (λ k
   where
     at : (b : Bool) → Kept (documents_of cs name) → Kept (documents_or_none (if b then Some c else find_collection cs name))
     at true later = let kept = (h 0 c (omega arith)).lawful in (kept.rising, kept.stored)
-    at false later = later
-
-pub unindexed_at : (cs : List Collection) (name : List ℕ) → All IsKept cs → indexes_or_none (find_collection cs name) ≡ []
-unindexed_at [] name h = refl
-unindexed_at (c ∷ cs) name h = at (bytes_eq name c.name) (unindexed_at cs name (λ k d below. h (suc k) d (omega arith)))
-  where
-    at : (b : Bool) → indexes_or_none (find_collection cs name) ≡ [] → indexes_or_none (if b then Some c else find_collection cs name) ≡ []
-    at true later = (h 0 c (omega arith)).lawful.unindexed
     at false later = later
 
 abbrev ByName : List Collection → Type 0
@@ -177,7 +169,7 @@ good_insert w name documents h short = at (is_full w.collections name) refl
         let kept = stored_at cs name h.collections.kept in
         let bounds = number_bounds cs name h.collections.kept (room cs name free) in
         let one : IsKept next = record {
-          lawful = record { rising = grown.rising kept.0; stored = grown.stored kept.0 kept.1; unindexed = grown.unindexed (unindexed_at cs name h.collections.kept) };
+          lawful = record { rising = grown.rising kept.0; stored = grown.stored kept.0 kept.1 };
           short = subst (λ (n : List ℕ). length n ≤ 255) (sym grown.named) short;
           least = subst (λ (n : ℕ). 1 ≤ n) (sym grown.numbered) bounds.least;
           most = subst (λ (n : ℕ). n ≤ 1000) (sym grown.numbered) bounds.most;
@@ -333,7 +325,7 @@ good_create w name h short = λ x e.
         let free : is_full w.collections name ≡ false = ap (λ (b : Bool). b && not (is_some (find_collection w.collections name))) q.0 in
         let bounds = number_bounds w.collections name h.collections.kept (λ none. grind (arith, nat_tests, q.0)) in
         let one : IsKept new = record {
-          lawful = record { rising = λ i j d lt within. absurd (omega (arith, within)); stored = λ k d below. absurd (omega (arith, below)); unindexed = unindexed_at w.collections name h.collections.kept };
+          lawful = record { rising = λ i j d lt within. absurd (omega (arith, within)); stored = λ k d below. absurd (omega (arith, below)) };
           short = short;
           least = bounds.least;
           most = bounds.most;
@@ -373,7 +365,7 @@ statement_lawful name index s u v short read h e =
         let cs = u.collections in
         let kept = kept_place (documents_of cs name) new stored (stored_at cs name h.kept) (upserted_stored s new is) there in
         let bounds = number_bounds cs name h.kept (room cs name free) in
-        let one : IsKept (with_documents cs name stored) = record { lawful = record { rising = kept.0; stored = kept.1; unindexed = unindexed_at cs name h.kept }; short = short; least = bounds.least; most = bounds.most } in
+        let one : IsKept (with_documents cs name stored) = record { lawful = record { rising = kept.0; stored = kept.1 }; short = short; least = bounds.least; most = bounds.most } in
         put_kept (with_documents cs name stored) cs h one free refl
 
     placed : (o : Option (List Pairs)) (stored : List Pairs) → or_refused o refusals.DuplicateKey ≡ Ok stored → o ≡ Some stored

@@ -134,7 +134,7 @@ changed_lawful cs name ds h same stored = at (located nat_list_cmp_total (λ (c 
         let now : Collection = record here { documents = ds } in
         let kept = h.kept t.place no_collection t.within in
         let keys : SameKeys ds here.documents = subst (λ (o : Option Collection). SameKeys ds (documents_or_none o)) there.found same in
-        let one : IsKept now = record { lawful = record { rising = SameKeys-rising ds here.documents keys kept.lawful.rising; stored = stored; unindexed = kept.lawful.unindexed }; short = kept.short; least = kept.least; most = kept.most } in
+        let one : IsKept now = record { lawful = record { rising = SameKeys-rising ds here.documents keys kept.lawful.rising; stored = stored }; short = kept.short; least = kept.least; most = kept.most } in
         let put : changed_in (find_collection cs name) ds cs ≡ set cs t.place now = ap (λ (o : Option Collection). changed_in o ds cs) there.found ∙ there.replaced now there.named in
         subst IsLawfulState (sym put) (record {
           apart = apart_set cs t.place now t.within refl h.apart;
