@@ -1,6 +1,7 @@
--- What stays of a collection where documents are inserted, and how many it has.
+-- What stays of a collection where documents are inserted or written, and how many it has.
 use Rattle.std.proofs.Common.{◌≡◌, ◌⊎◌, ◌+◌, inl, inr, ℕ, Bool, true, false, List, [], ◌∷◌, ◌++◌, length, length-append, map, Option, Some, None, Result, Ok, refl, sym, ap, subst, ◌∙◌, arith}
 use Rattle.std.specs.Prelude.{All, is_some}
+use Rattle.std.proofs.lemmas.List.Elements.{All-head, All-tail}
 use Rattle.bson.specs.Tree.{Tree, Pairs}
 use Rattle.path.specs.declared.refusal.Refusal.{Refusal}
 use Rattle.outcome.specs.Outcome.{◌>>=◌}
@@ -8,7 +9,7 @@ use Rattle.update.specs.Stored.{id_first}
 use Rattle.commands.specs.OutcomeLaws.{step_of}
 use Rattle.index.specs.Definition.{Definition}
 use Rattle.index.specs.Documents.{put_document}
-use Rattle.index.specs.Entering.{entered}
+use Rattle.index.specs.Entering.{DocumentWrite, entered}
 use Rattle.index.specs.KeptLaws.{noted}
 use Rattle.index.specs.LawfulState.{IsRising}
 use Rattle.index.specs.State.{Collection}
@@ -18,6 +19,8 @@ use Rattle.index.proofs.EnteringLemmas.{has_entered, stay_with}
 use Rattle.index.proofs.EnteringSteps.{all_put, some_instead}
 use Rattle.engine.specs.Documents.{checked, insert_all, insert_one, key_of}
 use Rattle.engine.specs.Lawful.{IsStored}
+use Rattle.engine.specs.UpdateCommand.{enter_each}
+use Rattle.engine.specs.WriteLaws.{documents_in}
 use Rattle.engine.proofs.Checked.{keeps}
 
 -- a document put among others keeps them in ascending order
@@ -73,4 +76,37 @@ has_grown c next (ps ∷ rest) e =
       rising = λ up. later.rising (first.rising up);
       stored = λ up all. later.stored (first.rising up) (first.stored up all);
       longer = λ up. omega (arith, first.longer up, later.longer (first.rising up));
+    }
+
+-- ---- what is written
+
+-- A collection that documents were written to: its name and its number are as they were, and its documents are in order and stored.
+pub record StaysKept (c next : Collection) : Type 0 where
+  pub named : next.name ≡ c.name
+  pub numbered : next.number ≡ c.number
+  pub rising : IsRising c.documents → IsRising next.documents
+  pub stored : IsRising c.documents → All IsStored c.documents → All IsStored next.documents
+
+stays_one : (c next : Collection) (w : DocumentWrite) → IsStored w.document → entered c w ≡ Ok next → StaysKept c next
+stays_one c next w good e =
+    let x = has_entered c next w e in
+    let same = ap (λ (n : Collection). n.documents) x.is in
+    record {
+      named = ap (λ (n : Collection). n.name) x.is;
+      numbered = ap (λ (n : Collection). n.number) x.is;
+      rising = λ up. subst IsRising (sym same) (rising_put w.document c.documents up);
+      stored = λ up all. subst (All IsStored) (sym same) (all_put IsStored w.document c.documents (placed w.document c.documents up) all good);
+    }
+
+pub stays_kept : (c next : Collection) (ws : List DocumentWrite) → All IsStored (documents_in ws) → enter_each c ws ≡ Ok next → StaysKept c next
+stays_kept c next [] stored e = let same : c ≡ next = cc in subst (StaysKept c) same (record { named = refl; numbered = refl; rising = λ up. up; stored = λ up all. all })
+stays_kept c next (w ∷ ws) stored e =
+    let s = step_of (entered c w) (λ mid. enter_each mid ws) next e in
+    let first = stays_one c s.0 w (All-head IsStored w.document (documents_in ws) stored) s.1 in
+    let later = stays_kept s.0 next ws (All-tail IsStored w.document (documents_in ws) stored) s.2 in
+    record {
+      named = later.named ∙ first.named;
+      numbered = later.numbered ∙ first.numbered;
+      rising = λ up. later.rising (first.rising up);
+      stored = λ up all. later.stored (first.rising up) (first.stored up all);
     }

@@ -25,7 +25,7 @@ use Rattle.index.specs.declared.entering.Keyed.{Keyed}
 use Rattle.engine.specs.Documents.{key_of}
 use Rattle.engine.specs.Durable.{disk_history, file_of, IsSound}
 use Rattle.engine.specs.Looking.{LooksOf, OnlyReads}
-use Rattle.engine.specs.Storing.{AreNoted, Beside, HasNoted, IsBeside, IsReplaced, Notes, TellsDuplicate, TellsTaken, entering, write_of}
+use Rattle.engine.specs.Storing.{AreNoted, Beside, HasNoted, IsBeside, IsReplaced, MayEnter, Notes, TellsDuplicate, TellsTaken, entering, write_of}
 use Rattle.engine.specs.View.{world}
 use Rattle.engine.specs.declared.engine.Engine.{Engine}
 use Rattle.engine.proofs.EnteringLemmas.{entering_done, entering_duplicate, entering_unkeyed, has_entered_noted, id_told, keys_told, stored_keyed}
@@ -124,12 +124,12 @@ is_new_where_none f (Some x) false e = refl
 
 module _ {D : Type 0} (history : D → History) (old : Engine D) (name : List ℕ) (home : Catalogued) (before : List Edit) (was : Option Pairs) (d : Pairs) where
   abbrev NotesIt : Catalogued → List Edit → Result (Unit {0}) Refusal → Engine D → Type 0
-  NotesIt home_after after r new = Notes history name (IsReplaced was d) (entering was d) home home_after before after r old new
-
-  pub enter_without_memory : (home_after : Catalogued) (after : List Edit) (e : Refusal) (new : Engine D) → OnlyReads history old new → e ≡ refusals.OutOfMemory → NotesIt home_after after (Err e) new
-  enter_without_memory home_after after e new reads is = record { reads = reads; answers = λ k c noted replaced. inr (inl is) }
+  NotesIt home_after after r new = Notes history name (MayEnter was d) (entering was d) home home_after before after r old new
 
   -- the document's `_id` has no short text, which no document has that may be stored
+  pub enter_untexted : (e : Refusal) → OnlyReads history old old → (IsStorable d → e ≡ refusals.OutOfMemory) → NotesIt home before (Err e) old
+  enter_untexted e reads is = record { reads = reads; answers = λ k c noted may. inr (inl (is may.0)) }
+
   pub enter_unkeyed : IsSound history old → (e : Refusal) → (e ≢ refusals.OutOfMemory → keys_in_all home.indexes.items d ≡ Err e) → NotesIt home before (Err e) old
   enter_unkeyed h e refused = record {
     reads = reads_none history old h;
@@ -177,7 +177,7 @@ module _ {D : Type 0} (history : D → History) (old : Engine D) (name : List �
           reads = looks.reads;
           answers = λ k c noted_so replaced.
               let clear = told_of c false (answer (Ok false) is k c noted_so).told in
-              has_entered_noted (world old).collections name home home_after before after c was d noted_so replaced (entering_done was d c (map (λ ks. texts_of ks.items) keyed.keys.items) (keyed_there c noted_so) clear) numbered indexed enters;
+              has_entered_noted (world old).collections name home home_after before after c was d noted_so replaced.1 (entering_done was d c (map (λ ks. texts_of ks.items) keyed.keys.items) (keyed_there c noted_so) clear) numbered indexed enters;
         }
 
         -- the old one's keys were found before
@@ -186,7 +186,7 @@ module _ {D : Type 0} (history : D → History) (old : Engine D) (name : List �
           reads = looks.reads;
           answers = λ k c noted_so replaced. elim (memory_or e refused) [
             | inl memory ↦ inr (inl memory)
-            | inr is_refused ↦ (let there : find_document c.documents (key_of d) ≡ Some old_one = subst (λ (o : Option Pairs). IsReplaced o d c) replaced_is replaced in
+            | inr is_refused ↦ (let there : find_document c.documents (key_of d) ≡ Some old_one = subst (λ (o : Option Pairs). IsReplaced o d c) replaced_is replaced.1 in
                 let state = (answer (Ok false) is k c noted_so).lawful in
                 let both : Ok (map (λ i. encoded_keys i.fields old_one) c.indexes) ≡ Err e = sym (stored_keyed (world old).collections name home before c noted_so state (key_of d) old_one there) ∙ ap (λ (js : List Definition). keys_in_all js old_one) noted_so.indexed ∙ is_refused in
                 absurd cc)

@@ -14,6 +14,7 @@ use Rattle.collections.specs.Reading.{IsWithinLimits, catalogued_in, catalogued_
 use Rattle.update.specs.Stored.{id_first}
 use Rattle.index.specs.Documents.{AddsCollection}
 use Rattle.index.specs.LawfulState as states
+use Rattle.index.specs.LawfulState.{IsStorable}
 use Rattle.index.specs.State.{Collection, find_collection, put_collection}
 use Rattle.index.specs.StateEntries.{Leads}
 use Rattle.index.specs.declared.catalogue_reading.Catalogued.{Catalogued}
@@ -22,7 +23,7 @@ use Rattle.engine.specs.Durable.{disk_history, file_of, IsRunning, IsSound}
 use Rattle.engine.specs.Insert.{inserted}
 use Rattle.engine.specs.Looking.{Looks, OnlyReads}
 use Rattle.engine.specs.Numbering.{IsNewNumber, IsTooMany}
-use Rattle.engine.specs.Storing.{AreNoted, HasNoted, IsAny, IsFull, IsReplaced, Notes, entering}
+use Rattle.engine.specs.Storing.{AreNoted, HasNoted, IsAny, IsFull, MayEnter, Notes, entering}
 use Rattle.engine.specs.Trying.{Tries}
 use Rattle.engine.specs.View.{world}
 use Rattle.engine.specs.World.{collection_of}
@@ -120,11 +121,11 @@ module _ {D : Type 0} (history : D → History) (name : List ℕ) (home : Catalo
   }
 
   -- what is stored of it enters
-  pub note_entered : (d : Pairs) → checked ps ≡ Ok (key_of ps) → d ≡ id_first ps → (home_after : Catalogued) (after : List Edit) (r : Result (Unit {0}) Refusal) (new : Engine D)
-      → Notes history name (IsReplaced None d) (entering None d) home home_after before after r old new → NotesOne home_after after r new
-  note_entered d passed is home_after after r new notes = record {
+  pub note_entered : (d : Pairs) → IsStorable d → checked ps ≡ Ok (key_of ps) → d ≡ id_first ps → (home_after : Catalogued) (after : List Edit) (r : Result (Unit {0}) Refusal) (new : Engine D)
+      → Notes history name (MayEnter None d) (entering None d) home home_after before after r old new → NotesOne home_after after r new
+  note_entered d good passed is home_after after r new notes = record {
     reads = notes.reads;
-    answers = λ k c noted any. told r c (notes.answers k c noted tt);
+    answers = λ k c noted any. told r c (notes.answers k c noted (good, tt));
   }
     where
       told : (q : Result (Unit {0}) Refusal) (c : Collection)

@@ -31,9 +31,12 @@ use Rattle.engine.specs.Find.{query_result as found_by, matching, window, run_fi
 use Rattle.commands.specs.Delete.{Deletion}
 use Rattle.engine.specs.Delete.{after_deletions, deleted_in, run_delete}
 use Rattle.commands.specs.Update.{UpdateStatement, Update, IsRead}
-use Rattle.engine.specs.Update.{Changed, update_from, Updated, not_updated, not_changed, updated_to, upsert_document, with_upserted, upsert, run_statement, run_statements, update_reply, judged, run_all, spelled, run_update}
-use Rattle.engine.proofs.Applied.{upserted_stored}
-use Rattle.engine.proofs.LawfulUpdates.{SameKeys, from_kept, changed_lawful}
+use Rattle.engine.specs.Update.{Updated, not_updated, run_statements, update_reply, judged, run_all, spelled}
+use Rattle.engine.specs.UpdateCommand.{enter_each, entered_in, run_update, writes_in}
+use Rattle.engine.specs.WriteLaws.{documents_in}
+use Rattle.index.specs.Entering.{DocumentWrite}
+use Rattle.engine.proofs.KeptLemmas.{Kept, stored_at}
+use Rattle.engine.proofs.WriteLawLemmas.{writes_stored}
 use Rattle.commands.specs.ListCollections.{ListCollections}
 use Rattle.engine.specs.Create.{created, run_create}
 use Rattle.engine.specs.DropCollection.{drop_reply, dropped, index_count, run_drop}
@@ -60,7 +63,7 @@ use Rattle.path.specs.declared.refusal.Refusal.{Refusal}
 use Rattle.path.specs.declared.refusal.Refusal.TheVariants as refusals
 use Rattle.commands.specs.OutcomeLaws.{step_of, passed}
 use Rattle.commands.specs.CommandLaws.{bounded}
-use Rattle.engine.proofs.EnteredLemmas.{has_grown}
+use Rattle.engine.proofs.EnteredLemmas.{has_grown, stays_kept}
 use Rattle.engine.proofs.Located.{Gap, There, located}
 use Rattle.engine.proofs.Deleting.{deleted_lawful}
 use Rattle.engine.proofs.Finding.{found_within}
@@ -69,29 +72,7 @@ use Rattle.engine.proofs.Numbers.{unused_unused, number_bounds, numbers_set, num
 use Rattle.engine.proofs.NamesApart.{apart_set}
 use Rattle.engine.proofs.SpelledSizes.{ping-sendable, insert-sendable, drop-sendable, refusal-sendable, batch_items, cursor-sendable, kill-sendable, told_few, hello-sendable}
 
--- ---- documents
-
-abbrev pub Kept : List Pairs → Type 0
-Kept ds = IsRising ds × All IsStored ds
-
-pub kept_place : (ds : List Pairs) (new : Pairs) (next : List Pairs) → Kept ds → IsStored new → place (key_of new) new ds ≡ Some next → Kept next
-kept_place ds new next h stored e = at (located compare_total key_of ds (key_of new) h.0)
-  where
-    at : Gap compare key_of ds (key_of new) ⊎ There compare key_of ds (key_of new) → Kept next
-    at (inl g) =
-        let same : insert ds g.0 new ≡ next = let put = place_gap ds g.0 (key_of new) new g.1 in cc in
-        subst Kept same (rises_insert compare_total key_of ds g.0 new h.0 g.1, All-inserted IsStored ds g.0 new g.1.within h.1 stored)
-    at (inr t) = let none = place_there ds t.place (key_of new) new h.0 t.within t.same in absurd cc
-
 -- ---- collections
-
-pub stored_at : (cs : List Collection) (name : List ℕ) → All IsKept cs → Kept (documents_of cs name)
-stored_at [] name h = (λ i j d lt below. absurd (omega arith), λ k d below. absurd (omega arith))
-stored_at (c ∷ cs) name h = at (bytes_eq name c.name) (stored_at cs name (λ k d below. h (suc k) d (omega arith)))
-  where
-    at : (b : Bool) → Kept (documents_of cs name) → Kept (documents_or_none (if b then Some c else find_collection cs name))
-    at true later = let kept = (h 0 c (omega arith)).lawful in (kept.rising, kept.stored)
-    at false later = later
 
 abbrev ByName : List Collection → Type 0
 ByName cs = Rises (slice_cmp nat_cmp) (λ (c : Collection). c.name) cs
@@ -351,45 +332,32 @@ good_list_collections w c h short =
 
 -- ---- updates
 
--- what statements come to is lawful
-statement_lawful : (name : List ℕ) (index : ℕ) (s : UpdateStatement) (u v : Updated) → length name ≤ 255 → IsRead s.change → IsLawfulState u.collections → run_statement name index s u ≡ Ok v → IsLawfulState v.collections
-statement_lawful name index s u v short read h e =
-    let cs = u.collections in
-    let kept = stored_at cs name h.kept in
-    let c = step_of (update_from s (not_changed u) (documents_of cs name)) _ v e in
-    at (not c.0.found && s.upsert) c.0 (from_kept s read (not_changed u) (documents_of cs name) c.0 (λ k d below. absurd (omega arith)) kept.1 refl c.1) c.2
+-- what is written to a collection leaves lawful ones
+pub entered_lawful : (cs : List Collection) (name : List ℕ) (ss : List UpdateStatement) (next : List Collection) → IsLawfulState cs → length name ≤ 255 → All (λ (s : UpdateStatement). IsRead s.change) ss
+    → entered_in name (writes_in name ss cs) cs ≡ Ok next → IsLawfulState next
+entered_lawful cs name ss next h short read e =
+    at (writes_in name ss cs) (writes_stored ss (documents_of cs name) (record { read = read; rising = kept.0; stored = kept.1 })) e
   where
-    made : (stored : List Pairs) (new : Pairs) → is_full u.collections name ≡ false → upsert_document s ≡ Ok new → place (key_of new) new (documents_of u.collections name) ≡ Some stored
-        → IsLawfulState (put_collection (with_documents u.collections name stored) u.collections)
-    made stored new free is there =
-        let cs = u.collections in
-        let kept = kept_place (documents_of cs name) new stored (stored_at cs name h.kept) (upserted_stored s new is) there in
-        let bounds = number_bounds cs name h.kept (room cs name free) in
-        let one : IsKept (with_documents cs name stored) = record { lawful = record { rising = kept.0; stored = kept.1 }; short = short; least = bounds.least; most = bounds.most } in
-        put_kept (with_documents cs name stored) cs h one free refl
+    kept : Kept (documents_of cs name)
+    kept = stored_at cs name h.kept
 
-    placed : (o : Option (List Pairs)) (stored : List Pairs) → or_refused o refusals.DuplicateKey ≡ Ok stored → o ≡ Some stored
-    placed None stored e = absurd cc
-    placed (Some xs) stored e = let same : xs ≡ stored = cc in ap (λ (ys : List Pairs). Some ys) same
-
-    at : (b : Bool) (changed : Changed) → SameKeys changed.documents (documents_of u.collections name) × All IsStored changed.documents
-        → (if b then upsert name index s u else Ok (updated_to name u changed)) ≡ Ok v → IsLawfulState v.collections
-    at true changed k e =
-        let p = passed (is_full u.collections name) refusals.TooMany _ v e in
-        let n = step_of (upsert_document s) _ v p.1 in
-        let t = step_of (or_refused (place (key_of n.0) n.0 (documents_of u.collections name)) refusals.DuplicateKey) _ v n.2 in
-        let same : with_upserted name index n.0 t.0 u ≡ v = cc in
-        subst (λ (x : Updated). IsLawfulState x.collections) same (made t.0 n.0 p.0 n.1 (placed (place (key_of n.0) n.0 (documents_of u.collections name)) t.0 t.1))
-    at false changed k e =
-        let same : updated_to name u changed ≡ v = cc in
-        subst (λ (x : Updated). IsLawfulState x.collections) same (changed_lawful u.collections name changed.documents h k.0 k.1)
-
-pub statements_lawful : (name : List ℕ) (index : ℕ) (ss : List UpdateStatement) (u v : Updated) → length name ≤ 255 → All (λ (s : UpdateStatement). IsRead s.change) ss → IsLawfulState u.collections
-    → run_statements name index ss u ≡ Ok v → IsLawfulState v.collections
-statements_lawful name index [] u v short read h e = let same : u ≡ v = cc in subst (λ (x : Updated). IsLawfulState x.collections) same h
-statements_lawful name index (s ∷ ss) u v short read h e =
-    let m = step_of (run_statement name index s u) (run_statements name (suc index) ss) v e in
-    statements_lawful name (suc index) ss m.0 v short (λ k d below. read (suc k) d (omega arith)) (statement_lawful name index s u m.0 short (read 0 s (omega arith)) h m.1) m.2
+    at : (ws : List DocumentWrite) → All IsStored (documents_in ws) → entered_in name ws cs ≡ Ok next → IsLawfulState next
+    at [] stored e = let same : cs ≡ next = cc in subst IsLawfulState same h
+    at (w ∷ ws) stored e =
+        let p = passed (is_full cs name) refusals.TooMany (enter_each (collection_of cs name) (w ∷ ws) >>= (λ c. let r : Result (List Collection) Refusal = Ok (put_collection c cs) in r)) next e in
+        let s = step_of (enter_each (collection_of cs name) (w ∷ ws)) (λ c. let r : Result (List Collection) Refusal = Ok (put_collection c cs) in r) next p.1 in
+        let stays = stays_kept (collection_of cs name) s.0 (w ∷ ws) stored s.1 in
+        let bounds = number_bounds cs name h.kept (room cs name p.0) in
+        let one : IsKept s.0 = record {
+          lawful = record { rising = stays.rising kept.0; stored = stays.stored kept.0 kept.1 };
+          short = subst (λ (n : List ℕ). length n ≤ 255) (sym stays.named) short;
+          least = subst (λ (n : ℕ). 1 ≤ n) (sym stays.numbered) bounds.least;
+          most = subst (λ (n : ℕ). n ≤ 1000) (sym stays.numbered) bounds.most;
+        } in
+        let same : put_collection s.0 cs ≡ next = cc in
+        subst IsLawfulState same
+        (put_kept s.0 cs h one (subst (λ (n : List ℕ). is_full cs n ≡ false) (sym stays.named) p.0)
+        (stays.numbered ∙ ap (λ (n : List ℕ). number_or (unused cs) (find_collection cs n)) (sym stays.named)))
 
 not_long : (u : Updated) → nat_lt 1048555 (length (spelled (ok_reply (update_reply u)))) ≡ false → IsSendable (ok_reply (update_reply u))
 not_long u e = grind (arith, nat_tests, e)
@@ -397,14 +365,16 @@ not_long u e = grind (arith, nat_tests, e)
 good_update : (w : World) (c : Update) → IsLawful w → IsBounded (update c) → Good (run_update w c)
 unfolding run_update
 good_update w c h b = λ x e.
-    let u = step_of (run_all c.namespace c.statements w.collections) (λ u. let r : Result (World × Pairs) Refusal = Ok (record w { collections = u.collections }, update_reply u) in r) x e in
-    let s = step_of (run_statements c.namespace 0 c.statements (not_updated w.collections)) judged u.0 u.1 in
+    let cs = w.collections in
+    let n = step_of (entered_in c.namespace (writes_in c.namespace c.statements cs) cs) (λ next. run_all c.namespace c.statements cs >>= (λ u. let r : Result (World × Pairs) Refusal = Ok (record w { collections = next }, update_reply u) in r)) x e in
+    let u = step_of (run_all c.namespace c.statements cs) (λ u. let r : Result (World × Pairs) Refusal = Ok (record w { collections = n.0 }, update_reply u) in r) x n.2 in
+    let s = step_of (run_statements c.namespace 0 c.statements (not_updated cs)) judged u.0 u.1 in
     let p = passed (nat_lt 1048555 (length (spelled (ok_reply (update_reply s.0))))) refusals.BSONObjectTooLarge (Ok s.0) u.0 s.2 in
     let judged_as : s.0 ≡ u.0 = cc in
-    let same : (record w { collections = u.0.collections }, update_reply u.0) ≡ x = cc in
-    let lawful : IsLawfulState u.0.collections = subst (λ (v : Updated). IsLawfulState v.collections) judged_as (statements_lawful c.namespace 0 c.statements (not_updated w.collections) s.0 b.0 b.2 h.collections s.1) in
+    let same : (record w { collections = n.0 }, update_reply u.0) ≡ x = cc in
     let sendable : IsSendable (ok_reply (update_reply u.0)) = subst (λ (v : Updated). IsSendable (ok_reply (update_reply v))) judged_as (not_long s.0 p.0) in
-    subst (λ (y : World × Pairs). IsLawful y.0 × IsSendable (ok_reply y.1)) same (record { collections = lawful; cursors = h.cursors }, sendable)
+    subst (λ (y : World × Pairs). IsLawful y.0 × IsSendable (ok_reply y.1)) same
+    (record { collections = entered_lawful cs c.namespace c.statements n.0 h.collections b.0 b.2 n.1; cursors = h.cursors }, sendable)
 
 -- ---- any command
 

@@ -7,6 +7,7 @@ pub mod BatchLoop
 pub mod CursorSpelling
 pub mod Running
 pub mod Piping
+pub mod KeptLemmas
 pub mod LawfulSteps
 pub mod SpelledSizes
 pub mod Replying
@@ -19,7 +20,6 @@ pub mod EnteredLemmas
 pub mod Deleting
 pub mod LostLemmas
 pub mod TakingOutLemmas
-pub mod NotingLemmas
 pub mod Finding
 pub mod NeededLemmas
 pub mod Applied
@@ -76,8 +76,9 @@ pub mod NumberingLemmas
 pub mod PlacingLemmas
 pub mod UpsertLemmas
 pub mod PlannedUpdates
-pub mod PuttingLemmas
+pub mod ReplacedLemmas
+pub mod UpdateSteps
+pub mod UpdateLemmas
 pub mod MeantLemmas
-pub mod UnindexedLemmas
 pub mod EnteringLemmas
 pub mod EnteringSteps

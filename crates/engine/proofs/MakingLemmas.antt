@@ -6,7 +6,6 @@ use Rattle.path.specs.declared.refusal.Refusal.{Refusal}
 use Rattle.path.specs.declared.refusal.Refusal.TheVariants as refusals
 use Rattle.outcome.specs.Outcome.{◌>>=◌}
 use Rattle.btree.specs.Keys.{Edit}
-use Rattle.index.specs.Documents.{IsUnindexed}
 use Rattle.index.specs.LawfulState.{IsLawfulState}
 use Rattle.index.specs.State.{Collection}
 use Rattle.index.specs.StateEntries.{Leads}
@@ -23,7 +22,6 @@ use Rattle.engine.specs.World.{World}
 use Rattle.engine.specs.Writing.{FileCause, Makes, planned_or, Writes}
 use Rattle.engine.specs.declared.engine.Engine.{Engine}
 use Rattle.engine.proofs.OnlyReading.{now_same, word_before, write_cause_from}
-use Rattle.engine.proofs.UnindexedLemmas.{unindexed_state}
 
 -- what is refused by the file is one of its refusals
 of_cause : {D : Type 0} (history : D → History) (after : List Collection) (old new : Engine D) (e : Refusal) → HasWriteCause history after (file_of old) (file_of new) e → IsOfFile e
@@ -42,11 +40,7 @@ pub leads_planned : (edits : List Edit) (cs next : List Collection) (planned : R
 leads_planned edits cs next planned is led = subst (λ (s : List Collection). Leads edits cs s × IsLawfulState s) (sym (ap (planned_or cs) is)) led
 
 module _ {D : Type 0} (history : D → History) where
-  -- while an engine runs, its collections have no indexes
-  pub unindexed_now : (engine : Engine D) → IsSound history engine → KeepsWord (disk_history history engine) → IsRunning engine → IsUnindexed (world engine).collections
-  unindexed_now engine h k running = unindexed_state (world engine).collections h.lawful (h.file running k).now_state
-
-  -- and they are lawful
+  -- while an engine runs, its collections are lawful
   pub lawful_now : (engine : Engine D) → IsSound history engine → KeepsWord (disk_history history engine) → IsRunning engine → IsLawfulState (world engine).collections
   lawful_now engine h k running = (h.file running k).now_state
 

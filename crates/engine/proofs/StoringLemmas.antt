@@ -6,6 +6,7 @@ use Rattle.std.specs.declared.cmp.Ordering.TheVariants as orders
 use Rattle.std.proofs.lemmas.Bool.Decides.{nat_tests}
 use Rattle.bson.specs.Lawful.{IsDocument}
 use Rattle.bson.specs.Tree.{Tree, Pairs}
+use Rattle.value_order.specs.KeyText.{tree_text}
 use Rattle.value_order.specs.Order.{compare}
 use Rattle.outcome.specs.Outcome.{◌>>=◌, unless}
 use Rattle.path.specs.declared.refusal.Refusal.{Refusal}
@@ -26,6 +27,7 @@ use Rattle.engine.specs.Documents.{checked, insert_all, insert_one, key_of, plac
 use Rattle.engine.specs.Insert.{inserted, is_full}
 use Rattle.engine.specs.Lawful.{IsStored}
 use Rattle.engine.specs.Storing.{AreNoted, HasNoted, entering}
+use Rattle.engine.specs.Updating.{MayBePut}
 use Rattle.engine.specs.World.{collection_of, documents_or_none, indexes_or_none, number_or, unused}
 use Rattle.engine.proofs.Checked.{keeps}
 use Rattle.engine.proofs.EditPlaceLemmas.{storable}
@@ -99,6 +101,14 @@ module _ (cs : List Collection) (name : List ℕ) where
 
 pub stored_storable : (ps d : Pairs) → checked ps ≡ Ok (key_of ps) → d ≡ id_first ps → IsDocument d → IsStorable d
 stored_storable ps d passed is readable = storable d (subst IsStored (sym is) (keeps ps (key_of ps) passed).lawful) readable
+
+-- one whose `_id` has a short text may be stored
+pub storable_text : (d : Pairs) (text : List ℕ) → MayBePut d → text ≡ tree_text (key_of d) → length text ≤ 500 → IsStorable d
+storable_text d text may is short = record { lawful = may.lawful; size = may.size; depth = may.depth; key = may.key; short = subst (λ (t : List ℕ). length t ≤ 500) is short }
+
+-- so each may be put that may be stored
+pub may_put : (d : Pairs) → IsStorable d → MayBePut d
+may_put d good = record { lawful = good.lawful; size = good.size; depth = good.depth; key = good.key }
 
 pub refused_unchecked : (c : Collection) (ps : Pairs) (e : Refusal) → checked ps ≡ Err e → insert_one c ps ≡ Err e
 unfolding insert_one

@@ -33,7 +33,7 @@ use Rattle.engine.specs.declared.statements.Run.{Run}
 use Rattle.engine.specs.declared.statements.Write.{Write}
 use Rattle.engine.proofs.Applied.{applied, change_kept, change_puttable, rising_set, stored_puttable}
 use Rattle.engine.proofs.EditPlaceLemmas.{storable}
-use Rattle.engine.proofs.LawfulSteps.{kept_place}
+use Rattle.engine.proofs.KeptLemmas.{kept_place}
 use Rattle.engine.proofs.Ordered.{flipped}
 use Rattle.engine.proofs.Steps.{drop_step}
 use Rattle.engine.proofs.StoringLemmas.{put_where_placed}

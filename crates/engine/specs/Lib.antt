@@ -11,6 +11,7 @@ pub mod Count
 pub mod Delete
 pub mod Update
 pub mod Aggregate
+pub mod UpdateCommand
 pub mod Create
 pub mod DropCollection
 pub mod ListCollections

@@ -60,10 +60,17 @@ IsAny c = Unit {0}
 
 -- ---- one document
 
--- the document that another is in place of is the collection's of its `_id`
+-- the document that another is in place of is that of its `_id`
+abbrev pub IsReplacedIn : Option Pairs → Pairs → List Pairs → Type 0
+IsReplacedIn None d ds = Unit {0}
+IsReplacedIn (Some was) d ds = find_document ds (key_of d) ≡ Some was
+
 abbrev pub IsReplaced : Option Pairs → Pairs → Collection → Type 0
-IsReplaced None d c = Unit {0}
-IsReplaced (Some was) d c = find_document c.documents (key_of d) ≡ Some was
+IsReplaced was d c = IsReplacedIn was d c.documents
+
+-- so it is, and the document may be stored
+abbrev pub MayEnter : Option Pairs → Pairs → Collection → Type 0
+MayEnter was d c = IsStorable d × IsReplaced was d c
 
 -- what becomes of the collection with a document, which is in place of this one, or of none
 abbrev pub write_of : Option Pairs → Pairs → DocumentWrite

@@ -4,11 +4,11 @@ ghost use Rattle.std.specs.Prelude.{◌≡◌, ◌≤◌, [], IfOk, IfSome, leng
 ghost use Rattle.value_order.specs.KeyText.{tree_text};
 ghost use Rattle.collections.specs.Reading.{IsWithinLimits};
 ghost use Rattle.index.specs.Entering.{AreKeyed};
-ghost use Rattle.index.specs.LawfulState.{IsStorable};
 ghost use Rattle.engine.specs.Durable.{IsSound};
 ghost use Rattle.engine.specs.Looking.{LooksOf};
-ghost use Rattle.engine.specs.Storing.{AreNoted, IsBeside, IsFull, IsReplaced, Notes, TellsDuplicate, TellsTaken, entering};
+ghost use Rattle.engine.specs.Storing.{AreNoted, IsBeside, IsFull, MayEnter, Notes, TellsDuplicate, TellsTaken, entering};
 ghost use Rattle.engine.specs.Trying.{Tries};
+ghost use Rattle.engine.specs.Updating.{MayBePut};
 ghost use Rattle.engine.specs.View.{world};
 ghost use Rattle.engine.specs.World.{collection_of};
 
@@ -104,9 +104,9 @@ impl<D: Disk> Engine<D> {
         requires sound { IsSound D.history self.old }
         requires short { length namespace.now ≤ 255 }
         requires limits { IsWithinLimits home.old }
-        requires storable { IsStorable document.now }
+        requires puttable { MayBePut document.now }
         ensures notes { Notes D.history namespace.now
-            (IsReplaced (option_map (λ d. d.now) replaced.entry) document.now)
+            (MayEnter (option_map (λ d. d.now) replaced.entry) document.now)
             (entering (option_map (λ d. d.now) replaced.entry) document.now)
             home.old home.new edits.old edits.new result self.old self.new }
         ensures limits { IsWithinLimits home.new }

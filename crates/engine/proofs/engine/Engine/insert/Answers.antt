@@ -8,7 +8,7 @@ use Rattle.engine.specs.Insert.{inserted, run_insert}
 use Rattle.engine.specs.Refusals.{int, ok_reply}
 use Rattle.engine.specs.View.{world, IsSendable}
 use Rattle.engine.proofs.Growing.{inserted_differs}
-use Rattle.engine.proofs.LawfulSteps.{stored_at}
+use Rattle.engine.proofs.KeptLemmas.{stored_at}
 use Rattle.engine.proofs.MakingLemmas.{performs_done, performs_none, performs_refused}
 use Rattle.engine.proofs.PlannedLemmas.{run_inserts}
 use Rattle.engine.proofs.SpelledSizes.{insert-sendable}

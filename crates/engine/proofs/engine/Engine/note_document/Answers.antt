@@ -1,7 +1,7 @@
 use Rattle.std.proofs.lemmas.Result.{err_from_is_err_and}
 use Rattle.engine.proofs.InsertSteps.{note_entered, note_unchecked}
 use Rattle.engine.proofs.OnlyReading.{reads_none}
-use Rattle.engine.proofs.StoringLemmas.{stored_storable}
+use Rattle.engine.proofs.StoringLemmas.{may_put, stored_storable}
 use Rattle.engine.proofs.engine.Engine.note_document.Goals as goal
 
 pub returns-in_err-document-clause-notes : goal.returns-in_err-document-clause-notes
@@ -11,13 +11,14 @@ returns-in_err-document-clause-notes g c =
     rw (p.1, p.2) (note_unchecked g.D.Disk.history c.args.namespace.now c.args.home.now c.args.edits.now c.args.document.now old c.in_err-document.field-0.0
     (reads_none g.D.Disk.history old c.requires.sound) c.in_err-document.ensures.checked)
 
-pub enter-requires-clause-storable : goal.enter-requires-clause-storable
-enter-requires-clause-storable g c =
+pub enter-requires-clause-puttable : goal.enter-requires-clause-puttable
+enter-requires-clause-puttable g c =
     let done = c.in_ok-document.ensures in
-    stored_storable c.args.document.now c.in_ok-document.document done.checked.0 done.checked.1 done.readable
+    may_put c.in_ok-document.document (stored_storable c.args.document.now c.in_ok-document.document done.checked.0 done.checked.1 done.readable)
 
 pub returns-clause-notes : goal.returns-clause-notes
 returns-clause-notes g c =
     let done = c.in_ok-document.ensures in
-    note_entered g.D.Disk.history c.args.namespace.now c.args.home.now c.args.edits.now c.args.document.now c.args.self.now c.in_ok-document.document done.checked.0 done.checked.1
+    note_entered g.D.Disk.history c.args.namespace.now c.args.home.now c.args.edits.now c.args.document.now c.args.self.now c.in_ok-document.document
+    (stored_storable c.args.document.now c.in_ok-document.document done.checked.0 done.checked.1 done.readable) done.checked.0 done.checked.1
     c.enter.new.home c.enter.new.edits c.enter.result c.enter.new.self c.enter.ensures.notes
