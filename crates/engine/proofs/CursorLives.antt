@@ -35,7 +35,8 @@ use Rattle.engine.specs.Insert.{run_insert}
 use Rattle.engine.specs.Find.{query_result, run_find}
 use Rattle.engine.specs.Count.{run_count}
 use Rattle.engine.specs.Delete.{run_delete}
-use Rattle.engine.specs.Update.{Updated, update_reply, run_all, run_update}
+use Rattle.engine.specs.Update.{Updated, update_reply, run_all}
+use Rattle.engine.specs.UpdateCommand.{entered_in, run_update, writes_in}
 use Rattle.engine.specs.Aggregate.{run_aggregate}
 use Rattle.engine.specs.Create.{created, run_create}
 use Rattle.engine.specs.DropCollection.{drop_reply, dropped, index_count, run_drop}
@@ -218,11 +219,12 @@ module _ (k : ℕ) (w : World) (connection : ℕ) (left : List Pairs) (drawn : k
 
   updated : (c : Update) → Keeps (run_update w c)
   unfolding run_update
-  updated c = at (run_all c.namespace c.statements w.collections)
+  updated c = at (entered_in c.namespace (writes_in c.namespace c.statements w.collections) w.collections) (run_all c.namespace c.statements w.collections)
     where
-      at : (r : Result Updated Refusal) → Keeps (r >>= (λ u. let x : Result (World × Pairs) Refusal = Ok (record w { collections = u.collections }, update_reply u) in x))
-      at (Ok u) = on u.collections
-      at (Err e) = same
+      at : (r : Result (List Collection) Refusal) (q : Result Updated Refusal) → Keeps (r >>= (λ next. q >>= (λ u. let x : Result (World × Pairs) Refusal = Ok (record w { collections = next }, update_reply u) in x)))
+      at (Ok next) (Ok u) = on next
+      at (Ok next) (Err e) = same
+      at (Err e) q = same
 
   made : (c : Create) → Keeps (run_create w c)
   unfolding run_create

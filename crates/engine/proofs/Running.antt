@@ -12,8 +12,6 @@ use Rattle.aggregate.specs.Pipeline.{run as after_pipeline}
 use Rattle.engine.specs.Aggregate.{run_aggregate}
 use Rattle.engine.specs.Find.{query_result, matching, window, run_find}
 use Rattle.commands.specs.Delete.{Delete}
-use Rattle.commands.specs.Update.{UpdateStatement}
-use Rattle.engine.specs.Update.{Updated, update_reply, run_update}
 use Rattle.engine.specs.View.{world_of, with_ok, Runs}
 use Rattle.engine.specs.Delete.{after_deletions, deleted_in, run_delete}
 use Rattle.engine.specs.World.{World, Cursor, CursorTable, collection_of, documents_of}

@@ -35,7 +35,8 @@ use Rattle.engine.specs.Insert.{run_insert}
 use Rattle.engine.specs.Find.{query_result, run_find}
 use Rattle.engine.specs.Count.{run_count}
 use Rattle.engine.specs.Delete.{run_delete}
-use Rattle.engine.specs.Update.{Updated, update_reply, run_all, run_update}
+use Rattle.engine.specs.Update.{Updated, update_reply, run_all}
+use Rattle.engine.specs.UpdateCommand.{entered_in, run_update, writes_in}
 use Rattle.engine.specs.Aggregate.{run_aggregate}
 use Rattle.engine.specs.Step.{run, answered, step}
 use Rattle.engine.specs.CursorLaws.{IsAmong, after_commands, StaysOpen}
@@ -111,11 +112,12 @@ module _ (w : World) (connection : ℕ) where
 
   updated : (c : Update) → Comes (run_update w c)
   unfolding run_update
-  updated c = at (run_all c.namespace c.statements w.collections)
+  updated c = at (entered_in c.namespace (writes_in c.namespace c.statements w.collections) w.collections) (run_all c.namespace c.statements w.collections)
     where
-      at : (r : Result Updated Refusal) → Comes (r >>= (λ u. let x : Result (World × Pairs) Refusal = Ok (record w { collections = u.collections }, update_reply u) in x))
-      at (Ok u) d rests h = h
-      at (Err e) d rests h = h
+      at : (r : Result (List Collection) Refusal) (q : Result Updated Refusal) → Comes (r >>= (λ next. q >>= (λ u. let x : Result (World × Pairs) Refusal = Ok (record w { collections = next }, update_reply u) in x)))
+      at (Ok next) (Ok u) d rests h = h
+      at (Ok next) (Err e) d rests h = h
+      at (Err e) q d rests h = h
 
   batched : (name : List ℕ) (ds : List Pairs) (n : ℕ) → Comes (first_batch w connection name ds n)
   batched name ds n = at (nat_le (length ds) n) (is_refused connection w.cursors w.next)

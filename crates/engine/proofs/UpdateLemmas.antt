@@ -1,6 +1,6 @@
 -- What an update comes to.
 use Rattle.std.proofs.Common.{◌≡◌, ◌≢◌, ◌⊎◌, inl, inr, ℕ, ◌<◌, ◌≤◌, Bool, true, false, List, [], ◌∷◌, length, map, Option, Some, None, Result, Ok, Err, refl, sym, ap, subst, ◌∙◌, arith}
-use Rattle.std.specs.Prelude.{All, MatchResult, nat_lt}
+use Rattle.std.specs.Prelude.{◌==◌, All, MatchResult, nat_lt}
 use Rattle.std.proofs.lemmas.Bool.Decides.{nat_tests}
 use Rattle.bson.specs.Tree.{Pairs, no_pairs}
 use Rattle.page.specs.History.{History, KeepsWord}
@@ -42,6 +42,16 @@ use Rattle.engine.proofs.PlannedUpdates.{full_refused}
 use Rattle.engine.proofs.StoringLemmas.{full_of}
 use Rattle.engine.proofs.UpdateSteps.{written_full}
 
+-- ---- whether anything is written
+
+pub none_in : (ws : List Write) (b : Bool) → b ≡ (length ws == 0) → b ≡ true → ws ≡ []
+none_in [] b is e = refl
+none_in (w ∷ ws) b is e = absurd (let no : true ≡ false = sym e ∙ is in cc)
+
+pub some_in : (ws : List Write) (b : Bool) → b ≡ (length ws == 0) → b ≡ false → ws ≢ []
+some_in [] b is e = absurd (let no : false ≡ true = sym e ∙ is in cc)
+some_in (w ∷ ws) b is e = λ none. absurd cc
+
 -- ---- the reply
 
 -- a reply that is no longer than it may be
@@ -74,7 +84,7 @@ module _ (now : List Collection) (name : List ℕ) (ss : List UpdateStatement) (
       }
 
   replied_refused : (end : Result Tally Refusal) (e : Refusal) → EndsIn now name ss ws end → RepliesTo end (Err e) → (run_all name ss now ≡ Err e) ⊎ (e ≡ refusals.OutOfMemory)
-  replied_refused (Err f) e ends replies = inl (ends ∙ sym replies)
+  replied_refused (Err f) e ends replies = let same : f ≡ e = cc in inl (ends ∙ ap (λ (x : Refusal). let r : Result Updated Refusal = Err x in r) same)
   replied_refused (Ok t) e ends (inl memory) = inr memory
   replied_refused (Ok t) e ends (inr (is, long)) =
       let long_so : 1048555 < length (spelled (ok_reply (update_reply ends.after))) = subst (λ (ps : Pairs). 1048555 < length (spelled (ok_reply ps))) (sym ends.counts) long in

@@ -61,11 +61,11 @@ pub puttable_at : (ws : List Write) (i : ℕ) (w : Write) → i < length ws → 
 puttable_at ws i w within is all = let at = news_at ws i w within is in subst MayBePut (sym at.1) (all i w.new at.0)
 
 -- what is noted, and which writes are left of all
-record WritesSoFar (cs : List Collection) (name : List ℕ) (home : Catalogued) (edits : List Edit) (all left : List Write) (first : Collection) : Type 0 where
-  reached : Collection
-  noted : AreNoted cs name home edits reached
-  same : enter_each first (map seen all) ≡ enter_each reached (map seen left)
-  writes : AreWritesOf reached.documents left
+pub record WritesSoFar (cs : List Collection) (name : List ℕ) (home : Catalogued) (edits : List Edit) (all left : List Write) (first : Collection) : Type 0 where
+  pub reached : Collection
+  pub noted : AreNoted cs name home edits reached
+  pub same : enter_each first (map seen all) ≡ enter_each reached (map seen left)
+  pub writes : AreWritesOf reached.documents left
 
 module _ (cs : List Collection) (name : List ℕ) (all : List Write) (first : Collection) (home : Catalogued) (edits : List Edit) (w : Write) (left : List Write) (far : WritesSoFar cs name home edits all (w ∷ left) first) where
   is_seen : write_of w.old w.new ≡ seen w
