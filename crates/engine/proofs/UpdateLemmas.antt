@@ -1,6 +1,6 @@
 -- What an update comes to.
 use Rattle.std.proofs.Common.{◌≡◌, ◌≢◌, ◌⊎◌, inl, inr, ℕ, ◌<◌, ◌≤◌, Bool, true, false, List, [], ◌∷◌, length, map, Option, Some, None, Result, Ok, Err, refl, sym, ap, subst, ◌∙◌, arith}
-use Rattle.std.specs.Prelude.{◌==◌, All, MatchResult, nat_lt}
+use Rattle.std.specs.Prelude.{All, MatchResult, nat_lt}
 use Rattle.std.proofs.lemmas.Bool.Decides.{nat_tests}
 use Rattle.bson.specs.Tree.{Pairs, no_pairs}
 use Rattle.page.specs.History.{History, KeepsWord}
@@ -41,16 +41,6 @@ use Rattle.engine.proofs.OnlyReading.{cause_from, now_same, reads_on, word_befor
 use Rattle.engine.proofs.PlannedUpdates.{full_refused}
 use Rattle.engine.proofs.StoringLemmas.{full_of}
 use Rattle.engine.proofs.UpdateSteps.{written_full}
-
--- ---- whether anything is written
-
-pub none_in : (ws : List Write) (b : Bool) → b ≡ (length ws == 0) → b ≡ true → ws ≡ []
-none_in [] b is e = refl
-none_in (w ∷ ws) b is e = absurd (let no : true ≡ false = sym e ∙ is in cc)
-
-pub some_in : (ws : List Write) (b : Bool) → b ≡ (length ws == 0) → b ≡ false → ws ≢ []
-some_in [] b is e = absurd (let no : false ≡ true = sym e ∙ is in cc)
-some_in (w ∷ ws) b is e = λ none. absurd cc
 
 -- ---- the reply
 

@@ -1,6 +1,6 @@
 //! `update`: documents are changed and made, statement by statement; all statements are done, or none.
 
-ghost use Rattle.std.specs.Prelude.{◌≡◌, ◌≤◌, ◌++◌, [], true, IfErr, IfOk, None, OnOk, All, length, map};
+ghost use Rattle.std.specs.Prelude.{◌≡◌, ◌≢◌, ◌≤◌, ◌++◌, [], false, true, IfErr, IfOk, None, OnOk, All, length, map};
 ghost use Rattle.std.specs.List.{list_all};
 ghost use Rattle.std.specs.Ordering.{is_eq};
 ghost use Rattle.bson.specs.View.{tree};
@@ -195,6 +195,14 @@ fn reply_of(alloc: Global, end: Result<Tally, Refusal>) -> Result<Document, Refu
     Ok(reply)
 }
 
+/// Whether an update writes nothing.
+fn are_none(ran: &Ran) -> bool
+    ensures all { result ≡ true → ran.now.writes.items ≡ [] }
+    ensures some { result ≡ false → ran.now.writes.items ≢ [] }
+{
+    ran.writes.is_empty()
+}
+
 impl<D: Disk> Engine<D> {
     /// Updates documents, statement by statement, all statements or none.
     pub(crate) fn update(
@@ -218,7 +226,7 @@ impl<D: Disk> Engine<D> {
         ensures sendable { IfOk result (λ d. IsSendable d) }
     {
         let ran = self.updated(namespace, statements)?;
-        if ran.writes.is_empty() {
+        if are_none(&ran) {
             return reply_of(self.alloc, ran.end);
         }
         let edits = self.edits_of(namespace, &ran.writes)?;

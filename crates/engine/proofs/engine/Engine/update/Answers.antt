@@ -3,7 +3,7 @@ use Rattle.std.proofs.lemmas.Result.{err_from_is_err_and}
 use Rattle.engine.specs.Putting.{NotesWrites}
 use Rattle.engine.specs.View.{world}
 use Rattle.engine.specs.declared.statements.Write.{Write}
-use Rattle.engine.proofs.UpdateLemmas.{none_in, nothing_changed, nothing_replied, some_in, update_done, update_leads, update_unmade, update_unnoted, update_unsaid, update_unwritten, updated_lawful}
+use Rattle.engine.proofs.UpdateLemmas.{nothing_changed, nothing_replied, update_done, update_leads, update_unmade, update_unnoted, update_unsaid, update_unwritten, updated_lawful}
 use Rattle.engine.proofs.engine.Engine.update.Goals as goal
 
 pub returns-in_err-ran-clause-performs : goal.returns-in_err-ran-clause-performs
@@ -11,18 +11,18 @@ returns-in_err-ran-clause-performs g c =
     let p = err_from_is_err_and c.from_residual.result c.from_residual.ensures.1 in
     rw (p.1, p.2) (update_unmade g.D.Disk.history c.args.namespace.now c.args.statements.now c.args.self.now c.updated.new.self c.in_err-ran.field-0.0 c.in_err-ran.ensures.tries)
 
-pub returns-then-is_empty-clause-performs : goal.returns-then-is_empty-clause-performs
-returns-then-is_empty-clause-performs g c =
+pub returns-then-are_none-clause-performs : goal.returns-then-are_none-clause-performs
+returns-then-are_none-clause-performs g c =
     let x = c.in_ok-ran.ran in
     nothing_replied g.D.Disk.history c.args.namespace.now c.args.statements.now c.args.self.now c.updated.new.self x c.in_ok-ran.ensures.tries
-    (none_in x.writes.items c.is_empty.result c.is_empty.ensures c.if-is_empty.true) c.reply_of.result c.reply_of.ensures.replies
+    (c.are_none.ensures.all c.if-are_none.true) c.reply_of.result c.reply_of.ensures.replies
 
 pub returns-in_err-edits-clause-performs : goal.returns-in_err-edits-clause-performs
 returns-in_err-edits-clause-performs g c =
     let p = err_from_is_err_and c.from_residual-in_err-edits.result c.from_residual-in_err-edits.ensures.1 in
     let x = c.in_ok-ran.ran in
     let e = c.in_err-edits.field-0.0 in
-    let some = some_in x.writes.items c.is_empty.result c.is_empty.ensures c.if-is_empty.false in
+    let some = c.are_none.ensures.some c.if-are_none.false in
     let notes : NotesWrites g.D.Disk.history c.args.namespace.now x.writes.items (Err e) c.updated.new.self c.edits_of.new.self =
     subst (λ (ws : List Write). NotesWrites g.D.Disk.history c.args.namespace.now ws (Err e) c.updated.new.self c.edits_of.new.self) c.deref.ensures.value c.in_err-edits.ensures in
     rw (p.1, p.2) (update_unnoted g.D.Disk.history c.args.namespace.now c.args.statements.now c.args.self.now c.updated.new.self x c.in_ok-ran.ensures.tries some c.edits_of.new.self e notes)
@@ -32,7 +32,7 @@ returns-in_err-reply-clause-performs g c =
     let p = err_from_is_err_and c.from_residual-in_err-reply.result c.from_residual-in_err-reply.ensures.1 in
     let x = c.in_ok-ran.ran in
     let edits = c.in_ok-edits.edits in
-    let some = some_in x.writes.items c.is_empty.result c.is_empty.ensures c.if-is_empty.false in
+    let some = c.are_none.ensures.some c.if-are_none.false in
     let notes : NotesWrites g.D.Disk.history c.args.namespace.now x.writes.items (Ok edits) c.updated.new.self c.edits_of.new.self =
     subst (λ (ws : List Write). NotesWrites g.D.Disk.history c.args.namespace.now ws (Ok edits) c.updated.new.self c.edits_of.new.self) c.deref.ensures.value c.in_ok-edits.ensures in
     rw (p.1, p.2) (update_unsaid g.D.Disk.history c.args.namespace.now c.args.statements.now c.args.self.now c.updated.new.self x c.in_ok-ran.ensures.tries some c.edits_of.new.self edits notes
@@ -42,7 +42,7 @@ pub write-requires : goal.write-requires
 write-requires g c κs within =
     let x = c.in_ok-ran.ran in
     let edits = c.in_ok-edits.edits in
-    let some = some_in x.writes.items c.is_empty.result c.is_empty.ensures c.if-is_empty.false in
+    let some = c.are_none.ensures.some c.if-are_none.false in
     let notes : NotesWrites g.D.Disk.history c.args.namespace.now x.writes.items (Ok edits) c.updated.new.self c.edits_of.new.self =
     subst (λ (ws : List Write). NotesWrites g.D.Disk.history c.args.namespace.now ws (Ok edits) c.updated.new.self c.edits_of.new.self) c.deref.ensures.value c.in_ok-edits.ensures in (
       search rules,
@@ -64,7 +64,7 @@ returns-in_err-write-clause-performs g c =
     let p = err_from_is_err_and c.from_residual-in_err-write.result c.from_residual-in_err-write.ensures.1 in
     let x = c.in_ok-ran.ran in
     let edits = c.in_ok-edits.edits in
-    let some = some_in x.writes.items c.is_empty.result c.is_empty.ensures c.if-is_empty.false in
+    let some = c.are_none.ensures.some c.if-are_none.false in
     let notes : NotesWrites g.D.Disk.history c.args.namespace.now x.writes.items (Ok edits) c.updated.new.self c.edits_of.new.self =
     subst (λ (ws : List Write). NotesWrites g.D.Disk.history c.args.namespace.now ws (Ok edits) c.updated.new.self c.edits_of.new.self) c.deref.ensures.value c.in_ok-edits.ensures in
     rw (p.1, p.2) (update_unwritten g.D.Disk.history c.args.namespace.now c.args.statements.now c.args.self.now c.updated.new.self x c.in_ok-ran.ensures.tries some c.edits_of.new.self edits notes
@@ -74,7 +74,7 @@ pub returns-clause-performs : goal.returns-clause-performs
 returns-clause-performs g c =
     let x = c.in_ok-ran.ran in
     let edits = c.in_ok-edits.edits in
-    let some = some_in x.writes.items c.is_empty.result c.is_empty.ensures c.if-is_empty.false in
+    let some = c.are_none.ensures.some c.if-are_none.false in
     let notes : NotesWrites g.D.Disk.history c.args.namespace.now x.writes.items (Ok edits) c.updated.new.self c.edits_of.new.self =
     subst (λ (ws : List Write). NotesWrites g.D.Disk.history c.args.namespace.now ws (Ok edits) c.updated.new.self c.edits_of.new.self) c.deref.ensures.value c.in_ok-edits.ensures in
     update_done g.D.Disk.history c.args.namespace.now c.args.statements.now c.args.self.now c.updated.new.self x c.in_ok-ran.ensures.tries some c.edits_of.new.self edits notes
@@ -84,7 +84,7 @@ pub returns-clause-has_changes : goal.returns-clause-has_changes
 returns-clause-has_changes g c = λ k same none.
     let x = c.in_ok-ran.ran in
     let edits = c.in_ok-edits.edits in
-    let some = some_in x.writes.items c.is_empty.result c.is_empty.ensures c.if-is_empty.false in
+    let some = c.are_none.ensures.some c.if-are_none.false in
     let notes : NotesWrites g.D.Disk.history c.args.namespace.now x.writes.items (Ok edits) c.updated.new.self c.edits_of.new.self =
     subst (λ (ws : List Write). NotesWrites g.D.Disk.history c.args.namespace.now ws (Ok edits) c.updated.new.self c.edits_of.new.self) c.deref.ensures.value c.in_ok-edits.ensures in
     nothing_changed g.D.Disk.history c.args.namespace.now c.args.statements.now c.args.self.now c.updated.new.self x c.in_ok-ran.ensures.tries some c.edits_of.new.self edits notes
