@@ -1,16 +1,12 @@
 -- What stays of a collection where documents are inserted or written, and how many it has.
-use Rattle.std.proofs.Common.{◌≡◌, ◌⊎◌, ◌+◌, inl, inr, ℕ, Bool, true, false, List, [], ◌∷◌, ◌++◌, length, length-append, map, Option, Some, None, Result, Ok, refl, sym, ap, subst, ◌∙◌, arith}
+use Rattle.std.proofs.Common.{◌≡◌, ◌⊎◌, ◌+◌, inl, inr, ℕ, true, false, List, [], ◌∷◌, length, length-append, Ok, refl, sym, ap, subst, ◌∙◌, arith}
 use Rattle.std.specs.Prelude.{All, is_some}
 use Rattle.std.proofs.lemmas.List.Elements.{All-head, All-tail}
-use Rattle.bson.specs.Tree.{Tree, Pairs}
-use Rattle.path.specs.declared.refusal.Refusal.{Refusal}
-use Rattle.outcome.specs.Outcome.{◌>>=◌}
+use Rattle.bson.specs.Tree.{Pairs}
 use Rattle.update.specs.Stored.{id_first}
 use Rattle.commands.specs.OutcomeLaws.{step_of}
-use Rattle.index.specs.Definition.{Definition}
 use Rattle.index.specs.Documents.{put_document}
 use Rattle.index.specs.Entering.{DocumentWrite, entered}
-use Rattle.index.specs.KeptLaws.{noted}
 use Rattle.index.specs.LawfulState.{IsRising}
 use Rattle.index.specs.State.{Collection}
 use Rattle.index.specs.StateReads.{find_document}

@@ -1,5 +1,5 @@
 -- The steps by which a document enters its collection, over engines as values.
-use Rattle.std.proofs.Common.{◌≡◌, ◌≢◌, ◌⊎◌, inl, inr, ℕ, Bool, true, false, ◌||◌, ◌&&◌, List, map, Option, Some, None, Result, Ok, Err, refl, sym, ap, subst, ◌∙◌}
+use Rattle.std.proofs.Common.{◌≡◌, ◌≢◌, ◌⊎◌, inl, inr, ℕ, Bool, true, false, ◌||◌, List, map, Option, Some, None, Result, Ok, Err, refl, sym, ap, subst, ◌∙◌}
 use Rattle.std.specs.Prelude.{MatchResult, is_some, not, option_map}
 use Rattle.std.specs.List.{list_any}
 use Rattle.bson.specs.Tree.{Pairs}
@@ -12,7 +12,7 @@ use Rattle.collections.specs.Calls.{HasCause, Reads}
 use Rattle.collections.specs.OtherKeys.{TellsDocument, TellsOf, is_taken}
 use Rattle.collections.specs.State.{State}
 use Rattle.index.specs.Definition.{Definition}
-use Rattle.index.specs.Entering.{AreKeyed, Enters, clashes, is_duplicate, with_document}
+use Rattle.index.specs.Entering.{AreKeyed, Enters, clashes, is_duplicate}
 use Rattle.index.specs.KeptLaws.{noted}
 use Rattle.index.specs.KeyTexts.{encoded_keys, keys_in_all}
 use Rattle.index.specs.LawfulState.{IsStorable}
@@ -25,11 +25,11 @@ use Rattle.index.specs.declared.entering.Keyed.{Keyed}
 use Rattle.engine.specs.Documents.{key_of}
 use Rattle.engine.specs.Durable.{disk_history, file_of, IsSound}
 use Rattle.engine.specs.Looking.{LooksOf, OnlyReads}
-use Rattle.engine.specs.Storing.{AreNoted, Beside, HasNoted, IsBeside, IsReplaced, MayEnter, Notes, TellsDuplicate, TellsTaken, entering, write_of}
+use Rattle.engine.specs.Storing.{AreNoted, Beside, IsBeside, IsReplaced, MayEnter, Notes, TellsDuplicate, TellsTaken, entering, write_of}
 use Rattle.engine.specs.View.{world}
 use Rattle.engine.specs.declared.engine.Engine.{Engine}
 use Rattle.engine.proofs.EnteringLemmas.{entering_done, entering_duplicate, entering_unkeyed, has_entered_noted, id_told, keys_told, stored_keyed}
-use Rattle.engine.proofs.OnlyReading.{cause_from, now_same, reads_file, reads_none, reads_on, word_before}
+use Rattle.engine.proofs.OnlyReading.{cause_from, reads_file, reads_none, reads_on, word_before}
 
 -- ---- duplicates
 

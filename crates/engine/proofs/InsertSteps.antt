@@ -19,7 +19,7 @@ use Rattle.index.specs.State.{Collection, find_collection, put_collection}
 use Rattle.index.specs.StateEntries.{Leads}
 use Rattle.index.specs.declared.catalogue_reading.Catalogued.{Catalogued}
 use Rattle.engine.specs.Documents.{checked, insert_all, insert_one, key_of}
-use Rattle.engine.specs.Durable.{disk_history, file_of, IsRunning, IsSound}
+use Rattle.engine.specs.Durable.{disk_history, file_of, IsRunning}
 use Rattle.engine.specs.Insert.{inserted}
 use Rattle.engine.specs.Looking.{Looks, OnlyReads}
 use Rattle.engine.specs.Numbering.{IsNewNumber, IsTooMany}

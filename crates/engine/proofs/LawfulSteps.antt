@@ -1,7 +1,6 @@
 -- A lawful world steps to a lawful world, and its replies are within their limit.
 use Rattle.std.proofs.Common.{◌≡◌, ◌⊎◌, inl, inr, ℕ, suc, max, min, ◌+◌, ◌-◌, ◌<◌, ◌≤◌, Bool, true, false, List, [], ◌∷◌, ◌++◌, length, length-append, map, set, insert, take, drop, Option, Some, None, Result, Ok, Err, refl, sym, ap, subst, ◌∙◌, arith, zero, remove, lit≤}
 use Rattle.std.specs.Prelude.{◌&&◌, ◌^◌, not, is_some, nat_le, if◌then◌else◌, codes, unwrap_or, nat_lt, All}
-use Rattle.std.specs.Str.{bytes_eq}
 use Rattle.std.specs.Cmp.Lexicographic.{slice_cmp}
 use Rattle.std.specs.Ordering.{nat_cmp}
 use Rattle.std.proofs.lemmas.Bool.Decides.{nat_tests}
@@ -12,15 +11,13 @@ use Rattle.std.proofs.lemmas.List.Elements.{All-cons, All-append, All-drop, All-
 use Rattle.std.proofs.lemmas.List.Quantifiers.{position-Some}
 use Rattle.std.specs.List.{filter, position}
 use Rattle.std.proofs.lemmas.Map.Lookups.{exact_bytes}
-use Rattle.bson.specs.Tree.{Tree, Pairs, pair, no_pairs}
+use Rattle.bson.specs.Tree.{Pairs, pair, no_pairs}
 use Rattle.bson.specs.Spelling.{items_bytes}
 use Rattle.bson.specs.declared.fault.BsonFault.{BsonFault}
-use Rattle.value_order.specs.Order.{compare}
-use Rattle.value_order.specs.TotalLaws.{compare_total}
-use Rattle.engine.specs.World.{World, Cursor, collection_of, unused, number_or, with_documents, documents_or_none, documents_of}
+use Rattle.engine.specs.World.{World, Cursor, collection_of, unused, number_or, with_documents, documents_of}
 use Rattle.index.specs.State.{Collection, find_collection, uses, put_collection}
 use Rattle.outcome.specs.Outcome.{◌>>=◌, unless, or_refused}
-use Rattle.engine.specs.Documents.{key_of, place, insert_all}
+use Rattle.engine.specs.Documents.{place, insert_all}
 use Rattle.commands.specs.Find.{Query}
 use Rattle.commands.specs.Count.{Count}
 use Rattle.commands.specs.Aggregate.{Aggregate}
@@ -46,7 +43,7 @@ use Rattle.engine.proofs.Listing.{go_into_one}
 use Rattle.engine.specs.Refusals.{int, total, ok_reply}
 use Rattle.commands.specs.Command.{Command, ping, insert as insert_of, find as find_of, count as count_of_all, delete, update, aggregate, create as create_of, drop as drop_of, list_collections, command_of, IsBounded, get_more, kill_cursors, hello}
 use Rattle.engine.specs.Lawful.{IsStored, IsWithin, IsKept, IsLawfulState, IsLawful, AreLawfulCursors}
-use Rattle.index.specs.LawfulState.{IsRising, AreNamedApart, AreNumberedApart}
+use Rattle.index.specs.LawfulState.{AreNamedApart, AreNumberedApart}
 use Rattle.engine.specs.Places.{collection_at, no_collection}
 use Rattle.engine.specs.Insert.{is_full}
 use Rattle.engine.specs.Cursors.{items_of_documents, batch_of, cursor_reply, number_after, batch_reply, is_refused, new_cursor, open_cursor, first_batch, is_cursor, no_cursor, cursor_at}
@@ -67,7 +64,7 @@ use Rattle.engine.proofs.EnteredLemmas.{has_grown, stays_kept}
 use Rattle.engine.proofs.Located.{Gap, There, located}
 use Rattle.engine.proofs.Deleting.{deleted_lawful}
 use Rattle.engine.proofs.Finding.{found_within}
-use Rattle.engine.proofs.Ordered.{Rises, rises_insert, All-inserted, place_gap, place_there, missing, found, added, replaced}
+use Rattle.engine.proofs.Ordered.{Rises, rises_insert, All-inserted, missing, found, added, replaced}
 use Rattle.engine.proofs.Numbers.{unused_unused, number_bounds, numbers_set, numbers_insert}
 use Rattle.engine.proofs.NamesApart.{apart_set}
 use Rattle.engine.proofs.SpelledSizes.{ping-sendable, insert-sendable, drop-sendable, refusal-sendable, batch_items, cursor-sendable, kill-sendable, told_few, hello-sendable}

@@ -1,12 +1,9 @@
 -- What an update makes of the documents of a collection keeps what was kept of them.
-use Rattle.std.proofs.Common.{◌≡◌, ◌⊎◌, inl, inr, ℕ, zero, suc, ◌<◌, Bool, true, false, List, [], ◌∷◌, ◌++◌, length, get_or, set, Option, Ok, refl, sym, ap, subst, ◌∙◌, arith, append_assoc}
+use Rattle.std.proofs.Common.{◌≡◌, ℕ, zero, suc, ◌<◌, Bool, true, false, List, [], ◌∷◌, ◌++◌, length, get_or, Ok, refl, sym, ap, subst, arith, append_assoc}
 use Rattle.std.specs.Prelude.{not, if◌then◌else◌, All}
-use Rattle.std.specs.Cmp.Lexicographic.{slice_cmp}
-use Rattle.std.specs.Ordering.{nat_cmp}
 use Rattle.std.specs.declared.cmp.Ordering.TheVariants as orders
-use Rattle.std.proofs.lemmas.Cmp.{nat_list_cmp_total}
-use Rattle.std.proofs.lemmas.List.{append-nil, length-set}
-use Rattle.std.proofs.lemmas.List.Elements.{All-cons, All-set}
+use Rattle.std.proofs.lemmas.List.{append-nil}
+use Rattle.std.proofs.lemmas.List.Elements.{All-cons}
 use Rattle.bson.specs.Tree.{Tree, Pairs}
 use Rattle.value_order.specs.Order.{compare}
 use Rattle.filter.specs.Matches.{matches}
@@ -14,19 +11,11 @@ use Rattle.outcome.specs.Outcome.{◌>>=◌}
 use Rattle.update.specs.Applying.{apply}
 use Rattle.commands.specs.OutcomeLaws.{step_of}
 use Rattle.commands.specs.Update.{UpdateStatement, IsRead}
-use Rattle.engine.specs.World.{documents_or_none, documents_of}
-use Rattle.index.specs.State.{Collection, find_collection}
 use Rattle.engine.specs.Documents.{key_of}
-use Rattle.engine.specs.Lawful.{IsStored, IsKept, IsLawfulState}
+use Rattle.engine.specs.Lawful.{IsStored}
 use Rattle.index.specs.LawfulState.{IsRising}
-use Rattle.engine.specs.Places.{collection_at, no_collection}
-use Rattle.engine.specs.Update.{Changed, passed_over, changed_to, update_from, changed_in}
+use Rattle.engine.specs.Update.{Changed, passed_over, changed_to, update_from}
 use Rattle.engine.proofs.Applied.{kept_key, kept_stored}
-use Rattle.engine.proofs.Deleting.{there_at}
-use Rattle.engine.proofs.Located.{Gap, There, located}
-use Rattle.engine.proofs.Numbers.{numbers_set}
-use Rattle.engine.proofs.Ordered.{missing}
-use Rattle.engine.proofs.NamesApart.{apart_set}
 
 -- ---- documents that are found by the same keys
 

@@ -364,8 +364,7 @@ module _ (all : List Entry) (cs : List Collection) (spells : Spells all cs) (law
         ∙ ap (λ (o : Ordering). ordering_then o (ordering_then (nat_cmp 0 0) (key_cmp (tree_text (words c.name)) (tree_text (key_of d))))) low) in
         let told = s.made (catalogue_entry c) (is_done (catalogue_entry c) first below) (catalogue_none c (catalogue_entry c) refl) in
         let e = told.collection in
-        let like = same_catalogue c e kept (kept_so_far e told.there) (plain_one p.now (catalogue_entry c) told) in
-        (
+        let like = same_catalogue c e kept (kept_so_far e told.there) (plain_one p.now (catalogue_entry c) told) in (
           with_it e d,
           inr (inl (record {
             collection = bare e;

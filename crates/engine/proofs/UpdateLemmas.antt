@@ -1,6 +1,6 @@
 -- What an update comes to.
-use Rattle.std.proofs.Common.{◌≡◌, ◌≢◌, ◌⊎◌, inl, inr, ℕ, ◌<◌, ◌≤◌, Bool, true, false, List, [], ◌∷◌, length, map, Option, Some, None, Result, Ok, Err, refl, sym, ap, subst, ◌∙◌, arith}
-use Rattle.std.specs.Prelude.{All, MatchResult, nat_lt}
+use Rattle.std.proofs.Common.{◌≡◌, ◌≢◌, ◌⊎◌, inl, inr, ℕ, ◌<◌, ◌≤◌, Bool, true, false, List, [], ◌∷◌, length, map, Result, Ok, Err, refl, sym, ap, subst, ◌∙◌, arith}
+use Rattle.std.specs.Prelude.{All, nat_lt}
 use Rattle.std.proofs.lemmas.Bool.Decides.{nat_tests}
 use Rattle.bson.specs.Tree.{Pairs, no_pairs}
 use Rattle.page.specs.History.{History, KeepsWord}
@@ -21,7 +21,7 @@ use Rattle.engine.specs.Known.{Known}
 use Rattle.engine.specs.Lawful.{IsLawfulState}
 use Rattle.engine.specs.Looking.{OnlyReads}
 use Rattle.engine.specs.Performing.{Performs}
-use Rattle.engine.specs.Putting.{ArePlanned, AreWritesOf, ComesTo, EndsIn, IsFullFor, IsUpdate, NotesWrites, RepliesTo, says}
+use Rattle.engine.specs.Putting.{ArePlanned, AreWritesOf, ComesTo, EndsIn, IsFullFor, IsUpdate, NotesWrites, RepliesTo}
 use Rattle.engine.specs.Refusals.{ok_reply}
 use Rattle.engine.specs.Step.{ChangesNone}
 use Rattle.engine.specs.Trying.{Tries}

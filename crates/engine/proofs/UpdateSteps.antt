@@ -1,55 +1,35 @@
 -- The steps of an update, over engines as values.
-use Rattle.std.proofs.Common.{◌≡◌, ◌≢◌, ◌⊎◌, inl, inr, ℕ, ◌+◌, ◌<◌, ◌≤◌, Bool, true, false, List, [], ◌∷◌, length, map, drop, get_or, Option, Some, None, Result, Ok, Err, refl, sym, ap, subst, ◌∙◌, arith}
-use Rattle.std.specs.Prelude.{All, MatchResult, is_some, nat_lt, not}
-use Rattle.std.proofs.lemmas.Bool.Decides.{nat_tests}
+use Rattle.std.proofs.Common.{◌≡◌, inl, inr, ℕ, ◌+◌, ◌<◌, ◌≤◌, Bool, true, false, List, [], ◌∷◌, length, map, drop, get_or, Result, Ok, Err, refl, sym, ap, subst, ◌∙◌, arith}
+use Rattle.std.specs.Prelude.{All}
 use Rattle.std.proofs.lemmas.List.{drop_all, get_or-map, length-map}
-use Rattle.bson.specs.Tree.{Pairs, no_pairs}
+use Rattle.bson.specs.Tree.{Pairs}
 use Rattle.page.specs.History.{History, KeepsWord}
 use Rattle.btree.specs.Keys.{Edit}
 use Rattle.outcome.specs.Outcome.{◌>>=◌, unless}
 use Rattle.path.specs.declared.refusal.Refusal.{Refusal}
 use Rattle.path.specs.declared.refusal.Refusal.TheVariants as refusals
-use Rattle.collections.specs.Calls.{HasCause}
 use Rattle.collections.specs.Reading.{IsWithinLimits}
 use Rattle.collections.proofs.LawLemmas as laws
 use Rattle.commands.specs.Command.{update}
-use Rattle.commands.specs.OutcomeLaws.{step_of}
-use Rattle.commands.specs.Update.{UpdateStatement, IsRead}
-use Rattle.index.specs.Documents.{put_document}
 use Rattle.index.specs.Entering.{DocumentWrite, entered}
 use Rattle.index.specs.LawfulState as states
 use Rattle.index.specs.State.{Collection, put_collection}
-use Rattle.index.specs.StateEntries.{Leads}
 use Rattle.index.specs.declared.catalogue_reading.Catalogued.{Catalogued}
 use Rattle.index.proofs.EnteringLemmas.{has_entered}
-use Rattle.engine.specs.Documents.{key_of}
-use Rattle.engine.specs.Durable.{disk_history, file_of, has_changes, IsRunning, IsSound}
+use Rattle.engine.specs.Durable.{disk_history}
 use Rattle.engine.specs.Insert.{is_full}
-use Rattle.engine.specs.Known.{Known}
-use Rattle.engine.specs.Lawful.{IsLawfulState}
 use Rattle.engine.specs.Looking.{OnlyReads}
-use Rattle.engine.specs.Performing.{Performs}
-use Rattle.engine.specs.Putting.{ArePlanned, AreWritesOf, ComesTo, EndsIn, IsFullFor, IsUpdate, NotesWrites, RepliesTo, says}
-use Rattle.engine.specs.Refusals.{ok_reply}
-use Rattle.engine.specs.Step.{ChangesNone}
+use Rattle.engine.specs.Putting.{ArePlanned, AreWritesOf, NotesWrites}
 use Rattle.engine.specs.Storing.{AreNoted, HasNoted, IsFull, MayEnter, Notes, entering, write_of}
 use Rattle.engine.specs.Trying.{Tries}
-use Rattle.engine.specs.Update.{judged, not_updated, run_all, run_statements, spelled, Updated, update_reply}
-use Rattle.engine.specs.UpdateCommand.{enter_each, entered_in, run_update, updated, writes_in, written_in}
+use Rattle.engine.specs.UpdateCommand.{enter_each, written_in}
 use Rattle.engine.specs.Updating.{MayBePut, news_of, seen}
 use Rattle.engine.specs.View.{world}
-use Rattle.engine.specs.World.{World, collection_of, documents_of}
-use Rattle.engine.specs.Writing.{Makes, planned_or, Writes}
+use Rattle.engine.specs.World.{collection_of, documents_of}
 use Rattle.engine.specs.declared.engine.Engine.{Engine}
-use Rattle.engine.specs.declared.statements.Ran.{Ran}
-use Rattle.engine.specs.declared.statements.Tally.{Tally}
 use Rattle.engine.specs.declared.statements.Write.{Write}
-use Rattle.engine.proofs.LawfulSteps.{entered_lawful}
-use Rattle.engine.proofs.MakingLemmas.{lawful_now, leads_planned, makes_none, makes_written, performs_done, performs_refused, planned_is, with_reply}
 use Rattle.engine.proofs.OnlyReading.{cause_from, now_same, reads_on, word_before}
-use Rattle.engine.proofs.PlannedUpdates.{full_refused}
 use Rattle.engine.proofs.Steps.{drop_step}
-use Rattle.engine.proofs.StoringLemmas.{full_of}
 
 -- ---- write after write
 

@@ -143,10 +143,10 @@ pub record TakesDocument (all : List Entry) (p : Progress) (pair : Entry)
   pub is : IsStoredAt collection pair document
   pub keyed : HasItsKeys all collection document
   pub next_is : next ≡ record {
-      now = with_document_at collection.number document p.now;
-      keys = p.keys + key_count (keys_among collection.indexes document);
-      seen = p.seen;
-    }
+    now = with_document_at collection.number document p.now;
+    keys = p.keys + key_count (keys_among collection.indexes document);
+    seen = p.seen;
+  }
 
 pub record TakesKey (p : Progress) (pair : Entry) (next : Progress) : Type 0 where
   pub long : 8 ≤ length pair.key

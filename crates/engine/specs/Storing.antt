@@ -11,7 +11,7 @@ use Rattle.value_order.specs.KeyText.{tree_text}
 use Rattle.index.specs.Entering.{AreKeyed, DocumentWrite, clashes, entered, is_duplicate}
 use Rattle.index.specs.LawfulState as states
 use Rattle.index.specs.LawfulState.{IsStorable}
-use Rattle.index.specs.State.{Collection, find_collection, put_collection}
+use Rattle.index.specs.State.{Collection, put_collection}
 use Rattle.index.specs.StateEntries.{Leads}
 use Rattle.index.specs.StateReads.{find_document}
 use Rattle.index.specs.declared.catalogue_reading.Catalogued.{Catalogued}

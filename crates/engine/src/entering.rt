@@ -1,7 +1,6 @@
 //! Documents that commands write enter their collection, as edits of the file.
 
-ghost use Rattle.std.specs.Prelude.{◌≡◌, ◌≤◌, [], IfOk, IfSome, length, option_map};
-ghost use Rattle.value_order.specs.KeyText.{tree_text};
+ghost use Rattle.std.specs.Prelude.{◌≡◌, ◌≤◌, [], IfOk, length, option_map};
 ghost use Rattle.collections.specs.Reading.{IsWithinLimits};
 ghost use Rattle.index.specs.Entering.{AreKeyed};
 ghost use Rattle.engine.specs.Durable.{IsSound};

@@ -201,9 +201,7 @@ pub(crate) fn document_at(
 fn becomes_multikey(indexes: &[IndexSpec], document: &Document) -> bool
     ensures { result ≡ list_any (becomes_multikey document.now) indexes.now }
 {
-    indexes
-        .iter()
-        .any(|index| !index.is_multi() && index.is_multikey_with(document))
+    indexes.iter().any(|index| !index.is_multi() && index.is_multikey_with(document))
 }
 
 /// The encoded keys of a document in each of these indexes, where it may be stored in them as they are.

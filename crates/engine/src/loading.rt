@@ -10,7 +10,9 @@ ghost use Rattle.engine.specs.Judging.{AreLoaded, HasItsKeys, IsFaultOf, IsLoadi
 ghost use Rattle.engine.specs.Loading.{named_as, progress_of};
 ghost use Rattle.engine.specs.Opening.{IsRefused};
 
-use crate::judging::{Named, add_keys, document_at, index_in, keys_of, name_at, number_in, numbered};
+use crate::judging::{
+    Named, add_keys, document_at, index_in, keys_of, name_at, number_in, numbered,
+};
 use crate::told::Told;
 use bson::Document;
 use btree::Entry;

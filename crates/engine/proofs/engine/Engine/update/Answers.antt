@@ -53,7 +53,7 @@ write-requires g c κs within =
           (
             updated_lawful c.args.namespace.now c.args.statements.now (world c.edits_of.new.self).collections notes.reads.sound.lawful c.requires.short c.requires.read,
             update_leads g.D.Disk.history c.args.namespace.now c.args.statements.now c.args.self.now c.updated.new.self x c.in_ok-ran.ensures.tries some c.edits_of.new.self edits notes
-            c.in_ok-reply.reply c.in_ok-reply.ensures.replies,
+                c.in_ok-reply.reply c.in_ok-reply.ensures.replies,
           ),
         ),
       ),
