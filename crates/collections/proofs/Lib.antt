@@ -6,6 +6,10 @@ pub mod LawLemmas
 pub mod MarkLemmas
 pub mod OpenLemmas
 pub mod OtherKeyLemmas
+pub mod CauseLemmas
+pub mod AnyLemmas
+pub mod TakenLemmas
 pub mod ReadingLemmas
 pub mod StandingLemmas
 pub mod WalkLemmas
+pub mod TreeReadLemmas

@@ -1,22 +1,25 @@
 -- What a range of entries and a list of edits tell of other keys.
 use Rattle.std.proofs.Common.{◌≡◌, ℕ, false, true, Bool, not, ◌||◌, List, [], ◌∷◌, map, Option, Some, None, refl, sym, ap, arith, ◌∙◌}
-use Rattle.std.specs.Prelude.{is_some}
+use Rattle.std.specs.Prelude.{is_some, unwrap_or}
+use Rattle.std.specs.Global.{Vec}
 use Rattle.std.specs.List.{list_any}
 use Rattle.std.specs.Option.{option_map}
 use Rattle.std.proofs.lemmas.List.{length-map}
 use Rattle.btree.specs.Calls.{IsBatch}
 use Rattle.btree.specs.Change.{edit_keys}
-use Rattle.btree.specs.Keys.{Edit, Entry, Rises, change, window}
+use Rattle.btree.specs.Keys.{Edit, Entry, Rises, change, value_at, window}
 use Rattle.btree.specs.Scan.{entry_in, within}
 use Rattle.btree.specs.declared.scanning.Batch.{Batch}
 use Rattle.btree.specs.declared.scanning.Range.{Range}
 use Rattle.index.specs.Changes.{is_among}
+use Rattle.index.specs.EditList.{edit_at}
 use Rattle.index.specs.OtherKeys.{is_another, leaves_another, puts_another, IsEndOf}
 use Rattle.index.specs.State.{Collection}
 use Rattle.index.specs.StateEntries.{key_under}
+use Rattle.index.proofs.EditLookLemmas.{put_what_they_have}
 use Rattle.index.proofs.OtherEditLaws.{after_edits, in_range}
-use Rattle.collections.specs.OtherKeys.{TellsOtherKey}
-use Rattle.collections.specs.Reading.{IsBatchOf, IsInTree}
+use Rattle.collections.specs.OtherKeys.{TellsDocument, TellsOtherKey}
+use Rattle.collections.specs.Reading.{IsBatchOf, IsInTree, IsValueAt}
 use Rattle.collections.proofs.FoundLemmas.{whole_batch}
 use Rattle.collections.proofs.ReadingLemmas.{next_same}
 
@@ -55,3 +58,26 @@ module _ (now : List Collection) (edits : List Edit) (number index : ℕ) (key i
         ∙ sym (after_edits (is_another front id) edits p.entries rises p.spells.rises)
         ∙ ap (λ (k : List ℕ). list_any (λ x. is_another k id x.key) (change edits p.entries)) front_is;
   }
+
+-- ---- documents
+
+put_or_was : (o : Option (Option (List ℕ))) (v : Option (List ℕ)) → unwrap_or (option_map is_some o) (is_some v) ≡ is_some (unwrap_or o v)
+put_or_was None v = refl
+put_or_was (Some w) v = refl
+
+some_items : (found : Option (Vec ℕ)) → is_some found ≡ is_some (option_map (λ v. v.items) found)
+some_items None = refl
+some_items (Some v) = refl
+
+pub tells_noted : (now : List Collection) (edits : List Edit) (number : ℕ) (id key : List ℕ) (found : Option (Vec ℕ)) (b : Bool) → Rises (edit_keys edits) → key ≡ key_under number 0 id
+    → b ≡ unwrap_or (option_map is_some (edit_at key edits)) (is_some found) → IsInTree (IsValueAt key) now found → TellsDocument edits number id now b
+tells_noted now edits number id key found b rises keyed told p = record {
+  entries = p.entries;
+  spells = p.spells;
+  state = p.state;
+  right = told
+      ∙ ap (unwrap_or (option_map is_some (edit_at key edits))) (some_items found ∙ ap is_some p.right)
+      ∙ put_or_was (edit_at key edits) (value_at key p.entries)
+      ∙ ap is_some (sym (put_what_they_have edits p.entries key rises))
+      ∙ ap (λ (k : List ℕ). is_some (value_at k (change edits p.entries))) keyed;
+}

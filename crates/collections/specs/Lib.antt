@@ -3,6 +3,7 @@ pub mod Calls
 pub mod Committing
 pub mod Entries
 pub mod Holding
+pub mod IndexChecks
 pub mod Laws
 pub mod Marks
 pub mod Opening

@@ -1,5 +1,5 @@
 -- What calls give that read collections and documents.
-use Rattle.std.specs.Prelude.{◌≡◌, ℕ, ⊤, All, List, [], ◌∷◌, Option, Some, Result, MatchResult, string_bytes}
+use Rattle.std.specs.Prelude.{◌≡◌, ◌≤◌, ℕ, length, ⊤, All, List, [], ◌∷◌, Option, Some, Result, MatchResult, string_bytes}
 use Rattle.std.specs.Option.{option_map}
 use Rattle.std.specs.Global.{Vec}
 use Rattle.page.specs.History.{History, KeepsWord}
@@ -85,6 +85,10 @@ catalogued_of e = (e.number, e.indexes.items)
 
 abbrev pub catalogued_in : Collection → ℕ × List Definition
 catalogued_in c = (c.number, c.indexes)
+
+-- that is within the limits of a collection
+abbrev pub IsWithinLimits : Catalogued → Type 0
+IsWithinLimits e = (e.number ≤ 1000) × (length e.indexes.items ≤ 16)
 
 -- ---- entries, one by one
 

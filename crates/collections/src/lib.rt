@@ -5,6 +5,7 @@
 mod applying;
 mod collections;
 pub mod laws;
+mod index_checks;
 mod mark;
 mod other_keys;
 mod reading;

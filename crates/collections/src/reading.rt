@@ -1,6 +1,6 @@
 //! Collections by their names, and documents by their `_id`.
 
-ghost use Rattle.std.specs.Prelude.{◌≡◌, IfOk, List, is_some, length, map};
+ghost use Rattle.std.specs.Prelude.{◌≡◌, IfOk, IfSome, List, is_some, length, map};
 ghost use Rattle.std.specs.Option.{option_map};
 ghost use Rattle.bson.specs.Spelling.{frame_of, pairs_bytes};
 ghost use Rattle.bson.specs.Tree.{Pairs};
@@ -10,7 +10,7 @@ ghost use Rattle.index.specs.State.{Collection, find_collection};
 ghost use Rattle.index.specs.StateEntries.{catalogue_entry};
 ghost use Rattle.collections.specs.Calls.{Reads};
 ghost use Rattle.collections.specs.Entries.{AreNextEntries, ReadsEntries, ReadsTree};
-ghost use Rattle.collections.specs.Reading.{AreBytesAt, AreEach, IsBatchOf, IsInTree, IsNameOf, IsOfCollection, IsOfDocument, IsPlaceOf, IsValueAt, LooksUp, OrMemory, ReadsOf, catalogued_in, catalogued_of, name_in, name_of, stored_at};
+ghost use Rattle.collections.specs.Reading.{AreBytesAt, AreEach, IsBatchOf, IsInTree, IsNameOf, IsOfCollection, IsOfDocument, IsPlaceOf, IsValueAt, IsWithinLimits, LooksUp, OrMemory, ReadsOf, catalogued_in, catalogued_of, name_in, name_of, stored_at};
 
 use crate::applying::refusal_of;
 use crate::collections::Collections;
@@ -35,7 +35,7 @@ pub struct Name {
 }
 
 /// The value at a key of the tree below a root page.
-fn value_below<D: Disk>(
+pub(crate) fn value_below<D: Disk>(
     alloc: Global,
     pager: &mut Pager<D>,
     root: u32,
@@ -47,7 +47,7 @@ fn value_below<D: Disk>(
 }
 
 /// The entries of a range of that tree.
-fn entries_below<D: Disk>(
+pub(crate) fn entries_below<D: Disk>(
     alloc: Global,
     pager: &mut Pager<D>,
     root: u32,
@@ -132,8 +132,9 @@ pub(crate) fn spelled_of(
 
 /// The number and the indexes that the catalogue tells of a collection.
 fn told_in(alloc: Global, value: &[u8]) -> Result<Catalogued, Refusal>
-    ensures { (c : Collection) → IsKept c → value.now ≡ (catalogue_entry c).value
+    ensures told { (c : Collection) → IsKept c → value.now ≡ (catalogue_entry c).value
         → OrMemory (λ told. catalogued_of told ≡ catalogued_in c) result }
+    ensures limits { IfOk result IsWithinLimits }
 {
     match catalogue_told(alloc, value)? {
         Some(told) => Ok(told),
@@ -170,7 +171,7 @@ fn names_at(alloc: Global, entries: &[Entry]) -> Result<Vec<Name>, Refusal>
 
 impl<D: Disk> Collections<D> {
     /// The value at a key of the turn's tree.
-    fn value_at(&mut self, key: &[u8]) -> Result<Option<Vec<u8>>, Refusal>
+    pub(crate) fn value_at(&mut self, key: &[u8]) -> Result<Option<Vec<u8>>, Refusal>
         ensures { Reads D.history (IsInTree (IsValueAt key.now)) result self.old self.new }
     {
         if self.pager.is_stopped() {
@@ -228,9 +229,10 @@ impl<D: Disk> Collections<D> {
 
     /// The number and the indexes of the collection of a name, if there is one.
     pub fn catalogued(&mut self, namespace: &str) -> Result<Option<Catalogued>, Refusal>
-        ensures { Reads D.history (λ now found. option_map catalogued_of found
+        ensures reads { Reads D.history (λ now found. option_map catalogued_of found
             ≡ option_map catalogued_in (find_collection now namespace.now))
             result self.old self.new }
+        ensures limits { IfOk result (λ found. IfSome found IsWithinLimits) }
     {
         let key = catalogue_key(self.alloc, namespace)?;
         let Some(value) = self.value_at(&key)? else {

@@ -1,27 +1,26 @@
 -- A collection that is made, and one that is dropped.
-use Rattle.std.proofs.Common.{◌≡◌, ℕ, zero, suc, ◌+◌, ◌≤◌, Bool, true, false, List, [], ◌∷◌, length, remove, set, Option, Some, None, Result, Ok, Err, refl, sym, ap, subst, ◌∙◌, arith}
-use Rattle.std.specs.Prelude.{◌==◌, ◌||◌, ◌&&◌, not, nat_le, if◌then◌else◌, is_some, All, codes}
+use Rattle.std.proofs.Common.{◌≡◌, ℕ, zero, suc, ◌+◌, ◌≤◌, Bool, true, false, List, [], ◌∷◌, length, remove, Option, Some, None, Result, Ok, Err, refl, sym, ap, subst, ◌∙◌, arith}
+use Rattle.std.specs.Prelude.{◌==◌, ◌||◌, ◌&&◌, not, nat_le, if◌then◌else◌, is_some, All}
 use Rattle.std.specs.List.{AllPairs}
 use Rattle.std.specs.Str.{bytes_eq}
 use Rattle.std.specs.Cmp.Lexicographic.{slice_cmp}
 use Rattle.std.specs.Ordering.{nat_cmp}
 use Rattle.std.specs.declared.cmp.Ordering.TheVariants as orders
-use Rattle.std.proofs.lemmas.List.{set-get_or}
 use Rattle.std.proofs.lemmas.List.Elements.{All-cons, All-head, All-tail}
-use Rattle.bson.specs.Tree.{Pairs, pair, no_pairs}
+use Rattle.bson.specs.Tree.{Pairs, no_pairs}
 use Rattle.outcome.specs.Outcome.{◌>>=◌, unless}
 use Rattle.path.specs.declared.refusal.Refusal.{Refusal}
 use Rattle.path.specs.declared.refusal.Refusal.TheVariants as refusals
 use Rattle.commands.specs.OutcomeLaws.{passed}
-use Rattle.engine.specs.World.{World, documents_of, documents_or_none, with_documents}
+use Rattle.engine.specs.World.{World, with_documents}
 use Rattle.index.specs.State.{Collection, find_collection, uses, put_collection, without_collection}
 use Rattle.engine.specs.Lawful.{IsKept, IsLawfulState}
 use Rattle.index.specs.LawfulState.{AreNamedApart, AreNumberedApart}
-use Rattle.engine.specs.Places.{IsThere, collection_at, no_collection}
+use Rattle.engine.specs.Places.{IsThere}
 use Rattle.engine.specs.Insert.{is_full}
 use Rattle.engine.specs.Create.{created, run_create}
-use Rattle.engine.specs.DropCollection.{dropped, run_drop}
-use Rattle.engine.specs.Refusals.{int, words}
+use Rattle.engine.specs.DropCollection.{drop_reply, dropped, index_count, run_drop}
+use Rattle.engine.specs.Writing.{planned_or}
 use Rattle.engine.proofs.Growing.{put_found}
 use Rattle.engine.proofs.Ordered.{without_there}
 
@@ -93,7 +92,7 @@ dropped_differs cs name next e same =
 
 module _ (w : World) (name : List ℕ) where
   abbrev reply : Pairs
-  reply = pair (codes "nIndexesWas") (int 1) (pair (codes "ns") (words name) no_pairs)
+  reply = drop_reply (index_count w.collections name) name
 
   pub run_drop-is : (cs : List Collection) → dropped w.collections name ≡ Ok cs → run_drop w (record { namespace = name }) ≡ Ok (record w { collections = cs }, reply)
   unfolding run_drop
@@ -174,3 +173,10 @@ dropped_lawful cs name next h e =
     let p = passed (not (is_some (find_collection cs name))) refusals.NamespaceNotFound (Ok (without_collection name cs)) next e in
     let now : without_collection name cs ≡ next = cc in
     subst IsLawfulState now (without_lawful cs name h)
+
+pub dropped_planned_lawful : (cs : List Collection) (name : List ℕ) → IsLawfulState cs → IsLawfulState (planned_or cs (dropped cs name))
+dropped_planned_lawful cs name h = by (dropped cs name) refl
+  where
+    by : (planned : Result (List Collection) Refusal) → dropped cs name ≡ planned → IsLawfulState (planned_or cs planned)
+    by (Ok next) is = dropped_lawful cs name next h is
+    by (Err e) is = h

@@ -23,10 +23,10 @@ use Rattle.commands.specs.DropCollection.{DropCollection}
 use Rattle.commands.specs.ListCollections.{ListCollections}
 use Rattle.commands.specs.Command.{Command, ping, hello, insert, find, get_more, kill_cursors, count, delete, update, aggregate, create, drop as drop_of, list_collections, create_indexes, drop_indexes, list_indexes, command_of}
 use Rattle.aggregate.specs.Pipeline.{run as after_pipeline}
-use Rattle.engine.specs.World.{World, Cursor, documents_of, with_documents, at_rest, untouched, without_cursors}
+use Rattle.engine.specs.World.{collection_of, World, Cursor, documents_of, with_documents, at_rest, untouched, without_cursors}
 use Rattle.index.specs.State.{Collection, put_collection}
 use Rattle.engine.specs.Documents.{insert_all}
-use Rattle.engine.specs.Refusals.{int, words}
+use Rattle.engine.specs.Refusals.{int}
 use Rattle.engine.specs.Insert.{is_full}
 use Rattle.engine.specs.Cursors.{batch_of, batch_reply, is_refused, new_cursor, first_batch, is_cursor, no_cursor, cursor_at, advanced}
 use Rattle.engine.specs.GetMore.{batch_len_of, next_batch, run_get_more}
@@ -35,10 +35,11 @@ use Rattle.engine.specs.Insert.{run_insert}
 use Rattle.engine.specs.Find.{query_result, run_find}
 use Rattle.engine.specs.Count.{run_count}
 use Rattle.engine.specs.Delete.{run_delete}
-use Rattle.engine.specs.Update.{Updated, update_reply, run_all, run_update}
+use Rattle.engine.specs.Update.{Updated, update_reply, run_all}
+use Rattle.engine.specs.UpdateCommand.{entered_in, run_update, writes_in}
 use Rattle.engine.specs.Aggregate.{run_aggregate}
 use Rattle.engine.specs.Create.{created, run_create}
-use Rattle.engine.specs.DropCollection.{dropped, run_drop}
+use Rattle.engine.specs.DropCollection.{drop_reply, dropped, index_count, run_drop}
 use Rattle.engine.specs.ListCollections.{run_list_collections}
 use Rattle.engine.specs.Step.{run, answered, step}
 use Rattle.engine.specs.CursorLife.{Event, command, committed, undone, ended, after_event, batch_at, batch_in, batch_of_body, given_by, given, HasLeft, GivesItsList, LastBatchIsWhole}
@@ -200,12 +201,12 @@ module _ (k : ℕ) (w : World) (connection : ℕ) (left : List Pairs) (drawn : k
 
   inserted : (c : Insert) → Keeps (run_insert w c)
   unfolding run_insert
-  inserted c = at (is_full w.collections c.namespace) (insert_all (documents_of w.collections c.namespace) c.documents)
+  inserted c = at (is_full w.collections c.namespace) (insert_all (collection_of w.collections c.namespace) c.documents)
     where
-      at : (full : Bool) (r : Result (List Pairs) Refusal)
-          → Keeps (unless full refusals.TooMany (r >>= (λ stored. let x : Result (World × Pairs) Refusal = Ok (record w { collections = put_collection (with_documents w.collections c.namespace stored) w.collections }, pair (codes "n") (int (length c.documents)) no_pairs) in x)))
+      at : (full : Bool) (r : Result Collection Refusal)
+          → Keeps (unless full refusals.TooMany (r >>= (λ next. let x : Result (World × Pairs) Refusal = Ok (record w { collections = put_collection next w.collections }, pair (codes "n") (int (length c.documents)) no_pairs) in x)))
       at true r = same
-      at false (Ok stored) = on (put_collection (with_documents w.collections c.namespace stored) w.collections)
+      at false (Ok next) = on (put_collection next w.collections)
       at false (Err e) = same
 
   counted : (c : Count) → Keeps (run_count w c)
@@ -218,11 +219,12 @@ module _ (k : ℕ) (w : World) (connection : ℕ) (left : List Pairs) (drawn : k
 
   updated : (c : Update) → Keeps (run_update w c)
   unfolding run_update
-  updated c = at (run_all c.namespace c.statements w.collections)
+  updated c = at (entered_in c.namespace (writes_in c.namespace c.statements w.collections) w.collections) (run_all c.namespace c.statements w.collections)
     where
-      at : (r : Result Updated Refusal) → Keeps (r >>= (λ u. let x : Result (World × Pairs) Refusal = Ok (record w { collections = u.collections }, update_reply u) in x))
-      at (Ok u) = on u.collections
-      at (Err e) = same
+      at : (r : Result (List Collection) Refusal) (q : Result Updated Refusal) → Keeps (r >>= (λ next. q >>= (λ u. let x : Result (World × Pairs) Refusal = Ok (record w { collections = next }, update_reply u) in x)))
+      at (Ok next) (Ok u) = on next
+      at (Ok next) (Err e) = same
+      at (Err e) q = same
 
   made : (c : Create) → Keeps (run_create w c)
   unfolding run_create
@@ -237,7 +239,7 @@ module _ (k : ℕ) (w : World) (connection : ℕ) (left : List Pairs) (drawn : k
   dropped_so c = at (dropped w.collections c.namespace)
     where
       at : (r : Result (List Collection) Refusal)
-          → Keeps (r >>= (λ cs. let x : Result (World × Pairs) Refusal = Ok (record w { collections = cs }, pair (codes "nIndexesWas") (int 1) (pair (codes "ns") (words c.namespace) no_pairs)) in x))
+          → Keeps (r >>= (λ cs. let x : Result (World × Pairs) Refusal = Ok (record w { collections = cs }, drop_reply (index_count w.collections c.namespace) c.namespace) in x))
       at (Err e) = same
       at (Ok cs) = on cs
 

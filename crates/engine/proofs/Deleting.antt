@@ -126,7 +126,6 @@ cut_held c deletions h = record {
   lawful = record {
     rising = left_apart (λ d e. compare (key_of d) (key_of e) ≡ orders.Less) deletions c.documents h.lawful.rising;
     stored = left_kept IsStored deletions c.documents h.lawful.stored;
-    unindexed = h.lawful.unindexed;
   };
   readable = record { name = h.readable.name; documents = left_kept IsDocument deletions c.documents h.readable.documents };
 }
@@ -159,7 +158,6 @@ deleted_lawful cs name deletions h = at (located nat_list_cmp_total (λ (c : Col
           lawful = record {
             rising = left_apart (λ d e. compare (key_of d) (key_of e) ≡ orders.Less) deletions (collection_at cs t.place).documents kept.lawful.rising;
             stored = left_kept IsStored deletions (collection_at cs t.place).documents kept.lawful.stored;
-            unindexed = kept.lawful.unindexed;
           };
           short = kept.short;
           least = kept.least;

@@ -6,25 +6,24 @@ use Rattle.btree.specs.Keys.{Entry}
 use Rattle.btree.specs.Scan.{entry_in}
 use Rattle.btree.specs.declared.scanning.Entry.{Entry as OwnEntry}
 use Rattle.roots.specs.declared.opening.OpenFault.{OpenFault}
-use Rattle.index.specs.State.{Collection}
-use Rattle.engine.specs.Judging.{IsFaultOf, Refuses, RefusesOne, Takes, TakesAll}
+use Rattle.engine.specs.Judging.{IsFaultOf, Progress, Refuses, RefusesOne, Takes, TakesAll}
 use Rattle.engine.proofs.Steps.{drop_step}
 
-module _ (entries : List OwnEntry) (i : ℕ) (x : OwnEntry) (within : i < length entries) (is : x ≡ get_or entries i x) where
+module _ (all : List Entry) (entries : List OwnEntry) (i : ℕ) (x : OwnEntry) (within : i < length entries) (is : x ≡ get_or entries i x) where
   entry_step : map entry_in (drop i entries) ≡ entry_in x ∷ map entry_in (drop (i + 1) entries)
   entry_step = ap (map entry_in) (drop_step entries i x within is)
 
-  pub takes_next : (now next last : List Collection) → Takes now (entry_in x) next → TakesAll next (map entry_in (drop (i + 1) entries)) last → TakesAll now (map entry_in (drop i entries)) last
-  takes_next now next last takes later = subst (λ (es : List Entry). TakesAll now es last) (sym entry_step) (next, takes, later)
+  pub takes_next : (p next last : Progress) → Takes all p (entry_in x) next → TakesAll all next (map entry_in (drop (i + 1) entries)) last → TakesAll all p (map entry_in (drop i entries)) last
+  takes_next p next last takes later = subst (λ (es : List Entry). TakesAll all p es last) (sym entry_step) (next, takes, later)
 
-  pub refuses_next : (now next : List Collection) → Takes now (entry_in x) next → RefusesOne next (map entry_in (drop (i + 1) entries)) → RefusesOne now (map entry_in (drop i entries))
-  refuses_next now next takes later = subst (RefusesOne now) (sym entry_step) (inr (next, takes, later))
+  pub refuses_next : (p next : Progress) → Takes all p (entry_in x) next → RefusesOne all next (map entry_in (drop (i + 1) entries)) → RefusesOne all p (map entry_in (drop i entries))
+  refuses_next p next takes later = subst (RefusesOne all p) (sym entry_step) (inr (next, takes, later))
 
-  pub refuses_here : (now : List Collection) → Refuses now (entry_in x) → RefusesOne now (map entry_in (drop i entries))
-  refuses_here now refuses = subst (RefusesOne now) (sym entry_step) (inl refuses)
+  pub refuses_here : (p : Progress) → Refuses all p (entry_in x) → RefusesOne all p (map entry_in (drop i entries))
+  refuses_here p refuses = subst (RefusesOne all p) (sym entry_step) (inl refuses)
 
-pub takes_end : (entries : List OwnEntry) (i : ℕ) (now : List Collection) → length entries ≤ i → TakesAll now (map entry_in (drop i entries)) now
-takes_end entries i now whole = subst (λ (es : List OwnEntry). TakesAll now (map entry_in es) now) (sym (drop_all i entries whole)) refl
+pub takes_end : (all : List Entry) (entries : List OwnEntry) (i : ℕ) (p : Progress) → length entries ≤ i → TakesAll all p (map entry_in (drop i entries)) p
+takes_end all entries i p whole = subst (λ (es : List OwnEntry). TakesAll all p (map entry_in es) p) (sym (drop_all i entries whole)) refl
 
 -- ---- faults
 

@@ -1,31 +1,28 @@
 -- A file is opened, and its entries are read.
-use Rattle.std.proofs.Common.{◌≡◌, ◌≢◌, ◌<◌, arith, false, true, ℕ, List, [], inl, inr, refl, sym, ap, ◌∙◌, subst}
+use Rattle.std.proofs.Common.{◌≡◌, ◌<◌, arith, false, true, ℕ, List, inl, inr, refl, sym, ap, ◌∙◌, subst}
 use Rattle.std.specs.Prelude.{All, Ok, Err}
 use Rattle.page.specs.History.{History, Sector, KeepsWord, IsImage, now, reads}
-use Rattle.page.specs.Crash.{GoesOn, LeavesNow, LeavesOnly, ReadsOnly}
+use Rattle.page.specs.Crash.{GoesOn, LeavesOnly}
 use Rattle.page.proofs.Moments.{goes_further, leaves_further, leaves_now, reads_moments}
 use Rattle.btree.specs.Keys.{Entry}
 use Rattle.roots.specs.declared.opening.OpenFault.{OpenFault}
-use Rattle.roots.specs.Image.{StandsFor}
 use Rattle.roots.proofs.OneMap.{one_state}
 use Rattle.index.specs.State.{Collection}
 use Rattle.index.specs.StateEntries.{Spells}
 use Rattle.collections.specs.Calls.{GoesFrom, HasFailed}
 use Rattle.collections.specs.Opening as files
-use Rattle.collections.specs.Standing.{HasState}
 use Rattle.collections.specs.State.{State}
 use Rattle.collections.specs.View.{disk_history, is_stopped}
 use Rattle.collections.proofs.EntryLemmas.{tree_rises}
 use Rattle.collections.proofs.StandingLemmas.{stopped_same}
 use Rattle.engine.specs.Durable.{Holds}
 use Rattle.engine.specs.FileOpening.{IsFileOpened, LoadsFile}
-use Rattle.engine.specs.Judging.{AreLoaded}
 use Rattle.engine.specs.Known.{Known}
 use Rattle.engine.specs.Lawful.{IsStored}
 use Rattle.engine.specs.Opening.{IsRefused}
-use Rattle.engine.proofs.RefusingLemmas.{none_refused}
-use Rattle.engine.proofs.TakingLemmas.{loaded_lawful, taken_spell}
-use Rattle.engine.proofs.UnindexedLemmas.{unindexed_state}
+use Rattle.engine.proofs.FileEntries.{made_spell}
+use Rattle.engine.proofs.RefusingLemmas.{none_unmade}
+use Rattle.engine.proofs.TakingLemmas.{loaded_lawful}
 
 module _ {D : Type 0} (history : D → History) (disk : D) (old new : State D) (opened : files.IsOpened history disk old) where
   word_before : GoesFrom history old new → KeepsWord (disk_history history new) → KeepsWord (disk_history history old)
@@ -47,13 +44,13 @@ module _ {D : Type 0} (history : D → History) (disk : D) (old new : State D) (
 
   holds_there : (last : List Collection) → LoadsFile history (Ok tt) last old new → KeepsWord (disk_history history new) → Holds (reads (now (history disk))) last
   holds_there last loads k =
-      let read = opened.stands (word_before loads.on k) in record {
+      let read = opened.stands (word_before loads.judges.read.on k) in record {
         lawful = loaded_lawful last loads.loaded;
         file = record {
           entries = read.entries;
           stands = read.image;
-          spells = taken_spell read.entries last (tree_rises history old read.entries read.tree) (loads.loads k read.entries read.tree);
-          state = loads.loaded.state.lawful;
+          spells = (made_spell read.entries last (tree_rises history old read.entries read.tree) (loads.judges.answers k read.entries read.tree)).0;
+          state = loads.loaded.lawful;
         };
       }
 
@@ -61,17 +58,17 @@ module _ {D : Type 0} (history : D → History) (disk : D) (old new : State D) (
   opened_with last loads = record {
     lawful = loaded_lawful last loads.loaded;
     idle = refl;
-    running = stays_running loads.on;
-    on = goes_there loads.on;
-    file = λ running k. loads.same last last (opened.begun last (λ _. (holds_there last loads k).file)) running k;
+    running = stays_running loads.judges.read.on;
+    on = goes_there loads.judges.read.on;
+    file = λ running k. loads.judges.read.same last last (opened.begun last (λ _. (holds_there last loads k).file)) running k;
     holds = holds_there last loads;
     alone = λ k image is.
         let h : Holds (reads (now (history disk))) last = holds_there last loads k in
         record {
           lawful = h.lawful;
-          file = opened.alone last h.file (word_before loads.on k) image (subst (λ (s : ℕ → Sector). IsImage s image) (loads.on.stays.reads.same k) is);
+          file = opened.alone last h.file (word_before loads.judges.read.on k) image (subst (λ (s : ℕ → Sector). IsImage s image) (loads.judges.read.on.stays.reads.same k) is);
         };
-    any_moment = moments_there loads.on;
+    any_moment = moments_there loads.judges.read.on;
   }
 
   pub file_opened : (last : List Collection) (known : Known) → LoadsFile history (Ok tt) last old new → known ≡ record { start = last; now = last } → IsFileOpened history disk known new
@@ -79,20 +76,20 @@ module _ {D : Type 0} (history : D → History) (disk : D) (old new : State D) (
 
   pub file_refused : (back : D) (fault : OpenFault) (last : List Collection) → history back ≡ disk_history history new → LoadsFile history (Err fault) last old new → IsRefused history disk back fault
   file_refused back fault last is loads = record {
-    on = subst (GoesOn (history disk)) (sym is) (goes_there loads.on);
-    any_moment = λ readable. subst (λ (h : History). LeavesOnly (history disk) h (IsImage (now (history disk)))) (sym is) (moments_there loads.on readable);
+    on = subst (GoesOn (history disk)) (sym is) (goes_there loads.judges.read.on);
+    any_moment = λ readable. subst (λ (h : History). LeavesOnly (history disk) h (IsImage (now (history disk)))) (sym is) (moments_there loads.judges.read.on readable);
     damaged = λ no_device no_memory k cs h.
         let k2 : KeepsWord (disk_history history new) = subst KeepsWord is k in
-        let read = opened.stands (word_before loads.on k2) in
+        let read = opened.stands (word_before loads.judges.read.on k2) in
         let one : h.file.entries ≡ read.entries = one_state (reads (now (history disk))) h.file.entries read.entries h.file.stands read.image in
         let stored : All (λ c. All IsStored c.documents) cs = λ i c below. (h.lawful.kept i c below).lawful.stored in
-        none_refused read.entries cs (subst (λ (es : List Entry). Spells es cs) one h.file.spells) (unindexed_state cs h.lawful h.file.state) stored ((loads.loads k2 read.entries read.tree).damaged no_device no_memory);
-    foreign = λ foreign. absurd (loads.kinds.0 foreign);
-    later = λ newer. absurd (loads.kinds.1 newer);
+        none_unmade read.entries cs (subst (λ (es : List Entry). Spells es cs) one h.file.spells) h.file.state stored ((loads.judges.answers k2 read.entries read.tree).damaged no_device no_memory);
+    foreign = λ foreign. absurd (loads.judges.kinds.0 foreign);
+    later = λ newer. absurd (loads.judges.kinds.1 newer);
     device = λ device k.
         let k2 : KeepsWord (disk_history history new) = subst KeepsWord is k in
-        let read = opened.stands (word_before loads.on k2) in
-        by_failures (word_before loads.on k2) ((loads.loads k2 read.entries read.tree).device device);
+        let read = opened.stands (word_before loads.judges.read.on k2) in
+        by_failures (word_before loads.judges.read.on k2) ((loads.judges.answers k2 read.entries read.tree).device device);
   }
     where
       by_failures : KeepsWord (disk_history history old) → HasFailed history old new → (history disk).failures < (history back).failures

@@ -1,7 +1,6 @@
 -- A lawful world steps to a lawful world, and its replies are within their limit.
 use Rattle.std.proofs.Common.{◌≡◌, ◌⊎◌, inl, inr, ℕ, suc, max, min, ◌+◌, ◌-◌, ◌<◌, ◌≤◌, Bool, true, false, List, [], ◌∷◌, ◌++◌, length, length-append, map, set, insert, take, drop, Option, Some, None, Result, Ok, Err, refl, sym, ap, subst, ◌∙◌, arith, zero, remove, lit≤}
 use Rattle.std.specs.Prelude.{◌&&◌, ◌^◌, not, is_some, nat_le, if◌then◌else◌, codes, unwrap_or, nat_lt, All}
-use Rattle.std.specs.Str.{bytes_eq}
 use Rattle.std.specs.Cmp.Lexicographic.{slice_cmp}
 use Rattle.std.specs.Ordering.{nat_cmp}
 use Rattle.std.proofs.lemmas.Bool.Decides.{nat_tests}
@@ -12,16 +11,13 @@ use Rattle.std.proofs.lemmas.List.Elements.{All-cons, All-append, All-drop, All-
 use Rattle.std.proofs.lemmas.List.Quantifiers.{position-Some}
 use Rattle.std.specs.List.{filter, position}
 use Rattle.std.proofs.lemmas.Map.Lookups.{exact_bytes}
-use Rattle.bson.specs.Tree.{Tree, Pairs, pair, no_pairs}
+use Rattle.bson.specs.Tree.{Pairs, pair, no_pairs}
 use Rattle.bson.specs.Spelling.{items_bytes}
 use Rattle.bson.specs.declared.fault.BsonFault.{BsonFault}
-use Rattle.value_order.specs.Order.{compare}
-use Rattle.value_order.specs.TotalLaws.{compare_total}
-use Rattle.engine.specs.World.{World, Cursor, unused, number_or, with_documents, documents_or_none, indexes_or_none, documents_of}
+use Rattle.engine.specs.World.{World, Cursor, collection_of, unused, number_or, with_documents, documents_of}
 use Rattle.index.specs.State.{Collection, find_collection, uses, put_collection}
 use Rattle.outcome.specs.Outcome.{◌>>=◌, unless, or_refused}
-use Rattle.engine.specs.Documents.{key_of, place, checked, insert_one, insert_all}
-use Rattle.update.specs.Stored.{id_first}
+use Rattle.engine.specs.Documents.{place, insert_all}
 use Rattle.commands.specs.Find.{Query}
 use Rattle.commands.specs.Count.{Count}
 use Rattle.commands.specs.Aggregate.{Aggregate}
@@ -32,19 +28,22 @@ use Rattle.engine.specs.Find.{query_result as found_by, matching, window, run_fi
 use Rattle.commands.specs.Delete.{Deletion}
 use Rattle.engine.specs.Delete.{after_deletions, deleted_in, run_delete}
 use Rattle.commands.specs.Update.{UpdateStatement, Update, IsRead}
-use Rattle.engine.specs.Update.{Changed, update_from, Updated, not_updated, not_changed, updated_to, upsert_document, with_upserted, upsert, run_statement, run_statements, update_reply, judged, run_all, spelled, run_update}
-use Rattle.engine.proofs.Applied.{upserted_stored}
-use Rattle.engine.proofs.LawfulUpdates.{SameKeys, from_kept, changed_lawful}
+use Rattle.engine.specs.Update.{Updated, not_updated, run_statements, update_reply, judged, run_all, spelled}
+use Rattle.engine.specs.UpdateCommand.{enter_each, entered_in, run_update, writes_in}
+use Rattle.engine.specs.WriteLaws.{documents_in}
+use Rattle.index.specs.Entering.{DocumentWrite}
+use Rattle.engine.proofs.KeptLemmas.{Kept, stored_at}
+use Rattle.engine.proofs.WriteLawLemmas.{writes_stored}
 use Rattle.commands.specs.ListCollections.{ListCollections}
 use Rattle.engine.specs.Create.{created, run_create}
-use Rattle.engine.specs.DropCollection.{dropped, run_drop}
+use Rattle.engine.specs.DropCollection.{drop_reply, dropped, index_count, run_drop}
 use Rattle.engine.specs.ListCollections.{names_in, listed, run_list_collections}
 use Rattle.engine.proofs.Creating.{dropped_lawful}
 use Rattle.engine.proofs.Listing.{go_into_one}
 use Rattle.engine.specs.Refusals.{int, total, words, ok_reply}
 use Rattle.commands.specs.Command.{Command, ping, insert as insert_of, find as find_of, count as count_of_all, delete, update, aggregate, create as create_of, drop as drop_of, list_collections, create_indexes, drop_indexes, list_indexes, command_of, IsBounded, get_more, kill_cursors, hello}
 use Rattle.engine.specs.Lawful.{IsStored, IsWithin, IsKept, IsLawfulState, IsLawful, AreLawfulCursors}
-use Rattle.index.specs.LawfulState.{IsRising, AreNamedApart, AreNumberedApart}
+use Rattle.index.specs.LawfulState.{AreNamedApart, AreNumberedApart}
 use Rattle.engine.specs.Places.{collection_at, no_collection}
 use Rattle.engine.specs.Insert.{is_full}
 use Rattle.engine.specs.Cursors.{items_of_documents, batch_of, cursor_reply, number_after, batch_reply, is_refused, new_cursor, open_cursor, first_batch, is_cursor, no_cursor, cursor_at}
@@ -61,64 +60,16 @@ use Rattle.path.specs.declared.refusal.Refusal.{Refusal}
 use Rattle.path.specs.declared.refusal.Refusal.TheVariants as refusals
 use Rattle.commands.specs.OutcomeLaws.{step_of, passed}
 use Rattle.commands.specs.CommandLaws.{bounded}
-use Rattle.engine.proofs.Checked.{keeps}
+use Rattle.engine.proofs.EnteredLemmas.{has_grown, stays_kept}
 use Rattle.engine.proofs.Located.{Gap, There, located}
 use Rattle.engine.proofs.Deleting.{deleted_lawful}
 use Rattle.engine.proofs.Finding.{found_within}
-use Rattle.engine.proofs.Ordered.{Rises, rises_insert, All-inserted, place_gap, place_there, missing, found, added, replaced}
+use Rattle.engine.proofs.Ordered.{Rises, rises_insert, All-inserted, missing, found, added, replaced}
 use Rattle.engine.proofs.Numbers.{unused_unused, number_bounds, numbers_set, numbers_insert}
 use Rattle.engine.proofs.NamesApart.{apart_set}
 use Rattle.engine.proofs.SpelledSizes.{ping-sendable, insert-sendable, drop-sendable, refusal-sendable, batch_items, cursor-sendable, kill-sendable, told_few, hello-sendable}
 
--- ---- documents
-
-abbrev pub Kept : List Pairs → Type 0
-Kept ds = IsRising ds × All IsStored ds
-
-pub kept_place : (ds : List Pairs) (new : Pairs) (next : List Pairs) → Kept ds → IsStored new → place (key_of new) new ds ≡ Some next → Kept next
-kept_place ds new next h stored e = at (located compare_total key_of ds (key_of new) h.0)
-  where
-    at : Gap compare key_of ds (key_of new) ⊎ There compare key_of ds (key_of new) → Kept next
-    at (inl g) =
-        let same : insert ds g.0 new ≡ next = let put = place_gap ds g.0 (key_of new) new g.1 in cc in
-        subst Kept same (rises_insert compare_total key_of ds g.0 new h.0 g.1, All-inserted IsStored ds g.0 new g.1.within h.1 stored)
-    at (inr t) = let none = place_there ds t.place (key_of new) new h.0 t.within t.same in absurd cc
-
-pub kept_one : (ds : List Pairs) (ps : Pairs) (next : List Pairs) → Kept ds → insert_one ds ps ≡ Ok next → Kept next
-unfolding insert_one
-kept_one ds ps next h e =
-    let s = step_of (checked ps) (λ id. or_refused (place id (id_first ps) ds) refusals.DuplicateKey) next e in
-    let k = keeps ps s.0 s.1 in
-    let there : place (key_of (id_first ps)) (id_first ps) ds ≡ Some next = ap (λ (z : Tree). place z (id_first ps) ds) k.key ∙ some (place s.0 (id_first ps) ds) s.2 in
-    kept_place ds (id_first ps) next h k.lawful there
-  where
-    some : (o : Option (List Pairs)) → or_refused o refusals.DuplicateKey ≡ Ok next → o ≡ Some next
-    some None e = absurd cc
-    some (Some xs) e = let same : xs ≡ next = cc in ap (λ (us : List Pairs). Some us) same
-
-kept_all : (ds : List Pairs) (documents : List Pairs) (next : List Pairs) → Kept ds → insert_all ds documents ≡ Ok next → Kept next
-kept_all ds [] next h e = let same : ds ≡ next = cc in subst Kept same h
-kept_all ds (ps ∷ rest) next h e =
-    let s = step_of (insert_one ds ps) (λ mid. insert_all mid rest) next e in
-    kept_all s.0 rest next (kept_one ds ps s.0 h s.1) s.2
-
 -- ---- collections
-
-pub stored_at : (cs : List Collection) (name : List ℕ) → All IsKept cs → Kept (documents_of cs name)
-stored_at [] name h = (λ i j d lt below. absurd (omega arith), λ k d below. absurd (omega arith))
-stored_at (c ∷ cs) name h = at (bytes_eq name c.name) (stored_at cs name (λ k d below. h (suc k) d (omega arith)))
-  where
-    at : (b : Bool) → Kept (documents_of cs name) → Kept (documents_or_none (if b then Some c else find_collection cs name))
-    at true later = let kept = (h 0 c (omega arith)).lawful in (kept.rising, kept.stored)
-    at false later = later
-
-pub unindexed_at : (cs : List Collection) (name : List ℕ) → All IsKept cs → indexes_or_none (find_collection cs name) ≡ []
-unindexed_at [] name h = refl
-unindexed_at (c ∷ cs) name h = at (bytes_eq name c.name) (unindexed_at cs name (λ k d below. h (suc k) d (omega arith)))
-  where
-    at : (b : Bool) → indexes_or_none (find_collection cs name) ≡ [] → indexes_or_none (if b then Some c else find_collection cs name) ≡ []
-    at true later = (h 0 c (omega arith)).lawful.unindexed
-    at false later = later
 
 abbrev ByName : List Collection → Type 0
 ByName cs = Rises (slice_cmp nat_cmp) (λ (c : Collection). c.name) cs
@@ -181,25 +132,33 @@ Good r = (x : World × Pairs) → r ≡ Ok x → IsLawful x.0 × IsSendable (ok_
 good_one : (w : World) (reply : Pairs) → IsLawful w → IsSendable (ok_reply reply) → Good (Ok (w, reply))
 good_one w reply h s x e = let same : (w, reply) ≡ x = cc in subst (λ (y : World × Pairs). IsLawful y.0 × IsSendable (ok_reply y.1)) same (h, s)
 
+abbrev insert_answer : World → List Pairs → Result Collection Refusal → Result (World × Pairs) Refusal
+insert_answer w documents r = r >>= (λ next. let x : Result (World × Pairs) Refusal = Ok (record w { collections = put_collection next w.collections }, pair (codes "n") (int (length documents)) no_pairs) in x)
+
 pub good_insert : (w : World) (name : List ℕ) (documents : List Pairs) → IsLawful w → length name ≤ 255 → Good (run_insert w (record { namespace = name; documents = documents }))
 unfolding run_insert
 good_insert w name documents h short = at (is_full w.collections name) refl
   where
-    put : (r : Result (List Pairs) Refusal) → is_full w.collections name ≡ false → insert_all (documents_of w.collections name) documents ≡ r
-        → Good (r >>= (λ stored. let x : Result (World × Pairs) Refusal = Ok (record w { collections = put_collection (with_documents w.collections name stored) w.collections }, pair (codes "n") (int (length documents)) no_pairs) in x))
+    put : (r : Result Collection Refusal) → is_full w.collections name ≡ false → insert_all (collection_of w.collections name) documents ≡ r → Good (insert_answer w documents r)
     put (Err e) free is = λ x f. absurd cc
-    put (Ok stored) free is =
-        let kept = kept_all (documents_of w.collections name) documents stored (stored_at w.collections name h.collections.kept) is in
-        let new : Collection = with_documents w.collections name stored in
-        let bounds = number_bounds w.collections name h.collections.kept (room w.collections name free) in
-        let one : IsKept new = record { lawful = record { rising = kept.0; stored = kept.1; unindexed = unindexed_at w.collections name h.collections.kept }; short = short; least = bounds.least; most = bounds.most } in
-        let p = put_kept new w.collections h.collections one free refl in
-        good_one (record w { collections = put_collection new w.collections }) (pair (codes "n") (int (length documents)) no_pairs) (record { collections = p; cursors = h.cursors }) (insert-sendable (length documents))
+    put (Ok next) free is =
+        let cs = w.collections in
+        let grown = has_grown (collection_of cs name) next documents is in
+        let kept = stored_at cs name h.collections.kept in
+        let bounds = number_bounds cs name h.collections.kept (room cs name free) in
+        let one : IsKept next = record {
+          lawful = record { rising = grown.rising kept.0; stored = grown.stored kept.0 kept.1 };
+          short = subst (λ (n : List ℕ). length n ≤ 255) (sym grown.named) short;
+          least = subst (λ (n : ℕ). 1 ≤ n) (sym grown.numbered) bounds.least;
+          most = subst (λ (n : ℕ). n ≤ 1000) (sym grown.numbered) bounds.most;
+        } in
+        let p = put_kept next cs h.collections one (subst (λ (n : List ℕ). is_full cs n ≡ false) (sym grown.named) free)
+        (grown.numbered ∙ ap (λ (n : List ℕ). number_or (unused cs) (find_collection cs n)) (sym grown.named)) in
+        good_one (record w { collections = put_collection next cs }) (pair (codes "n") (int (length documents)) no_pairs) (record { collections = p; cursors = h.cursors }) (insert-sendable (length documents))
 
-    at : (b : Bool) → is_full w.collections name ≡ b
-        → Good (unless b refusals.TooMany (insert_all (documents_of w.collections name) documents >>= (λ stored. let x : Result (World × Pairs) Refusal = Ok (record w { collections = put_collection (with_documents w.collections name stored) w.collections }, pair (codes "n") (int (length documents)) no_pairs) in x)))
+    at : (b : Bool) → is_full w.collections name ≡ b → Good (unless b refusals.TooMany (insert_answer w documents (insert_all (collection_of w.collections name) documents)))
     at true full = λ x f. absurd cc
-    at false free = put (insert_all (documents_of w.collections name) documents) free refl
+    at false free = put (insert_all (collection_of w.collections name) documents) free refl
 
 abbrev fits_in : List Pairs → Type 0
 fits_in ds = length (items_bytes 0 (items_of_documents ds)) ≤ max (900000 - 5) (65535 + 3)
@@ -344,7 +303,7 @@ good_create w name h short = λ x e.
         let free : is_full w.collections name ≡ false = ap (λ (b : Bool). b && not (is_some (find_collection w.collections name))) q.0 in
         let bounds = number_bounds w.collections name h.collections.kept (λ none. grind (arith, nat_tests, q.0)) in
         let one : IsKept new = record {
-          lawful = record { rising = λ i j d lt within. absurd (omega (arith, within)); stored = λ k d below. absurd (omega (arith, below)); unindexed = unindexed_at w.collections name h.collections.kept };
+          lawful = record { rising = λ i j d lt within. absurd (omega (arith, within)); stored = λ k d below. absurd (omega (arith, below)) };
           short = short;
           least = bounds.least;
           most = bounds.most;
@@ -354,10 +313,10 @@ good_create w name h short = λ x e.
 good_drop : (w : World) (name : List ℕ) → IsLawful w → length name ≤ 255 → Good (run_drop w (record { namespace = name }))
 unfolding run_drop
 good_drop w name h short = λ x e.
-    let reply = pair (codes "nIndexesWas") (int 1) (pair (codes "ns") (words name) no_pairs) in
+    let reply = drop_reply (index_count w.collections name) name in
     let s = step_of (dropped w.collections name) (λ cs. let r : Result (World × Pairs) Refusal = Ok (record w { collections = cs }, reply) in r) x e in
     let same : (record w { collections = s.0 }, reply) ≡ x = cc in
-    subst (λ (y : World × Pairs). IsLawful y.0 × IsSendable (ok_reply y.1)) same (record { collections = dropped_lawful w.collections name s.0 h.collections s.1; cursors = h.cursors }, drop-sendable name short)
+    subst (λ (y : World × Pairs). IsLawful y.0 × IsSendable (ok_reply y.1)) same (record { collections = dropped_lawful w.collections name s.0 h.collections s.1; cursors = h.cursors }, drop-sendable (index_count w.collections name) name short)
 
 good_list_collections : (w : World) (c : ListCollections) → IsLawful w → length c.database ≤ 63 → Good (run_list_collections w c)
 unfolding run_list_collections
@@ -370,45 +329,32 @@ good_list_collections w c h short =
 
 -- ---- updates
 
--- what statements come to is lawful
-statement_lawful : (name : List ℕ) (index : ℕ) (s : UpdateStatement) (u v : Updated) → length name ≤ 255 → IsRead s.change → IsLawfulState u.collections → run_statement name index s u ≡ Ok v → IsLawfulState v.collections
-statement_lawful name index s u v short read h e =
-    let cs = u.collections in
-    let kept = stored_at cs name h.kept in
-    let c = step_of (update_from s (not_changed u) (documents_of cs name)) _ v e in
-    at (not c.0.found && s.upsert) c.0 (from_kept s read (not_changed u) (documents_of cs name) c.0 (λ k d below. absurd (omega arith)) kept.1 refl c.1) c.2
+-- what is written to a collection leaves lawful ones
+pub entered_lawful : (cs : List Collection) (name : List ℕ) (ss : List UpdateStatement) (next : List Collection) → IsLawfulState cs → length name ≤ 255 → All (λ (s : UpdateStatement). IsRead s.change) ss
+    → entered_in name (writes_in name ss cs) cs ≡ Ok next → IsLawfulState next
+entered_lawful cs name ss next h short read e =
+    at (writes_in name ss cs) (writes_stored ss (documents_of cs name) (record { read = read; rising = kept.0; stored = kept.1 })) e
   where
-    made : (stored : List Pairs) (new : Pairs) → is_full u.collections name ≡ false → upsert_document s ≡ Ok new → place (key_of new) new (documents_of u.collections name) ≡ Some stored
-        → IsLawfulState (put_collection (with_documents u.collections name stored) u.collections)
-    made stored new free is there =
-        let cs = u.collections in
-        let kept = kept_place (documents_of cs name) new stored (stored_at cs name h.kept) (upserted_stored s new is) there in
-        let bounds = number_bounds cs name h.kept (room cs name free) in
-        let one : IsKept (with_documents cs name stored) = record { lawful = record { rising = kept.0; stored = kept.1; unindexed = unindexed_at cs name h.kept }; short = short; least = bounds.least; most = bounds.most } in
-        put_kept (with_documents cs name stored) cs h one free refl
+    kept : Kept (documents_of cs name)
+    kept = stored_at cs name h.kept
 
-    placed : (o : Option (List Pairs)) (stored : List Pairs) → or_refused o refusals.DuplicateKey ≡ Ok stored → o ≡ Some stored
-    placed None stored e = absurd cc
-    placed (Some xs) stored e = let same : xs ≡ stored = cc in ap (λ (ys : List Pairs). Some ys) same
-
-    at : (b : Bool) (changed : Changed) → SameKeys changed.documents (documents_of u.collections name) × All IsStored changed.documents
-        → (if b then upsert name index s u else Ok (updated_to name u changed)) ≡ Ok v → IsLawfulState v.collections
-    at true changed k e =
-        let p = passed (is_full u.collections name) refusals.TooMany _ v e in
-        let n = step_of (upsert_document s) _ v p.1 in
-        let t = step_of (or_refused (place (key_of n.0) n.0 (documents_of u.collections name)) refusals.DuplicateKey) _ v n.2 in
-        let same : with_upserted name index n.0 t.0 u ≡ v = cc in
-        subst (λ (x : Updated). IsLawfulState x.collections) same (made t.0 n.0 p.0 n.1 (placed (place (key_of n.0) n.0 (documents_of u.collections name)) t.0 t.1))
-    at false changed k e =
-        let same : updated_to name u changed ≡ v = cc in
-        subst (λ (x : Updated). IsLawfulState x.collections) same (changed_lawful u.collections name changed.documents h k.0 k.1)
-
-pub statements_lawful : (name : List ℕ) (index : ℕ) (ss : List UpdateStatement) (u v : Updated) → length name ≤ 255 → All (λ (s : UpdateStatement). IsRead s.change) ss → IsLawfulState u.collections
-    → run_statements name index ss u ≡ Ok v → IsLawfulState v.collections
-statements_lawful name index [] u v short read h e = let same : u ≡ v = cc in subst (λ (x : Updated). IsLawfulState x.collections) same h
-statements_lawful name index (s ∷ ss) u v short read h e =
-    let m = step_of (run_statement name index s u) (run_statements name (suc index) ss) v e in
-    statements_lawful name (suc index) ss m.0 v short (λ k d below. read (suc k) d (omega arith)) (statement_lawful name index s u m.0 short (read 0 s (omega arith)) h m.1) m.2
+    at : (ws : List DocumentWrite) → All IsStored (documents_in ws) → entered_in name ws cs ≡ Ok next → IsLawfulState next
+    at [] stored e = let same : cs ≡ next = cc in subst IsLawfulState same h
+    at (w ∷ ws) stored e =
+        let p = passed (is_full cs name) refusals.TooMany (enter_each (collection_of cs name) (w ∷ ws) >>= (λ c. let r : Result (List Collection) Refusal = Ok (put_collection c cs) in r)) next e in
+        let s = step_of (enter_each (collection_of cs name) (w ∷ ws)) (λ c. let r : Result (List Collection) Refusal = Ok (put_collection c cs) in r) next p.1 in
+        let stays = stays_kept (collection_of cs name) s.0 (w ∷ ws) stored s.1 in
+        let bounds = number_bounds cs name h.kept (room cs name p.0) in
+        let one : IsKept s.0 = record {
+          lawful = record { rising = stays.rising kept.0; stored = stays.stored kept.0 kept.1 };
+          short = subst (λ (n : List ℕ). length n ≤ 255) (sym stays.named) short;
+          least = subst (λ (n : ℕ). 1 ≤ n) (sym stays.numbered) bounds.least;
+          most = subst (λ (n : ℕ). n ≤ 1000) (sym stays.numbered) bounds.most;
+        } in
+        let same : put_collection s.0 cs ≡ next = cc in
+        subst IsLawfulState same
+        (put_kept s.0 cs h one (subst (λ (n : List ℕ). is_full cs n ≡ false) (sym stays.named) p.0)
+        (stays.numbered ∙ ap (λ (n : List ℕ). number_or (unused cs) (find_collection cs n)) (sym stays.named)))
 
 not_long : (u : Updated) → nat_lt 1048555 (length (spelled (ok_reply (update_reply u)))) ≡ false → IsSendable (ok_reply (update_reply u))
 not_long u e = grind (arith, nat_tests, e)
@@ -416,14 +362,16 @@ not_long u e = grind (arith, nat_tests, e)
 good_update : (w : World) (c : Update) → IsLawful w → IsBounded (update c) → Good (run_update w c)
 unfolding run_update
 good_update w c h b = λ x e.
-    let u = step_of (run_all c.namespace c.statements w.collections) (λ u. let r : Result (World × Pairs) Refusal = Ok (record w { collections = u.collections }, update_reply u) in r) x e in
-    let s = step_of (run_statements c.namespace 0 c.statements (not_updated w.collections)) judged u.0 u.1 in
+    let cs = w.collections in
+    let n = step_of (entered_in c.namespace (writes_in c.namespace c.statements cs) cs) (λ next. run_all c.namespace c.statements cs >>= (λ u. let r : Result (World × Pairs) Refusal = Ok (record w { collections = next }, update_reply u) in r)) x e in
+    let u = step_of (run_all c.namespace c.statements cs) (λ u. let r : Result (World × Pairs) Refusal = Ok (record w { collections = n.0 }, update_reply u) in r) x n.2 in
+    let s = step_of (run_statements c.namespace 0 c.statements (not_updated cs)) judged u.0 u.1 in
     let p = passed (nat_lt 1048555 (length (spelled (ok_reply (update_reply s.0))))) refusals.BSONObjectTooLarge (Ok s.0) u.0 s.2 in
     let judged_as : s.0 ≡ u.0 = cc in
-    let same : (record w { collections = u.0.collections }, update_reply u.0) ≡ x = cc in
-    let lawful : IsLawfulState u.0.collections = subst (λ (v : Updated). IsLawfulState v.collections) judged_as (statements_lawful c.namespace 0 c.statements (not_updated w.collections) s.0 b.0 b.2 h.collections s.1) in
+    let same : (record w { collections = n.0 }, update_reply u.0) ≡ x = cc in
     let sendable : IsSendable (ok_reply (update_reply u.0)) = subst (λ (v : Updated). IsSendable (ok_reply (update_reply v))) judged_as (not_long s.0 p.0) in
-    subst (λ (y : World × Pairs). IsLawful y.0 × IsSendable (ok_reply y.1)) same (record { collections = lawful; cursors = h.cursors }, sendable)
+    subst (λ (y : World × Pairs). IsLawful y.0 × IsSendable (ok_reply y.1)) same
+    (record { collections = entered_lawful cs c.namespace c.statements n.0 h.collections b.0 b.2 n.1; cursors = h.cursors }, sendable)
 
 -- ---- any command
 

@@ -1,12 +1,9 @@
 -- What an update makes of the documents of a collection keeps what was kept of them.
-use Rattle.std.proofs.Common.{◌≡◌, ◌⊎◌, inl, inr, ℕ, zero, suc, ◌<◌, Bool, true, false, List, [], ◌∷◌, ◌++◌, length, get_or, set, Option, Ok, refl, sym, ap, subst, ◌∙◌, arith, append_assoc}
+use Rattle.std.proofs.Common.{◌≡◌, ℕ, zero, suc, ◌<◌, Bool, true, false, List, [], ◌∷◌, ◌++◌, length, get_or, Ok, refl, sym, ap, subst, arith, append_assoc}
 use Rattle.std.specs.Prelude.{not, if◌then◌else◌, All}
-use Rattle.std.specs.Cmp.Lexicographic.{slice_cmp}
-use Rattle.std.specs.Ordering.{nat_cmp}
 use Rattle.std.specs.declared.cmp.Ordering.TheVariants as orders
-use Rattle.std.proofs.lemmas.Cmp.{nat_list_cmp_total}
-use Rattle.std.proofs.lemmas.List.{append-nil, length-set}
-use Rattle.std.proofs.lemmas.List.Elements.{All-cons, All-set}
+use Rattle.std.proofs.lemmas.List.{append-nil}
+use Rattle.std.proofs.lemmas.List.Elements.{All-cons}
 use Rattle.bson.specs.Tree.{Tree, Pairs}
 use Rattle.value_order.specs.Order.{compare}
 use Rattle.filter.specs.Matches.{matches}
@@ -14,19 +11,11 @@ use Rattle.outcome.specs.Outcome.{◌>>=◌}
 use Rattle.update.specs.Applying.{apply}
 use Rattle.commands.specs.OutcomeLaws.{step_of}
 use Rattle.commands.specs.Update.{UpdateStatement, IsRead}
-use Rattle.engine.specs.World.{documents_or_none, documents_of}
-use Rattle.index.specs.State.{Collection, find_collection}
 use Rattle.engine.specs.Documents.{key_of}
-use Rattle.engine.specs.Lawful.{IsStored, IsKept, IsLawfulState}
+use Rattle.engine.specs.Lawful.{IsStored}
 use Rattle.index.specs.LawfulState.{IsRising}
-use Rattle.engine.specs.Places.{collection_at, no_collection}
-use Rattle.engine.specs.Update.{Changed, passed_over, changed_to, update_from, changed_in}
+use Rattle.engine.specs.Update.{Changed, passed_over, changed_to, update_from}
 use Rattle.engine.proofs.Applied.{kept_key, kept_stored}
-use Rattle.engine.proofs.Deleting.{there_at}
-use Rattle.engine.proofs.Located.{Gap, There, located}
-use Rattle.engine.proofs.Numbers.{numbers_set}
-use Rattle.engine.proofs.Ordered.{missing}
-use Rattle.engine.proofs.NamesApart.{apart_set}
 
 -- ---- documents that are found by the same keys
 
@@ -120,25 +109,3 @@ module _ (s : UpdateStatement) (read : IsRead s.change) where
 
 pub from_kept : (s : UpdateStatement) → IsRead s.change → (so_far : Changed) (ds : List Pairs) (c : Changed) → All IsStored so_far.documents → All IsStored ds → so_far.documents ≡ [] → update_from s so_far ds ≡ Ok c → SameKeys c.documents ds × All IsStored c.documents
 from_kept s read so_far ds c none stored empty e = kept_from s read so_far [] ds c (subst (λ (xs : List Pairs). SameKeys xs []) (sym empty) tt, none) stored e
-
--- ---- in their collection
-
-pub changed_lawful : (cs : List Collection) (name : List ℕ) (ds : List Pairs) → IsLawfulState cs → SameKeys ds (documents_of cs name) → All IsStored ds → IsLawfulState (changed_in (find_collection cs name) ds cs)
-changed_lawful cs name ds h same stored = at (located nat_list_cmp_total (λ (c : Collection). c.name) cs name h.apart)
-  where
-    at : Gap (slice_cmp nat_cmp) (λ (c : Collection). c.name) cs name ⊎ There (slice_cmp nat_cmp) (λ (c : Collection). c.name) cs name → IsLawfulState (changed_in (find_collection cs name) ds cs)
-    at (inl g) = subst (λ (o : Option Collection). IsLawfulState (changed_in o ds cs)) (sym (missing cs g.0 name g.1)) h
-    at (inr t) =
-        let there = there_at cs name t.place h.apart t.within t.same in
-        let here = collection_at cs t.place in
-        let now : Collection = record here { documents = ds } in
-        let kept = h.kept t.place no_collection t.within in
-        let keys : SameKeys ds here.documents = subst (λ (o : Option Collection). SameKeys ds (documents_or_none o)) there.found same in
-        let one : IsKept now = record { lawful = record { rising = SameKeys-rising ds here.documents keys kept.lawful.rising; stored = stored; unindexed = kept.lawful.unindexed }; short = kept.short; least = kept.least; most = kept.most } in
-        let put : changed_in (find_collection cs name) ds cs ≡ set cs t.place now = ap (λ (o : Option Collection). changed_in o ds cs) there.found ∙ there.replaced now there.named in
-        subst IsLawfulState (sym put) (record {
-          apart = apart_set cs t.place now t.within refl h.apart;
-          numbers = numbers_set cs t.place now t.within refl h.numbers;
-          kept = All-set IsKept cs t.place now one h.kept;
-          few = omega (arith, length-set cs t.place now, h.few);
-        })

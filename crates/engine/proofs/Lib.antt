@@ -7,6 +7,7 @@ pub mod BatchLoop
 pub mod CursorSpelling
 pub mod Running
 pub mod Piping
+pub mod KeptLemmas
 pub mod LawfulSteps
 pub mod SpelledSizes
 pub mod Replying
@@ -15,9 +16,10 @@ pub mod Numbers
 pub mod Ending
 pub mod Located
 pub mod Growing
+pub mod EnteredLemmas
 pub mod Deleting
 pub mod LostLemmas
-pub mod NotingLemmas
+pub mod TakingOutLemmas
 pub mod Finding
 pub mod NeededLemmas
 pub mod Applied
@@ -34,11 +36,17 @@ mod UndoneCursors
 pub mod CursorLives
 pub mod ResultLemmas
 pub mod OpeningLemmas
+pub mod OnceLists
 pub mod TakingLemmas
+pub mod EntriesSoFar
+pub mod DocumentEntries
+pub mod FileEntries
 pub mod RefusingLemmas
+pub mod JudgingLemmas
 pub mod EntryLoops
 pub mod StoredTextLemmas
 pub mod FileBatches
+pub mod LoadingLemmas
 pub mod FileLemmas
 pub mod LookingLemmas
 pub mod ByIdLemmas
@@ -49,6 +57,7 @@ pub mod GivingLemmas
 pub mod MergingLemmas
 pub mod MeantDeletions
 pub mod RemovingLemmas
+pub mod CataloguedLemmas
 pub mod TakenLemmas
 pub mod MeantUpdates
 pub mod MeantWrites
@@ -67,6 +76,9 @@ pub mod NumberingLemmas
 pub mod PlacingLemmas
 pub mod UpsertLemmas
 pub mod PlannedUpdates
-pub mod PuttingLemmas
+pub mod ReplacedLemmas
+pub mod UpdateSteps
+pub mod UpdateLemmas
 pub mod MeantLemmas
-pub mod UnindexedLemmas
+pub mod EnteringLemmas
+pub mod EnteringSteps

@@ -1,24 +1,30 @@
 -- Documents that a delete takes away: without them, by their `_id`s, the documents before are those that are left.
-use Rattle.std.proofs.Common.{◌≡◌, ℕ, suc, ◌<◌, Bool, true, false, List, [], ◌∷◌, ◌++◌, length, get_or, Option, Some, None, refl, ap, ◌∙◌, arith}
+use Rattle.std.proofs.Common.{◌≡◌, ℕ, zero, suc, ◌<◌, Bool, true, false, List, [], ◌∷◌, ◌++◌, length, get_or, Option, Some, None, refl, sym, ap, subst, ◌∙◌, arith}
 use Rattle.std.specs.Prelude.{not, if◌then◌else◌, All}
 use Rattle.std.specs.List.{filter, position}
+use Rattle.std.specs.Ordering.{is_eq}
+use Rattle.std.specs.declared.cmp.Ordering.{Ordering}
 use Rattle.std.specs.declared.cmp.Ordering.TheVariants as orders
 use Rattle.std.proofs.lemmas.List.Elements.{All-append, All-cons, All-filter, All-head, All-tail}
 use Rattle.std.proofs.lemmas.List.Quantifiers.{position-Some}
 use Rattle.bson.specs.Tree.{Pairs, no_pairs}
 use Rattle.filter.specs.Matches.{matches}
 use Rattle.value_order.specs.Order.{compare}
+use Rattle.value_order.specs.TotalLaws.{compare_total}
 use Rattle.commands.specs.Delete.{Deletion}
 use Rattle.index.specs.Documents.{without_document}
 use Rattle.index.specs.LawfulState.{IsRising, IsStorable}
 use Rattle.index.specs.State.{Collection}
+use Rattle.index.specs.StateReads.{find_document}
 use Rattle.engine.specs.Delete.{without_at, after_deletion, after_deletions}
 use Rattle.engine.specs.Documents.{key_of}
 use Rattle.engine.specs.Lawful.{IsHeld}
 use Rattle.engine.specs.Redoing.{without_each, taken_at, taken, all_taken}
+use Rattle.engine.specs.TakingOut.{AreThere}
 use Rattle.engine.proofs.Deleting.{left_apart, left_kept}
 use Rattle.engine.proofs.EditPlaceLemmas.{goes_first, passes_by, storable, without_place}
-use Rattle.engine.proofs.Ordered.{rises_tail}
+use Rattle.engine.proofs.Ordered.{flipped, rises_tail}
+use Rattle.engine.proofs.TakingOutLemmas.{first_there}
 
 pub without_more : (xs ys ds : List Pairs) → without_each (xs ++ ys) ds ≡ without_each ys (without_each xs ds)
 without_more [] ys ds = refl
@@ -70,6 +76,59 @@ all_lost (d ∷ rest) ds up =
     without_more (taken d ds) (all_taken rest (after_deletion d ds)) ds
     ∙ ap (without_each (all_taken rest (after_deletion d ds))) (by_taken d ds up)
     ∙ all_lost rest (after_deletion d ds) (left_apart (λ x y. compare (key_of x) (key_of y) ≡ orders.Less) (d ∷ []) ds up)
+
+-- ---- what is taken away is there
+
+there_more : (xs ys ds : List Pairs) → AreThere xs ds → AreThere ys (without_each xs ds) → AreThere (xs ++ ys) ds
+there_more [] ys ds first later = later
+there_more (x ∷ xs) ys ds first later = (first.0, there_more xs ys (without_document (key_of x) ds) first.1 later)
+
+-- those of greater `_id`s are behind the first
+found_behind : (x d : Pairs) (ds : List Pairs) → Above d x → find_document (d ∷ ds) (key_of x) ≡ find_document ds (key_of x)
+found_behind x d ds above = ap (λ (o : Ordering). if is_eq o then Some d else find_document ds (key_of x)) (flipped compare_total (key_of d) (key_of x) orders.Less above)
+
+there_behind : (gone : List Pairs) (d : Pairs) (ds : List Pairs) → All (Above d) gone → AreThere gone ds → AreThere gone (d ∷ ds)
+there_behind [] d ds above there = tt
+there_behind (x ∷ gone) d ds above there =
+    let here = All-head (Above d) x gone above in (
+      found_behind x d ds here ∙ there.0,
+      subst (AreThere gone) (sym (passes_by (key_of x) d ds here)) (there_behind gone d (without_document (key_of x) ds) (All-tail (Above d) x gone above) there.1),
+    )
+
+place_there : (o : Option ℕ) (ds : List Pairs) → ((i : ℕ) → o ≡ Some i → i < length ds) → IsRising ds → AreThere (taken_at o ds) ds
+place_there None ds within up = tt
+place_there (Some i) ds within up = (stands ds i up (within i refl), tt)
+  where
+    stands : (xs : List Pairs) (k : ℕ) → IsRising xs → k < length xs → find_document xs (key_of (get_or xs k no_pairs)) ≡ Some (get_or xs k no_pairs)
+    stands [] k up within = absurd (omega (arith, within))
+    stands (x ∷ xs) zero up within = first_there x xs
+    stands (x ∷ xs) (suc k) up within =
+        found_behind (get_or xs k no_pairs) x xs (up 0 (suc k) no_pairs (omega arith) within) ∙ stands xs k (rises_tail compare key_of x xs up) (omega (arith, within))
+
+filter_there : (p : Pairs → Bool) (ds : List Pairs) → IsRising ds → AreThere (filter p ds) ds
+filter_there p [] up = tt
+filter_there p (d ∷ ds) up = at (p d) refl (filter_there p ds (rises_tail compare key_of d ds up))
+  where
+    above : All (Above d) ds
+    above k x below = up 0 (suc k) x (omega arith) (omega (arith, below))
+
+    at : (b : Bool) → p d ≡ b → AreThere (filter p ds) ds → AreThere (filter p (d ∷ ds)) (d ∷ ds)
+    at true e later = rw e (first_there d ds, subst (AreThere (filter p ds)) (sym (goes_first d ds)) later)
+    at false e later = rw e (there_behind (filter p ds) d ds (All-filter p (Above d) ds above) later)
+
+by_there : (d : Deletion) (ds : List Pairs) → IsRising ds → AreThere (taken d ds) ds
+by_there d ds up = at d.only_first
+  where
+    at : (b : Bool) → AreThere (if b then taken_at (position (matches d.filter) ds) ds else filter (matches d.filter) ds) ds
+    at true = place_there (position (matches d.filter) ds) ds (λ i e. (position-Some (matches d.filter) ds i no_pairs e).0) up
+    at false = filter_there (matches d.filter) ds up
+
+pub all_there : (deletions : List Deletion) (ds : List Pairs) → IsRising ds → AreThere (all_taken deletions ds) ds
+all_there [] ds up = tt
+all_there (d ∷ rest) ds up =
+    there_more (taken d ds) (all_taken rest (after_deletion d ds)) ds (by_there d ds up)
+    (subst (AreThere (all_taken rest (after_deletion d ds))) (sym (by_taken d ds up))
+    (all_there rest (after_deletion d ds) (left_apart (λ x y. compare (key_of x) (key_of y) ≡ orders.Less) (d ∷ []) ds up)))
 
 -- ---- what holds of each document holds of those that are taken away
 

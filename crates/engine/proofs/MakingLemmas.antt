@@ -6,7 +6,7 @@ use Rattle.path.specs.declared.refusal.Refusal.{Refusal}
 use Rattle.path.specs.declared.refusal.Refusal.TheVariants as refusals
 use Rattle.outcome.specs.Outcome.{◌>>=◌}
 use Rattle.btree.specs.Keys.{Edit}
-use Rattle.index.specs.Documents.{IsUnindexed}
+use Rattle.index.specs.LawfulState.{IsLawfulState}
 use Rattle.index.specs.State.{Collection}
 use Rattle.index.specs.StateEntries.{Leads}
 use Rattle.collections.specs.Calls.{HasCause, HasWriteCause, IsOfFile}
@@ -22,8 +22,6 @@ use Rattle.engine.specs.World.{World}
 use Rattle.engine.specs.Writing.{FileCause, Makes, planned_or, Writes}
 use Rattle.engine.specs.declared.engine.Engine.{Engine}
 use Rattle.engine.proofs.OnlyReading.{now_same, word_before, write_cause_from}
-use Rattle.engine.proofs.Sound.{for_memory}
-use Rattle.engine.proofs.UnindexedLemmas.{unindexed_state}
 
 -- what is refused by the file is one of its refusals
 of_cause : {D : Type 0} (history : D → History) (after : List Collection) (old new : Engine D) (e : Refusal) → HasWriteCause history after (file_of old) (file_of new) e → IsOfFile e
@@ -37,14 +35,14 @@ pub planned_is : (cs next : List Collection) (planned : Result (List Collection)
 planned_is cs next planned is = is ∙ ap (λ (p : Result (List Collection) Refusal). Ok (planned_or cs p)) (sym is)
 
 -- edits that lead to what is planned
-pub leads_planned : (edits : List Edit) (cs next : List Collection) (planned : Result (List Collection) Refusal) → planned ≡ Ok next → Leads edits cs next × IsUnindexed next
-    → Leads edits cs (planned_or cs planned) × IsUnindexed (planned_or cs planned)
-leads_planned edits cs next planned is led = subst (λ (s : List Collection). Leads edits cs s × IsUnindexed s) (sym (ap (planned_or cs) is)) led
+pub leads_planned : (edits : List Edit) (cs next : List Collection) (planned : Result (List Collection) Refusal) → planned ≡ Ok next → Leads edits cs next × IsLawfulState next
+    → Leads edits cs (planned_or cs planned) × IsLawfulState (planned_or cs planned)
+leads_planned edits cs next planned is led = subst (λ (s : List Collection). Leads edits cs s × IsLawfulState s) (sym (ap (planned_or cs) is)) led
 
 module _ {D : Type 0} (history : D → History) where
-  -- while an engine runs, its collections have no indexes
-  pub unindexed_now : (engine : Engine D) → IsSound history engine → KeepsWord (disk_history history engine) → IsRunning engine → IsUnindexed (world engine).collections
-  unindexed_now engine h k running = unindexed_state (world engine).collections h.lawful (h.file running k).now_state
+  -- while an engine runs, its collections are lawful
+  pub lawful_now : (engine : Engine D) → IsSound history engine → KeepsWord (disk_history history engine) → IsRunning engine → IsLawfulState (world engine).collections
+  lawful_now engine h k running = (h.file running k).now_state
 
   -- it was refused before anything was written
   pub makes_none : (planned : Result (List Collection) Refusal) (old new : Engine D) (e : Refusal) → OnlyReads history old new
@@ -85,6 +83,35 @@ module _ {D : Type 0} (history : D → History) where
       refused = w.err.1 ∙ reads.changes;
     }
 
+  -- what was made behind reads
+  module _ (plan : List Collection → Result (List Collection) Refusal) (old mid new : Engine D) (reads : OnlyReads history old mid) where
+    pub makes_behind : (r : Result (Unit {0}) Refusal) → Makes history (plan (world mid).collections) r mid new → Makes history (plan (world old).collections) r old new
+    makes_behind (Ok tt) m = record {
+      sound = m.sound;
+      goes = laws.goes_further history old.file mid.file new.file reads.goes m.goes;
+      start = m.start ∙ ap (λ (k : Known). k.start) reads.told;
+      cursors = m.cursors ∙ reads.cursors;
+      does = λ k. ap plan (sym (now_same history old mid reads)) ∙ m.does k;
+      refused = tt;
+    }
+    makes_behind (Err e) m = record {
+      sound = m.sound;
+      goes = laws.goes_further history old.file mid.file new.file reads.goes m.goes;
+      start = m.start ∙ ap (λ (k : Known). k.start) reads.told;
+      cursors = m.cursors ∙ reads.cursors;
+      does = λ k.
+          let d = m.does k in
+          let same = now_same history old mid reads in (
+            d.0 ∙ same,
+            elim d.1 [
+              | inl is ↦ inl (ap plan (sym same) ∙ is)
+              | inr cause ↦ inr (write_cause_from history old.file mid.file new.file reads.goes (word_before history mid.file new.file m.goes k) (planned_or (world old).collections (plan (world old).collections)) e
+                  (subst (λ (cs : List Collection). HasWriteCause history (planned_or cs (plan cs)) mid.file new.file e) same cause))
+            ],
+          );
+      refused = m.refused ∙ reads.changes;
+    }
+
 -- the collections that are planned, and this reply
 abbrev pub with_reply : World → Pairs → Result (List Collection) Refusal → Result (World × Pairs) Refusal
 with_reply w reply planned = planned >>= (λ cs. Ok (record w { collections = cs }, reply))
@@ -96,7 +123,7 @@ module _ {D : Type 0} (history : D → History) (reply : Pairs) (planned : Resul
     sound = h;
     goes = laws.goes_from_itself history old.file;
     start = refl;
-    does = λ k. (refl, inr (for_memory history old.file old.file (answered (world old) run).0));
+    does = λ k. (refl, inr (inl refl, λ k. inl (inl refl)));
     refused = refl;
   }
 

@@ -1,6 +1,6 @@
 -- The documents that the statements of an update may mean are looked up.
 use Rattle.std.proofs.Common.{◌≡◌, ◌⊎◌, ◌<◌, ◌≤◌, inl, inr, ℕ, Bool, true, false, List, [], length, take, Option, Some, None, Result, Ok, Err, refl, sym, ap, subst, ◌∙◌, arith}
-use Rattle.std.specs.Prelude.{◌^◌, ◌-◌, MatchResult}
+use Rattle.std.specs.Prelude.{◌^◌, ◌-◌, All, MatchResult}
 use Rattle.std.specs.Global.{Vec}
 use Rattle.std.specs.List.{filter}
 use Rattle.std.proofs.lemmas.List.{take_all, length-take}
@@ -8,7 +8,7 @@ use Rattle.bson.specs.Tree.{Pairs}
 use Rattle.page.specs.History.{History, KeepsWord}
 use Rattle.path.specs.declared.refusal.Refusal.{Refusal}
 use Rattle.path.specs.declared.refusal.Refusal.TheVariants as refusals
-use Rattle.commands.specs.Update.{UpdateStatement}
+use Rattle.commands.specs.Update.{UpdateStatement, IsRead}
 use Rattle.collections.specs.Calls.{HasCause}
 use Rattle.collections.specs.Reading.{IsNumbered}
 use Rattle.index.specs.State.{Collection, find_collection}
@@ -17,17 +17,17 @@ use Rattle.engine.specs.Durable.{disk_history, file_of, IsSound}
 use Rattle.engine.specs.Looking.{Looks, LooksOf, OnlyReads}
 use Rattle.engine.specs.Merging.{is_meant, makes_any}
 use Rattle.engine.specs.Numbering.{IsNewNumber, IsTooMany}
-use Rattle.engine.specs.Putting.{HasNumber, IsFullFor, IsFullWithout, IsMeant, IsUpdate, MeansIn, UpdatesOf}
+use Rattle.engine.specs.Putting.{IsFullFor, IsFullWithout, IsMeant, IsUpdate, MeansIn}
 use Rattle.engine.specs.Trying.{Tries}
-use Rattle.engine.specs.Update.{run_all}
+use Rattle.engine.specs.Updating.{IsRan}
 use Rattle.engine.specs.View.{world}
 use Rattle.engine.specs.declared.engine.Engine.{Engine}
 use Rattle.engine.specs.declared.updates.Meant.{Meant}
-use Rattle.engine.specs.declared.updates.Updates.{Updates}
+use Rattle.engine.specs.declared.statements.Ran.{Ran}
 use Rattle.engine.proofs.LookingLemmas.{looks_behind}
 use Rattle.engine.proofs.NewCollections.{IsNumberOf, none_of, there_of}
 use Rattle.engine.proofs.OnlyReading.{cause_from, now_same, reads_none, reads_on, word_before}
-use Rattle.engine.proofs.PlannedUpdates.{full_refused}
+use Rattle.engine.proofs.PlannedUpdates.{ran_update}
 
 -- ---- a collection that is missing
 
@@ -136,32 +136,21 @@ module _ {D : Type 0} (history : D → History) (name : List ℕ) (ss : List Upd
 -- ---- what the statements make of them
 
 module _ {D : Type 0} (history : D → History) (name : List ℕ) (ss : List UpdateStatement) (old mid : Engine D) where
-  abbrev Plans : Result Updates Refusal → Type 0
-  Plans r = Tries history (IsUpdate (world old).collections name ss) (λ e. run_all name ss (world old).collections ≡ Err e) r old mid
+  abbrev Plans : Result Ran Refusal → Type 0
+  Plans r = Tries history (IsUpdate (world old).collections name ss) (IsFullFor (world old).collections name ss) r old mid
 
   abbrev Meaning : Result Meant Refusal → Type 0
   Meaning r = Tries history (IsMeant (world old).collections name ss) (IsFullFor (world old).collections name ss) r old mid
 
   pub updated_unmeant : (e : Refusal) → Meaning (Err e) → Plans (Err e)
-  updated_unmeant e tries = record {
-    reads = tries.reads;
-    answers = λ k. elim (tries.answers k) [
-      | inl full ↦ inl (full_refused (world old).collections name ss e full)
-      | inr cause ↦ inr cause
-    ];
-  }
+  updated_unmeant e tries = record { reads = tries.reads; answers = tries.answers }
 
-  pub updated_tries : IsSound history old → (m : Meant) → Meaning (Ok m) → (r : Result Updates Refusal) → UpdatesOf ss m r → Plans r
-  updated_tries h m tries r planned = record {
-    reads = tries.reads;
-    answers = λ k. at r (planned (world old).collections name h.lawful (tries.answers k));
-  }
-    where
-      at : (q : Result Updates Refusal) → MatchResult q (IsUpdate (world old).collections name ss) (λ e. (run_all name ss (world old).collections ≡ Err e) ⊎ (e ≡ refusals.OutOfMemory))
-          → MatchResult q (IsUpdate (world old).collections name ss) (λ e. (run_all name ss (world old).collections ≡ Err e) ⊎ HasCause history (file_of old) (file_of mid) e)
-      at (Ok u) right = right
-      at (Err e) (inl is) = inl is
-      at (Err e) (inr memory) = inr (inl memory)
+  module _ (m : Meant) (tries : Meaning (Ok m)) where
+    pub updated_without_memory : (e : Refusal) → e ≡ refusals.OutOfMemory → Plans (Err e)
+    updated_without_memory e is = record { reads = tries.reads; answers = λ k. inr (inl is) }
 
-pub has_number : (m : Meant) (u : Updates) → HasNumber m.is_new m.number → (u.number ≡ m.number) × (u.is_new ≡ m.is_new) → HasNumber u.is_new u.number
-has_number m u h are = λ new. subst (λ (n : ℕ). (1 ≤ n) × (n ≤ 1000)) (sym are.0) (h (sym are.1 ∙ new))
+    pub updated_tries : IsSound history old → All (λ (s : UpdateStatement). IsRead s.change) ss → (x : Ran) → IsRan true ss m.documents.items x → Plans (Ok x)
+    updated_tries h read x ran = record {
+      reads = tries.reads;
+      answers = λ k. ran_update ss m read (world old).collections name h.lawful (tries.answers k) x ran;
+    }

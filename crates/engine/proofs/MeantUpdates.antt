@@ -22,7 +22,7 @@ use Rattle.engine.specs.Lawful.{IsStored}
 use Rattle.engine.specs.Merging.{is_updated, one_or_none, made_of, made_by, has_key_of, is_meant, put_each, Listed, none_changed, listed_to, with_listed, upsert_listed, run_listed, run_each}
 use Rattle.engine.specs.Update.{counted, modified_by, Changed, passed_over, changed_to, update_from, upsert_document, upserted_entry}
 use Rattle.engine.proofs.Applied.{upserted_stored}
-use Rattle.engine.proofs.LawfulSteps.{kept_place}
+use Rattle.engine.proofs.KeptLemmas.{kept_place}
 use Rattle.engine.proofs.LawfulUpdates.{SameKeys-rising, from_kept}
 use Rattle.engine.proofs.MeantDeletions.{or_first, or_second}
 use Rattle.engine.proofs.MergingLemmas.{Marked, meant, other, all_of, meant_of, others_of, Each, NoneIs, Each-map, Each-meant, Above, Ascends, ascends, above_trans, Untied, mark, mark_all, mark_meant, mark_others, puts_lead}

@@ -22,7 +22,7 @@ use Rattle.engine.proofs.Applied.{kept_key}
 use Rattle.engine.proofs.MeantDeletions.{or_first, or_second}
 use Rattle.engine.proofs.MergingLemmas.{Marked, meant, other, all_of, meant_of, others_of, Each, NoneIs, Each-map, Ascends, ascends, Untied, mark, mark_all, mark_meant, marked_all, marked_meant, meant_untied, put_ascends, put_marked}
 use Rattle.engine.proofs.WriteSteps.{updated_stored}
-use Rattle.engine.specs.DocumentWrite.{DocumentWrite}
+use Rattle.index.specs.Entering.{DocumentWrite}
 use Rattle.engine.specs.Updating.{HaveOld, news_of, seen}
 use Rattle.engine.specs.WriteLaws.{documents_in}
 use Rattle.engine.specs.Writes.{change_writes, changes_of, made_write, statement_writes, unless_refused, updated_by, writes_from, writes_of}

@@ -15,7 +15,7 @@ use Rattle.engine.specs.Lawful.{IsLawfulState, IsWithin}
 use Rattle.engine.specs.World.{documents_of}
 use Rattle.index.specs.State.{Collection}
 use Rattle.engine.proofs.Finding.{stored_within}
-use Rattle.engine.proofs.LawfulSteps.{stored_at}
+use Rattle.engine.proofs.KeptLemmas.{stored_at}
 use Rattle.engine.proofs.Piping.{all_within, none_at_fault}
 
 -- ---- more than enough

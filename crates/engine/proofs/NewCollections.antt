@@ -7,7 +7,8 @@ use Rattle.path.specs.declared.refusal.Refusal.{Refusal}
 use Rattle.path.specs.declared.refusal.Refusal.TheVariants as refusals
 use Rattle.btree.specs.Keys.{Edit}
 use Rattle.collections.specs.Calls.{HasCause}
-use Rattle.index.specs.Documents.{AddsCollection, IsUnindexed}
+use Rattle.index.specs.Documents.{AddsCollection}
+use Rattle.index.specs.LawfulState.{IsLawfulState}
 use Rattle.index.specs.State.{Collection, empty_collection, find_collection, put_collection, uses}
 use Rattle.index.specs.StateEntries.{Leads}
 use Rattle.engine.specs.Create.{created}
@@ -19,11 +20,10 @@ use Rattle.engine.specs.View.{world}
 use Rattle.engine.specs.World.{indexes_or_none, number_or, unused, with_documents}
 use Rattle.engine.specs.Writing.{Makes, planned_or, Writes}
 use Rattle.engine.specs.declared.engine.Engine.{Engine}
-use Rattle.engine.proofs.MakingLemmas.{leads_planned, makes_none, makes_written, planned_is, unindexed_now}
+use Rattle.engine.proofs.MakingLemmas.{lawful_now, leads_planned, makes_none, makes_written, planned_is}
 use Rattle.engine.proofs.Numbers.{unused_unused}
 use Rattle.engine.proofs.OnlyReading.{cause_from, now_same, reads_on, word_before}
 use Rattle.engine.proofs.PlannedLemmas.{created_full, created_new, created_there}
-use Rattle.engine.proofs.UnindexedLemmas.{adds_unindexed}
 
 -- the number of the collection of a name is right
 abbrev pub IsNumberOf : List ℕ → List Collection → Option ℕ → Type 0
@@ -108,10 +108,10 @@ module _ (cs : List Collection) (name : List ℕ) (n : ℕ) (new : IsNewFor cs n
   pub created_next : created cs name ≡ Ok (put_collection (empty_collection name n) cs)
   created_next = created_new cs name new.missing new.few ∙ ap (λ (c : Collection). Ok (put_collection c cs)) (sym empty_made)
 
-  pub created_leads : (edits : List Edit) → AddsCollection [] edits name n → IsUnindexed cs → Leads edits cs (planned_or cs (created cs name)) × IsUnindexed (planned_or cs (created cs name))
-  created_leads edits adds un =
+  pub created_leads : (edits : List Edit) → AddsCollection [] edits name n → IsLawfulState cs → Leads edits cs (planned_or cs (created cs name)) × IsLawfulState (planned_or cs (created cs name))
+  created_leads edits adds lawful =
       let fresh : uses cs n ≡ false = ap (uses cs) new.number ∙ unused_unused cs in
-      leads_planned edits cs (put_collection (empty_collection name n) cs) (created cs name) created_next (adds_unindexed [] edits name n adds cs cs (λ entries spells. spells) un new.missing fresh new.few)
+      leads_planned edits cs (put_collection (empty_collection name n) cs) (created cs name) created_next (adds cs cs (λ entries spells. spells) lawful new.missing fresh new.few)
 
 module _ {D : Type 0} (history : D → History) (name : List ℕ) (old mid : Engine D) where
   -- none was found
@@ -125,8 +125,8 @@ module _ {D : Type 0} (history : D → History) (name : List ℕ) (old mid : Eng
     new_last k = subst (λ (cs : List Collection). IsNewFor cs name n) (sym (now_same history mid last second.reads ∙ now_same history old mid first.reads)) (new_for history name old mid first last n second k)
 
     pub made_leads : (edits : List Edit) → AddsCollection [] edits name n → KeepsWord (disk_history history last) → IsRunning last
-        → Leads edits (world last).collections (planned_or (world last).collections (created (world last).collections name)) × IsUnindexed (planned_or (world last).collections (created (world last).collections name))
-    made_leads edits adds k running = created_leads (world last).collections name n (new_last k) edits adds (unindexed_now history last second.reads.sound k running)
+        → Leads edits (world last).collections (planned_or (world last).collections (created (world last).collections name)) × IsLawfulState (planned_or (world last).collections (created (world last).collections name))
+    made_leads edits adds k running = created_leads (world last).collections name n (new_last k) edits adds (lawful_now history last second.reads.sound k running)
 
     pub made_written : (r : Result (Unit {0}) Refusal) (new : Engine D) → Writes history (planned_or (world last).collections (created (world last).collections name)) r last new → Makes history (created (world old).collections name) r old new
     made_written r new writes =

@@ -1,21 +1,20 @@
 -- What is planned of the collections is lawful, and commands reply by it.
 use Rattle.std.proofs.Common.{◌≡◌, ◌<◌, ◌≤◌, ℕ, Bool, true, false, List, [], length, Option, Some, None, Result, Ok, Err, refl, sym, ap, ◌∙◌, arith}
-use Rattle.std.specs.Prelude.{not, nat_le, is_some, codes}
+use Rattle.std.specs.Prelude.{nat_le, is_some, codes}
 use Rattle.std.proofs.lemmas.Bool.Decides.{nat_tests}
 use Rattle.bson.specs.Tree.{Pairs, no_pairs, pair}
 use Rattle.outcome.specs.Outcome.{unless}
 use Rattle.path.specs.declared.refusal.Refusal.{Refusal}
 use Rattle.path.specs.declared.refusal.Refusal.TheVariants as refusals
-use Rattle.index.specs.State.{Collection, find_collection, put_collection, without_collection}
+use Rattle.index.specs.State.{Collection, find_collection, put_collection}
 use Rattle.engine.specs.Create.{created, run_create}
-use Rattle.engine.specs.DropCollection.{dropped, run_drop}
 use Rattle.engine.specs.Insert.{inserted, run_insert}
 use Rattle.engine.specs.Lawful.{IsLawful, IsLawfulState}
-use Rattle.engine.specs.Refusals.{int, words}
+use Rattle.engine.specs.Refusals.{int}
 use Rattle.engine.specs.Numbering.{IsTooMany}
 use Rattle.engine.specs.World.{World, with_documents}
 use Rattle.engine.specs.Writing.{planned_or}
-use Rattle.engine.proofs.Creating.{dropped_lawful, run_create-is}
+use Rattle.engine.proofs.Creating.{run_create-is}
 use Rattle.engine.proofs.LawfulSteps.{good_create, good_insert}
 use Rattle.engine.proofs.MakingLemmas.{with_reply}
 use Rattle.engine.proofs.Running.{run_insert-done, run_insert-refused}
@@ -41,9 +40,6 @@ created_lawful cs name h short = planned_lawful cs (created cs name) h (λ next 
     let w = world_of_these cs in
     (good_create w name (lawful_world cs h) short (record w { collections = next }, no_pairs) (run_create-is w name next is)).0.collections)
 
-pub dropped_planned_lawful : (cs : List Collection) (name : List ℕ) → IsLawfulState cs → IsLawfulState (planned_or cs (dropped cs name))
-dropped_planned_lawful cs name h = planned_lawful cs (dropped cs name) h (λ next is. dropped_lawful cs name next h is)
-
 -- ---- replies
 
 module _ (w : World) (name : List ℕ) where
@@ -57,10 +53,6 @@ module _ (w : World) (name : List ℕ) where
   pub run_creates : run_create w (record { namespace = name }) ≡ with_reply w no_pairs (created w.collections name)
   unfolding run_create
   run_creates = refl
-
-  pub run_drops : run_drop w (record { namespace = name }) ≡ with_reply w (pair (codes "nIndexesWas") (int 1) (pair (codes "ns") (words name) no_pairs)) (dropped w.collections name)
-  unfolding run_drop
-  run_drops = refl
 
 -- ---- what a create comes to
 
@@ -84,11 +76,3 @@ module _ (cs : List Collection) (name : List ℕ) where
     created_new few =
         let room : nat_le 1000 (length cs) ≡ false = grind (arith, nat_tests) in
         created_none ∙ ap (λ (b : Bool). unless b refusals.TooMany (Ok made)) room
-
--- ---- what a drop comes to
-
-pub dropped_none : (cs : List Collection) (name : List ℕ) → find_collection cs name ≡ None → dropped cs name ≡ Err refusals.NamespaceNotFound
-dropped_none cs name none = ap (λ (o : Option Collection). unless (not (is_some o)) refusals.NamespaceNotFound (Ok (without_collection name cs))) none
-
-pub dropped_there : (cs : List Collection) (name : List ℕ) (c : Collection) → find_collection cs name ≡ Some c → dropped cs name ≡ Ok (without_collection name cs)
-dropped_there cs name c found = ap (λ (o : Option Collection). unless (not (is_some o)) refusals.NamespaceNotFound (Ok (without_collection name cs))) found

@@ -1,6 +1,6 @@
 -- What an update makes of the documents that are meant is what is planned for all of their collection.
-use Rattle.std.proofs.Common.{◌≡◌, ◌≢◌, ◌⊎◌, inl, inr, ℕ, suc, ◌<◌, ◌≤◌, Bool, true, false, List, [], ◌∷◌, length, Option, Some, None, Result, Ok, Err, refl, sym, ap, subst, ◌∙◌, arith}
-use Rattle.std.specs.Prelude.{nat_le, nat_lt, if◌then◌else◌, All}
+use Rattle.std.proofs.Common.{◌≡◌, ℕ, suc, ◌<◌, Bool, true, false, List, [], ◌∷◌, length, map, Option, Some, None, Result, Ok, Err, refl, sym, ap, subst, ◌∙◌, arith}
+use Rattle.std.specs.Prelude.{nat_le, if◌then◌else◌, All}
 use Rattle.std.specs.List.{filter}
 use Rattle.std.specs.declared.cmp.Ordering.TheVariants as orders
 use Rattle.std.proofs.lemmas.Bool.Decides.{nat_tests}
@@ -8,31 +8,34 @@ use Rattle.std.proofs.lemmas.List.Elements.{All-filter}
 use Rattle.std.proofs.lemmas.List.Kept.{AllPairs-filter}
 use Rattle.bson.specs.Tree.{Pairs, no_items}
 use Rattle.value_order.specs.Order.{compare}
-use Rattle.outcome.specs.Outcome.{◌>>=◌, Fails, unless}
+use Rattle.outcome.specs.Outcome.{◌>>=◌}
 use Rattle.path.specs.declared.refusal.Refusal.{Refusal}
 use Rattle.path.specs.declared.refusal.Refusal.TheVariants as refusals
 use Rattle.commands.specs.Update.{UpdateStatement, IsRead}
-use Rattle.index.specs.LawfulState.{IsRising, IsStorable}
-use Rattle.index.specs.State.{Collection, empty_collection, find_collection, put_collection}
+use Rattle.index.specs.LawfulState.{IsRising}
+use Rattle.index.specs.State.{Collection, find_collection}
 use Rattle.index.proofs.PlaceLemmas.{found_name}
 use Rattle.index.proofs.StateEditLaws.{put_same}
 use Rattle.engine.specs.Documents.{key_of}
 use Rattle.engine.specs.Lawful.{IsLawfulState, IsStored}
 use Rattle.engine.specs.Merging.{is_meant, Listed, listed_in, makes_any, not_listed, put_each, run_each, upsert_listed}
-use Rattle.engine.specs.Putting.{IsFullFor, IsMeant, IsUpdate, MeansIn, PutsIn}
-use Rattle.engine.specs.Refusals.{ok_reply}
-use Rattle.engine.specs.Update.{counts_reply, judged, not_updated, run_all, run_statements, spelled, Updated, update_reply}
-use Rattle.engine.specs.Updating.{EndsAs, HasNone, IsDone, IsRan, IsRun, IsRunOf, listed_of, news_of}
-use Rattle.engine.specs.World.{documents_or_none, or_empty, unused}
+use Rattle.engine.specs.Putting.{EndsIn, IsFullFor, IsMeant, IsUpdate, MeansIn}
+use Rattle.engine.specs.Update.{counts_reply, judged, not_updated, run_all, run_statements, Updated, update_reply}
+use Rattle.engine.specs.Updating.{EndsAs, HasNone, IsRan, IsRun, IsRunOf, listed_of, news_of, seen}
+use Rattle.engine.specs.World.{documents_of, documents_or_none, or_empty, unused}
+use Rattle.engine.specs.WriteLaws.{AreRun, AreThere}
+use Rattle.engine.specs.Writes.{writes_of}
 use Rattle.engine.specs.declared.statements.Ran.{Ran}
 use Rattle.engine.specs.declared.statements.Run.{Run}
 use Rattle.engine.specs.declared.statements.Tally.{Tally}
 use Rattle.engine.specs.declared.updates.Meant.{Meant}
-use Rattle.engine.specs.declared.updates.Updates.{Updates}
-use Rattle.engine.proofs.LawfulSteps.{stored_at}
+use Rattle.engine.proofs.KeptLemmas.{stored_at}
 use Rattle.engine.proofs.ListedUpdates.{each_full, each_in, each_missing, each_there}
 use Rattle.engine.proofs.MeantDeletions.{or_first, or_second}
 use Rattle.engine.proofs.MeantUpdates.{done_alike, refused_alike}
+use Rattle.engine.proofs.ReplacedLemmas.{IsSub, sub_filter, writes_among}
+use Rattle.engine.proofs.WriteLawLemmas.{writes_of_meant}
+use Rattle.engine.proofs.WritePlaceLemmas.{writes_replace}
 
 -- statements that make none do nothing where no document is
 none_made : (i : ℕ) (ss : List UpdateStatement) → makes_any ss ≡ false → run_each i ss (not_listed []) ≡ Ok (not_listed [])
@@ -45,20 +48,12 @@ none_made i (s ∷ ss) e =
 ok_once : {X : Type 0} (x y : X) (r : Result X Refusal) → r ≡ Ok x → r ≡ Ok y → x ≡ y
 ok_once x y r first second = cc
 
-no_rising : IsRising []
-no_rising i j d lt below = absurd (omega (arith, below))
-
-no_stored : All IsStored []
-no_stored k d below = absurd (omega (arith, below))
-
 -- What the statements come to, of all the collections.
 pub record Comes (now : List Collection) (name : List ℕ) (ss : List UpdateStatement) (m : Meant) (r : Run) : Type 0 where
   pub after : Updated
   pub is : run_statements name 0 ss (not_updated now) ≡ Ok after
   pub says : update_reply after ≡ counts_reply r.tally.matched r.tally.modified r.tally.upserted
   pub quiet : after.modified ≡ 0 → after.upserted ≡ no_items → HasNone r.tally
-  pub storable : All IsStorable (news_of r.writes.items)
-  pub puts : PutsIn (find_collection now name) now name m.number m.is_new (news_of r.writes.items) after.collections
 
 module _ (now : List Collection) (name : List ℕ) (ss : List UpdateStatement) (m : Meant) (h : IsLawfulState now) (read : All (λ (s : UpdateStatement). IsRead s.change) ss) where
   abbrev planned : Result Updated Refusal
@@ -88,7 +83,7 @@ module _ (now : List Collection) (name : List ℕ) (ss : List UpdateStatement) (
     refused_there : (e : Refusal) → run_of m.documents.items ≡ Err e → planned ≡ Err e
     refused_there e refused = all_there ∙ ap (each_in c now) (refused_alike ss c.documents read kept.0 kept.1 e (ap run_of (sym are) ∙ refused))
 
-    module _ (numbered : c.number ≡ m.number) (old : m.is_new ≡ false) (r : Run) (is : run_of m.documents.items ≡ Ok (listed_of r)) (run : IsRun m.documents.items r) where
+    module _ (r : Run) (is : run_of m.documents.items ≡ Ok (listed_of r)) (run : IsRun m.documents.items r) where
       up : IsRunOf m.documents.items r
       up = run.keeps
           (subst IsRising (sym are) (AllPairs-filter (λ (d e : Pairs). compare (key_of d) (key_of e) ≡ orders.Less) (is_meant ss) c.documents kept.0))
@@ -109,8 +104,6 @@ module _ (now : List Collection) (name : List ℕ) (ss : List UpdateStatement) (
         is = all_there ∙ ap (each_in c now) listed;
         says = refl;
         quiet = λ none made. (none, made);
-        storable = up.written.storable;
-        puts = subst (λ (o : Option Collection). PutsIn o now name m.number m.is_new (news_of r.writes.items) after_there.collections) (sym found) (old, numbered, refl);
       }
 
   -- ---- a missing one
@@ -118,9 +111,6 @@ module _ (now : List Collection) (name : List ℕ) (ss : List UpdateStatement) (
   module _ (missing : find_collection now name ≡ None) (empty : m.documents.items ≡ []) where
     abbrev made : Collection
     made = or_empty name (unused now) None
-
-    up_missing : (r : Run) → IsRun m.documents.items r → IsRunOf m.documents.items r
-    up_missing r run = run.keeps (subst IsRising (sym empty) no_rising) (subst (All IsStored) (sym empty) no_stored)
 
     -- a statement makes one
     module _ (makes : makes_any ss ≡ true) (few : length now < 1000) where
@@ -133,21 +123,14 @@ module _ (now : List Collection) (name : List ℕ) (ss : List UpdateStatement) (
       refused_new : (e : Refusal) → run_of m.documents.items ≡ Err e → planned ≡ Err e
       refused_new e refused = all_made ∙ ap (each_in made now) (ap run_of (sym empty) ∙ refused)
 
-      comes_new : (numbered : m.number ≡ unused now) → m.is_new ≡ true → (r : Run) → run_of m.documents.items ≡ Ok (listed_of r) → IsRun m.documents.items r → Comes now name ss m r
-      comes_new numbered new r is run =
-          let up = up_missing r run in
+      comes_new : (r : Run) → run_of m.documents.items ≡ Ok (listed_of r) → IsRun m.documents.items r → Comes now name ss m r
+      comes_new r is run =
           let after = listed_in made now (listed_of r) in
-          let put : put_each (news_of r.writes.items) [] ≡ r.documents.items = ap (put_each (news_of r.writes.items)) (sym empty) ∙ up.puts in
-          let same : after.collections ≡ put_collection (record (empty_collection name m.number) { documents = put_each (news_of r.writes.items) [] }) now =
-          λ k. put_collection (record { name = name; number = sym numbered k; documents = sym put k; indexes = [] }) now in
           record {
             after = after;
             is = all_made ∙ ap (each_in made now) (ap run_of (sym empty) ∙ is);
             says = refl;
             quiet = λ none made. (none, made);
-            storable = up.written.storable;
-            puts = subst (λ (o : Option Collection). PutsIn o now name m.number m.is_new (news_of r.writes.items) after.collections) (sym missing)
-                (subst (λ (b : Bool). PutsIn None now name m.number b (news_of r.writes.items) after.collections) (sym new) (few, numbered, same));
           }
 
     -- none makes one
@@ -165,9 +148,8 @@ module _ (now : List Collection) (name : List ℕ) (ss : List UpdateStatement) (
       refused_none : (e : Refusal) → run_of m.documents.items ≡ Err e → planned ≡ Err e
       refused_none e refused = absurd (let no = sym none_run ∙ refused in cc)
 
-      comes_none : m.is_new ≡ false → (r : Run) → run_of m.documents.items ≡ Ok (listed_of r) → IsRun m.documents.items r → Comes now name ss m r
-      comes_none old r is run =
-          let up = up_missing r run in
+      comes_none : (r : Run) → run_of m.documents.items ≡ Ok (listed_of r) → IsRun m.documents.items r → Comes now name ss m r
+      comes_none r is run =
           let same = ok_once (listed_of r) (not_listed []) (run_of m.documents.items) is none_run in
           let none : HasNone r.tally = (ap (λ (l : Listed). l.modified) same, ap (λ (l : Listed). l.upserted) same) in
           record {
@@ -175,9 +157,6 @@ module _ (now : List Collection) (name : List ℕ) (ss : List UpdateStatement) (
             is = none_done;
             says = ap (λ (l : Listed). counts_reply l.matched l.modified l.upserted) (sym same);
             quiet = λ a b. none;
-            storable = up.written.storable;
-            puts = subst (λ (o : Option Collection). PutsIn o now name m.number m.is_new (news_of r.writes.items) now) (sym missing)
-                (subst (λ (b : Bool). PutsIn None now name m.number b (news_of r.writes.items) now) (sym old) (ap news_of (run.quiet none), refl));
           }
 
   -- ---- either
@@ -187,13 +166,12 @@ module _ (now : List Collection) (name : List ℕ) (ss : List UpdateStatement) (
     where
       missing : find_collection now name ≡ None → MeansIn None now ss m → (b : Bool) → makes_any ss ≡ b → Comes now name ss m r
       missing none means true makes =
-          let new : m.is_new ≡ true = means.1 ∙ makes in
-          let room = means.2 new in
-          comes_new none means.0 makes room.0 room.1 new r is run
-      missing none means false makes = comes_none none means.0 makes (means.1 ∙ makes) r is run
+          let room = means.2 (means.1 ∙ makes) in
+          comes_new none means.0 makes room.0 r is run
+      missing none means false makes = comes_none none means.0 makes r is run
 
       at : (o : Option Collection) → find_collection now name ≡ o → MeansIn o now ss m → Comes now name ss m r
-      at (Some c) found means = comes_there c found means.2 means.1 means.0 r is run
+      at (Some c) found means = comes_there c found means.2 r is run
       at None none means = missing none means (makes_any ss) refl
 
   pub refused : IsMeant now name ss m → (e : Refusal) → run_of m.documents.items ≡ Err e → planned ≡ Err e
@@ -207,75 +185,52 @@ module _ (now : List Collection) (name : List ℕ) (ss : List UpdateStatement) (
       at (Some c) found means = refused_there c found means.2 e is
       at None none means = missing none means (makes_any ss) refl
 
--- ---- the reply
+-- ---- what is written, and what it comes to
 
-abbrev says_run : Run → Pairs
-says_run r = ok_reply (counts_reply r.tally.matched r.tally.modified r.tally.upserted)
+module _ (ss : List UpdateStatement) (m : Meant) (read : All (λ (s : UpdateStatement). IsRead s.change) ss) (now : List Collection) (name : List ℕ) (h : IsLawfulState now) (meant : IsMeant now name ss m) (x : Ran) (ran : IsRan true ss m.documents.items x) where
+  abbrev all_of_name : List Pairs
+  all_of_name = documents_of now name
 
--- a reply that is no longer than it may be
-is_judged : (u : Updated) (d : Pairs) → d ≡ ok_reply (update_reply u) → length (spelled d) ≤ 1048555 → judged u ≡ Ok u
-is_judged u d e h =
-    let short : nat_lt 1048555 (length (spelled (ok_reply (update_reply u)))) ≡ false = grind (arith, nat_tests, h, ap (λ (ps : Pairs). length (spelled ps)) e) in
-    ap (λ (b : Bool). unless b refusals.BSONObjectTooLarge (let r : Result Updated Refusal = Ok u in r)) short
+  kept_all : IsRising all_of_name × All IsStored all_of_name
+  kept_all = stored_at now name h.kept
 
-too_long : (u : Updated) (d : Pairs) → d ≡ ok_reply (update_reply u) → 1048555 < length (spelled d) → judged u ≡ Err refusals.BSONObjectTooLarge
-too_long u d e h =
-    let long : nat_lt 1048555 (length (spelled (ok_reply (update_reply u)))) ≡ true = grind (arith, nat_tests, h, ap (λ (ps : Pairs). length (spelled ps)) e) in
-    ap (λ (b : Bool). unless b refusals.BSONObjectTooLarge (let r : Result Updated Refusal = Ok u in r)) long
+  among_all : m.documents.items ≡ filter (is_meant ss) all_of_name
+  among_all = at (find_collection now name) meant
+    where
+      at : (o : Option Collection) → MeansIn o now ss m → m.documents.items ≡ filter (is_meant ss) (documents_or_none o)
+      at (Some c) means = means.2
+      at None means = means.0
 
-memory_or : (e : Refusal) {P : Type 0} → (e ≢ refusals.OutOfMemory → P) → P ⊎ (e ≡ refusals.OutOfMemory)
-memory_or refusals.OutOfMemory h = inr refl
-memory_or e h = inl (h (λ f. absurd cc))
+  run_meant : AreRun ss m.documents.items
+  run_meant = record {
+    read = read;
+    rising = subst IsRising (sym among_all) (AllPairs-filter (λ (d e : Pairs). compare (key_of d) (key_of e) ≡ orders.Less) (is_meant ss) all_of_name kept_all.0);
+    stored = subst (All IsStored) (sym among_all) (All-filter (is_meant ss) IsStored all_of_name kept_all.1);
+  }
 
-module _ (ss : List UpdateStatement) (m : Meant) (read : All (λ (s : UpdateStatement). IsRead s.change) ss) (now : List Collection) (name : List ℕ) (h : IsLawfulState now) (meant : IsMeant now name ss m) where
-  -- the statements were refused, or memory ran out
-  pub updates_refused : (e : Refusal) → Fails refusals.OutOfMemory e (run_each 0 ss (not_listed m.documents.items)) → (run_all name ss now ≡ Err e) ⊎ (e ≡ refusals.OutOfMemory)
-  updates_refused e fails = memory_or e (λ other. ap (λ (r : Result Updated Refusal). r >>= judged) (refused now name ss m h read meant e (fails other)))
+  ends : EndsIn now name ss x.writes.items x.end
+  ends = at x.end ran.end
+    where
+      at : (r : Result Tally Refusal) → EndsAs ss m.documents.items x.writes.items r → EndsIn now name ss x.writes.items r
+      at (Ok t) d =
+          let c = comes now name ss m h read meant d.run d.planned d.is in
+          record {
+            after = c.after;
+            planned = c.is;
+            counts = c.says ∙ ap (λ (u : Tally). counts_reply u.matched u.modified u.upserted) d.tally;
+            quiet = λ none made. sym d.writes ∙ d.is.quiet (c.quiet none made);
+          }
+      at (Err e) f = ap (λ (r : Result Updated Refusal). r >>= judged) (refused now name ss m h read meant e f)
 
-  module _ (r : Run) (is : run_each 0 ss (not_listed m.documents.items) ≡ Ok (listed_of r)) (run : IsRun m.documents.items r) (reply : Pairs) (said : reply ≡ says_run r) where
-    pub updates_long : 1048555 < length (spelled reply) → run_all name ss now ≡ Err refusals.BSONObjectTooLarge
-    updates_long long =
-        let x = comes now name ss m h read meant r is run in
-        ap (λ (q : Result Updated Refusal). q >>= judged) x.is ∙ too_long x.after reply (said ∙ ap ok_reply (sym x.says)) long
-
-    pub updates_done : (u : Updates) → u.number ≡ m.number → u.is_new ≡ m.is_new → u.writes.items ≡ r.writes.items → u.reply ≡ reply → length (spelled reply) ≤ 1048555 → IsUpdate now name ss u
-    updates_done u number new writes replied short =
-        let x = comes now name ss m h read meant r is run in
-        let news : news_of u.writes.items ≡ news_of r.writes.items = ap news_of writes in
-        let says : reply ≡ ok_reply (update_reply x.after) = said ∙ ap ok_reply (sym x.says) in
-        record {
-          after = x.after;
-          planned = ap (λ (q : Result Updated Refusal). q >>= judged) x.is ∙ is_judged x.after reply says short;
-          says = replied ∙ says;
-          quiet = λ none made. writes ∙ run.quiet (x.quiet none made);
-          storable = subst (All IsStorable) (sym news) x.storable;
-          puts = subst (λ (n : ℕ). PutsIn (find_collection now name) now name n u.is_new (news_of u.writes.items) x.after.collections) (sym number)
-              (subst (λ (b : Bool). PutsIn (find_collection now name) now name m.number b (news_of u.writes.items) x.after.collections) (sym new)
-              (subst (λ (ds : List Pairs). PutsIn (find_collection now name) now name m.number m.is_new ds x.after.collections) (sym news) x.puts));
-        }
-
-  module _ (keeps_old : Bool) (x : Ran) (ran : IsRan keeps_old ss m.documents.items x) where
-    -- what the reply says, of the counts
-    abbrev says : Tally → Pairs
-    says t = ok_reply (counts_reply t.matched t.modified t.upserted)
-
-    pub ran_refused : (e : Refusal) → x.end ≡ Err e → (run_all name ss now ≡ Err e) ⊎ (e ≡ refusals.OutOfMemory)
-    ran_refused e is = updates_refused e (λ other. subst (EndsAs ss m.documents.items x.writes.items) is ran.end)
-
-    module _ (t : Tally) (is : x.end ≡ Ok t) (reply : Pairs) (said : reply ≡ says t) where
-      done : IsDone ss m.documents.items x.writes.items t
-      done = subst (EndsAs ss m.documents.items x.writes.items) is ran.end
-
-      said_so : reply ≡ says_run done.run
-      said_so = said ∙ ap says (sym done.tally)
-
-      pub ran_long : 1048555 < length (spelled reply) → run_all name ss now ≡ Err refusals.BSONObjectTooLarge
-      ran_long long = updates_long done.run done.planned done.is reply said_so long
-
-      pub ran_done : length (spelled reply) ≤ 1048555 → IsUpdate now name ss (record { number = m.number; is_new = m.is_new; writes = x.writes; reply = reply })
-      ran_done short =
-          let u : Updates = record { number = m.number; is_new = m.is_new; writes = x.writes; reply = reply } in
-          updates_done done.run done.planned done.is reply said_so u refl refl (sym done.writes) refl short
+  pub ran_update : IsUpdate now name ss x
+  ran_update =
+      let written = ran.written run_meant.rising run_meant.stored in
+      let there : AreThere m.documents.items (map seen x.writes.items) = subst (AreThere m.documents.items) (sym ran.writes) (writes_replace ss m.documents.items run_meant) in
+      record {
+        planned = ran.writes ∙ ap (writes_of ss) among_all ∙ writes_of_meant ss all_of_name (record { read = read; rising = kept_all.0; stored = kept_all.1 });
+        writes = writes_among m.documents.items all_of_name x.writes.items (subst (λ (ds : List Pairs). IsSub ds all_of_name) (sym among_all) (sub_filter (is_meant ss) all_of_name kept_all.0)) (written.old refl) there written.storable;
+        end = ends;
+      }
 
 -- a collection for a document that a statement makes would be one too many
 pub full_refused : (now : List Collection) (name : List ℕ) (ss : List UpdateStatement) (e : Refusal) → IsFullFor now name ss e → run_all name ss now ≡ Err e

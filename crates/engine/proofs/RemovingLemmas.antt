@@ -9,16 +9,16 @@ use Rattle.btree.specs.Keys.{Edit}
 use Rattle.path.specs.declared.refusal.Refusal.{Refusal}
 use Rattle.path.specs.declared.refusal.Refusal.TheVariants as refusals
 use Rattle.commands.specs.Delete.{Deletion}
-use Rattle.collections.specs.Calls.{HasCause, HasWriteCause}
+use Rattle.collections.specs.Calls.{HasCause}
 use Rattle.collections.proofs.LawLemmas as laws
-use Rattle.index.specs.Documents.{ChangesDocuments, IsUnindexed}
-use Rattle.index.specs.LawfulState.{IsStorable, AreNamedApart}
+use Rattle.index.specs.Definition.{Definition}
+use Rattle.index.specs.LawfulState.{AreNamedApart, IsKept, IsLawfulState}
 use Rattle.index.specs.State.{Collection, find_collection, put_collection}
 use Rattle.index.specs.StateEntries.{Leads}
-use Rattle.index.proofs.PlaceLemmas.{found_name}
-use Rattle.index.proofs.StateEditLaws.{is_kept, put_same}
+use Rattle.index.proofs.HomeLemmas.{kept_of}
+use Rattle.index.proofs.PlaceLemmas.{found_in, found_name}
+use Rattle.index.proofs.StateEditLaws.{put_same}
 use Rattle.engine.specs.Delete.{after_deletion, after_deletions, deleted_in, run_delete}
-use Rattle.engine.specs.Dropping.{Removes}
 use Rattle.engine.specs.Durable.{disk_history, file_of, IsSound}
 use Rattle.engine.specs.Known.{Known}
 use Rattle.engine.specs.Looking.{Looks, OnlyReads}
@@ -26,16 +26,18 @@ use Rattle.engine.specs.Performing.{Performs}
 use Rattle.engine.specs.Redoing.{without_each, taken, all_taken}
 use Rattle.engine.specs.Refusals.{total, ok_reply}
 use Rattle.engine.specs.Removing.{IsTaken, deleted}
+use Rattle.engine.specs.TakingOut.{AreThere, IsIndexable, TakesOut}
 use Rattle.engine.specs.View.{world}
 use Rattle.engine.specs.World.{World, documents_or_none, documents_of}
 use Rattle.engine.specs.Writing.{Makes, Writes}
 use Rattle.engine.specs.declared.delete.Taken.{Taken}
 use Rattle.engine.specs.declared.engine.Engine.{Engine}
 use Rattle.engine.proofs.Deleting.{left_same}
-use Rattle.engine.proofs.LostLemmas.{all_lost, taken_kept}
+use Rattle.engine.proofs.LostLemmas.{all_lost, all_there, taken_kept}
 use Rattle.engine.proofs.MakingLemmas.{makes_none, makes_written, performs_done, performs_refused, with_reply}
 use Rattle.engine.proofs.MeantDeletions.{taken_count}
-use Rattle.engine.proofs.OnlyReading.{cause_from, now_same, reads_none, reads_on, word_before, write_cause_from}
+use Rattle.engine.proofs.OnlyReading.{cause_from, reads_none, reads_on, word_before}
+use Rattle.engine.proofs.TakingOutLemmas.{all_indexable}
 
 -- ---- where edits lead
 
@@ -68,20 +70,27 @@ module _ (now : List Collection) (name : List ℕ) (deletions : List Deletion) w
       deleted_is : deleted now name deletions ≡ put_collection (record c { documents = after_deletions deletions c.documents }) now
       deleted_is = ap (λ (o : Option Collection). deleted_in o deletions now) found
 
-      storable_there : IsUnindexed now → All IsStorable t.removed.items
-      storable_there un =
-          let kept = is_kept now c un found_so in
-          subst (All IsStorable) (sym removed_is) (taken_kept IsStorable deletions c.documents kept.storable)
+      kept_there : IsLawfulState now → IsKept c
+      kept_there lawful = kept_of now c lawful (found_in now c.name c found_so)
 
-      leads_there : (edits : List Edit) → IsUnindexed now → ChangesDocuments [] edits t.number (without_each t.removed.items) → Leads edits now (deleted now name deletions) × IsUnindexed (deleted now name deletions)
-      leads_there edits un changes =
-          let kept = is_kept now c un found_so in
+      indexed_there : c.indexes ≡ t.home.indexes.items
+      indexed_there = (is.home c found).1
+
+      indexable_there : IsLawfulState now → All (IsIndexable t.home.indexes.items) t.removed.items
+      indexable_there lawful =
+          subst (λ (is : List Definition). All (IsIndexable is) t.removed.items) indexed_there
+          (subst (All (IsIndexable c.indexes)) (sym removed_is) (taken_kept (IsIndexable c.indexes) deletions c.documents (all_indexable c (kept_there lawful))))
+
+      leads_there : (edits : List Edit) → IsLawfulState now → TakesOut [] edits t.home.number t.home.indexes.items t.removed.items → Leads edits now (deleted now name deletions) × IsLawfulState (deleted now name deletions)
+      leads_there edits lawful takes =
+          let kept = kept_there lawful in
           let left : without_each t.removed.items c.documents ≡ after_deletions deletions c.documents =
           ap (λ (xs : List Pairs). without_each xs c.documents) removed_is ∙ all_lost deletions c.documents kept.rising in
-          let led = changes now now c (λ entries spells. spells) un found_so (is.numbered c found) in
-          let there : put_collection (record c { documents = without_each t.removed.items c.documents }) now ≡ deleted now name deletions =
+          let there : AreThere t.removed.items c.documents = subst (λ (xs : List Pairs). AreThere xs c.documents) (sym removed_is) (all_there deletions c.documents kept.rising) in
+          let led = takes now now c (λ entries spells. spells) lawful found_so (is.home c found).0 indexed_there there in
+          let arrives : put_collection (record c { documents = without_each t.removed.items c.documents }) now ≡ deleted now name deletions =
           ap (λ (ds : List Pairs). put_collection (record c { documents = ds }) now) left ∙ sym deleted_is in
-          subst (λ (s : List Collection). Leads edits now s × IsUnindexed s) there led
+          subst (λ (s : List Collection). Leads edits now s × IsLawfulState s) arrives led
 
       same_there : AreNamedApart now → t.removed.items ≡ [] → deleted now name deletions ≡ now
       same_there apart none =
@@ -89,21 +98,22 @@ module _ (now : List Collection) (name : List ℕ) (deletions : List Deletion) w
           let zero : length c.documents - length (after_deletions deletions c.documents) ≡ 0 = omega (arith, count, ap length (sym removed_is ∙ none)) in
           deleted_is ∙ ap (λ (ds : List Pairs). put_collection (record c { documents = ds }) now) (left_same deletions c.documents zero) ∙ put_same c now apart found_so
 
-    -- what is taken may be stored
-    pub taken_storable : IsUnindexed now → All IsStorable t.removed.items
-    taken_storable un = at (find_collection now name) refl
+    -- what is taken may be stored, and the indexes refuse none of it
+    pub taken_indexable : IsLawfulState now → All (IsIndexable t.home.indexes.items) t.removed.items
+    taken_indexable lawful = at (find_collection now name) refl
       where
-        at : (o : Option Collection) → find_collection now name ≡ o → All IsStorable t.removed.items
-        at None missing = let none = is.removed ∙ taken_none missing in subst (All IsStorable) (sym none) (λ k d below. absurd (omega (arith, below)))
-        at (Some c) found = storable_there c found un
+        at : (o : Option Collection) → find_collection now name ≡ o → All (IsIndexable t.home.indexes.items) t.removed.items
+        at None missing = let none = is.removed ∙ taken_none missing in subst (All (IsIndexable t.home.indexes.items)) (sym none) (λ k d below. absurd (omega (arith, below)))
+        at (Some c) found = indexable_there c found lawful
 
-    -- The edits that remove what is taken lead to what the delete leaves.
-    pub removal_leads : (edits : List Edit) → t.removed.items ≢ [] → IsUnindexed now → Removes t.number t.removed.items (Ok tt) [] edits → Leads edits now (deleted now name deletions) × IsUnindexed (deleted now name deletions)
-    removal_leads edits some un removes = at (find_collection now name) refl
+    -- The edits that take it out lead to what the delete leaves.
+    pub removal_leads : (edits : List Edit) → t.removed.items ≢ [] → IsLawfulState now → TakesOut [] edits t.home.number t.home.indexes.items t.removed.items
+        → Leads edits now (deleted now name deletions) × IsLawfulState (deleted now name deletions)
+    removal_leads edits some lawful takes = at (find_collection now name) refl
       where
-        at : (o : Option Collection) → find_collection now name ≡ o → Leads edits now (deleted now name deletions) × IsUnindexed (deleted now name deletions)
+        at : (o : Option Collection) → find_collection now name ≡ o → Leads edits now (deleted now name deletions) × IsLawfulState (deleted now name deletions)
         at None missing = absurd (some (is.removed ∙ taken_none missing))
-        at (Some c) found = leads_there c found edits un (removes (taken_storable un))
+        at (Some c) found = leads_there c found edits lawful takes
 
     -- Where nothing is taken all is as it was.
     pub none_deleted : AreNamedApart now → t.removed.items ≡ [] → deleted now name deletions ≡ now
@@ -153,33 +163,6 @@ module _ {D : Type 0} (history : D → History) where
     -- what is taken was written
     pub removes_written : (new : Engine D) (r : Result (Unit {0}) Refusal) → IsSound history old → Writes history (deleted (world old).collections name deletions) r old new → Makes history (planned old) r old new
     removes_written new r h w = makes_written history (λ cs. Ok (deleted cs name deletions)) old old new (reads_none history old h) r (λ k. refl) w
-
-    -- what was removed behind reads
-    pub makes_on : (mid new : Engine D) (r : Result (Unit {0}) Refusal) → OnlyReads history old mid → Makes history (planned mid) r mid new → Makes history (planned old) r old new
-    makes_on mid new (Ok tt) reads m = record {
-      sound = m.sound;
-      goes = laws.goes_further history old.file mid.file new.file reads.goes m.goes;
-      start = m.start ∙ ap (λ (k : Known). k.start) reads.told;
-      cursors = m.cursors ∙ reads.cursors;
-      does = λ k. ap (λ (cs : List Collection). Ok (deleted cs name deletions)) (sym (now_same history old mid reads)) ∙ m.does k;
-      refused = tt;
-    }
-    makes_on mid new (Err e) reads m = record {
-      sound = m.sound;
-      goes = laws.goes_further history old.file mid.file new.file reads.goes m.goes;
-      start = m.start ∙ ap (λ (k : Known). k.start) reads.told;
-      cursors = m.cursors ∙ reads.cursors;
-      does = λ k.
-          let d = m.does k in (
-            d.0 ∙ now_same history old mid reads,
-            elim d.1 [
-              | inl is ↦ absurd cc
-              | inr cause ↦ inr (write_cause_from history old.file mid.file new.file reads.goes (word_before history mid.file new.file m.goes k) (deleted (world old).collections name deletions) e
-                  (subst (λ (cs : List Collection). HasWriteCause history (deleted cs name deletions) mid.file new.file e) (now_same history old mid reads) cause))
-            ],
-          );
-      refused = m.refused ∙ reads.changes;
-    }
 
     abbrev run : World → Result (World × Pairs) Refusal
     run w = run_delete w (record { namespace = name; deletions = deletions })

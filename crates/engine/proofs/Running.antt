@@ -12,11 +12,9 @@ use Rattle.aggregate.specs.Pipeline.{run as after_pipeline}
 use Rattle.engine.specs.Aggregate.{run_aggregate}
 use Rattle.engine.specs.Find.{query_result, matching, window, run_find}
 use Rattle.commands.specs.Delete.{Delete}
-use Rattle.commands.specs.Update.{UpdateStatement}
-use Rattle.engine.specs.Update.{Updated, update_reply, run_update}
 use Rattle.engine.specs.View.{world_of, with_ok, Runs}
 use Rattle.engine.specs.Delete.{after_deletions, deleted_in, run_delete}
-use Rattle.engine.specs.World.{World, Cursor, CursorTable, documents_of, with_documents}
+use Rattle.engine.specs.World.{World, Cursor, CursorTable, collection_of, documents_of}
 use Rattle.index.specs.State.{Collection, find_collection, put_collection}
 use Rattle.outcome.specs.Outcome.{◌>>=◌, unless, or_refused}
 use Rattle.std.specs.List.{filter, position}
@@ -39,35 +37,35 @@ module _ (w : World) (name : List ℕ) (ds : List Pairs) where
   abbrev asked : Insert
   asked = record { namespace = name; documents = ds }
 
-  abbrev put : List Pairs → List Collection
-  put stored = put_collection (with_documents w.collections name stored) w.collections
+  abbrev put : Collection → List Collection
+  put next = put_collection next w.collections
 
-  abbrev made : Result (List Pairs) Refusal → Result (List Collection) Refusal
-  made r = r >>= (λ stored. Ok (put stored))
+  abbrev made : Result Collection Refusal → Result (List Collection) Refusal
+  made r = r >>= (λ next. Ok (put next))
 
   abbrev said : List Collection → World × Pairs
   said cs = (record w { collections = cs }, pair (codes "n") (int (length ds)) no_pairs)
 
-  abbrev answered : Result (List Pairs) Refusal → Result (World × Pairs) Refusal
-  answered r = r >>= (λ stored. let x : Result (World × Pairs) Refusal = Ok (said (put stored)) in x)
+  abbrev answered : Result Collection Refusal → Result (World × Pairs) Refusal
+  answered r = r >>= (λ next. let x : Result (World × Pairs) Refusal = Ok (said (put next)) in x)
 
-  done_so : (full : Bool) (r : Result (List Pairs) Refusal) (cs : List Collection) → unless full refusals.TooMany (made r) ≡ Ok cs → unless full refusals.TooMany (answered r) ≡ Ok (said cs)
+  done_so : (full : Bool) (r : Result Collection Refusal) (cs : List Collection) → unless full refusals.TooMany (made r) ≡ Ok cs → unless full refusals.TooMany (answered r) ≡ Ok (said cs)
   done_so true r cs e = absurd cc
   done_so false (Err f) cs e = absurd cc
-  done_so false (Ok stored) cs e = let same : put stored ≡ cs = cc in ap (λ (x : List Collection). Ok (said x)) same
+  done_so false (Ok next) cs e = let same : put next ≡ cs = cc in ap (λ (x : List Collection). Ok (said x)) same
 
-  refused_so : (full : Bool) (r : Result (List Pairs) Refusal) (e : Refusal) → unless full refusals.TooMany (made r) ≡ Err e → unless full refusals.TooMany (answered r) ≡ Err e
+  refused_so : (full : Bool) (r : Result Collection Refusal) (e : Refusal) → unless full refusals.TooMany (made r) ≡ Err e → unless full refusals.TooMany (answered r) ≡ Err e
   refused_so true r e h = let same : refusals.TooMany ≡ e = cc in ap (λ (x : Refusal). Err x) same
   refused_so false (Err f) e h = let same : f ≡ e = cc in ap (λ (x : Refusal). Err x) same
-  refused_so false (Ok stored) e h = absurd cc
+  refused_so false (Ok next) e h = absurd cc
 
   pub run_insert-done : (cs : List Collection) → inserted w.collections name ds ≡ Ok cs → run_insert w asked ≡ Ok (said cs)
   unfolding run_insert
-  run_insert-done cs e = done_so (is_full w.collections name) (insert_all (documents_of w.collections name) ds) cs e
+  run_insert-done cs e = done_so (is_full w.collections name) (insert_all (collection_of w.collections name) ds) cs e
 
   pub run_insert-refused : (e : Refusal) → inserted w.collections name ds ≡ Err e → run_insert w asked ≡ Err e
   unfolding run_insert
-  run_insert-refused e h = refused_so (is_full w.collections name) (insert_all (documents_of w.collections name) ds) e h
+  run_insert-refused e h = refused_so (is_full w.collections name) (insert_all (collection_of w.collections name) ds) e h
 
 -- ---- find and aggregate
 

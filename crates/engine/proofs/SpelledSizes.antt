@@ -13,6 +13,7 @@ use Rattle.bson.specs.Spelling.{tree_bytes, pairs_bytes, items_bytes, frame_of}
 use Rattle.engine.specs.Refusals.{int, long, words, refusal_reply, ok_reply}
 use Rattle.engine.specs.Cursors.{item_size, batch_len, items_of_documents, cursor_reply}
 use Rattle.engine.specs.KillCursors.{ToldApart, with_id, told_apart, id_items, kill_reply}
+use Rattle.engine.specs.DropCollection.{drop_reply}
 use Rattle.engine.specs.Hello.{hello_reply}
 use Rattle.engine.specs.Lawful.{IsWithin}
 use Rattle.engine.specs.View.{IsSendable}
@@ -53,20 +54,21 @@ pub insert-sendable : (n : ℕ) → IsSendable (ok_reply (pair (codes "n") (int 
 unfolding tree_bytes pairs_bytes
 insert-sendable n = lit≤ tt
 
-pub drop-sendable : (name : List ℕ) → length name ≤ 255 → IsSendable (ok_reply (pair (codes "nIndexesWas") (int 1) (pair (codes "ns") (words name) no_pairs)))
-drop-sendable name short =
+pub drop-sendable : (count : ℕ) (name : List ℕ) → length name ≤ 255 → IsSendable (ok_reply (drop_reply count name))
+drop-sendable count name short =
     let ok = pair (codes "ok") (int 1) no_pairs in
     let ns = pair (codes "ns") (words name) ok in
-    let reply = pair (codes "nIndexesWas") (int 1) ns in
+    let reply = pair (codes "nIndexesWas") (int count) ns in
     omega (
       arith,
       short,
       frame_of-length (pairs_bytes reply),
-      pairs_size-pair (codes "nIndexesWas") (int 1) ns,
-      length-int 1,
+      pairs_size-pair (codes "nIndexesWas") (int count) ns,
+      length-int count,
       pairs_size-pair (codes "ns") (words name) ok,
       length-words name,
       pairs_size-pair (codes "ok") (int 1) no_pairs,
+      length-int 1,
       ap length pairs_bytes-none,
     )
 

@@ -8,7 +8,7 @@ use Rattle.path.specs.declared.refusal.Refusal.{Refusal}
 use Rattle.path.specs.declared.refusal.Refusal.TheVariants as refusals
 use Rattle.commands.specs.Update.{UpdateStatement}
 use Rattle.index.specs.LawfulState.{IsRising, IsStorable}
-use Rattle.engine.specs.DocumentWrite.{DocumentWrite}
+use Rattle.index.specs.Entering.{DocumentWrite}
 use Rattle.engine.specs.Lawful.{IsStored, IsWithin}
 use Rattle.engine.specs.Merging.{Listed, not_listed, put_each, run_each, run_listed}
 use Rattle.engine.specs.Updating.{AreWritten, HasWritten, HaveOld, IsRan, IsRun, IsRunOf, listed_of, MayBePut, news_of, RunsOn, seen, written, Wrote}

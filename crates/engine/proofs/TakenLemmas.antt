@@ -1,9 +1,7 @@
 -- A delete reads the documents that its statements match, and takes of them what it would take of all.
-use Rattle.std.proofs.Common.{◌≡◌, ◌<◌, ◌-◌, ◌^◌, ℕ, List, [], ◌∷◌, length, take, Option, Some, None, Result, Ok, refl, sym, ap, ◌∙◌, arith}
-use Rattle.std.specs.Prelude.{unwrap_or}
+use Rattle.std.proofs.Common.{◌≡◌, ◌<◌, ◌-◌, ◌^◌, ℕ, List, [], ◌∷◌, length, take, Option, Some, None, Result, Ok, refl, sym, ap, subst, ◌∙◌, arith}
 use Rattle.std.specs.Global.{Vec}
 use Rattle.std.specs.List.{filter}
-use Rattle.std.specs.Option.{option_map}
 use Rattle.std.proofs.lemmas.List.{length-take, take_all}
 use Rattle.bson.specs.Tree.{Pairs}
 use Rattle.page.specs.History.{History}
@@ -11,6 +9,7 @@ use Rattle.path.specs.declared.refusal.Refusal.{Refusal}
 use Rattle.commands.specs.Delete.{Deletion}
 use Rattle.collections.specs.Reading.{IsNumbered}
 use Rattle.index.specs.State.{Collection, find_collection, put_collection}
+use Rattle.index.specs.declared.catalogue_reading.Catalogued.{Catalogued}
 use Rattle.index.proofs.FoundLawLemmas.{finds_put}
 use Rattle.index.proofs.PlaceLemmas.{found_name}
 use Rattle.engine.specs.Delete.{after_deletions, deleted_in}
@@ -18,6 +17,7 @@ use Rattle.engine.specs.Looking.{Looks, LooksOf}
 use Rattle.engine.specs.Merging.{is_deleted}
 use Rattle.engine.specs.Redoing.{all_taken}
 use Rattle.engine.specs.Removing.{IsTaken, deleted}
+use Rattle.engine.specs.TakingOut.{HasHome}
 use Rattle.engine.specs.View.{world}
 use Rattle.engine.specs.World.{documents_or_none, documents_of}
 use Rattle.engine.specs.declared.delete.Taken.{Taken}
@@ -25,11 +25,8 @@ use Rattle.engine.specs.declared.engine.Engine.{Engine}
 use Rattle.engine.proofs.LookingLemmas.{looks_behind, looks_made}
 use Rattle.engine.proofs.MeantDeletions.{taken_alike, taken_count}
 use Rattle.engine.proofs.RemovingLemmas.{all_empty, taken_none}
-use Rattle.engine.proofs.WalkingLemmas.{IsFound, IsNumberOf, documents_found, found_so}
-
-missing : (o : Option Collection) → None ≡ option_map (λ c. c.number) o → o ≡ None
-missing None is = refl
-missing (Some c) is = absurd cc
+use Rattle.engine.proofs.CataloguedLemmas.{IsCatalogueOf, has_home, not_catalogued, some_same}
+use Rattle.engine.proofs.WalkingLemmas.{documents_found}
 
 none_empty : {X : Type 0} (xs : List X) → length xs ≡ 0 → xs ≡ []
 none_empty [] e = refl
@@ -40,26 +37,31 @@ taken_whole : {X : Type 0} (most : ℕ) (xs : List X) → length (take most xs) 
 taken_whole most xs few = take_all most xs (omega (arith, length-take most xs, few))
 
 module _ (name : List ℕ) (deletions : List Deletion) where
-  -- the first ones of the documents that a statement matches, and the number of their collection
-  pub record AreMeant (number : ℕ) (now : List Collection) (found : List Pairs) : Type 0 where
+  -- the first ones of the documents that a statement matches, and what the catalogue has of their collection
+  pub record AreMeant (home : Catalogued) (now : List Collection) (found : List Pairs) : Type 0 where
     pub first : found ≡ take (2 ^ 64 - 1) (filter (is_deleted deletions) (documents_of now name))
-    pub numbered : (c : Collection) → find_collection now name ≡ Some c → c.number ≡ number
+    pub there : HasHome now name home
 
   -- what is taken of them is what is taken of all
-  meant_taken : (number : ℕ) (now : List Collection) (found : List Pairs) (t : Taken) → AreMeant number now found → length found < 2 ^ 64 - 1 → t.number ≡ number → t.removed.items ≡ all_taken deletions found → IsTaken now name deletions t
-  meant_taken number now found t h few same made =
+  meant_taken : (home : Catalogued) (now : List Collection) (found : List Pairs) (t : Taken) → AreMeant home now found → length found < 2 ^ 64 - 1 → t.home ≡ home
+      → t.removed.items ≡ all_taken deletions found → IsTaken now name deletions t
+  meant_taken home now found t h few same made =
       let all = filter (is_deleted deletions) (documents_of now name) in
       let whole : found ≡ all = h.first ∙ taken_whole (2 ^ 64 - 1) all (omega (arith, ap length h.first, few)) in
       record {
         removed = made ∙ ap (all_taken deletions) whole ∙ taken_alike deletions (documents_of now name);
-        numbered = λ c there. h.numbered c there ∙ sym same;
+        home = λ c there.
+            let is : h.there.collection ≡ c = some_same (sym h.there.found ∙ there) in
+            let here = h.there.catalogued in
+            subst (λ (e : Catalogued). (c.number ≡ e.number) × (c.indexes ≡ e.indexes.items)) (sym same)
+            (subst (λ (d : Collection). (d.number ≡ home.number) × (d.indexes ≡ home.indexes.items)) is (here.numbered.same, here.indexed));
       }
 
   -- of a missing collection nothing is taken
   none_taken : (now : List Collection) (t : Taken) → find_collection now name ≡ None → t.removed.items ≡ [] → IsTaken now name deletions t
   none_taken now t none empty = record {
     removed = empty ∙ sym (taken_none now name deletions none);
-    numbered = λ c there. let no : None ≡ Some c = sym none ∙ there in absurd cc;
+    home = λ c there. let no : None ≡ Some c = sym none ∙ there in absurd cc;
   }
 
   -- nothing was taken where the collections stay as they are
@@ -82,34 +84,32 @@ module _ (name : List ℕ) (deletions : List Deletion) where
 -- ---- over engines as values
 
 module _ {D : Type 0} (history : D → History) (name : List ℕ) (deletions : List Deletion) (a b : Engine D) where
-  module _ (x : Option ℕ) (first : Looks history (IsNumberOf name) (Ok x) a b) where
+  module _ (x : Option Catalogued) (first : Looks history (IsCatalogueOf name) (Ok x) a b) where
     pub takes_none : x ≡ None → (t : Taken) → t.removed.items ≡ [] → Looks history (λ now t. IsTaken now name deletions t) (Ok t) a b
     takes_none is t empty =
-        looks_made history (IsNumberOf name) a b (λ now t. IsTaken now name deletions t) x t first
-        (λ p. none_taken name deletions (world a).collections t (missing (find_collection (world a).collections name) (sym is ∙ p)) empty)
+        looks_made history (IsCatalogueOf name) a b (λ now t. IsTaken now name deletions t) x t first
+        (λ p. none_taken name deletions (world a).collections t (not_catalogued (world a).collections name (subst (IsCatalogueOf name (world a).collections) is p)) empty)
 
     -- the documents that a statement matches were looked up
-    pub meant_found : (c : Engine D) (number : ℕ) → x ≡ Some number → (r : Result (Vec Pairs) Refusal)
-        → LooksOf history (λ now of. IsNumbered now of number) (λ now of (found : Vec Pairs). found.items ≡ take (2 ^ 64 - 1) (filter (is_deleted deletions) of.documents)) r b c
-        → Looks history (λ now (found : Vec Pairs). AreMeant name deletions number now found.items) r a c
-    meant_found c number is r second =
-        looks_behind history (IsNumberOf name) (λ now of. IsNumbered now of number) (λ now of (found : Vec Pairs). found.items ≡ take (2 ^ 64 - 1) (filter (is_deleted deletions) of.documents))
-        (λ now (found : Vec Pairs). AreMeant name deletions number now found.items) a b c x r first second (λ p.
+    pub meant_found : (c : Engine D) (home : Catalogued) → x ≡ Some home → (r : Result (Vec Pairs) Refusal)
+        → LooksOf history (λ now of. IsNumbered now of home.number) (λ now of (found : Vec Pairs). found.items ≡ take (2 ^ 64 - 1) (filter (is_deleted deletions) of.documents)) r b c
+        → Looks history (λ now (found : Vec Pairs). AreMeant name deletions home now found.items) r a c
+    meant_found c home is r second =
+        looks_behind history (IsCatalogueOf name) (λ now of. IsNumbered now of home.number) (λ now of (found : Vec Pairs). found.items ≡ take (2 ^ 64 - 1) (filter (is_deleted deletions) of.documents))
+        (λ now (found : Vec Pairs). AreMeant name deletions home now found.items) a b c x r first second (λ p.
         let now = (world a).collections in
-        let f : IsFound now name number = found_so now name number (sym is ∙ p) in
+        let f = has_home now name home (subst (IsCatalogueOf name now) is p) in
         record {
-          asked = f.c;
-          is = f.numbered;
+          asked = f.collection;
+          is = f.catalogued.numbered;
           right = λ y right. record {
-            first = right ∙ ap (λ (ds : List Pairs). take (2 ^ 64 - 1) (filter (is_deleted deletions) ds)) (sym (documents_found now name f.c f.found));
-            numbered = λ of there.
-                let number_is : Some number ≡ Some of.number = sym is ∙ p ∙ ap (option_map (λ (c : Collection). c.number)) there in
-                sym (ap (λ (o : Option ℕ). unwrap_or o 0) number_is);
+            first = right ∙ ap (λ (ds : List Pairs). take (2 ^ 64 - 1) (filter (is_deleted deletions) ds)) (sym (documents_found now name f.collection f.found));
+            there = f;
           };
         })
 
-  pub takes_meant : (number : ℕ) (found : Vec Pairs) (t : Taken) → Looks history (λ now (found : Vec Pairs). AreMeant name deletions number now found.items) (Ok found) a b
-      → length found.items < 2 ^ 64 - 1 → t.number ≡ number → t.removed.items ≡ all_taken deletions found.items → Looks history (λ now t. IsTaken now name deletions t) (Ok t) a b
-  takes_meant number found t looks few same made =
-      looks_made history (λ now (found : Vec Pairs). AreMeant name deletions number now found.items) a b (λ now t. IsTaken now name deletions t) found t looks
-      (λ h. meant_taken name deletions number (world a).collections found.items t h few same made)
+  pub takes_meant : (home : Catalogued) (found : Vec Pairs) (t : Taken) → Looks history (λ now (found : Vec Pairs). AreMeant name deletions home now found.items) (Ok found) a b
+      → length found.items < 2 ^ 64 - 1 → t.home ≡ home → t.removed.items ≡ all_taken deletions found.items → Looks history (λ now t. IsTaken now name deletions t) (Ok t) a b
+  takes_meant home found t looks few same made =
+      looks_made history (λ now (found : Vec Pairs). AreMeant name deletions home now found.items) a b (λ now t. IsTaken now name deletions t) found t looks
+      (λ h. meant_taken name deletions home (world a).collections found.items t h few same made)

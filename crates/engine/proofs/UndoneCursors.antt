@@ -19,14 +19,14 @@ use Rattle.commands.specs.Create.{Create}
 use Rattle.commands.specs.DropCollection.{DropCollection}
 use Rattle.commands.specs.ListCollections.{ListCollections}
 use Rattle.engine.specs.Create.{created, run_create}
-use Rattle.engine.specs.DropCollection.{dropped, run_drop}
+use Rattle.engine.specs.DropCollection.{drop_reply, dropped, index_count, run_drop}
 use Rattle.engine.specs.ListCollections.{run_list_collections}
 use Rattle.commands.specs.Command.{Command, ping, hello, insert, find, get_more, kill_cursors, count, delete, update, aggregate, create, drop as drop_of, list_collections, create_indexes, drop_indexes, list_indexes, command_of}
 use Rattle.aggregate.specs.Pipeline.{run as after_pipeline}
-use Rattle.engine.specs.World.{World, Cursor, documents_of, with_documents, untouched, are_untouched}
+use Rattle.engine.specs.World.{collection_of, World, Cursor, documents_of, with_documents, untouched, are_untouched}
 use Rattle.index.specs.State.{Collection, put_collection}
 use Rattle.engine.specs.Documents.{insert_all}
-use Rattle.engine.specs.Refusals.{int, words}
+use Rattle.engine.specs.Refusals.{int}
 use Rattle.engine.specs.Insert.{is_full}
 use Rattle.engine.specs.Cursors.{batch_of, batch_reply, is_refused, new_cursor, first_batch, is_cursor, cursor_at}
 use Rattle.engine.specs.GetMore.{batch_len_of, next_batch, run_get_more}
@@ -35,7 +35,8 @@ use Rattle.engine.specs.Insert.{run_insert}
 use Rattle.engine.specs.Find.{query_result, run_find}
 use Rattle.engine.specs.Count.{run_count}
 use Rattle.engine.specs.Delete.{run_delete}
-use Rattle.engine.specs.Update.{Updated, update_reply, run_all, run_update}
+use Rattle.engine.specs.Update.{Updated, update_reply, run_all}
+use Rattle.engine.specs.UpdateCommand.{entered_in, run_update, writes_in}
 use Rattle.engine.specs.Aggregate.{run_aggregate}
 use Rattle.engine.specs.Step.{run, answered, step}
 use Rattle.engine.specs.CursorLaws.{IsAmong, after_commands, StaysOpen}
@@ -93,12 +94,12 @@ module _ (w : World) (connection : ℕ) where
 
   inserted : (c : Insert) → Comes (run_insert w c)
   unfolding run_insert
-  inserted c = at (is_full w.collections c.namespace) (insert_all (documents_of w.collections c.namespace) c.documents)
+  inserted c = at (is_full w.collections c.namespace) (insert_all (collection_of w.collections c.namespace) c.documents)
     where
-      at : (full : Bool) (r : Result (List Pairs) Refusal)
-          → Comes (unless full refusals.TooMany (r >>= (λ stored. let x : Result (World × Pairs) Refusal = Ok (record w { collections = put_collection (with_documents w.collections c.namespace stored) w.collections }, pair (codes "n") (int (length c.documents)) no_pairs) in x)))
+      at : (full : Bool) (r : Result Collection Refusal)
+          → Comes (unless full refusals.TooMany (r >>= (λ next. let x : Result (World × Pairs) Refusal = Ok (record w { collections = put_collection next w.collections }, pair (codes "n") (int (length c.documents)) no_pairs) in x)))
       at true r d rests h = h
-      at false (Ok stored) d rests h = h
+      at false (Ok next) d rests h = h
       at false (Err e) d rests h = h
 
   counted : (c : Count) → Comes (run_count w c)
@@ -111,11 +112,12 @@ module _ (w : World) (connection : ℕ) where
 
   updated : (c : Update) → Comes (run_update w c)
   unfolding run_update
-  updated c = at (run_all c.namespace c.statements w.collections)
+  updated c = at (entered_in c.namespace (writes_in c.namespace c.statements w.collections) w.collections) (run_all c.namespace c.statements w.collections)
     where
-      at : (r : Result Updated Refusal) → Comes (r >>= (λ u. let x : Result (World × Pairs) Refusal = Ok (record w { collections = u.collections }, update_reply u) in x))
-      at (Ok u) d rests h = h
-      at (Err e) d rests h = h
+      at : (r : Result (List Collection) Refusal) (q : Result Updated Refusal) → Comes (r >>= (λ next. q >>= (λ u. let x : Result (World × Pairs) Refusal = Ok (record w { collections = next }, update_reply u) in x)))
+      at (Ok next) (Ok u) d rests h = h
+      at (Ok next) (Err e) d rests h = h
+      at (Err e) q d rests h = h
 
   batched : (name : List ℕ) (ds : List Pairs) (n : ℕ) → Comes (first_batch w connection name ds n)
   batched name ds n = at (nat_le (length ds) n) (is_refused connection w.cursors w.next)
@@ -174,7 +176,7 @@ module _ (w : World) (connection : ℕ) where
   dropped_so c = at (dropped w.collections c.namespace)
     where
       at : (r : Result (List Collection) Refusal)
-          → Comes (r >>= (λ cs. let x : Result (World × Pairs) Refusal = Ok (record w { collections = cs }, pair (codes "nIndexesWas") (int 1) (pair (codes "ns") (words c.namespace) no_pairs)) in x))
+          → Comes (r >>= (λ cs. let x : Result (World × Pairs) Refusal = Ok (record w { collections = cs }, drop_reply (index_count w.collections c.namespace) c.namespace) in x))
       at (Err e) d rests h = h
       at (Ok cs) d rests h = h
 

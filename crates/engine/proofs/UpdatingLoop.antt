@@ -22,7 +22,7 @@ use Rattle.commands.specs.Update.{UpdateStatement, IsRead}
 use Rattle.index.specs.Documents.{put_document}
 use Rattle.index.specs.LawfulState.{IsRising, IsStorable}
 use Rattle.index.specs.State.{by_order}
-use Rattle.engine.specs.DocumentWrite.{DocumentWrite}
+use Rattle.index.specs.Entering.{DocumentWrite}
 use Rattle.engine.specs.Documents.{key_of}
 use Rattle.engine.specs.Lawful.{IsStored, IsWithin}
 use Rattle.engine.specs.Merging.{Listed, none_changed, listed_to, one_or_none, put_each, run_listed, upsert_listed}
@@ -33,7 +33,7 @@ use Rattle.engine.specs.declared.statements.Run.{Run}
 use Rattle.engine.specs.declared.statements.Write.{Write}
 use Rattle.engine.proofs.Applied.{applied, change_kept, change_puttable, rising_set, stored_puttable}
 use Rattle.engine.proofs.EditPlaceLemmas.{storable}
-use Rattle.engine.proofs.LawfulSteps.{kept_place}
+use Rattle.engine.proofs.KeptLemmas.{kept_place}
 use Rattle.engine.proofs.Ordered.{flipped}
 use Rattle.engine.proofs.Steps.{drop_step}
 use Rattle.engine.proofs.StoringLemmas.{put_where_placed}

@@ -14,7 +14,7 @@ use Rattle.update.specs.Update.{Update as Change}
 use Rattle.update.specs.Applying.{apply}
 use Rattle.commands.specs.OutcomeLaws.{step_of}
 use Rattle.commands.specs.Update.{UpdateStatement, IsRead}
-use Rattle.engine.specs.DocumentWrite.{DocumentWrite}
+use Rattle.index.specs.Entering.{DocumentWrite}
 use Rattle.engine.specs.Documents.{key_of, place}
 use Rattle.engine.specs.Lawful.{IsStored}
 use Rattle.engine.specs.Merging.{Listed, listed_to, made_of, none_changed, not_listed, one_or_none, run_each, run_listed, upsert_listed, with_listed}
@@ -22,7 +22,7 @@ use Rattle.engine.specs.Update.{Changed, changed_to, passed_over, spelled, updat
 use Rattle.engine.specs.WriteLaws.{documents_in, UnchangedWriteNothing, WritesJoin, WritesOfMeant, WritesStored}
 use Rattle.engine.specs.Writes.{change_writes, changes_of, made_write, statement_writes, unless_refused, updated_by, writes_from, writes_of}
 use Rattle.engine.proofs.Applied.{kept_stored, upserted_stored}
-use Rattle.engine.proofs.LawfulSteps.{Kept, kept_place}
+use Rattle.engine.proofs.KeptLemmas.{Kept, kept_place}
 use Rattle.engine.proofs.LawfulUpdates.{SameKeys, SameKeys-rising, from_kept}
 use Rattle.engine.proofs.MeantUpdates.{one_step}
 use Rattle.engine.proofs.MeantWrites.{documents_append, same_writes}

@@ -23,7 +23,7 @@ use Rattle.index.specs.Documents.{put_document}
 use Rattle.index.specs.LawfulState.{IsRising}
 use Rattle.index.specs.State.{by_order}
 use Rattle.index.specs.StateReads.{find_document}
-use Rattle.engine.specs.DocumentWrite.{DocumentWrite}
+use Rattle.index.specs.Entering.{DocumentWrite}
 use Rattle.engine.specs.Documents.{key_of, place}
 use Rattle.engine.specs.Lawful.{IsStored}
 use Rattle.engine.specs.Merging.{Listed, made_of, none_changed, not_listed, one_or_none, put_each, run_each, run_listed}
@@ -31,7 +31,7 @@ use Rattle.engine.specs.Update.{Changed, changed_to, passed_over, spelled, updat
 use Rattle.engine.specs.WriteLaws.{AreThere, documents_in, WritesLead, WritesReplace}
 use Rattle.engine.specs.Writes.{change_writes, changes_of, made_write, statement_writes, unless_refused, updated_by, writes_from, writes_of}
 use Rattle.engine.proofs.Applied.{kept_key}
-use Rattle.engine.proofs.LawfulSteps.{Kept}
+use Rattle.engine.proofs.KeptLemmas.{Kept}
 use Rattle.engine.proofs.LawfulUpdates.{SameKeys, SameKeys-rising}
 use Rattle.engine.proofs.MeantUpdates.{one_step}
 use Rattle.engine.proofs.MeantWrites.{documents_append}

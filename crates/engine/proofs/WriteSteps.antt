@@ -20,7 +20,7 @@ use Rattle.commands.specs.Update.{UpdateStatement}
 use Rattle.index.specs.Documents.{put_document}
 use Rattle.index.specs.LawfulState.{IsRising}
 use Rattle.index.specs.StateReads.{find_document}
-use Rattle.engine.specs.DocumentWrite.{DocumentWrite}
+use Rattle.index.specs.Entering.{DocumentWrite}
 use Rattle.engine.specs.Documents.{key_of}
 use Rattle.engine.specs.Lawful.{IsStored}
 use Rattle.engine.specs.Merging.{made_of, one_or_none, put_each}

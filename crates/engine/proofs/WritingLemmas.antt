@@ -4,7 +4,7 @@ use Rattle.page.specs.History.{History, KeepsWord}
 use Rattle.btree.specs.Keys.{Edit}
 use Rattle.path.specs.declared.refusal.Refusal.{Refusal}
 use Rattle.path.specs.declared.refusal.Refusal.TheVariants as refusals
-use Rattle.index.specs.Documents.{IsUnindexed}
+use Rattle.index.specs.LawfulState as states
 use Rattle.index.specs.State.{Collection}
 use Rattle.index.specs.StateEntries.{Leads}
 use Rattle.collections.specs.Calls.{Applies}
@@ -33,7 +33,7 @@ module _ {D : Type 0} (history : D → History) (old : Engine D) (h : IsSound hi
     cause = λ k. inl (inr (inl (refl, inl stopped)));
   }
 
-  module _ (edits : List Edit) (after : List Collection) (leads : KeepsWord (disk_history history old) → IsRunning old → Leads edits (world old).collections after × IsUnindexed after)
+  module _ (edits : List Edit) (after : List Collection) (leads : KeepsWord (disk_history history old) → IsRunning old → Leads edits (world old).collections after × states.IsLawfulState after)
       (running : IsRunning old) (file : State D) where
     -- they were put into it
     pub writes_done : (told : Told) → told.value ≡ record { start = old.told.value.start; now = after } → IsLawfulState after → Applies history edits (Ok tt) old.file file
@@ -58,7 +58,7 @@ module _ {D : Type 0} (history : D → History) (old : Engine D) (h : IsSound hi
         has : HasState history file old.told.value.start after
         has run k =
             let l = leads (applies.on.frame k).word running in
-            applies.state old.told.value.start old.told.value.now after h.file l.0 l.1.lawful run k
+            applies.state old.told.value.start old.told.value.now after h.file l.0 l.1 run k
 
     -- nothing of them was
     pub writes_undone : (e : Refusal) → Applies history edits (Err e) old.file file → Writes history after (Err e) old (record old { file = file })
@@ -70,10 +70,10 @@ module _ {D : Type 0} (history : D → History) (old : Engine D) (h : IsSound hi
       ok = tt;
       err = (refl, refl);
       kinds = applies.kinds;
-      cause = λ k. let l = leads (applies.on.frame k).word running in applies.cause k old.told.value.start old.told.value.now after h.file l.0 l.1.lawful;
+      cause = λ k. let l = leads (applies.on.frame k).word running in applies.cause k old.told.value.start old.told.value.now after h.file l.0 l.1;
     }
       where
         has : HasState history file old.told.value.start old.told.value.now
         has run k =
             let l = leads (applies.on.frame k).word running in
-            applies.state old.told.value.start old.told.value.now after h.file l.0 l.1.lawful run k
+            applies.state old.told.value.start old.told.value.now after h.file l.0 l.1 run k

@@ -1,11 +1,12 @@
 -- Documents that are stored: what is asked of them, and their order.
-use Rattle.std.specs.Prelude.{nat_lt, List, [], ◌∷◌, length, Result, Ok, Err, Option, Some, None, unwrap_or, option_map}
+use Rattle.std.specs.Prelude.{nat_lt, true, List, [], ◌∷◌, length, Result, Ok, Err, Option, Some, None, unwrap_or, option_map}
 use Rattle.value_order.specs.Order.{compare}
 use Rattle.value_order.specs.KeyText.{tree_text}
 use Rattle.bson.specs.Tree.{Tree, scalar, null, Pairs}
 use Rattle.bson.specs.Lookup.{lookup}
 use Rattle.update.specs.Stored.{limits_fault, pairs_fault, id_name, id_of, id_first}
-use Rattle.index.specs.State.{by_order}
+use Rattle.index.specs.Entering.{entered}
+use Rattle.index.specs.State.{Collection, by_order}
 use Rattle.outcome.specs.Outcome.{◌>>=◌, unless, or_refused}
 use Rattle.path.specs.declared.refusal.Refusal.{Refusal}
 use Rattle.path.specs.declared.refusal.Refusal.TheVariants as refusals
@@ -36,14 +37,15 @@ place id new [] = Some (new ∷ [])
 place id new (d ∷ ds) = by_order (compare id (key_of d)) (Some (new ∷ d ∷ ds)) None
     (option_map (λ later. d ∷ later) (place id new ds))
 
-unfoldable pub insert_one : List Pairs → Pairs → Result (List Pairs) Refusal
-insert_one stored ps = do
+-- a collection with one document more, as it is stored, or the first refusal of it
+unfoldable pub insert_one : Collection → Pairs → Result Collection Refusal
+insert_one c ps = do
   id ← checked ps
-  or_refused (place id (id_first ps) stored) refusals.DuplicateKey
+  entered c (record { is_new = true; document = id_first ps })
 
--- the documents with these, or the first refusal
-abbrev pub insert_all : List Pairs → List Pairs → Result (List Pairs) Refusal
-insert_all stored [] = Ok stored
-insert_all stored (ps ∷ rest) = do
-  next ← insert_one stored ps
+-- the collection with these, or the first refusal
+abbrev pub insert_all : Collection → List Pairs → Result Collection Refusal
+insert_all c [] = Ok c
+insert_all c (ps ∷ rest) = do
+  next ← insert_one c ps
   insert_all next rest

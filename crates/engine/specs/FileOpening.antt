@@ -1,5 +1,5 @@
 -- What opening a file gives.
-use Rattle.std.specs.Prelude.{◌≡◌, ◌≢◌, ℕ, false, List, [], ◌++◌, Option, Some, Result, IfErr, MatchResult, OnOk}
+use Rattle.std.specs.Prelude.{◌≡◌, ◌≢◌, ℕ, false, List, ◌++◌, Option, Some, Result, IfErr, MatchResult, OnOk}
 use Rattle.std.specs.Global.{Vec}
 use Rattle.std.specs.Option.{option_map}
 use Rattle.page.specs.History.{History, KeepsWord, now, reads, IsImage}
@@ -14,54 +14,65 @@ use Rattle.collections.specs.State.{State}
 use Rattle.collections.specs.Standing.{HasState}
 use Rattle.collections.specs.View.{disk_history, is_stopped}
 use Rattle.engine.specs.Durable.{Holds}
-use Rattle.engine.specs.Judging.{AreLoaded, RefusesOne, TakesAll}
+use Rattle.engine.specs.Judging.{AreLoaded, Makes, MakesNone, Progress, RefusesOne, TakesAll, nothing_read}
 use Rattle.engine.specs.Lawful.{IsLawfulState}
 use Rattle.engine.specs.Known.{Known}
 
 -- ---- entries of the file
 
--- Why no collections were made of these entries, which follow others that made these: the device failed, memory ran out, or one
--- of them is refused.
-pub record HasNotLoaded {D : Type 0} (history : D → History) (now : List Collection)
-    (entries : List Entry) (old new : State D) (fault : OpenFault) : Type 0 where
-  pub device : fault ≡ faults.Device → HasFailed history old new
-  pub damaged : fault ≢ faults.Device → fault ≢ faults.Memory → RefusesOne now entries
-
--- Some entries were read and made others of the collections; those left stand from the next key on.
-pub record HasTaken (from : List ℕ) (entries : List Entry) (now last : List Collection)
-    (next : Option (Vec ℕ)) : Type 0 where
-  pub pairs : List Entry
-  pub is : entries_from (Some from) entries
-      ≡ pairs ++ entries_from (option_map (λ v. v.items) next) entries
-  pub takes : TakesAll now pairs last
-
--- A batch of the entries was read from a key on.
-pub record LoadsBatch {D : Type 0} (history : D → History) (from : List ℕ)
-    (result : Result (Option (Vec ℕ)) OpenFault) (now last : List Collection)
-    (old new : State D) : Type 0 where
+-- A file was only read: its turn goes on, and its collections and its entries stay.
+pub record IsRead {D : Type 0} (history : D → History) (old new : State D) : Type 0 where
   pub on : GoesFrom history old new
   pub same : (start now : List Collection) → HasState history old start now
       → HasState history new start now
   pub stays : KeepsWord (disk_history history new) → (entries : List Entry)
       → HasEntries history old entries → HasEntries history new entries
-  pub kinds : IfErr result
-      (λ fault. (fault ≢ faults.NotADatabase) × (fault ≢ faults.NewerFormat))
-  pub loads : KeepsWord (disk_history history new) → (entries : List Entry)
-      → HasEntries history old entries → MatchResult result (HasTaken from entries now last)
-      (HasNotLoaded history now (entries_from (Some from) entries) old new)
+
+-- Why entries were not taken: the device failed, memory ran out, or they are damaged for this reason.
+pub record HasFault {D : Type 0} (history : D → History) (Why : Type 0) (old new : State D)
+    (fault : OpenFault) : Type 0 where
+  pub device : fault ≡ faults.Device → HasFailed history old new
+  pub damaged : fault ≢ faults.Device → fault ≢ faults.Memory → Why
+
+-- it says nothing of what the root sectors are
+abbrev pub IsOfEntries : OpenFault → Type 0
+IsOfEntries fault = (fault ≢ faults.NotADatabase) × (fault ≢ faults.NewerFormat)
+
+-- Entries were judged by all that the tree has: while the disk keeps its word the answer is right for these, or the fault has
+-- its cause.
+pub record Judges {D X : Type 0} (history : D → History) (IsRight : List Entry → X → Type 0)
+    (Why : List Entry → Type 0) (result : Result X OpenFault) (old new : State D) : Type 0 where
+  pub read : IsRead history old new
+  pub kinds : IfErr result IsOfEntries
+  pub answers : KeepsWord (disk_history history new) → (all : List Entry)
+      → HasEntries history old all
+      → MatchResult result (IsRight all) (HasFault history (Why all) old new)
+
+-- Some entries were read from a key on, and taken; those left stand from the next key on.
+pub record HasTaken (from : List ℕ) (p last : Progress) (all : List Entry)
+    (next : Option (Vec ℕ)) : Type 0 where
+  pub pairs : List Entry
+  pub is : entries_from (Some from) all
+      ≡ pairs ++ entries_from (option_map (λ v. v.items) next) all
+  pub takes : TakesAll all p pairs last
+
+abbrev pub LoadsBatch : {D : Type 0} → (D → History) → List ℕ → Result (Option (Vec ℕ)) OpenFault
+    → Progress → Progress → State D → State D → Type 0
+LoadsBatch history from result p last old new = Judges history (HasTaken from p last)
+    (λ all. RefusesOne all p (entries_from (Some from) all)) result old new
+
+-- all entries were taken
+abbrev pub LoadsEntries : {D : Type 0} → (D → History) → Result (Unit {0}) OpenFault
+    → Progress → State D → State D → Type 0
+LoadsEntries history result last old new = Judges history
+    (λ all u. TakesAll all nothing_read all last) (λ all. RefusesOne all nothing_read all)
+    result old new
 
 -- All that the file's tree has was read, and it makes these collections.
 pub record LoadsFile {D : Type 0} (history : D → History) (result : Result (Unit {0}) OpenFault)
     (last : List Collection) (old new : State D) : Type 0 where
-  pub on : GoesFrom history old new
-  pub same : (start now : List Collection) → HasState history old start now
-      → HasState history new start now
   pub loaded : OnOk result (AreLoaded last)
-  pub kinds : IfErr result
-      (λ fault. (fault ≢ faults.NotADatabase) × (fault ≢ faults.NewerFormat))
-  pub loads : KeepsWord (disk_history history new) → (entries : List Entry)
-      → HasEntries history old entries → MatchResult result (λ _. TakesAll [] entries last)
-      (HasNotLoaded history [] entries old new)
+  pub judges : Judges history (λ all u. Makes all last) MakesNone result old new
 
 -- ---- the file
 

@@ -5,7 +5,7 @@ use Rattle.outcome.specs.Outcome.{◌>>=◌, unless}
 use Rattle.path.specs.declared.refusal.Refusal.{Refusal}
 use Rattle.path.specs.declared.refusal.Refusal.TheVariants as refusals
 use Rattle.commands.specs.Insert.{Insert}
-use Rattle.engine.specs.World.{World, documents_of, with_documents}
+use Rattle.engine.specs.World.{World, collection_of}
 use Rattle.index.specs.State.{Collection, find_collection, put_collection}
 use Rattle.engine.specs.Documents.{insert_all}
 use Rattle.engine.specs.Refusals.{int}
@@ -18,20 +18,16 @@ is_full cs name = nat_le 1000 (length cs) && not (is_some (find_collection cs na
 abbrev pub inserted : List Collection → List ℕ → List Pairs → Result (List Collection) Refusal
 inserted cs name documents =
     unless (is_full cs name) refusals.TooMany (do
-      stored ← insert_all (documents_of cs name) documents
-      Ok (put_collection (with_documents cs name stored) cs))
+      next ← insert_all (collection_of cs name) documents
+      Ok (put_collection next cs))
 
 -- a missing collection is made, where there are not 1,000 yet
 unfoldable pub run_insert : World → Insert → Result (World × Pairs) Refusal
 run_insert world c =
     unless (nat_le 1000 (length world.collections)
     && not (is_some (find_collection world.collections c.namespace))) refusals.TooMany (do
-      stored ← insert_all (documents_of world.collections c.namespace) c.documents
+      next ← insert_all (collection_of world.collections c.namespace) c.documents
       Ok (
-        record world {
-          collections =
-              put_collection (with_documents world.collections c.namespace stored)
-              world.collections;
-        },
+        record world { collections = put_collection next world.collections },
         pair (codes "n") (int (length c.documents)) no_pairs,
       ))

@@ -36,7 +36,6 @@ pub record IsWithin (ps : Pairs) : Type 0 where
 pub record IsCollection (c : Collection) : Type 0 where
   pub rising : IsRising c.documents
   pub stored : All IsStored c.documents
-  pub unindexed : c.indexes ≡ []
 
 -- bytes spell the name and the documents
 pub record IsReadable (c : Collection) : Type 0 where

@@ -11,6 +11,7 @@ pub mod Count
 pub mod Delete
 pub mod Update
 pub mod Aggregate
+pub mod UpdateCommand
 pub mod Create
 pub mod DropCollection
 pub mod ListCollections
@@ -19,7 +20,6 @@ pub mod Lawful
 pub mod Places
 pub mod Redoing
 pub mod Known
-pub mod DocumentWrite
 pub mod Writes
 pub mod WriteLaws
 pub mod Updating
@@ -33,11 +33,13 @@ pub mod Judging
 pub mod Committing
 pub mod Opening
 pub mod Writing
+pub mod Loading
 pub mod Looking
 pub mod ById
 pub mod Performing
 pub mod Merging
 pub mod Removing
+pub mod TakingOut
 pub mod Putting
 pub mod Trying
 pub mod Numbering

@@ -1,29 +1,33 @@
 -- What an update puts into the file: clauses of private functions.
-use Rattle.std.specs.Prelude.{◌≡◌, ◌⊎◌, ◌≤◌, ◌<◌, ℕ, Bool, true, false, List, [], length, Option, Some, None, All, Result, Ok, Err, MatchResult}
+use Rattle.std.specs.Prelude.{◌≡◌, ◌⊎◌, ◌≤◌, ◌<◌, ℕ, Bool, true, false, not, is_some, List, [], ◌∷◌, length, map, Option, Some, None, Result, Ok, Err, MatchResult}
 use Rattle.std.specs.List.{filter}
 use Rattle.bson.specs.Tree.{Pairs, no_items}
+use Rattle.page.specs.History.{History, KeepsWord}
 use Rattle.btree.specs.Keys.{Edit}
-use Rattle.outcome.specs.Outcome.{◌>>=◌}
 use Rattle.path.specs.declared.refusal.Refusal.{Refusal}
 use Rattle.path.specs.declared.refusal.Refusal.TheVariants as refusals
+use Rattle.collections.specs.Calls.{HasCause}
 use Rattle.commands.specs.Update.{UpdateStatement}
-use Rattle.index.specs.Documents.{AddsCollection, ChangesDocuments, with_documents}
+use Rattle.index.specs.Documents.{put_document}
+use Rattle.index.specs.LawfulState as states
 use Rattle.index.specs.LawfulState.{IsStorable}
-use Rattle.index.specs.State.{Collection, empty_collection, find_collection}
-use Rattle.engine.specs.Lawful.{IsLawfulState}
-use Rattle.engine.specs.Merging.{is_meant, makes_any, put_each}
+use Rattle.index.specs.State.{Collection, find_collection}
+use Rattle.index.specs.StateEntries.{Leads}
+use Rattle.engine.specs.Durable.{disk_history, file_of}
+use Rattle.engine.specs.Looking.{OnlyReads}
+use Rattle.engine.specs.Merging.{is_meant, makes_any}
 use Rattle.engine.specs.Refusals.{ok_reply}
-use Rattle.engine.specs.Update.{Updated, run_all, update_reply}
-use Rattle.engine.specs.Updating.{news_of}
-use Rattle.engine.specs.World.{unused}
+use Rattle.engine.specs.Storing.{IsReplacedIn}
+use Rattle.engine.specs.Update.{Updated, counts_reply, not_updated, run_all, run_statements, spelled, update_reply}
+use Rattle.engine.specs.UpdateCommand.{writes_in, written_in}
+use Rattle.engine.specs.Updating.{seen}
+use Rattle.engine.specs.View.{world}
+use Rattle.engine.specs.World.{documents_of, unused}
+use Rattle.engine.specs.declared.engine.Engine.{Engine}
+use Rattle.engine.specs.declared.statements.Ran.{Ran}
+use Rattle.engine.specs.declared.statements.Tally.{Tally}
+use Rattle.engine.specs.declared.statements.Write.{Write}
 use Rattle.engine.specs.declared.updates.Meant.{Meant}
-use Rattle.engine.specs.declared.updates.Updates.{Updates}
-
--- the collections after an update of the one of a name
-abbrev pub updated : List ℕ → List UpdateStatement → List Collection → Result (List Collection) Refusal
-updated name ss cs = do
-  u ← run_all name ss cs
-  Ok u.collections
 
 -- the number of a collection that is made is one of a collection's
 abbrev pub HasNumber : Bool → ℕ → Type 0
@@ -48,50 +52,65 @@ IsFullWithout now ss e = (e ≡ refusals.TooMany) × (makes_any ss ≡ true) × 
 abbrev pub IsFullFor : List Collection → List ℕ → List UpdateStatement → Refusal → Type 0
 IsFullFor now name ss e = (find_collection now name ≡ None) × IsFullWithout now ss e
 
--- ---- what is put
+-- ---- what is written
 
--- The documents are put into the collection that is there, or into one that is made, or there are none.
-abbrev pub PutsIn : Option Collection → List Collection → List ℕ → ℕ → Bool → List Pairs
-    → List Collection → Type 0
-PutsIn (Some c) now name number is_new news after = (is_new ≡ false) × (c.number ≡ number)
-    × (after ≡ with_documents c (put_each news c.documents) now)
-PutsIn None now name number true news after = (length now < 1000) × (number ≡ unused now)
-    × (after ≡ with_documents (empty_collection name number) (put_each news []) now)
-PutsIn None now name number false news after = (news ≡ []) × (after ≡ now)
+-- It goes in the place of the document that it keeps, or of none, and may be stored.
+pub record IsWriteOf (ds : List Pairs) (w : Write) : Type 0 where
+  pub kind : w.is_new ≡ not (is_some w.old)
+  pub there : IsReplacedIn w.old w.new ds
+  pub storable : IsStorable w.new
 
--- What an update puts, and its reply, are those that are planned.
-pub record IsUpdate (now : List Collection) (name : List ℕ) (ss : List UpdateStatement) (x : Updates)
-    : Type 0 where
+-- so each of them does, one after the other
+abbrev pub AreWritesOf : List Pairs → List Write → Type 0
+AreWritesOf ds [] = Unit {0}
+AreWritesOf ds (w ∷ ws) = IsWriteOf ds w × AreWritesOf (put_document w.new ds) ws
+
+-- the reply that says these counts
+abbrev pub says : Tally → Pairs
+says t = ok_reply (counts_reply t.matched t.modified t.upserted)
+
+-- The statements came to these counts, and where none was changed or made, nothing is written.
+pub record ComesTo (now : List Collection) (name : List ℕ) (ss : List UpdateStatement) (ws : List Write)
+    (t : Tally) : Type 0 where
   pub after : Updated
-  pub planned : run_all name ss now ≡ Ok after
-  pub says : x.reply ≡ ok_reply (update_reply after)
-  pub quiet : after.modified ≡ 0 → after.upserted ≡ no_items → x.writes.items ≡ []
-  pub storable : All IsStorable (news_of x.writes.items)
-  pub puts : PutsIn (find_collection now name) now name x.number x.is_new (news_of x.writes.items)
-      after.collections
+  pub planned : run_statements name 0 ss (not_updated now) ≡ Ok after
+  pub counts : update_reply after ≡ counts_reply t.matched t.modified t.upserted
+  pub quiet : after.modified ≡ 0 → after.upserted ≡ no_items → ws ≡ []
 
--- So they are where the documents are those that the statements may mean.
-abbrev pub UpdatesOf : List UpdateStatement → Meant → Result Updates Refusal → Type 0
-UpdatesOf ss m result = (now : List Collection) (name : List ℕ) → IsLawfulState now
-    → IsMeant now name ss m
-    → MatchResult result (IsUpdate now name ss)
-    (λ e. (run_all name ss now ≡ Err e) ⊎ (e ≡ refusals.OutOfMemory))
+abbrev pub EndsIn : List Collection → List ℕ → List UpdateStatement → List Write → Result Tally Refusal
+    → Type 0
+EndsIn now name ss ws (Ok t) = ComesTo now name ss ws t
+EndsIn now name ss ws (Err e) = run_all name ss now ≡ Err e
+
+-- What an update writes, and what it comes to, are those that are planned.
+pub record IsUpdate (now : List Collection) (name : List ℕ) (ss : List UpdateStatement) (x : Ran) : Type 0 where
+  pub planned : map seen x.writes.items ≡ writes_in name ss now
+  pub writes : AreWritesOf (documents_of now name) x.writes.items
+  pub end : EndsIn now name ss x.writes.items x.end
+
+-- the reply of counts, or why there is none
+abbrev pub RepliesTo : Result Tally Refusal → Result Pairs Refusal → Type 0
+RepliesTo (Err e) result = result ≡ Err e
+RepliesTo (Ok t) (Ok d) = (d ≡ says t) × (length (spelled d) ≤ 1048555)
+RepliesTo (Ok t) (Err e) = (e ≡ refusals.OutOfMemory)
+    ⊎ ((e ≡ refusals.BSONObjectTooLarge) × (1048555 < length (spelled (says t))))
 
 -- ---- edits
 
--- Edits that put documents were noted behind others, where the documents may be stored.
-abbrev pub Puts : ℕ → List Pairs → Result (Unit {0}) Refusal → List Edit → List Edit → Type 0
-Puts number documents result before after = All IsStorable documents
-    → MatchResult result (λ _. ChangesDocuments before after number (put_each documents))
-    (λ e. e ≡ refusals.OutOfMemory)
+-- The edits lead to the collections that are planned.
+pub record ArePlanned (edits : List Edit) (cs : List Collection) (planned : Result (List Collection) Refusal)
+    : Type 0 where
+  pub next : List Collection
+  pub is : planned ≡ Ok next
+  pub leads : states.IsLawfulState cs → Leads edits cs next × states.IsLawfulState next
 
--- no edits, or those that make the collection
-abbrev pub BeginsWith : Bool → List ℕ → ℕ → List Edit → Type 0
-BeginsWith false name number edits = edits ≡ []
-BeginsWith true name number edits = AddsCollection [] edits name number
-
--- The edits make the collection where it is new, and put the documents into it.
-pub record NotesUpdates (name : List ℕ) (x : Updates) (edits : List Edit) : Type 0 where
-  pub first : List Edit
-  pub begins : BeginsWith x.is_new name x.number first
-  pub puts : ChangesDocuments first edits x.number (put_each (news_of x.writes.items))
+-- While the disk keeps its word: where these are writes of the collection of the name, the edits that write them are made, or the
+-- refusal was planned, or it has its cause.
+pub record NotesWrites {D : Type 0} (history : D → History) (name : List ℕ) (ws : List Write)
+    (result : Result (List Edit) Refusal) (old new : Engine D) : Type 0 where
+  pub reads : OnlyReads history old new
+  pub answers : KeepsWord (disk_history history new) → AreWritesOf (documents_of (world old).collections name) ws
+      → MatchResult result
+      (λ edits. ArePlanned edits (world old).collections (written_in name (map seen ws) (world old).collections))
+      (λ e. (written_in name (map seen ws) (world old).collections ≡ Err e)
+      ⊎ HasCause history (file_of old) (file_of new) e)

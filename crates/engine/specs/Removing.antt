@@ -7,11 +7,12 @@ use Rattle.engine.specs.Redoing.{all_taken}
 use Rattle.engine.specs.World.{documents_of}
 use Rattle.engine.specs.declared.delete.Taken.{Taken}
 
--- The documents are those that the statements take, and the number is that of their collection.
+-- The documents are those that the statements take, and the number and the indexes are those of their collection.
 pub record IsTaken (now : List Collection) (name : List ℕ) (deletions : List Deletion) (t : Taken)
     : Type 0 where
   pub removed : t.removed.items ≡ all_taken deletions (documents_of now name)
-  pub numbered : (c : Collection) → find_collection now name ≡ Some c → c.number ≡ t.number
+  pub home : (c : Collection) → find_collection now name ≡ Some c
+      → (c.number ≡ t.home.number) × (c.indexes ≡ t.home.indexes.items)
 
 -- the collections after a delete from the one of a name
 abbrev pub deleted : List Collection → List ℕ → List Deletion → List Collection

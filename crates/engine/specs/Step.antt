@@ -19,7 +19,8 @@ use Rattle.engine.specs.Aggregate.{run_aggregate}
 use Rattle.engine.specs.Create.{run_create}
 use Rattle.engine.specs.DropCollection.{run_drop}
 use Rattle.engine.specs.ListCollections.{run_list_collections}
-use Rattle.engine.specs.Update.{Updated, not_updated, run_statements, run_update}
+use Rattle.engine.specs.Update.{Updated, not_updated, run_statements}
+use Rattle.engine.specs.UpdateCommand.{run_update}
 
 -- the table of what commands do; those of indexes are read, and none is run yet
 abbrev pub run : World → ℕ → Command → Result (World × Pairs) Refusal

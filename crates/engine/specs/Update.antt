@@ -10,8 +10,8 @@ use Rattle.update.specs.Upserts.{base_of}
 use Rattle.outcome.specs.Outcome.{◌>>=◌, unless, or_refused}
 use Rattle.path.specs.declared.refusal.Refusal.{Refusal}
 use Rattle.path.specs.declared.refusal.Refusal.TheVariants as refusals
-use Rattle.commands.specs.Update.{UpdateStatement, Update}
-use Rattle.engine.specs.World.{World, documents_of, with_documents}
+use Rattle.commands.specs.Update.{UpdateStatement}
+use Rattle.engine.specs.World.{documents_of, with_documents}
 use Rattle.index.specs.State.{Collection, find_collection, put_collection}
 use Rattle.engine.specs.Documents.{key_of, key_checked, place}
 use Rattle.engine.specs.Refusals.{int, total, ok_reply}
@@ -162,8 +162,3 @@ abbrev pub run_all : List ℕ → List UpdateStatement → List Collection → R
 run_all name ss cs = do
   u ← run_statements name 0 ss (not_updated cs)
   judged u
-
-unfoldable pub run_update : World → Update → Result (World × Pairs) Refusal
-run_update world c = do
-  u ← run_all c.namespace c.statements world.collections
-  Ok (record world { collections = u.collections }, update_reply u)

@@ -16,7 +16,7 @@ use Rattle.commands.specs.Update.{UpdateStatement}
 use Rattle.index.specs.Documents.{put_document}
 use Rattle.index.specs.LawfulState.{IsRising, IsStorable}
 use Rattle.index.specs.StateReads.{find_document}
-use Rattle.engine.specs.DocumentWrite.{DocumentWrite}
+use Rattle.index.specs.Entering.{DocumentWrite}
 use Rattle.engine.specs.Documents.{key_of, place}
 use Rattle.engine.specs.Lawful.{IsStored, IsWithin}
 use Rattle.engine.specs.Merging.{Listed, none_changed, not_listed, put_each, run_each}

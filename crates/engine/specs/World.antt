@@ -64,12 +64,15 @@ or_empty name new found = record {
   indexes = indexes_or_none found;
 }
 
--- the collection of a name with these documents: a missing one is made under the least number that is not in use
+-- the collection of a name; a missing one is an empty one under the least number that is not in use
+abbrev pub collection_of : List Collection → List ℕ → Collection
+collection_of collections name =
+    or_empty name (unused collections) (find_collection collections name)
+
+-- so with these documents
 abbrev pub with_documents : List Collection → List ℕ → List Pairs → Collection
 with_documents collections name stored =
-    record (or_empty name (unused collections) (find_collection collections name)) {
-      documents = stored;
-    }
+    record (collection_of collections name) { documents = stored }
 
 abbrev pub documents_of : List Collection → List ℕ → List Pairs
 documents_of collections name = documents_or_none (find_collection collections name)

@@ -7,7 +7,7 @@ use Rattle.filter.specs.Matches.{matches}
 use Rattle.update.specs.Applying.{apply}
 use Rattle.update.specs.Update.{Update as Change}
 use Rattle.commands.specs.Update.{UpdateStatement}
-use Rattle.engine.specs.DocumentWrite.{DocumentWrite}
+use Rattle.index.specs.Entering.{DocumentWrite}
 use Rattle.engine.specs.Merging.{Listed, made_of, not_listed, run_listed}
 use Rattle.engine.specs.Update.{spelled}
 

@@ -4,7 +4,6 @@ ghost use Rattle.std.specs.Prelude.{◌≡◌, [], ◌++◌, IfErr, IfOk, Ok, On
 ghost use Rattle.std.specs.List.{filter as list_filter, position};
 ghost use Rattle.filter.specs.Matches.{matches};
 ghost use Rattle.engine.specs.Delete.{without_first, after_deletion, after_deletions, run_delete};
-ghost use Rattle.engine.specs.Dropping.{Removes};
 ghost use Rattle.engine.specs.Looking.{Looks};
 ghost use Rattle.engine.specs.Merging.{is_deleted};
 ghost use Rattle.engine.specs.Redoing.{first_taken, taken, all_taken};
@@ -16,16 +15,16 @@ ghost use Rattle.engine.specs.Writing.{Makes};
 ghost use Rattle.engine.specs.View.{world, IsSendable};
 
 use crate::by_id::asked_id;
-use crate::documents::id_text;
 use crate::engine::Engine;
 use crate::find::matches;
 use crate::looking::Selects;
+use crate::removing::note_removed;
 use crate::reply::total_reply;
 use crate::shared_document::SharedDocument;
 use bson::{Document, NoMemory, RawDoc, Value};
 use commands::Deletion;
 use filter::Filter;
-use index::Edits;
+use index::{Catalogued, Edits};
 use page::Disk;
 use path::Refusal;
 use std::alloc::Global;
@@ -182,27 +181,25 @@ impl Selects for Matched<'_> {
     }
 }
 
-/// What a delete takes out of the collection of a number.
+/// What a delete takes out of a collection.
 #[derive(Drop)]
 struct Taken {
-    number: u32,
+    home: Catalogued,
     removed: Vec<SharedDocument>,
 }
 
-/// Notes that documents are taken out of the collection of a number.
-fn note_removed(
-    alloc: Global,
-    edits: &mut Edits,
-    number: u32,
-    documents: &[SharedDocument],
-) -> Result<(), Refusal>
-    ensures { Removes number documents.now result edits.old edits.new }
+/// Nothing, where the collection is missing.
+fn none_taken(alloc: Global) -> Taken
+    ensures { result.removed.items ≡ [] }
 {
-    'documents: for document in documents {
-        let text = id_text(alloc, document.document())?;
-        edits.remove_document(number, &text)?;
+    let home = Catalogued {
+        number: 0,
+        indexes: Vec::new(alloc),
+    };
+    Taken {
+        home,
+        removed: Vec::new(alloc),
     }
-    Ok(())
 }
 
 impl<D: Disk> Engine<D> {
@@ -234,21 +231,18 @@ impl<D: Disk> Engine<D> {
         ensures { Looks D.history (λ now taken. IsTaken now namespace.now deletions.now taken)
             result self.old self.new }
     {
-        let Some(number) = self.number_of(namespace)? else {
-            return Ok(Taken {
-                number: 0,
-                removed: Vec::new(self.alloc),
-            });
+        let Some(home) = self.catalogued(namespace)? else {
+            return Ok(none_taken(self.alloc));
         };
-        let found = self.selected(number, &Matched { deletions }, usize::MAX)?;
+        let found = self.selected(home.number, &Matched { deletions }, usize::MAX)?;
         let left = after_deletions(self.alloc, &found, deletions)?;
         Ok(Taken {
-            number,
+            home,
             removed: left.removed,
         })
     }
 
-    /// Takes documents out of the file. Where there are none, nothing is written.
+    /// Takes documents out of the file, with their entries in the indexes. Where there are none, nothing is written.
     fn remove(
         &mut self,
         namespace: &str,
@@ -271,7 +265,7 @@ impl<D: Disk> Engine<D> {
             return Ok(());
         }
         let mut edits = Edits::new(self.alloc);
-        note_removed(self.alloc, &mut edits, taken.number, &taken.removed)?;
+        note_removed(self.alloc, &mut edits, &taken.home, &taken.removed)?;
         self.write(&edits, &(namespace, deletions))
     }
 }

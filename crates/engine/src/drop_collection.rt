@@ -1,41 +1,26 @@
 //! `drop`: a collection is taken away.
 
-ghost use Rattle.std.specs.Prelude.{◌≡◌, ◌<◌, ◌≤◌, [], IfErr, IfOk, length, true};
+ghost use Rattle.std.specs.Prelude.{◌≡◌, ◌<◌, ◌≤◌, [], IfOk, length, true};
 ghost use Rattle.engine.specs.DropCollection.{dropped, run_drop};
-ghost use Rattle.engine.specs.Dropping.{HasStepped, IsEmptying, IsFilled, IsLeft, Removes};
+ghost use Rattle.engine.specs.Dropping.{HasStepped, IsEmptying, IsFilled, IsLeft};
 ghost use Rattle.engine.specs.Looking.{LooksOf};
 ghost use Rattle.page.specs.History.{KeepsWord};
 ghost use Rattle.engine.specs.Durable.{disk_history, has_changes, IsRunning, IsSound};
 ghost use Rattle.engine.specs.Performing.{Performs};
+ghost use Rattle.engine.specs.TakingOut.{HasHome};
 ghost use Rattle.engine.specs.View.{world, IsSendable};
 ghost use Rattle.engine.specs.Writing.{Makes};
 
-use crate::documents::id_text;
 use crate::engine::Engine;
 use crate::looking::BATCH;
+use crate::removing::note_removed;
 use crate::reply::drop_reply;
 use bson::Document;
 use collections::Walk;
-use index::Edits;
+use index::{Catalogued, Edits};
 use page::Disk;
 use path::Refusal;
 use std::alloc::Global;
-
-/// Notes that documents are taken out of the collection of a number.
-fn note_removed(
-    alloc: Global,
-    edits: &mut Edits,
-    number: u32,
-    documents: &[Document],
-) -> Result<(), Refusal>
-    ensures { Removes number documents.now result edits.old edits.new }
-{
-    'documents: for document in documents {
-        let text = id_text(alloc, document)?;
-        edits.remove_document(number, &text)?;
-    }
-    Ok(())
-}
 
 impl<D: Disk> Engine<D> {
     /// Takes a collection away with its documents; `NamespaceNotFound` where there is none of its name.
@@ -50,38 +35,40 @@ impl<D: Disk> Engine<D> {
             → has_changes self.new ≡ has_changes self.old }
         ensures sendable { IfOk result (λ d. IsSendable d) }
     {
-        let reply = drop_reply(self.alloc, namespace)?;
-        self.remove_collection(namespace)?;
+        let Some(home) = self.catalogued(namespace)? else {
+            return Err(Refusal::NamespaceNotFound);
+        };
+        let reply = drop_reply(self.alloc, 1 + home.indexes.len(), namespace)?;
+        self.remove_collection(namespace, &home)?;
         Ok(reply)
     }
 
-    /// Takes a collection and its documents out of the file.
-    fn remove_collection(&mut self, namespace: &str) -> Result<(), Refusal>
+    /// Takes a collection, its documents and their entries in its indexes out of the file.
+    fn remove_collection(&mut self, namespace: &str, home: &Catalogued) -> Result<(), Refusal>
         requires short { length namespace.now ≤ 255 }
         requires sound { IsSound D.history self.old }
+        requires home { KeepsWord (disk_history D.history self.old)
+            → HasHome (world self.old).collections namespace.now home.now }
         ensures { Makes D.history (dropped (world self.old).collections namespace.now)
             result self.old self.new }
     {
-        let Some(number) = self.number_of(namespace)? else {
-            return Err(Refusal::NamespaceNotFound);
-        };
         let mut edits = Edits::new(self.alloc);
-        self.note_emptied(&mut edits, number)?;
+        self.note_emptied(&mut edits, home)?;
         edits.remove_collection(namespace)?;
         self.write(&edits, &namespace)
     }
 
-    /// Notes that all documents are taken out of the collection of a number.
-    fn note_emptied(&mut self, edits: &mut Edits, number: u32) -> Result<(), Refusal>
+    /// Notes that all documents are taken out of a collection, with their entries in its indexes.
+    fn note_emptied(&mut self, edits: &mut Edits, home: &Catalogued) -> Result<(), Refusal>
         requires sound { IsSound D.history self.old }
-        ensures { LooksOf D.history (IsFilled number edits.old)
+        ensures { LooksOf D.history (IsFilled home.now edits.old)
             (λ now c _. IsLeft now c edits.new []) result self.old self.new }
     {
         if self.file.is_stopped() {
             return Err(Refusal::StorageFailed);
         }
-        let mut walk = self.file.walk(number)?;
-        'batches: while self.note_batch(edits, &mut walk, number)? {}
+        let mut walk = self.file.walk(home.number)?;
+        'batches: while self.note_batch(edits, &mut walk, home)? {}
         Ok(())
     }
 
@@ -90,16 +77,16 @@ impl<D: Disk> Engine<D> {
         &mut self,
         edits: &mut Edits,
         walk: &mut Walk,
-        number: u32,
+        home: &Catalogued,
     ) -> Result<bool, Refusal>
         requires sound { IsSound D.history self.old }
         requires running { IsRunning self.old }
-        ensures looks { LooksOf D.history (IsEmptying number walk.old edits.old)
-            (HasStepped number walk.new edits.new) result self.old self.new }
+        ensures looks { LooksOf D.history (IsEmptying home.now walk.old edits.old)
+            (HasStepped home.now walk.new edits.new) result self.old self.new }
         ensures ends { IfOk result (λ more. more ≡ true → walk.new.left < walk.old.left) }
     {
         let batch = self.file.next_documents(walk, BATCH)?;
-        note_removed(self.alloc, edits, number, &batch)?;
+        note_removed(self.alloc, edits, home, &batch)?;
         Ok(!batch.is_empty())
     }
 }

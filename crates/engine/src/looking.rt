@@ -6,7 +6,7 @@ ghost use Rattle.std.specs.Option.{option_map};
 ghost use Rattle.bson.specs.Tree.{Pairs};
 ghost use Rattle.bson.specs.View.{tree};
 ghost use Rattle.filter.specs.Matches.{matches};
-ghost use Rattle.collections.specs.Reading.{IsNumbered, IsPlaceOf, ReadsOf, stored_at};
+ghost use Rattle.collections.specs.Reading.{IsNumbered, IsPlaceOf, IsWithinLimits, ReadsOf, catalogued_in, catalogued_of, stored_at};
 ghost use Rattle.index.specs.State.{find_collection};
 ghost use Rattle.engine.specs.ById.{AsksForId, found_alone};
 ghost use Rattle.engine.specs.Durable.{IsSound};
@@ -23,6 +23,7 @@ use crate::shared_document::SharedDocument;
 use bson::{Document, NoMemory, RawDoc, SpelledDocument, Value};
 use collections::Collections;
 use filter::Filter;
+use index::Catalogued;
 use page::Disk;
 use path::Refusal;
 use std::alloc::Global;
@@ -199,6 +200,17 @@ fn select_found<S: Selects>(
 }
 
 impl<D: Disk> Engine<D> {
+    /// The number and the indexes of the collection of a name, if there is one.
+    pub(crate) fn catalogued(&mut self, namespace: &str) -> Result<Option<Catalogued>, Refusal>
+        requires { IsSound D.history self.old }
+        ensures looks { Looks D.history (λ now found. option_map catalogued_of found
+            ≡ option_map catalogued_in (find_collection now namespace.now))
+            result self.old self.new }
+        ensures limits { IfOk result (λ found. IfSome found IsWithinLimits) }
+    {
+        self.file.catalogued(namespace)
+    }
+
     /// The number of the collection of a name, if there is one.
     pub(crate) fn number_of(&mut self, namespace: &str) -> Result<Option<u32>, Refusal>
         requires { IsSound D.history self.old }

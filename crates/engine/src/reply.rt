@@ -8,6 +8,7 @@ ghost use Rattle.bson.specs.Lookup.{lookup};
 ghost use Rattle.bson.specs.Spelling.{frame_of, pairs_bytes};
 ghost use Rattle.bson.specs.Lawful.{levels};
 ghost use Rattle.engine.specs.View.{outcome_of};
+ghost use Rattle.engine.specs.DropCollection.{drop_reply};
 ghost use Rattle.engine.specs.ListCollections.{listed};
 ghost use Rattle.engine.specs.Refusals.{int, total, words, ok_reply, refusal_reply};
 
@@ -109,13 +110,13 @@ pub(crate) fn total_reply(alloc: Global, number: usize) -> Result<Document, NoMe
     done(reply)
 }
 
-/// The reply of a `drop`, whose collection had no index but that of `_id`.
-pub(crate) fn drop_reply(alloc: Global, namespace: &str) -> Result<Document, NoMemory>
-    ensures { IfOk result (λ d. d ≡ ok_reply (pair (codes "nIndexesWas") (int 1)
-        (pair (codes "ns") (words namespace.now) no_pairs))) }
+/// The reply of a `drop` of a collection with so many indexes, that of `_id` among them.
+pub(crate) fn drop_reply(alloc: Global, count: usize, namespace: &str) -> Result<Document, NoMemory>
+    requires { count ≤ 1000 }
+    ensures { IfOk result (λ d. d ≡ ok_reply (drop_reply count namespace.now)) }
 {
     let mut reply = Document::new(alloc);
-    put(&mut reply, "nIndexesWas", Value::Int32(1))?;
+    put(&mut reply, "nIndexesWas", Value::Int32(count as i32))?;
     put(&mut reply, "ns", text_value(alloc, namespace)?)?;
     done(reply)
 }

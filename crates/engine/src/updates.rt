@@ -1,38 +1,38 @@
 //! `update`: documents are changed and made, statement by statement; all statements are done, or none.
 
-ghost use Rattle.std.specs.Prelude.{◌≡◌, ◌≢◌, ◌≤◌, ◌++◌, [], true, false, Err, None, IfErr, IfOk, OnOk, All, MatchResult, length};
+ghost use Rattle.std.specs.Prelude.{◌≡◌, ◌≢◌, ◌≤◌, ◌++◌, [], false, true, IfErr, IfOk, None, OnOk, All, length, map};
 ghost use Rattle.std.specs.List.{list_all};
 ghost use Rattle.std.specs.Ordering.{is_eq};
 ghost use Rattle.bson.specs.View.{tree};
 ghost use Rattle.value_order.specs.Order.{compare};
 ghost use Rattle.page.specs.History.{KeepsWord};
+ghost use Rattle.collections.specs.Reading.{IsWithinLimits};
 ghost use Rattle.commands.specs.Update.{UpdateStatement, IsRead};
 ghost use Rattle.commands.specs.Command.{update};
-ghost use Rattle.index.specs.LawfulState.{IsStorable};
 ghost use Rattle.engine.specs.Documents.{key_of};
 ghost use Rattle.engine.specs.Durable.{disk_history, has_changes, IsSound};
 ghost use Rattle.engine.specs.Lawful.{IsWithin};
 ghost use Rattle.engine.specs.Merging.{has_key_of, is_meant_by, is_updated, made_by, made_of, makes_any};
 ghost use Rattle.engine.specs.Performing.{Performs};
-ghost use Rattle.engine.specs.Putting.{BeginsWith, HasNumber, IsFullFor, IsFullWithout, IsMeant, IsUpdate, MeansIn, NotesUpdates, Puts, updated, UpdatesOf};
+ghost use Rattle.engine.specs.Putting.{AreWritesOf, HasNumber, IsFullFor, IsFullWithout, IsMeant, IsUpdate, MeansIn, NotesWrites, RepliesTo};
 ghost use Rattle.engine.specs.Step.{ChangesNone};
+ghost use Rattle.engine.specs.Storing.{MayEnter, Notes, entering};
 ghost use Rattle.engine.specs.Trying.{Tries};
-ghost use Rattle.engine.specs.Update.{run_all, run_update};
-ghost use Rattle.engine.specs.Updating.{MayBePut, news_of};
+ghost use Rattle.engine.specs.UpdateCommand.{enter_each, run_update};
+ghost use Rattle.engine.specs.Updating.{MayBePut, news_of, seen};
 ghost use Rattle.engine.specs.View.{world, IsSendable};
-ghost use Rattle.engine.specs.Writing.{Makes};
 
 use crate::REPLY_LIMIT;
 use crate::by_id::asked_id;
-use crate::documents::{compare_id, compare_ids, id_text, read_id};
+use crate::documents::{compare_id, compare_ids, read_id};
 use crate::engine::Engine;
 use crate::find::matches;
 use crate::looking::Selects;
 use crate::shared_document::SharedDocument;
-use crate::statements::{Write, run_on, unless_memory, update_reply, upsert_document};
+use crate::statements::{Ran, Tally, Write, run_on, unless_memory, update_reply, upsert_document};
 use bson::{Document, NoMemory, RawDoc, Value};
 use commands::UpdateStatement;
-use index::Edits;
+use index::{Catalogued, Edits};
 use page::Disk;
 use path::Refusal;
 use std::alloc::Global;
@@ -44,17 +44,6 @@ pub(crate) struct Meant {
     /// Whether it is missing, and a statement makes a document where none matches.
     is_new: bool,
     documents: Vec<SharedDocument>,
-}
-
-/// What an update puts into a collection, and its reply.
-#[derive(Drop)]
-pub(crate) struct Updates {
-    number: u32,
-    /// Whether the collection is made.
-    is_new: bool,
-    /// The documents that were changed or made, one after the other.
-    writes: Vec<Write>,
-    reply: Document,
 }
 
 /// Adds the document that a statement makes where none matches.
@@ -193,84 +182,25 @@ impl Selects for Meaning<'_> {
     }
 }
 
-/// Runs statements over the documents that they may mean, and makes the reply; `BSONObjectTooLarge` where that is too long, as
-/// the `_id`s of many documents that were made can make it.
-fn updates_of(
-    alloc: Global,
-    meant: Meant,
-    statements: &[UpdateStatement],
-) -> Result<Updates, Refusal>
-    requires few { length statements.now ≤ 1000 }
-    requires within { All IsWithin meant.documents.items }
-    requires read { All (λ (s : UpdateStatement). IsRead s.change) statements.now }
-    ensures planned { UpdatesOf statements.now meant result }
-    ensures puttable { IfOk result (λ u. All MayBePut (news_of u.writes.items)) }
-    ensures number { IfOk result (λ u. (u.number ≡ meant.number) × (u.is_new ≡ meant.is_new)) }
-    ensures sendable { IfOk result (λ u. IsSendable u.reply) }
+/// The reply that says what statements came to; `BSONObjectTooLarge` where that is too long, as the `_id`s of many documents that
+/// were made can make it.
+fn reply_of(alloc: Global, end: Result<Tally, Refusal>) -> Result<Document, Refusal>
+    ensures replies { RepliesTo end result }
+    ensures sendable { IfOk result (λ d. IsSendable d) }
 {
-    let ran = run_on(alloc, meant.documents, statements, false)?;
-    let reply = update_reply(alloc, ran.end?)?;
+    let reply = update_reply(alloc, end?)?;
     if REPLY_LIMIT < reply.encoded_len() {
         return Err(Refusal::BSONObjectTooLarge);
     }
-    Ok(Updates {
-        number: meant.number,
-        is_new: meant.is_new,
-        writes: ran.writes,
-        reply,
-    })
+    Ok(reply)
 }
 
-/// Notes that documents are put into the collection of a number, one after the other.
-fn note_put(alloc: Global, edits: &mut Edits, number: u32, writes: &[Write]) -> Result<(), Refusal>
-    requires { All MayBePut (news_of writes.now) }
-    ensures { Puts number (news_of writes.now) result edits.old edits.new }
+/// Whether an update writes nothing.
+fn are_none(ran: &Ran) -> bool
+    ensures all { result ≡ true → ran.now.writes.items ≡ [] }
+    ensures some { result ≡ false → ran.now.writes.items ≢ [] }
 {
-    'writes: for write in writes {
-        let document = write.new.document();
-        let text = id_text(alloc, document)?;
-        edits.put_document(number, &text, document)?;
-    }
-    Ok(())
-}
-
-/// The edits that make the collection of an update where it is new.
-fn first_edits(alloc: Global, namespace: &str, updates: &Updates) -> Result<Edits, NoMemory>
-    requires short { length namespace.now ≤ 255 }
-    requires number { HasNumber updates.now.is_new updates.now.number }
-    ensures { IfOk result (BeginsWith updates.now.is_new namespace.now updates.now.number) }
-{
-    let mut edits = Edits::new(alloc);
-    if !updates.is_new {
-        return Ok(edits);
-    }
-    edits.put_collection(namespace, updates.number)?;
-    Ok(edits)
-}
-
-/// The edits of an update.
-fn edits_of(alloc: Global, namespace: &str, updates: &Updates) -> Result<Edits, Refusal>
-    requires short { length namespace.now ≤ 255 }
-    requires number { HasNumber updates.now.is_new updates.now.number }
-    requires puttable { All MayBePut (news_of updates.now.writes.items) }
-    ensures { All IsStorable (news_of updates.now.writes.items)
-        → MatchResult result (NotesUpdates namespace.now updates.now)
-        (λ e. e ≡ Refusal.OutOfMemory) }
-{
-    let mut edits = first_edits(alloc, namespace, updates)?;
-    note_put(alloc, &mut edits, updates.number, &updates.writes)?;
-    Ok(edits)
-}
-
-/// Whether an update changes nothing.
-fn are_none(updates: &Updates) -> bool
-    ensures all { result ≡ true → (updates.now.writes.items ≡ []) × (updates.now.is_new ≡ false) }
-    ensures some { result ≡ false → updates.now.is_new ≡ false → updates.now.writes.items ≢ [] }
-{
-    if updates.is_new {
-        return false;
-    }
-    updates.writes.is_empty()
+    ran.writes.is_empty()
 }
 
 impl<D: Disk> Engine<D> {
@@ -295,30 +225,88 @@ impl<D: Disk> Engine<D> {
             → has_changes self.new ≡ has_changes self.old }
         ensures sendable { IfOk result (λ d. IsSendable d) }
     {
-        let updates = self.updated(namespace, statements)?;
-        self.put_updates(namespace, statements, &updates)?;
-        Ok(updates.reply)
+        let ran = self.updated(namespace, statements)?;
+        if are_none(&ran) {
+            return reply_of(self.alloc, ran.end);
+        }
+        let edits = self.edits_of(namespace, &ran.writes)?;
+        let reply = reply_of(self.alloc, ran.end)?;
+        self.write(&edits, &(namespace, statements))?;
+        Ok(reply)
     }
 
-    /// What an update puts into the collection of a name, and its reply.
-    fn updated(
-        &mut self,
-        namespace: &str,
-        statements: &[UpdateStatement],
-    ) -> Result<Updates, Refusal>
+    /// What an update writes to the collection of a name, and what it comes to.
+    fn updated(&mut self, namespace: &str, statements: &[UpdateStatement]) -> Result<Ran, Refusal>
         requires few { length statements.now ≤ 1000 }
         requires read { All (λ (s : UpdateStatement). IsRead s.change) statements.now }
         requires sound { IsSound D.history self.old }
         ensures tries { Tries D.history
             (IsUpdate (world self.old).collections namespace.now statements.now)
-            (λ e. run_all namespace.now statements.now (world self.old).collections ≡ Err e)
+            (IsFullFor (world self.old).collections namespace.now statements.now)
             result self.old self.new }
-        ensures puttable { IfOk result (λ u. All MayBePut (news_of u.writes.items)) }
-        ensures number { IfOk result (λ u. HasNumber u.is_new u.number) }
-        ensures sendable { IfOk result (λ u. IsSendable u.reply) }
+        ensures puttable { IfOk result (λ x. All MayBePut (news_of x.writes.items)) }
     {
         let meant = self.meant(namespace, statements)?;
-        updates_of(self.alloc, meant, statements)
+        Ok(run_on(self.alloc, meant.documents, statements, true)?)
+    }
+
+    /// The edits that write what an update writes to the collection of a name, which they make where it is missing.
+    fn edits_of(&mut self, namespace: &str, writes: &[Write]) -> Result<Edits, Refusal>
+        requires short { length namespace.now ≤ 255 }
+        requires sound { IsSound D.history self.old }
+        requires puttable { All MayBePut (news_of writes.now) }
+        ensures { NotesWrites D.history namespace.now writes.now result self.old self.new }
+    {
+        let mut edits = Edits::new(self.alloc);
+        let mut home = self.target(&mut edits, namespace)?;
+        self.note_writes(&mut edits, namespace, &mut home, writes)?;
+        Ok(edits)
+    }
+
+    /// Notes what an update writes, in its order, up to the first that is refused.
+    fn note_writes(
+        &mut self,
+        edits: &mut Edits,
+        namespace: &str,
+        home: &mut Catalogued,
+        writes: &[Write],
+    ) -> Result<(), Refusal>
+        requires sound { IsSound D.history self.old }
+        requires short { length namespace.now ≤ 255 }
+        requires limits { IsWithinLimits home.old }
+        requires puttable { All MayBePut (news_of writes.now) }
+        ensures { Notes D.history namespace.now (λ c. AreWritesOf c.documents writes.now)
+            (λ c. enter_each c (map seen writes.now))
+            home.old home.new edits.old edits.new result self.old self.new }
+    {
+        'writes: for write in writes {
+            self.note_write(edits, namespace, home, write)?;
+        }
+        Ok(())
+    }
+
+    /// Notes that a document is written; the first refusal of it otherwise.
+    fn note_write(
+        &mut self,
+        edits: &mut Edits,
+        namespace: &str,
+        home: &mut Catalogued,
+        write: &Write,
+    ) -> Result<(), Refusal>
+        requires sound { IsSound D.history self.old }
+        requires short { length namespace.now ≤ 255 }
+        requires limits { IsWithinLimits home.old }
+        requires puttable { MayBePut write.now.new }
+        ensures notes { Notes D.history namespace.now (MayEnter write.now.old write.now.new)
+            (entering write.now.old write.now.new)
+            home.old home.new edits.old edits.new result self.old self.new }
+        ensures limits { IsWithinLimits home.new }
+    {
+        let new = write.new.document();
+        match &write.old {
+            None => self.enter(edits, namespace, home, None, new),
+            Some(old) => self.enter(edits, namespace, home, Some(old.document()), new),
+        }
     }
 
     /// The documents that statements may mean in the collection of a name. One walk reads them. `TooMany` where the collection
@@ -371,32 +359,5 @@ impl<D: Disk> Engine<D> {
             is_new: true,
             documents: Vec::new(self.alloc),
         })
-    }
-
-    /// Puts what an update changes and makes into the file. Where that is nothing, nothing is written.
-    fn put_updates(
-        &mut self,
-        namespace: &str,
-        statements: &[UpdateStatement],
-        updates: &Updates,
-    ) -> Result<(), Refusal>
-        requires short { length namespace.now ≤ 255 }
-        requires read { All (λ (s : UpdateStatement). IsRead s.change) statements.now }
-        requires sound { IsSound D.history self.old }
-        requires puttable { All MayBePut (news_of updates.now.writes.items) }
-        requires number { HasNumber updates.now.is_new updates.now.number }
-        requires is { KeepsWord (disk_history D.history self.old)
-            → IsUpdate (world self.old).collections namespace.now statements.now updates.now }
-        ensures makes { Makes D.history
-            (updated namespace.now statements.now (world self.old).collections)
-            result self.old self.new }
-        ensures has_changes { updates.now.writes.items ≡ [] → updates.now.is_new ≡ false
-            → has_changes self.new ≡ has_changes self.old }
-    {
-        if are_none(updates) {
-            return Ok(());
-        }
-        let edits = edits_of(self.alloc, namespace, updates)?;
-        self.write(&edits, &(namespace, statements))
     }
 }

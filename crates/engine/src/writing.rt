@@ -2,7 +2,7 @@
 
 ghost use Rattle.std.specs.Prelude.{◌≡◌, List};
 ghost use Rattle.page.specs.History.{KeepsWord};
-ghost use Rattle.index.specs.Documents.{IsUnindexed};
+ghost use Rattle.index.specs.LawfulState as states;
 ghost use Rattle.index.specs.State.{Collection};
 ghost use Rattle.index.specs.StateEntries.{Leads};
 ghost use Rattle.engine.specs.Durable.{disk_history, IsRunning, IsSound};
@@ -22,7 +22,7 @@ impl<D: Disk> Engine<D> {
         requires sound { IsSound D.history self.old }
         requires lawful { IsLawfulState after }
         requires leads { KeepsWord (disk_history D.history self.old) → IsRunning self.old
-            → Leads edits.now (world self.old).collections after × IsUnindexed after }
+            → Leads edits.now (world self.old).collections after × states.IsLawfulState after }
         ensures { Writes D.history after result self.old self.new }
     {
         if self.file.is_stopped() {

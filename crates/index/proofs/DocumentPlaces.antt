@@ -20,7 +20,7 @@ IsBelow d e = compare (key_of d) (key_of e) ≡ orders.Less
 rest_rises : (d : Pairs) (ds : List Pairs) → IsRising (d ∷ ds) → IsRising ds
 rest_rises d ds h = λ i j e lt below. h (suc i) (suc j) e (omega (arith, lt)) (omega (arith, below))
 
-turned : (t u : Tree) (o : Ordering) → compare t u ≡ o → compare u t ≡ ordering_reverse o
+pub turned : (t u : Tree) (o : Ordering) → compare t u ≡ o → compare u t ≡ ordering_reverse o
 turned t u o e = compare_total.antisymm u t ∙ ap ordering_reverse e
 
 -- ---- a document that is put

@@ -19,17 +19,17 @@ use Rattle.index.proofs.LawfulLaws.{all_of, pairs_of}
 
 -- ---- one more and one less, of any list
 
-all_middle : {X : Type 0} (P : X → Type 0) (front back : List X) (y : X) → All P (front ++ back) → P y → All P (front ++ y ∷ back)
+pub all_middle : {X : Type 0} (P : X → Type 0) (front back : List X) (y : X) → All P (front ++ back) → P y → All P (front ++ y ∷ back)
 all_middle P front back y h here =
     all_of P (front ++ y ∷ back) (λ x g. elim (among_middle x y front back g) [ inl e ↦ subst P (sym e) here | inr k ↦ of_all P (front ++ back) x h k ])
 
-all_around : {X : Type 0} (P : X → Type 0) (front back : List X) (y : X) → All P (front ++ y ∷ back) → All P (front ++ back)
+pub all_around : {X : Type 0} (P : X → Type 0) (front back : List X) (y : X) → All P (front ++ y ∷ back) → All P (front ++ back)
 all_around P front back y h = all_of P (front ++ back) (λ x g. of_all P (front ++ y ∷ back) x h (among_around x y front back g))
 
 rest_pairs : {X : Type 0} (R : X → X → Type 0) (x : X) (xs : List X) → AllPairs R (x ∷ xs) → AllPairs R xs
 rest_pairs R x xs h = λ i j d lt below. h (suc i) (suc j) d (omega (arith, lt)) (omega (arith, below))
 
-pairs_middle : {X : Type 0} (R : X → X → Type 0) (front back : List X) (y : X) → AllPairs R (front ++ back) → ((x : X) → Among x front → R x y) → ((x : X) → Among x back → R y x) → AllPairs R (front ++ y ∷ back)
+pub pairs_middle : {X : Type 0} (R : X → X → Type 0) (front back : List X) (y : X) → AllPairs R (front ++ back) → ((x : X) → Among x front → R x y) → ((x : X) → Among x back → R y x) → AllPairs R (front ++ y ∷ back)
 pairs_middle R [] back y h before behind = pairs_of R y back behind h
 pairs_middle R (z ∷ front) back y h before behind =
     pairs_of R z (front ++ y ∷ back) (λ x g. elim (among_middle x y front back g) [
@@ -37,7 +37,7 @@ pairs_middle R (z ∷ front) back y h before behind =
       | inr k ↦ first_of R z (front ++ back) x h k
     ]) (pairs_middle R front back y (rest_pairs R z (front ++ back) h) (λ x g. before x (inr g)) behind)
 
-pairs_around : {X : Type 0} (R : X → X → Type 0) (front back : List X) (y : X) → AllPairs R (front ++ y ∷ back) → AllPairs R (front ++ back)
+pub pairs_around : {X : Type 0} (R : X → X → Type 0) (front back : List X) (y : X) → AllPairs R (front ++ y ∷ back) → AllPairs R (front ++ back)
 pairs_around R [] back y h = rest_pairs R y back h
 pairs_around R (z ∷ front) back y h =
     pairs_of R z (front ++ back) (λ x g. first_of R z (front ++ y ∷ back) x h (among_around x y front back g)) (pairs_around R front back y (rest_pairs R z (front ++ y ∷ back) h))
@@ -51,7 +51,7 @@ share_back fs d e h key there = by (is_among (encoded_keys fs d) key) refl
     by true both = absurd (let f : true ≡ false = sym there ∙ h key both in cc)
     by false none = none
 
-index_with : (i : Definition) (front back : List Pairs) (d : Pairs) → IsIndexOf (front ++ back) i → MayEnter (front ++ back) d i → IsIndexOf (front ++ d ∷ back) i
+pub index_with : (i : Definition) (front back : List Pairs) (d : Pairs) → IsIndexOf (front ++ back) i → MayEnter (front ++ back) d i → IsIndexOf (front ++ d ∷ back) i
 index_with i front back d h m = record {
   lawful = h.lawful;
   keys = all_middle (λ e. keys_in i.fields e ≡ Ok (encoded_keys i.fields e)) front back d h.keys m.keys;
@@ -61,7 +61,7 @@ index_with i front back d h m = record {
   multi = all_middle (λ e. is_multikey i.fields e ≡ true → i.is_multi ≡ true) front back d h.multi m.multi;
 }
 
-index_without : (i : Definition) (front back : List Pairs) (d : Pairs) → IsIndexOf (front ++ d ∷ back) i → IsIndexOf (front ++ back) i
+pub index_without : (i : Definition) (front back : List Pairs) (d : Pairs) → IsIndexOf (front ++ d ∷ back) i → IsIndexOf (front ++ back) i
 index_without i front back d h = record {
   lawful = h.lawful;
   keys = all_around (λ e. keys_in i.fields e ≡ Ok (encoded_keys i.fields e)) front back d h.keys;
@@ -145,17 +145,17 @@ kept_without_index c front back i h split =
 
 -- ---- noted
 
-noted_number : (d : Pairs) (i : Definition) → (noted d i).number ≡ i.number
+pub noted_number : (d : Pairs) (i : Definition) → (noted d i).number ≡ i.number
 noted_number d i = elim (is_multikey i.fields d) as (λ (b : Bool). (if b then record i { is_multi = true } else i).number ≡ i.number) [ true ↦ refl | false ↦ refl ]
 
-noted_fields : (d : Pairs) (i : Definition) → (noted d i).fields ≡ i.fields
+pub noted_fields : (d : Pairs) (i : Definition) → (noted d i).fields ≡ i.fields
 noted_fields d i = elim (is_multikey i.fields d) as (λ (b : Bool). (if b then record i { is_multi = true } else i).fields ≡ i.fields) [ true ↦ refl | false ↦ refl ]
 
-noted_alike : (d : Pairs) (is : List Definition) → AreAlike is (map (noted d) is)
+pub noted_alike : (d : Pairs) (is : List Definition) → AreAlike is (map (noted d) is)
 noted_alike d [] = tt
 noted_alike d (i ∷ is) = (sym (noted_number d i), sym (noted_fields d i), noted_alike d is)
 
-noted_index : (d : Pairs) (ds : List Pairs) (i : Definition) → IsIndexOf ds i → IsIndexOf ds (noted d i)
+pub noted_index : (d : Pairs) (ds : List Pairs) (i : Definition) → IsIndexOf ds i → IsIndexOf ds (noted d i)
 noted_index d ds i h = by (is_multikey i.fields d)
   where
     by : (b : Bool) → IsIndexOf ds (if b then record i { is_multi = true } else i)
@@ -167,22 +167,22 @@ noted_index d ds i h = by (is_multikey i.fields d)
     }
     by false = h
 
-noted_for : (d : Pairs) (i : Definition) → IsNotedFor d (noted d i)
+pub noted_for : (d : Pairs) (i : Definition) → IsNotedFor d (noted d i)
 noted_for d i = by (is_multikey i.fields d) refl
   where
     by : (b : Bool) → is_multikey i.fields d ≡ b → IsNotedFor d (if b then record i { is_multi = true } else i)
     by true e f = refl
     by false e f = absurd (let g : false ≡ true = sym e ∙ f in cc)
 
-all_noted : (P Q : Definition → Type 0) (d : Pairs) → ((i : Definition) → P i → Q (noted d i)) → (is : List Definition) → All P is → All Q (map (noted d) is)
+pub all_noted : (P Q : Definition → Type 0) (d : Pairs) → ((i : Definition) → P i → Q (noted d i)) → (is : List Definition) → All P is → All Q (map (noted d) is)
 all_noted P Q d f is h =
     all_of Q (map (noted d) is) (λ j g. let i = among_map (noted d) j is g in subst Q (sym i.2) (f i.0 (of_all P is i.0 h i.1)))
 
-long_map : {X Y : Type 0} (f : X → Y) (xs : List X) → length (map f xs) ≡ length xs
+pub long_map : {X Y : Type 0} (f : X → Y) (xs : List X) → length (map f xs) ≡ length xs
 long_map f [] = refl
 long_map f (x ∷ xs) = ap suc (long_map f xs)
 
-noted_distinct : (d : Pairs) (is : List Definition) → AllPairs (λ j k. j.number ≢ k.number) is → AllPairs (λ j k. j.number ≢ k.number) (map (noted d) is)
+pub noted_distinct : (d : Pairs) (is : List Definition) → AllPairs (λ j k. j.number ≢ k.number) is → AllPairs (λ j k. j.number ≢ k.number) (map (noted d) is)
 noted_distinct d [] h = λ i j e lt below. absurd (omega (arith, below))
 noted_distinct d (i ∷ is) h =
     pairs_of (λ j k. j.number ≢ k.number) (noted d i) (map (noted d) is)

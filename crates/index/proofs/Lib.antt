@@ -50,9 +50,12 @@ pub mod IndexedLaws
 pub mod CatalogueValues
 pub mod ReplacingLoops
 pub mod ReplacingLaws
+pub mod EnteringLemmas
+pub mod EnteringSteps
 pub mod BuildingLaws
 pub mod CatalogueReadLaws
 pub mod FrontLemmas
 pub mod OtherEditLaws
 pub mod OtherKeyLaws
 pub mod OtherPutLemmas
+pub mod EditLookLemmas

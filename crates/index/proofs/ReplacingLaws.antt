@@ -17,13 +17,17 @@ use Rattle.index.specs.State.{Collection, key_of, put_collection}
 use Rattle.index.specs.StateEntries.{Leads}
 use Rattle.index.specs.StateLaws.{own_entries}
 use Rattle.index.specs.View.{texts_of}
+use Rattle.index.proofs.EntryLemmas.{same_text}
 use Rattle.index.proofs.FitLaws.{none_any, short_within}
+use Rattle.index.proofs.HomeLemmas.{storable_of}
 use Rattle.index.proofs.IndexedLaws.{key_lists, known}
+use Rattle.index.proofs.KeyOfDocument.{among_there}
 use Rattle.index.proofs.LawfulLaws.{all_of}
 use Rattle.index.proofs.ManyEditsLaws.{with_edits-append, noted_leads}
 use Rattle.index.proofs.MemberLemmas.{Among, among_map, among_image}
 use Rattle.index.proofs.ReplacingSteps.{replaces_document}
 use Rattle.index.proofs.SetLemmas.{set_sorted}
+use Rattle.index.proofs.StepLemmas.{old_kept}
 
 -- the keys of a document in an index
 abbrev pub keys_of : Pairs → Definition → List (List ℕ)
@@ -119,8 +123,11 @@ some_behind old first rest mid new made some = (
 pub all_behind : (old first rest mid new : List Edit) → mid ≡ with_edits first old → new ≡ with_edits rest mid → new ≡ with_edits (first ++ rest) old
 all_behind old first rest mid new made is = is ∙ ap (with_edits rest) made ∙ sym (with_edits-append first rest old)
 
-pub replaces_in : (old new : List Edit) (number : ℕ) (is : List Definition) (was d : Pairs) → Rises (edit_keys old) → new ≡ with_edits (replacing_in number is was d) old → ReplacesIn old new number is was d
+pub replaces_in : (old new : List Edit) (number : ℕ) (is : List Definition) (was d : Pairs) → Rises (edit_keys old)
+    → (tree_text (key_of was) ≡ tree_text (key_of d) → new ≡ with_edits (replacing_in number is was d) old) → ReplacesIn old new number is was d
 replaces_in old new number is was d up made a b c front back lead num inds docs equal may =
     let now : Collection = record c { documents = front ++ d ∷ back } in
-    noted_leads (replacing_in number is was d) old new a b (put_collection now b) up made lead
+    let there = subst (λ (ds : List Pairs). Among was ds) (sym docs) (among_there was front back) in
+    let same = same_text was d (storable_of c was (old_kept b c now may) there) (storable_of now d may.kept (among_there d front back)) equal in
+    noted_leads (replacing_in number is was d) old new a b (put_collection now b) up (made same) lead
     (subst (λ (es : List Edit). Leads es b (put_collection now b)) (λ t. replacing_in (num t) (inds t) was d) (replaces_document c front back was d docs equal b may))

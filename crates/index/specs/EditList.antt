@@ -1,9 +1,10 @@
 -- A list of edits of the map, in ascending order of their keys and one at each.
-use Rattle.std.specs.Prelude.{◌≤◌, ℕ, List, [], ◌∷◌, length, map, Option}
+use Rattle.std.specs.Prelude.{◌≡◌, ◌≤◌, ℕ, List, [], ◌∷◌, length, map, Option, Some, None, unwrap_or, if◌then◌else◌}
+use Rattle.std.specs.Ordering.{is_eq}
 use Rattle.std.specs.Option.{option_map, ForSome}
 use Rattle.std.specs.Global.{Vec}
 use Rattle.btree.specs.Change.{edit_keys}
-use Rattle.btree.specs.Keys.{Each, Edit, Rises, key_cmp}
+use Rattle.btree.specs.Keys.{Each, Edit, Entry, Rises, change, key_cmp, value_at}
 use Rattle.index.specs.State.{Collection, by_order}
 use Rattle.index.specs.StateEntries.{Leads}
 use Rattle.index.specs.declared.edits.OwnEdit.{OwnEdit}
@@ -20,6 +21,17 @@ abbrev pub with_edit : Edit → List Edit → List Edit
 with_edit e [] = e ∷ []
 with_edit e (f ∷ fs) =
     by_order (key_cmp e.key f.key) (e ∷ f ∷ fs) (e ∷ fs) (f ∷ with_edit e fs)
+
+-- what the edit of a key puts there, or none where it removes the key, if there is an edit of it
+abbrev pub edit_at : List ℕ → List Edit → Option (Option (List ℕ))
+edit_at key [] = None
+edit_at key (e ∷ es) = if is_eq (key_cmp e.key key) then Some e.value else edit_at key es
+
+-- Edits of a map, one at each key, put what they have for a key, and leave what stands at another.
+abbrev pub PutWhatTheyHave : Type 0
+PutWhatTheyHave =
+    (edits : List Edit) (entries : List Entry) (key : List ℕ) → Rises (edit_keys edits)
+    → value_at key (change edits entries) ≡ unwrap_or (edit_at key edits) (value_at key entries)
 
 -- short enough for the tree, as the entries of a lawful state are
 abbrev pub IsShortEdit : Edit → Type 0

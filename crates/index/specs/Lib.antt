@@ -26,4 +26,5 @@ pub mod Escaping
 pub mod Indexed
 pub mod IndexBuilding
 pub mod CatalogueReading
+pub mod Entering
 pub mod OtherKeys

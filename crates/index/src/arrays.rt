@@ -4,6 +4,7 @@ ghost use Rattle.std.specs.Prelude.{◌≡◌};
 ghost use Rattle.bson.specs.Tree.{document};
 ghost use Rattle.bson.specs.View.{tree};
 ghost use Rattle.path.specs.Place.{is_array};
+ghost use Rattle.index.specs.KeptLaws.{noted};
 ghost use Rattle.index.specs.IndexKeys.{meets_array, field_meets_array, is_multikey, has_parallel_arrays};
 
 use crate::definition::{IndexField, IndexSpec};
@@ -57,6 +58,15 @@ impl IndexSpec {
         ensures { result ≡ is_multikey self.now.fields source.now }
     {
         self.fields().iter().any(|field| field.meets_array(source))
+    }
+
+    /// Notes that it is multikey, where a document that is stored makes it so.
+    pub(crate) fn note_arrays(&mut self, document: &Document)
+        ensures { self.new ≡ noted document.now self.old }
+    {
+        if self.is_multikey_with(document) {
+            self.set_multi();
+        }
     }
 
     /// Whether an array stands on two of its paths.

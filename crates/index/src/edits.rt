@@ -1,11 +1,11 @@
 //! A list of edits of the tree, which a commit makes at once.
 
-ghost use Rattle.std.specs.Prelude.{◌≡◌, ◌==◌, [], IfOk, OnErr, OnOk, length, map};
+ghost use Rattle.std.specs.Prelude.{◌≡◌, ◌==◌, [], IfOk, OnErr, OnOk, is_some, length, map, option_map};
 ghost use Rattle.btree.specs.Change.{edit_keys};
 ghost use Rattle.btree.specs.EditView.{HasRoom, edit_in};
 ghost use Rattle.btree.specs.Keys.{Each, Rises};
 ghost use Rattle.index.specs.Changes.{is_among};
-ghost use Rattle.index.specs.EditList.{IsEditList, IsShortEdit, LeadsWith, edit_of, edits_in, with_edit};
+ghost use Rattle.index.specs.EditList.{edit_at, IsEditList, IsShortEdit, LeadsWith, edit_of, edits_in, with_edit};
 ghost use Rattle.index.specs.EditPlace.{IsPlaceAmong};
 
 use bson::NoMemory;
@@ -137,6 +137,17 @@ impl Edits {
         ensures { result ≡ is_among (edit_keys self.now) key.now }
     {
         place_among(&self.edits, key).is_ok()
+    }
+
+    /// Whether an edit of a key puts a value there, or else removes it, if there is one.
+    pub fn puts_at(&self, key: &[u8]) -> Option<bool>
+        ensures told { result ≡ option_map is_some (edit_at key.now self.now) }
+        ensures rises { Rises (edit_keys self.now) }
+    {
+        match place_among(&self.edits, key) {
+            Ok(at) => Some(self.edits[at].value.is_some()),
+            Err(_) => None,
+        }
     }
 
     /// The edits as a tree takes them.

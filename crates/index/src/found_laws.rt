@@ -1,5 +1,6 @@
 //! Laws of what is found in a state, as contracts.
 
+ghost use Rattle.index.specs.EditList.{PutWhatTheyHave};
 ghost use Rattle.index.specs.FoundLaws.{FieldIsKey, FindsPut, FoundCollection, FoundDocument, PutTwice, ShortIsKey, StoredIsKey, WithoutPut};
 
 /// A collection that is found is within the limits.
@@ -40,4 +41,9 @@ pub fn field_is_key()
 /// A value with a short key text is a key.
 pub fn short_is_key()
     ensures { ShortIsKey }
+{}
+
+/// Edits put what they have for a key, and leave what stands at another.
+pub fn put_what_they_have()
+    ensures { PutWhatTheyHave }
 {}

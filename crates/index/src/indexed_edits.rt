@@ -155,7 +155,7 @@ impl Edits {
         document: &Document,
         keys: &[Vec<u8>],
     ) -> Result<(), NoMemory>
-        requires storable { IsStorable document.now }
+        requires short { length id.now ≤ 500 }
         requires text { id.now ≡ tree_text (key_of document.now) }
         requires keyed { keys_in index.now.fields document.now ≡ Ok (texts_of keys.now) }
         ensures ok { OnOk result (self.new
@@ -178,7 +178,7 @@ impl Edits {
         document: &Document,
         keys: &[Vec<u8>],
     ) -> Result<(), NoMemory>
-        requires storable { IsStorable document.now }
+        requires short { length id.now ≤ 500 }
         requires text { id.now ≡ tree_text (key_of document.now) }
         requires keyed { keys_in index.now.fields document.now ≡ Ok (texts_of keys.now) }
         ensures ok { OnOk result (self.new
@@ -228,7 +228,7 @@ impl Edits {
         document: &Document,
         keys: &[Vec<Vec<u8>>],
     ) -> Result<(), NoMemory>
-        requires storable { IsStorable document.now }
+        requires short { length id.now ≤ 500 }
         requires text { id.now ≡ tree_text (key_of document.now) }
         requires keyed { keys_in_all indexes.now document.now
             ≡ Ok (map (λ ks. texts_of ks.items) keys.now) }

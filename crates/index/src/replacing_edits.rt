@@ -142,18 +142,16 @@ impl Edits {
         document: &Document,
         keys: &[Vec<Vec<u8>>],
     ) -> Result<(), NoMemory>
-        requires old_storable { IsStorable old.now }
         requires storable { IsStorable document.now }
-        requires same { compare (key_of old.now) (key_of document.now) ≡ Equal }
         requires text { id.now ≡ tree_text (key_of document.now) }
         requires old_keyed { keys_in_all indexes.now old.now
             ≡ Ok (map (λ ks. texts_of ks.items) old_keys.now) }
         requires keyed { keys_in_all indexes.now document.now
             ≡ Ok (map (λ ks. texts_of ks.items) keys.now) }
-        ensures ok { OnOk result (self.new
-            ≡ with_edits (replacing_in number indexes.now old.now document.now) self.old) }
-        ensures err { OnErr result (NotesSome self.old
-            (replacing_in number indexes.now old.now document.now) self.new) }
+        ensures ok { OnOk result (tree_text (key_of old.now) ≡ tree_text (key_of document.now)
+            → self.new ≡ with_edits (replacing_in number indexes.now old.now document.now) self.old) }
+        ensures err { OnErr result (tree_text (key_of old.now) ≡ tree_text (key_of document.now)
+            → NotesSome self.old (replacing_in number indexes.now old.now document.now) self.new) }
         ensures leads { OnOk result
             (ReplacesIn self.old self.new number indexes.now old.now document.now) }
     {

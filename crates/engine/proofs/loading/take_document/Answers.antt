@@ -1,24 +1,35 @@
-use Rattle.std.proofs.Common.{◌≡◌, List, ℕ, true, map, sym, ap, ◌∙◌}
+use Rattle.std.proofs.Common.{◌≡◌, Some, map, sym, ap, subst}
 use Rattle.btree.specs.Scan.{entry_in}
-use Rattle.collections.specs.Reading.{name_of}
 use Rattle.engine.specs.Known.{Known}
-use Rattle.engine.specs.Judging.{TakesDocument, is_numbered, names_of}
-use Rattle.engine.proofs.TakingLemmas.{document_loading}
+use Rattle.engine.specs.Judging.{IsLoadingAs, numbered}
+use Rattle.engine.specs.Loading.{named_as}
+use Rattle.engine.proofs.LoadingLemmas.{document_failed, document_loading, document_taken}
 use Rattle.engine.proofs.loading.take_document.Goals as goal
 
-pub returns-clause-loading : goal.returns-clause-loading
-returns-clause-loading c =
-    let now = c.args.told.now.value.now in
-    let next = c.change.new.self.value.now in
-    let pair = entry_in c.args.entry.now in
-    let named : is_numbered (names_of now) c.args.number ≡ true = ap (λ (ns : List (List ℕ × ℕ)). is_numbered ns c.args.number) (sym c.requires.loading.named) ∙ sym c.if-not-is_numbered.ensures in
-    let takes : TakesDocument now pair next = record {
-      number = c.args.number;
-      document = c.in-Ok.document;
-      least = c.requires.least;
-      fits = c.ranges.number.fits;
-      named = named;
-      is = c.in-Ok.ensures;
-      next_is = ap (λ (k : Known). k.now) c.change.ensures;
-    } in
-    document_loading (map name_of c.args.names.now) now pair next c.requires.loading takes
+pub returns-in-Ok-clause-loading : goal.returns-in-Ok-clause-loading
+returns-in-Ok-clause-loading g c =
+    let number = c.args.number in
+    let names = map named_as c.args.loading.now.names.items in
+    let of = c.in-Some.of.now in
+    let told : numbered number names ≡ Some (named_as of) = subst (λ ns. numbered number (map named_as ns) ≡ Some (named_as of)) c.deref.ensures.value c.in-Some.ensures.some in
+    subst (IsLoadingAs names) (sym (ap (λ (k : Known). k.now) c.change.ensures))
+    (document_loading names c.args.told.now.value.now number (named_as of) (entry_in c.args.entry.now) c.requires told c.in-Ok.document c.in-Ok.ensures.stored)
+
+pub returns-in-Ok-clause-judges : goal.returns-in-Ok-clause-judges
+returns-in-Ok-clause-judges g c =
+    let number = c.args.number in
+    let loading = c.args.loading.now in
+    let names = map named_as loading.names.items in
+    let of = c.in-Some.of.now in
+    let told : numbered number names ≡ Some (named_as of) = subst (λ ns. numbered number (map named_as ns) ≡ Some (named_as of)) c.deref.ensures.value c.in-Some.ensures.some in
+    document_taken names c.args.told.now.value.now number (named_as of) (entry_in c.args.entry.now) c.requires told g.D.Disk.history loading.keys loading.seen c.args.file.now c.judge_document.new.file c.in-Ok.document c.in-Ok.keys c.change.new.self.value.now
+    (ap (λ (k : Known). k.now) c.change.ensures) c.in-Ok.ensures.stored c.in-Ok.ensures.judges
+
+pub returns-in-Err-clause-judges : goal.returns-in-Err-clause-judges
+returns-in-Err-clause-judges g c =
+    let number = c.args.number in
+    let loading = c.args.loading.now in
+    let names = map named_as loading.names.items in
+    let of = c.in-Some.of.now in
+    let told : numbered number names ≡ Some (named_as of) = subst (λ ns. numbered number (map named_as ns) ≡ Some (named_as of)) c.deref.ensures.value c.in-Some.ensures.some in
+    document_failed names c.args.told.now.value.now number (named_as of) (entry_in c.args.entry.now) c.requires told g.D.Disk.history loading.keys loading.seen c.args.file.now c.judge_document.new.file c.in-Err.fault _ c.in-Err.ensures.judges

@@ -1,22 +1,26 @@
-use Rattle.engine.proofs.EntryLoops.{fault_of, refuses_here, refuses_next, takes_next}
+use Rattle.engine.specs.Loading.{progress_of}
+use Rattle.engine.proofs.LoadingLemmas.{entries_end, entries_failed, entries_step}
 use Rattle.engine.proofs.loading.take_entries.Goals as goal
 
-pub returns-in-Err-clause-err : goal.returns-in-Err-clause-err
-returns-in-Err-clause-err c =
-    let entries = c.args.entries.now in
-    let i = c.entries.entry-index in
-    let now = c.entries.told.value.now in
-    fault_of c.in-Err.fault (λ refuses. c.entries.invariant.refuses (refuses_here entries i c.entry-item.result c.entries-test.true c.entry-item.is now refuses)) c.in-Err.ensures.err
+pub returns-in-Err-clause-judges : goal.returns-in-Err-clause-judges
+returns-in-Err-clause-judges g c =
+    let first = progress_of c.args.loading.now c.args.told.now.value.now in
+    let p = progress_of c.entries.loading c.entries.told.value.now in
+    entries_failed g.D.Disk.history c.args.entries.now c.entries.entry-index first p c.args.file.now c.entries.file c.entries.invariant.up_to
+    c.entry-item.result c.entries-test.true c.entry-item.is (progress_of c.take_entry.new.loading c.take_entry.new.told.value.now) c.take_entry.new.file c.in-Err.fault _ c.in-Err.ensures.judges
 
 pub entries-preserved : goal.entries-preserved
-entries-preserved c =
-    let entries = c.args.entries.now in
-    let i = c.entries.entry-index in
-    let x = c.entry-item.result in
-    let now = c.entries.told.value.now in
-    let next = c.take_entry.new.told.value.now in
+entries-preserved g c =
+    let first = progress_of c.args.loading.now c.args.told.now.value.now in
+    let p = progress_of c.entries.loading c.entries.told.value.now in
     record {
       loading = c.in-Ok.ensures.loading;
-      takes = λ last later. c.entries.invariant.takes last (takes_next entries i x c.entries-test.true c.entry-item.is now next last c.in-Ok.ensures.takes later);
-      refuses = λ later. c.entries.invariant.refuses (refuses_next entries i x c.entries-test.true c.entry-item.is now next c.in-Ok.ensures.takes later);
+      up_to = entries_step g.D.Disk.history c.args.entries.now c.entries.entry-index first p c.args.file.now c.entries.file c.entries.invariant.up_to
+          c.entry-item.result c.entries-test.true c.entry-item.is (progress_of c.take_entry.new.loading c.take_entry.new.told.value.now) c.take_entry.new.file c.in-Ok.ensures.judges;
     }
+
+pub returns-clause-judges : goal.returns-clause-judges
+returns-clause-judges g c =
+    let first = progress_of c.args.loading.now c.args.told.now.value.now in
+    let p = progress_of c.entries.loading c.entries.told.value.now in
+    entries_end g.D.Disk.history c.args.entries.now c.entries.entry-index first p c.args.file.now c.entries.file c.entries.invariant.up_to c.entries-test.false

@@ -1,6 +1,6 @@
-use Rattle.collections.specs.Reading.{name_of}
-use Rattle.engine.specs.Judging.{with_name}
+use Rattle.index.specs.State.{put_collection}
+use Rattle.engine.specs.Loading.{named_as}
 use Rattle.engine.proofs.loading.take_name.Given as goal
 
 abbrev pub ghost-change : goal.ghost-change
-ghost-change a = with_name (name_of a.with.now) a.self.now.value.now
+ghost-change a = put_collection (named_as a.with.now) a.self.now.value.now

@@ -4,11 +4,12 @@ use Rattle.commands.specs.Delete.{Delete}
 use Rattle.index.specs.State.{Collection}
 use Rattle.engine.specs.Delete.{run_delete}
 use Rattle.engine.specs.Durable.{file_of}
-use Rattle.engine.specs.Removing.{IsTaken}
+use Rattle.engine.specs.Removing.{IsTaken, deleted}
 use Rattle.engine.specs.View.{world, IsSendable}
 use Rattle.engine.specs.Writing.{planned_or}
 use Rattle.engine.proofs.LookingLemmas.{collections_same, performs_memory, performs_refused, word_before}
-use Rattle.engine.proofs.RemovingLemmas.{count_taken, delete_done, delete_refused, makes_on}
+use Rattle.engine.proofs.MakingLemmas.{makes_behind}
+use Rattle.engine.proofs.RemovingLemmas.{count_taken, delete_done, delete_refused}
 use Rattle.engine.proofs.SpelledSizes.{insert-sendable}
 use Rattle.engine.proofs.TakenLemmas.{nothing_taken}
 use Rattle.engine.proofs.engine.Engine.delete.Goals as goal
@@ -41,7 +42,7 @@ returns-in_err-remove-clause-performs g c =
     let ds = c.args.deletions.now in
     let e = c.in_err-remove.field-0.0 in
     let p = err_from_is_err_and c.from_residual-in_err-remove.result c.from_residual-in_err-remove.ensures.1 in
-    rw (p.1, p.2) (delete_refused g.D.Disk.history name ds old c.remove.new.self e (makes_on g.D.Disk.history name ds old c.taken.new.self c.remove.new.self (Err e) c.in_ok-taken.ensures.reads c.in_err-remove.ensures.makes))
+    rw (p.1, p.2) (delete_refused g.D.Disk.history name ds old c.remove.new.self e (makes_behind g.D.Disk.history (λ cs. Ok (deleted cs name ds)) old c.taken.new.self c.remove.new.self c.in_ok-taken.ensures.reads (Err e) c.in_err-remove.ensures.makes))
 
 pub returns-in_err-remove-clause-has_changes : goal.returns-in_err-remove-clause-has_changes
 returns-in_err-remove-clause-has_changes g c = λ k same. c.in_err-remove.ensures.makes.refused ∙ c.in_ok-taken.ensures.reads.changes
@@ -58,7 +59,7 @@ returns-clause-performs g c =
     let makes = c.in_ok-remove.ensures.makes in
     delete_done history name ds old new c.len.result c.in_ok-reply.reply c.in_ok-reply.ensures
     (λ k. c.len.ensures ∙ taken.removed.ok.0 ∙ count_taken (world old).collections name ds taken (c.in_ok-taken.ensures.answers (word_before history (file_of mid) (file_of new) makes.goes k)))
-    (makes_on history name ds old mid new (Ok tt) c.in_ok-taken.ensures.reads makes)
+    (makes_behind history (λ cs. Ok (deleted cs name ds)) old mid new c.in_ok-taken.ensures.reads (Ok tt) makes)
 
 pub returns-clause-has_changes : goal.returns-clause-has_changes
 returns-clause-has_changes g c = λ k same.
@@ -70,7 +71,7 @@ returns-clause-has_changes g c = λ k same.
     let ds = c.args.deletions.now in
     let now = (world old).collections in
     let reads = c.in_ok-taken.ensures.reads in
-    let makes = makes_on history name ds old mid new (Ok tt) reads c.in_ok-remove.ensures.makes in
+    let makes = makes_behind history (λ cs. Ok (deleted cs name ds)) old mid new reads (Ok tt) c.in_ok-remove.ensures.makes in
     let is = c.in_ok-taken.ensures.answers (word_before history (file_of mid) (file_of new) c.in_ok-remove.ensures.makes.goes k) in
     c.in_ok-remove.ensures.has_changes (is.removed ∙ nothing_taken name ds now (ap (planned_or now) (makes.does k) ∙ same)) ∙ reads.changes
 

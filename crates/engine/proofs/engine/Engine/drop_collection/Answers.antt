@@ -1,43 +1,54 @@
-use Rattle.std.proofs.Common.{sym, subst}
-use Rattle.std.specs.Prelude.{codes}
+use Rattle.std.proofs.Common.{ℕ, ◌+◌, Ok, sym, subst, ap, ◌∙◌}
 use Rattle.std.proofs.lemmas.Result.{err_from_is_err_and}
-use Rattle.bson.specs.Tree.{Pairs, pair, no_pairs}
-use Rattle.engine.specs.DropCollection.{dropped, run_drop}
-use Rattle.engine.specs.Refusals.{int, words}
+use Rattle.engine.specs.DropCollection.{run_drop}
 use Rattle.engine.specs.View.{world, IsSendable}
 use Rattle.engine.proofs.Creating.{dropped_differs}
-use Rattle.engine.proofs.MakingLemmas.{performs_done, performs_none, performs_refused}
-use Rattle.engine.proofs.PlannedLemmas.{run_drops}
+use Rattle.engine.proofs.DroppingLemmas.{drop_behind, drop_done, drop_home, drop_missing, drop_undone}
+use Rattle.engine.proofs.LookingLemmas.{performs_memory, performs_refused}
 use Rattle.engine.proofs.SpelledSizes.{drop-sendable}
 use Rattle.engine.proofs.engine.Engine.drop_collection.Goals as goal
 
+pub returns-in_err-home-clause-performs : goal.returns-in_err-home-clause-performs
+returns-in_err-home-clause-performs g c =
+    let p = err_from_is_err_and c.from_residual.result c.from_residual.ensures.1 in
+    let old = c.args.self.now in
+    rw (p.1, p.2) (performs_refused g.D.Disk.history old c.catalogued.new.self (run_drop (world old) (record { namespace = c.args.namespace.now })) c.in_err-home.field-0.0 c.in_err-home.ensures.looks.reads c.in_err-home.ensures.looks.answers)
+
+pub returns-in_default-clause-performs : goal.returns-in_default-clause-performs
+returns-in_default-clause-performs g c = drop_missing g.D.Disk.history c.args.namespace.now c.args.self.now c.catalogued.new.self (rw c.in_default.is at c.in_ok-home.ensures.looks)
+
 pub returns-in_err-reply-clause-performs : goal.returns-in_err-reply-clause-performs
 returns-in_err-reply-clause-performs g c =
-    let p = err_from_is_err_and c.from_residual.result c.from_residual.ensures.1 in
-    let w = world c.args.self.now in
-    let name = c.args.namespace.now in
-    rw (p.1, p.2) (performs_none g.D.Disk.history no_pairs (dropped w.collections name) (run_drop w (record { namespace = name })) c.args.self.now c.args.self.now c.requires.sound)
+    let p = err_from_is_err_and c.from_residual-in_err-reply.result c.from_residual-in_err-reply.ensures.1 in
+    let old = c.args.self.now in
+    rw p.1 (performs_memory g.D.Disk.history old c.catalogued.new.self (run_drop (world old) (record { namespace = c.args.namespace.now })) p.0 p.2 c.in_ok-home.ensures.looks.reads)
+
+pub remove_collection-requires-clause-sound : goal.remove_collection-requires-clause-sound
+remove_collection-requires-clause-sound g c = c.in_ok-home.ensures.looks.reads.sound
+
+pub remove_collection-requires-clause-home : goal.remove_collection-requires-clause-home
+remove_collection-requires-clause-home g c = drop_home g.D.Disk.history c.args.namespace.now c.args.self.now c.catalogued.new.self c.in-Some.home (rw c.in-Some.is at c.in_ok-home.ensures.looks)
 
 pub returns-in_err-remove_collection-clause-performs : goal.returns-in_err-remove_collection-clause-performs
 returns-in_err-remove_collection-clause-performs g c =
     let p = err_from_is_err_and c.from_residual-in_err-remove_collection.result c.from_residual-in_err-remove_collection.ensures.1 in
-    let w = world c.args.self.now in
-    let name = c.args.namespace.now in
-    let reply : Pairs = pair (codes "nIndexesWas") (int 1) (pair (codes "ns") (words name) no_pairs) in
-    rw (p.1, p.2) (performs_refused g.D.Disk.history reply (dropped w.collections name) (run_drop w (record { namespace = name })) c.args.self.now c.remove_collection.new.self
-    (run_drops w name) c.in_err-remove_collection.field-0.0 c.in_err-remove_collection.ensures)
+    rw (p.1, p.2) (drop_undone g.D.Disk.history c.args.namespace.now c.args.self.now c.catalogued.new.self c.in-Some.home (rw c.in-Some.is at c.in_ok-home.ensures.looks) c.remove_collection.new.self
+    c.in_err-remove_collection.field-0.0 c.in_err-remove_collection.ensures)
+
+pub returns-in_err-remove_collection-clause-has_changes : goal.returns-in_err-remove_collection-clause-has_changes
+returns-in_err-remove_collection-clause-has_changes g c = λ k same. c.in_err-remove_collection.ensures.refused ∙ c.in_ok-home.ensures.looks.reads.changes
 
 pub returns-clause-performs : goal.returns-clause-performs
 returns-clause-performs g c =
-    let w = world c.args.self.now in
-    let name = c.args.namespace.now in
-    let reply : Pairs = pair (codes "nIndexesWas") (int 1) (pair (codes "ns") (words name) no_pairs) in
-    performs_done g.D.Disk.history reply (dropped w.collections name) (run_drop w (record { namespace = name })) c.args.self.now c.remove_collection.new.self
-    (run_drops w name) c.in_ok-reply.reply c.in_ok-reply.ensures c.in_ok-remove_collection.ensures
+    let home = c.in-Some.home in
+    let many = ap (λ (n : ℕ). 1 + n) (c.len.ensures ∙ home.indexes.ok.0) in
+    drop_done g.D.Disk.history c.args.namespace.now c.args.self.now c.catalogued.new.self home (rw c.in-Some.is at c.in_ok-home.ensures.looks) c.remove_collection.new.self
+    (1 + c.len.result) c.in_ok-reply.reply c.in_ok-reply.ensures many c.in_ok-remove_collection.ensures
 
 pub returns-clause-has_changes : goal.returns-clause-has_changes
 returns-clause-has_changes g c = λ k same.
-    absurd (dropped_differs (world c.args.self.now).collections c.args.namespace.now (world c.remove_collection.new.self).collections (c.in_ok-remove_collection.ensures.does k) same)
+    let makes = drop_behind g.D.Disk.history c.args.namespace.now c.args.self.now c.catalogued.new.self c.in-Some.home (rw c.in-Some.is at c.in_ok-home.ensures.looks) c.remove_collection.new.self (Ok tt) c.in_ok-remove_collection.ensures in
+    absurd (dropped_differs (world c.args.self.now).collections c.args.namespace.now (world c.remove_collection.new.self).collections (makes.does k) same)
 
 pub returns-clause-sendable : goal.returns-clause-sendable
-returns-clause-sendable g c = subst IsSendable (sym c.in_ok-reply.ensures) (drop-sendable c.args.namespace.now c.requires.short)
+returns-clause-sendable g c = subst IsSendable (sym c.in_ok-reply.ensures) (drop-sendable (1 + c.len.result) c.args.namespace.now c.requires.short)

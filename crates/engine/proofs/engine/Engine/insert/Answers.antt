@@ -8,6 +8,7 @@ use Rattle.engine.specs.Insert.{inserted, run_insert}
 use Rattle.engine.specs.Refusals.{int, ok_reply}
 use Rattle.engine.specs.View.{world, IsSendable}
 use Rattle.engine.proofs.Growing.{inserted_differs}
+use Rattle.engine.proofs.KeptLemmas.{stored_at}
 use Rattle.engine.proofs.MakingLemmas.{performs_done, performs_none, performs_refused}
 use Rattle.engine.proofs.PlannedLemmas.{run_inserts}
 use Rattle.engine.proofs.SpelledSizes.{insert-sendable}
@@ -44,7 +45,8 @@ pub returns-clause-has_changes : goal.returns-clause-has_changes
 returns-clause-has_changes g c = λ k same.
     let ds = documents_at c.args.documents.now in
     let some : 1 ≤ length ds = omega (arith, c.requires.some, length-map c.args.documents.now (λ d. d.now)) in
-    absurd (inserted_differs (world c.args.self.now).collections c.args.namespace.now ds (world c.store.new.self).collections some (c.in_ok-store.ensures.does k) same)
+    absurd (inserted_differs (world c.args.self.now).collections c.args.namespace.now ds (world c.store.new.self).collections some
+    (stored_at (world c.args.self.now).collections c.args.namespace.now c.requires.sound.lawful.kept).0 (c.in_ok-store.ensures.does k) same)
 
 pub returns-clause-sendable : goal.returns-clause-sendable
 returns-clause-sendable g c = subst IsSendable (sym c.in_ok-reply.ensures) (insert-sendable (length c.args.documents.now))

@@ -1,16 +1,16 @@
-use Rattle.std.proofs.Common.{inl, inr, List, [], refl, rules, sym, subst, ◌∙◌}
+use Rattle.std.proofs.Common.{inl, inr, List, [], map, refl, rules, sym, subst, ◌∙◌}
 use Rattle.std.specs.Prelude.{All, Ok}
+use Rattle.std.proofs.lemmas.List.{map-id}
 use Rattle.std.proofs.lemmas.Result.{err_from_is_err_and}
 use Rattle.btree.specs.Keys.{Edit}
 use Rattle.bson.specs.Tree.{Pairs}
-use Rattle.index.specs.LawfulState.{IsStorable}
-use Rattle.engine.specs.Dropping.{Removes}
 use Rattle.engine.specs.Removing.{deleted}
+use Rattle.engine.specs.TakingOut.{IsIndexable, TakesOut}
 use Rattle.engine.specs.View.{world}
 use Rattle.engine.proofs.Deleting.{deleted_lawful}
-use Rattle.engine.proofs.MakingLemmas.{makes_none, unindexed_now}
+use Rattle.engine.proofs.MakingLemmas.{lawful_now, makes_none}
 use Rattle.engine.proofs.OnlyReading.{reads_none}
-use Rattle.engine.proofs.RemovingLemmas.{remove_stopped, removes_nothing, removes_written, removal_leads, taken_storable}
+use Rattle.engine.proofs.RemovingLemmas.{remove_stopped, removes_nothing, removes_written, removal_leads, taken_indexable}
 use Rattle.engine.proofs.WalkingLemmas.{none_there, some_there}
 use Rattle.engine.proofs.engine.Engine.remove.Goals as goal
 
@@ -30,10 +30,12 @@ returns-in_err-note_removed-clause-makes g c =
     let now = (world c.args.self.now).collections in
     let name = c.args.namespace.now in
     let ds = c.args.deletions.now in
+    let taken = c.args.taken.now in
     rw (p.1, p.2) (makes_none g.D.Disk.history (Ok (deleted now name ds)) c.args.self.now c.args.self.now c.in_err-note_removed.field-0.0 (reads_none g.D.Disk.history c.args.self.now c.requires.sound)
     (λ k.
-    let un = unindexed_now g.D.Disk.history c.args.self.now c.requires.sound k (sym c.is_stopped.ensures ∙ c.if-is_stopped.false) in
-    let kept = subst (All IsStorable) (sym c.deref.ensures.value) (taken_storable now name ds c.args.taken.now (c.requires.taken k) un) in
+    let state = lawful_now g.D.Disk.history c.args.self.now c.requires.sound k (sym c.is_stopped.ensures ∙ c.if-is_stopped.false) in
+    let lent = map-id c.deref.result.now ∙ c.deref.ensures.value in
+    let kept = subst (All (IsIndexable taken.home.indexes.items)) (sym lent) (taken_indexable now name ds taken (c.requires.taken k) state) in
     inr (inl (c.in_err-note_removed.ensures kept))))
 
 pub write-requires : goal.write-requires
@@ -44,8 +46,12 @@ write-requires g c κs within =
     let taken = c.args.taken.now in
     let some = some_there taken.removed (sym c.is_empty.ensures ∙ c.if-is_empty.false) in
     let edits = c.note_removed.new.edits in
-    let from_none : Removes taken.number c.deref.result.now (Ok tt) [] edits = subst (λ (es : List Edit). Removes taken.number c.deref.result.now (Ok tt) es edits) c.new-edits.ensures c.in_ok-note_removed.ensures in
-    let removes : Removes taken.number taken.removed.items (Ok tt) [] edits = subst (λ (ds : List Pairs). Removes taken.number ds (Ok tt) [] edits) c.deref.ensures.value from_none in (
+    let number = taken.home.number in
+    let indexes = taken.home.indexes.items in
+    let lent = map-id c.deref.result.now ∙ c.deref.ensures.value in
+    let takes : TakesOut [] edits number indexes taken.removed.items =
+    subst (λ (ds : List Pairs). TakesOut [] edits number indexes ds) lent
+    (subst (λ (es : List Edit). TakesOut es edits number indexes (map (λ (d : Pairs). d) c.deref.result.now)) c.new-edits.ensures c.in_ok-note_removed.ensures) in (
       search rules,
       (
         search rules,
@@ -53,7 +59,9 @@ write-requires g c κs within =
           c.requires.sound,
           (
             deleted_lawful now name ds c.requires.sound.lawful,
-            λ k running. removal_leads now name ds taken (c.requires.taken k) edits some (unindexed_now g.D.Disk.history c.args.self.now c.requires.sound k running) removes,
+            λ k running.
+                let state = lawful_now g.D.Disk.history c.args.self.now c.requires.sound k running in
+                removal_leads now name ds taken (c.requires.taken k) edits some state takes,
           ),
         ),
       ),

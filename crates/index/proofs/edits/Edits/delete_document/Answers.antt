@@ -1,4 +1,4 @@
-use Rattle.std.proofs.Common.{ℕ, ◌≤◌, List, length, sym, ap, subst, ◌∙◌}
+use Rattle.std.proofs.Common.{List, ap, subst, ◌∙◌}
 use Rattle.btree.specs.Keys.{Edit}
 use Rattle.index.specs.Indexed.{with_edits, NotesSome}
 use Rattle.index.specs.StateEntries.{document_entry, document_entries, removal_of, removals}
@@ -9,13 +9,13 @@ use Rattle.index.proofs.edits.Edits.delete_document.Goals as goal
 
 pub remove_in_indexes-requires : goal.remove_in_indexes-requires
 remove_in_indexes-requires c = record {
-  id = subst (λ (text : List ℕ). length text ≤ 500) (sym c.requires.text) c.requires.storable.short;
+  id = c.requires.short;
   one_each = one_each c.args.indexes.now c.args.document.now c.args.keys.now c.requires.keyed;
   keys = all_short c.args.indexes.now c.args.document.now c.args.keys.now c.requires.keyed;
 }
 
 pub remove_document-requires : goal.remove_document-requires
-remove_document-requires c = record { short = subst (λ (text : List ℕ). length text ≤ 500) (sym c.requires.text) c.requires.storable.short }
+remove_document-requires c = record { short = c.requires.short }
 
 pub returns-in_err-remove_document-clause-err : goal.returns-in_err-remove_document-clause-err
 returns-in_err-remove_document-clause-err c =

@@ -1,4 +1,4 @@
-use Rattle.std.proofs.Common.{ℕ, ◌≤◌, List, length, sym, ap, subst, ◌∙◌}
+use Rattle.std.proofs.Common.{List, ap, subst, ◌∙◌}
 use Rattle.btree.specs.Keys.{Entry, Edit}
 use Rattle.index.specs.Indexed.{with_edits, NotesSome}
 use Rattle.index.specs.StateEntries.{index_entries, removals}
@@ -11,7 +11,7 @@ use Rattle.index.proofs.edits.Edits.remove_entries.Goals as goal
 
 pub remove_keys-requires : goal.remove_keys-requires
 remove_keys-requires c = record {
-  id = subst (λ (text : List ℕ). length text ≤ 500) (sym c.requires.text) c.requires.storable.short;
+  id = c.requires.short;
   keys = short_keys c.args.index.now.fields c.args.document.now c.args.keys.now c.requires.keyed;
 }
 

@@ -1,11 +1,12 @@
 use Rattle.std.proofs.Common.{◌≡◌, ℕ, ◌≤◌, List, ◌∷◌, map, length, refl, sym, ap, subst, ◌∙◌}
 use Rattle.std.specs.List.{flat_map}
+use Rattle.value_order.specs.KeyText.{tree_text}
 use Rattle.btree.specs.Keys.{Entry, Edit}
 use Rattle.index.specs.Indexed.{with_edits, NotesSome, replacing_in, without_all}
+use Rattle.index.specs.State.{key_of}
 use Rattle.index.specs.StateEntries.{document_entry, put_of, puts, removals}
 use Rattle.index.specs.StateLaws.{own_entries}
 use Rattle.index.specs.declared.changes.KeyChanges.{KeyChanges}
-use Rattle.index.proofs.EntryLemmas.{same_text}
 use Rattle.index.proofs.LoopLemmas.{on_err, if_err}
 use Rattle.index.proofs.NotingLemmas.{on_ok}
 use Rattle.index.proofs.IndexedLaws.{key_lists, one_each, nothing_noted, behind_first}
@@ -47,7 +48,7 @@ put_changes-requires c =
 
 pub returns-in_err-changes-clause-err : goal.returns-in_err-changes-clause-err
 returns-in_err-changes-clause-err c =
-    on_err c.from_residual.result (nothing_noted c.args.self.now (replacing_in c.args.number c.args.indexes.now c.args.old.now c.args.document.now) c.args.self.now refl)
+    on_err c.from_residual.result (λ same. nothing_noted c.args.self.now (replacing_in c.args.number c.args.indexes.now c.args.old.now c.args.document.now) c.args.self.now refl)
 
 pub returns-in_err-remove_changes-clause-err : goal.returns-in_err-remove_changes-clause-err
 returns-in_err-remove_changes-clause-err c =
@@ -56,11 +57,11 @@ returns-in_err-remove_changes-clause-err c =
     let was = c.args.old.now in
     let d = c.args.document.now in
     let told : map lost c.deref.result.now ≡ without_all (key_lists c.args.old_keys.now) (key_lists c.args.keys.now) = ap (map lost) c.deref.ensures.value ∙ c.in_ok-changes.ensures.removed in
-    let gone = own_are n c.args.id.now is was d c.args.old_keys.now c.args.keys.now (map lost c.deref.result.now) c.requires.old_keyed c.requires.keyed
-    (c.requires.text ∙ sym (same_text was d c.requires.old_storable c.requires.storable c.requires.same)) told in
+    let gone = λ (same : tree_text (key_of was) ≡ tree_text (key_of d)). own_are n c.args.id.now is was d c.args.old_keys.now c.args.keys.now (map lost c.deref.result.now) c.requires.old_keyed c.requires.keyed
+    (c.requires.text ∙ sym same) told in
     on_err c.from_residual-in_err-remove_changes.result
-    (some_of_first c.args.self.now (removals (flat_map (own_entries n was d) is)) (puts (document_entry n d ∷ flat_map (own_entries n d was) is)) c.remove_changes.new.self
-    (subst (λ (es : List Edit). NotesSome c.args.self.now es c.remove_changes.new.self) (ap removals gone) c.in_err-remove_changes.ensures.err))
+    (λ same. some_of_first c.args.self.now (removals (flat_map (own_entries n was d) is)) (puts (document_entry n d ∷ flat_map (own_entries n d was) is)) c.remove_changes.new.self
+    (subst (λ (es : List Edit). NotesSome c.args.self.now es c.remove_changes.new.self) (ap removals (gone same)) c.in_err-remove_changes.ensures.err))
 
 pub returns-in_err-put_document-clause-err : goal.returns-in_err-put_document-clause-err
 returns-in_err-put_document-clause-err c =
@@ -70,11 +71,11 @@ returns-in_err-put_document-clause-err c =
     let d = c.args.document.now in
     let rest = puts (document_entry n d ∷ flat_map (own_entries n d was) is) in
     let told : map lost c.deref.result.now ≡ without_all (key_lists c.args.old_keys.now) (key_lists c.args.keys.now) = ap (map lost) c.deref.ensures.value ∙ c.in_ok-changes.ensures.removed in
-    let gone = own_are n c.args.id.now is was d c.args.old_keys.now c.args.keys.now (map lost c.deref.result.now) c.requires.old_keyed c.requires.keyed
-    (c.requires.text ∙ sym (same_text was d c.requires.old_storable c.requires.storable c.requires.same)) told in
+    let gone = λ (same : tree_text (key_of was) ≡ tree_text (key_of d)). own_are n c.args.id.now is was d c.args.old_keys.now c.args.keys.now (map lost c.deref.result.now) c.requires.old_keyed c.requires.keyed
+    (c.requires.text ∙ sym same) told in
     on_err c.from_residual-in_err-put_document.result
-    (some_behind c.args.self.now (removals (flat_map (own_entries n was d) is)) rest c.remove_changes.new.self c.put_document.new.self
-    (c.in_ok-remove_changes.ensures.ok ∙ ap (λ (xs : List Entry). with_edits (removals xs) c.args.self.now) gone)
+    (λ same. some_behind c.args.self.now (removals (flat_map (own_entries n was d) is)) rest c.remove_changes.new.self c.put_document.new.self
+    (c.in_ok-remove_changes.ensures.ok ∙ ap (λ (xs : List Entry). with_edits (removals xs) c.args.self.now) (gone same))
     (nothing_noted c.remove_changes.new.self rest c.put_document.new.self c.in_err-put_document.ensures.err))
 
 pub returns-clause-ok : goal.returns-clause-ok
@@ -84,13 +85,13 @@ returns-clause-ok c =
     let was = c.args.old.now in
     let d = c.args.document.now in
     let told : map lost c.deref.result.now ≡ without_all (key_lists c.args.old_keys.now) (key_lists c.args.keys.now) = ap (map lost) c.deref.ensures.value ∙ c.in_ok-changes.ensures.removed in
-    let gone = own_are n c.args.id.now is was d c.args.old_keys.now c.args.keys.now (map lost c.deref.result.now) c.requires.old_keyed c.requires.keyed
-    (c.requires.text ∙ sym (same_text was d c.requires.old_storable c.requires.storable c.requires.same)) told in
+    let gone = λ (same : tree_text (key_of was) ≡ tree_text (key_of d)). own_are n c.args.id.now is was d c.args.old_keys.now c.args.keys.now (map lost c.deref.result.now) c.requires.old_keyed c.requires.keyed
+    (c.requires.text ∙ sym same) told in
     let told_new : map gained c.deref-2.result.now ≡ without_all (key_lists c.args.keys.now) (key_lists c.args.old_keys.now) = ap (map gained) c.deref-2.ensures.value ∙ c.in_ok-changes.ensures.added in
     let come = own_are n c.args.id.now is d was c.args.keys.now c.args.old_keys.now (map gained c.deref-2.result.now) c.requires.keyed c.requires.old_keyed c.requires.text told_new in
     on_ok c.put_changes.result
-    (λ made. all_behind c.args.self.now (removals (flat_map (own_entries n was d) is)) (puts (document_entry n d ∷ flat_map (own_entries n d was) is)) c.remove_changes.new.self c.put_changes.new.self
-    (c.in_ok-remove_changes.ensures.ok ∙ ap (λ (xs : List Entry). with_edits (removals xs) c.args.self.now) gone)
+    (λ made same. all_behind c.args.self.now (removals (flat_map (own_entries n was d) is)) (puts (document_entry n d ∷ flat_map (own_entries n d was) is)) c.remove_changes.new.self c.put_changes.new.self
+    (c.in_ok-remove_changes.ensures.ok ∙ ap (λ (xs : List Entry). with_edits (removals xs) c.args.self.now) (gone same))
     (made ∙ (λ t. with_edits (puts (come t)) (c.in_ok-put_document.ensures.ok t))))
     c.put_changes.ensures.ok
 
@@ -101,13 +102,13 @@ returns-clause-err c =
     let was = c.args.old.now in
     let d = c.args.document.now in
     let told : map lost c.deref.result.now ≡ without_all (key_lists c.args.old_keys.now) (key_lists c.args.keys.now) = ap (map lost) c.deref.ensures.value ∙ c.in_ok-changes.ensures.removed in
-    let gone = own_are n c.args.id.now is was d c.args.old_keys.now c.args.keys.now (map lost c.deref.result.now) c.requires.old_keyed c.requires.keyed
-    (c.requires.text ∙ sym (same_text was d c.requires.old_storable c.requires.storable c.requires.same)) told in
+    let gone = λ (same : tree_text (key_of was) ≡ tree_text (key_of d)). own_are n c.args.id.now is was d c.args.old_keys.now c.args.keys.now (map lost c.deref.result.now) c.requires.old_keyed c.requires.keyed
+    (c.requires.text ∙ sym same) told in
     let told_new : map gained c.deref-2.result.now ≡ without_all (key_lists c.args.keys.now) (key_lists c.args.old_keys.now) = ap (map gained) c.deref-2.ensures.value ∙ c.in_ok-changes.ensures.added in
     let come = own_are n c.args.id.now is d was c.args.keys.now c.args.old_keys.now (map gained c.deref-2.result.now) c.requires.keyed c.requires.old_keyed c.requires.text told_new in
     if_err c.put_changes.result
-    (λ some. some_behind c.args.self.now (removals (flat_map (own_entries n was d) is)) (puts (document_entry n d ∷ flat_map (own_entries n d was) is)) c.remove_changes.new.self c.put_changes.new.self
-    (c.in_ok-remove_changes.ensures.ok ∙ ap (λ (xs : List Entry). with_edits (removals xs) c.args.self.now) gone)
+    (λ some same. some_behind c.args.self.now (removals (flat_map (own_entries n was d) is)) (puts (document_entry n d ∷ flat_map (own_entries n d was) is)) c.remove_changes.new.self c.put_changes.new.self
+    (c.in_ok-remove_changes.ensures.ok ∙ ap (λ (xs : List Entry). with_edits (removals xs) c.args.self.now) (gone same))
     (behind_first (put_of (document_entry n d)) c.remove_changes.new.self (puts (flat_map (own_entries n d was) is)) c.put_document.new.self c.put_changes.new.self c.in_ok-put_document.ensures.ok
     (subst (λ (es : List Edit). NotesSome c.put_document.new.self es c.put_changes.new.self) (ap puts come) some)))
     c.put_changes.ensures.err

@@ -1,0 +1,34 @@
+-- Causes of refusals between two moments are causes between earlier and later ones.
+use Rattle.std.proofs.Common.{inl, inr, List, sym, ◌∙◌, arith}
+use Rattle.page.specs.History.{History, KeepsWord}
+use Rattle.btree.specs.Store.{HasNoPage}
+use Rattle.path.specs.declared.refusal.Refusal.{Refusal}
+
+use Rattle.index.specs.State.{Collection}
+use Rattle.collections.specs.Calls.{GoesFrom, HasCause, HasFailed, HasWriteCause}
+use Rattle.collections.specs.State.{State}
+use Rattle.collections.specs.View.{disk_history, pages_of}
+use Rattle.collections.proofs.StandingLemmas.{stopped_same}
+
+module _ {D : Type 0} (history : D → History) where
+  -- the disk kept its word before
+  pub word_before : (a b : State D) → GoesFrom history a b → KeepsWord (disk_history history b) → KeepsWord (disk_history history a)
+  word_before a b goes k = (goes.frame k).word
+
+  module _ (a b c : State D) (goes : GoesFrom history a b) (k : KeepsWord (disk_history history b)) where
+    failed_from : HasFailed history b c → HasFailed history a c
+    failed_from (inl stopped) = inl (sym (stopped_same history a.pager b.pager goes.stays) ∙ stopped)
+    failed_from (inr more) = inr (omega (arith, more, (goes.frame k).failures))
+
+    full_from : HasNoPage (pages_of history b) (pages_of history c) → HasNoPage (pages_of history a) (pages_of history c)
+    full_from (inl more) = inl (omega (arith, more, (goes.frame k).full_takes))
+    full_from (inr most) = inr most
+
+    pub cause_from : (e : Refusal) → HasCause history b c e → HasCause history a c e
+    cause_from e (inl memory) = inl memory
+    cause_from e (inr (inl (is, failed))) = inr (inl (is, failed_from failed))
+    cause_from e (inr (inr (is, full))) = inr (inr (is, full_from full))
+
+    pub write_cause_from : (after : List Collection) (e : Refusal) → HasWriteCause history after b c e → HasWriteCause history after a c e
+    write_cause_from after e (inl cause) = inl (cause_from e cause)
+    write_cause_from after e (inr large) = inr large

@@ -1,0 +1,28 @@
+use Rattle.std.proofs.Common.{refl, subst, sym, Ok, Err}
+use Rattle.std.specs.Prelude.{Result, Option, ℕ}
+use Rattle.std.specs.Global.{Vec}
+use Rattle.path.specs.declared.refusal.Refusal.{Refusal}
+use Rattle.collections.specs.Entries.{ReadsTree}
+use Rattle.collections.specs.Reading.{IsValueAt}
+use Rattle.collections.specs.State.{State}
+use Rattle.collections.proofs.EntryLemmas.{tree_there}
+use Rattle.collections.proofs.collections.Collections.tree_value.Goals as goal
+use Rattle.collections.proofs.collections.Collections.tree_value.Goals.{in-Ok, in-Err}
+
+pub returns : goal.returns
+returns g c =
+    let D = g.row.D.Denot in
+    let history = g.D.Disk.history in
+    let i = c.self.inside in
+    let pager = c.value_below.new.pager in
+    let old : State D = record { pager = i.pager; root = i.root } in
+    let new : State D = record { pager = pager; root = i.root } in
+    let right = IsValueAt c.args.key.now in
+    elim c.match-value_below.branch [
+      | in-Ok w ↦ subst (λ (r : Result (Option (Vec ℕ)) Refusal). ReadsTree history right r c.args.self.now new) (sym w.result-is)
+          (subst (λ (s : State D). ReadsTree history right (Ok w.in-Ok.found) s new) c.self.view_is
+          (tree_there history right right old pager c.value_below.result c.value_below.ensures (λ entries batch rise holds. holds) (Ok w.in-Ok.found) (rw w.in-Ok.is refl)))
+      | in-Err w ↦ subst (λ (r : Result (Option (Vec ℕ)) Refusal). ReadsTree history right r c.args.self.now new) (sym w.result-is)
+          (subst (λ (s : State D). ReadsTree history right (Err w.refusal_of.result) s new) c.self.view_is
+          (tree_there history right right old pager c.value_below.result c.value_below.ensures (λ entries batch rise holds. holds) (Err w.refusal_of.result) (rw w.in-Err.is w.refusal_of.ensures)))
+    ]

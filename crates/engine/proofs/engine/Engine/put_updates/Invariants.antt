@@ -1,6 +1,0 @@
-use Rattle.engine.specs.Putting.{updated}
-use Rattle.engine.specs.Writing.{planned_or}
-use Rattle.engine.proofs.engine.Engine.put_updates.Given as goal
-
-abbrev pub ghost-write : goal.ghost-write
-ghost-write g a = let now = a.self.now.told.value.now in planned_or now (updated a.with.now.0.now a.with.now.1.now now)

@@ -1,0 +1,126 @@
+//! Documents that commands write enter their collection, as edits of the file.
+
+ghost use Rattle.std.specs.Prelude.{◌≡◌, ◌≤◌, [], IfOk, length, option_map};
+ghost use Rattle.collections.specs.Reading.{IsWithinLimits};
+ghost use Rattle.index.specs.Entering.{AreKeyed};
+ghost use Rattle.engine.specs.Durable.{IsSound};
+ghost use Rattle.engine.specs.Looking.{LooksOf};
+ghost use Rattle.engine.specs.Storing.{AreNoted, IsBeside, IsFull, MayEnter, Notes, TellsDuplicate, TellsTaken, entering};
+ghost use Rattle.engine.specs.Trying.{Tries};
+ghost use Rattle.engine.specs.Updating.{MayBePut};
+ghost use Rattle.engine.specs.View.{world};
+ghost use Rattle.engine.specs.World.{collection_of};
+
+use crate::documents::id_text;
+use crate::engine::Engine;
+use bson::Document;
+use index::{Catalogued, Edits, Keyed};
+use page::Disk;
+use path::Refusal;
+
+impl<D: Disk> Engine<D> {
+    /// The collection of a name, as the catalogue has it. Where it is missing, the edits make it; `TooMany` where it would be
+    /// one too many.
+    pub(crate) fn target(
+        &mut self,
+        edits: &mut Edits,
+        namespace: &str,
+    ) -> Result<Catalogued, Refusal>
+        requires none { edits.old ≡ [] }
+        requires short { length namespace.now ≤ 255 }
+        requires sound { IsSound D.history self.old }
+        ensures tries { Tries D.history
+            (λ home. AreNoted (world self.old).collections namespace.now home edits.new
+            (collection_of (world self.old).collections namespace.now))
+            (IsFull (world self.old).collections namespace.now)
+            result self.old self.new }
+        ensures limits { IfOk result IsWithinLimits }
+    {
+        if let Some(home) = self.catalogued(namespace)? {
+            return Ok(home);
+        }
+        let number = self.new_number()?;
+        edits.put_collection(namespace, number)?;
+        Ok(Catalogued {
+            number,
+            indexes: Vec::new(self.alloc),
+        })
+    }
+
+    /// Whether a document may not enter: its `_id` is there, if it is to be new, or one of its keys in a unique index.
+    fn is_duplicate(
+        &mut self,
+        edits: &Edits,
+        home: &Catalogued,
+        id: &[u8],
+        keyed: &Keyed<'_>,
+        is_new: bool,
+    ) -> Result<bool, Refusal>
+        requires sound { IsSound D.history self.old }
+        requires keyed { AreKeyed home.now.indexes.items keyed.now }
+        ensures { LooksOf D.history (IsBeside home.now edits.now id.now keyed.now)
+            (TellsDuplicate is_new keyed.now) result self.old self.new }
+    {
+        if !is_new {
+            return self.is_taken(edits, home, id, keyed);
+        }
+        if self.file.has_noted(edits, home.number, id)? {
+            return Ok(true);
+        }
+        self.is_taken(edits, home, id, keyed)
+    }
+
+    /// Whether another document has one of its keys in a unique index.
+    fn is_taken(
+        &mut self,
+        edits: &Edits,
+        home: &Catalogued,
+        id: &[u8],
+        keyed: &Keyed<'_>,
+    ) -> Result<bool, Refusal>
+        requires sound { IsSound D.history self.old }
+        requires keyed { AreKeyed home.now.indexes.items keyed.now }
+        ensures { LooksOf D.history (IsBeside home.now edits.now id.now keyed.now)
+            (TellsTaken keyed.now) result self.old self.new }
+    {
+        self.file
+            .is_taken(edits, home.number, &home.indexes, &keyed.keys, id)
+    }
+
+    /// Notes that a document is written to the collection of a name, in place of the one that is passed, or as a new one, with
+    /// its entries in the indexes.
+    ///
+    /// The first of these refusals: `KeyTooLong`, `CannotIndexParallelArrays`, each in any of the indexes, `DuplicateKey` where
+    /// it is new and its `_id` is there, or where another document has one of its keys in a unique index.
+    pub(crate) fn enter(
+        &mut self,
+        edits: &mut Edits,
+        namespace: &str,
+        home: &mut Catalogued,
+        replaced: Option<&Document>,
+        document: &Document,
+    ) -> Result<(), Refusal>
+        requires sound { IsSound D.history self.old }
+        requires short { length namespace.now ≤ 255 }
+        requires limits { IsWithinLimits home.old }
+        requires puttable { MayBePut document.now }
+        ensures notes { Notes D.history namespace.now
+            (MayEnter (option_map (λ d. d.now) replaced.entry) document.now)
+            (entering (option_map (λ d. d.now) replaced.entry) document.now)
+            home.old home.new edits.old edits.new result self.old self.new }
+        ensures limits { IsWithinLimits home.new }
+    {
+        let id = id_text(self.alloc, document)?;
+        let keyed = Keyed::new(self.alloc, &home.indexes, document)?;
+        if self.is_duplicate(edits, home, &id, &keyed, replaced.is_none())? {
+            return Err(Refusal::DuplicateKey);
+        }
+        match replaced {
+            None => Ok(edits.enter_document(namespace, home, &id, None, &keyed)?),
+            Some(old) => {
+                let old = Keyed::new(self.alloc, &home.indexes, old)?;
+                Ok(edits.enter_document(namespace, home, &id, Some(&old), &keyed)?)
+            }
+        }
+    }
+}
