@@ -32,7 +32,9 @@ fn is_empty_at(found: &Option<Vec<u8>>) -> bool
 fn any_other(entries: &[Entry], front: &[u8], id: &[u8]) -> bool
     ensures { result ≡ list_any (λ x. is_another front.now id.now (entry_in x).key) entries.now }
 {
-    entries.iter().any(|entry| is_another(&entry.key, front, id))
+    entries
+        .iter()
+        .any(|entry| is_another(&entry.key, front, id))
 }
 
 impl<D: Disk> Collections<D> {
@@ -63,13 +65,7 @@ impl<D: Disk> Collections<D> {
     }
 
     /// Whether an index has the entry of an encoded key and the `_id` of this text.
-    fn has_entry(
-        &mut self,
-        number: u32,
-        index: u32,
-        key: &[u8],
-        id: &[u8],
-    ) -> Result<bool, Refusal>
+    fn has_entry(&mut self, number: u32, index: u32, key: &[u8], id: &[u8]) -> Result<bool, Refusal>
         ensures { ReadsTree D.history
             (λ entries found. found ≡ has_entry number index key.now id.now entries)
             result self.old self.new }

@@ -4,8 +4,8 @@
 
 mod applying;
 mod collections;
-pub mod laws;
 mod index_checks;
+pub mod laws;
 mod mark;
 mod other_keys;
 mod reading;

@@ -37,12 +37,7 @@ fn tells_another(entries: &[Entry], edits: &Edits, front: &[u8], id: &[u8]) -> b
 
 impl<D: Disk> Collections<D> {
     /// Whether there is a document of the `_id` of this text in the collection of a number, once the edits are put into the tree.
-    pub fn has_noted(
-        &mut self,
-        edits: &Edits,
-        number: u32,
-        id: &[u8],
-    ) -> Result<bool, Refusal>
+    pub fn has_noted(&mut self, edits: &Edits, number: u32, id: &[u8]) -> Result<bool, Refusal>
         ensures { Reads D.history (TellsDocument edits.now number id.now)
             result self.old self.new }
     {

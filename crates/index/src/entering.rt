@@ -50,9 +50,7 @@ impl<'a> Keyed<'a> {
 fn become_multikey(indexes: &[IndexSpec], document: &Document) -> bool
     ensures { result ≡ list_any (becomes_multikey document.now) indexes.now }
 {
-    indexes
-        .iter()
-        .any(|index| !index.is_multi() && index.is_multikey_with(document))
+    indexes.iter().any(|index| !index.is_multi() && index.is_multikey_with(document))
 }
 
 /// Notes of each of these indexes whether it is multikey with a document.
