@@ -9,8 +9,8 @@ ghost use Rattle.commands.specs.NewIndex.{defined, IsIndexName, IsNewIndex, dire
 
 use crate::fields::{Fields, read_fields};
 use crate::values::{bool_in, document_in, text_in};
-use bson::{Document, Text, Value};
-use index::{IndexField, IndexSpec};
+use bson::{Document, NoMemory, Text, Value};
+use index::{IndexField, IndexSpec, copy_fields};
 use path::Refusal;
 use std::alloc::Global;
 use std::marker::Model;
@@ -76,12 +76,14 @@ impl NewIndex {
     }
 
     /// The index that it becomes under a number.
-    pub fn into_spec(self, number: u32) -> IndexSpec
+    pub fn spec(&self, number: u32) -> Result<IndexSpec, NoMemory>
         requires some { 1 ≤ number }
         requires most { number ≤ 16 }
-        ensures { result ≡ defined number self }
+        ensures { IfOk result (λ spec. spec ≡ defined number self.now) }
     {
-        IndexSpec::new(number, self.name, self.fields, self.is_unique)
+        let name = self.name.copy()?;
+        let fields = copy_fields(*self.fields.allocator(), &self.fields)?;
+        Ok(IndexSpec::new(number, name, fields, self.is_unique))
     }
 }
 

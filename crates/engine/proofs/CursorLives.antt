@@ -1,6 +1,6 @@
 -- A cursor gives its documents batch after batch, whatever comes between.
 use Rattle.std.proofs.Common.{◌≡◌, ⊎_elim, inl, inr, ℕ, zero, suc, ◌+◌, ◌<◌, Bool, true, false, List, [], ◌∷◌, ◌++◌, length, get_or, set, remove, take, drop, map, Option, Some, None, Result, Ok, Err, refl, sym, ap, ◌∙◌, arith, append_assoc}
-use Rattle.std.specs.Prelude.{◌==◌, not, nat_le, if◌then◌else◌, codes, unwrap_or}
+use Rattle.std.specs.Prelude.{◌==◌, not, is_some, nat_le, if◌then◌else◌, codes, unwrap_or}
 use Rattle.std.specs.List.{filter, position}
 use Rattle.std.proofs.lemmas.Bool.Decides.{nat_tests}
 use Rattle.std.proofs.lemmas.List.{take_all, take-append-drop}
@@ -24,7 +24,7 @@ use Rattle.commands.specs.ListCollections.{ListCollections}
 use Rattle.commands.specs.Command.{Command, ping, hello, insert, find, get_more, kill_cursors, count, delete, update, aggregate, create, drop as drop_of, list_collections, create_indexes, drop_indexes, list_indexes, command_of}
 use Rattle.aggregate.specs.Pipeline.{run as after_pipeline}
 use Rattle.engine.specs.World.{collection_of, World, Cursor, documents_of, with_documents, at_rest, untouched, without_cursors}
-use Rattle.index.specs.State.{Collection, put_collection}
+use Rattle.index.specs.State.{Collection, put_collection, find_collection}
 use Rattle.engine.specs.Documents.{insert_all}
 use Rattle.engine.specs.Refusals.{int}
 use Rattle.engine.specs.Insert.{is_full}
@@ -39,6 +39,8 @@ use Rattle.engine.specs.Update.{Updated, update_reply, run_all}
 use Rattle.engine.specs.UpdateCommand.{entered_in, run_update, writes_in}
 use Rattle.engine.specs.Aggregate.{run_aggregate}
 use Rattle.engine.specs.Create.{created, run_create}
+use Rattle.commands.specs.CreateIndexes.{CreateIndexes}
+use Rattle.engine.specs.CreateIndexes.{create_indexes_reply, indexed, run_create_indexes}
 use Rattle.engine.specs.DropCollection.{drop_reply, dropped, index_count, run_drop}
 use Rattle.engine.specs.ListCollections.{run_list_collections}
 use Rattle.engine.specs.Step.{run, answered, step}
@@ -234,6 +236,18 @@ module _ (k : ℕ) (w : World) (connection : ℕ) (left : List Pairs) (drawn : k
       at (Err e) = same
       at (Ok cs) = on cs
 
+  indexed_so : (c : CreateIndexes) → Keeps (run_create_indexes w c)
+  unfolding run_create_indexes
+  indexed_so c = at (indexed w.collections c.namespace c.indexes)
+    where
+      is_new : Bool
+      is_new = not (is_some (find_collection w.collections c.namespace))
+
+      at : (r : Result (List Collection) Refusal)
+          → Keeps (r >>= (λ cs. let x : Result (World × Pairs) Refusal = Ok (record w { collections = cs }, create_indexes_reply (index_count w.collections c.namespace) (index_count cs c.namespace) is_new) in x))
+      at (Err e) = same
+      at (Ok cs) = on cs
+
   dropped_so : (c : DropCollection) → Keeps (run_drop w c)
   unfolding run_drop
   dropped_so c = at (dropped w.collections c.namespace)
@@ -313,7 +327,7 @@ module _ (k : ℕ) (w : World) (connection : ℕ) (left : List Pairs) (drawn : k
   ran (Ok (create c)) = made c
   ran (Ok (drop_of c)) = dropped_so c
   ran (Ok (list_collections c)) = listed_so c
-  ran (Ok (create_indexes c)) = same
+  ran (Ok (create_indexes c)) = indexed_so c
   ran (Ok (drop_indexes c)) = same
   ran (Ok (list_indexes c)) = same
 

@@ -6,7 +6,7 @@ use Rattle.bson.specs.Tree.{Pairs}
 use Rattle.update.specs.Stored.{id_first}
 use Rattle.commands.specs.OutcomeLaws.{step_of}
 use Rattle.index.specs.Documents.{put_document}
-use Rattle.index.specs.Entering.{DocumentWrite, entered}
+use Rattle.index.specs.Entering.{DocumentWrite, enter_each, entered}
 use Rattle.index.specs.LawfulState.{IsRising}
 use Rattle.index.specs.State.{Collection}
 use Rattle.index.specs.StateReads.{find_document}
@@ -15,7 +15,6 @@ use Rattle.index.proofs.EnteringLemmas.{has_entered, stay_with}
 use Rattle.index.proofs.EnteringSteps.{all_put, some_instead}
 use Rattle.engine.specs.Documents.{checked, insert_all, insert_one, key_of}
 use Rattle.engine.specs.Lawful.{IsStored}
-use Rattle.engine.specs.UpdateCommand.{enter_each}
 use Rattle.engine.specs.WriteLaws.{documents_in}
 use Rattle.engine.proofs.Checked.{keeps}
 

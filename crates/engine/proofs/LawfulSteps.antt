@@ -29,13 +29,16 @@ use Rattle.commands.specs.Delete.{Deletion}
 use Rattle.engine.specs.Delete.{after_deletions, deleted_in, run_delete}
 use Rattle.commands.specs.Update.{UpdateStatement, Update, IsRead}
 use Rattle.engine.specs.Update.{Updated, not_updated, run_statements, update_reply, judged, run_all, spelled}
-use Rattle.engine.specs.UpdateCommand.{enter_each, entered_in, run_update, writes_in}
+use Rattle.engine.specs.UpdateCommand.{entered_in, run_update, writes_in}
 use Rattle.engine.specs.WriteLaws.{documents_in}
-use Rattle.index.specs.Entering.{DocumentWrite}
+use Rattle.index.specs.Entering.{DocumentWrite, enter_each}
 use Rattle.engine.proofs.KeptLemmas.{Kept, stored_at}
 use Rattle.engine.proofs.WriteLawLemmas.{writes_stored}
 use Rattle.commands.specs.ListCollections.{ListCollections}
 use Rattle.engine.specs.Create.{created, run_create}
+use Rattle.commands.specs.NewIndex.{NewIndex}
+use Rattle.engine.specs.CreateIndexes.{create_indexes_reply, indexed, run_create_indexes, with_new_indexes}
+use Rattle.engine.proofs.NewIndexLemmas.{with_new_indexes_more}
 use Rattle.engine.specs.DropCollection.{drop_reply, dropped, index_count, run_drop}
 use Rattle.engine.specs.ListCollections.{names_in, listed, run_list_collections}
 use Rattle.engine.proofs.Creating.{dropped_lawful}
@@ -67,7 +70,7 @@ use Rattle.engine.proofs.Finding.{found_within}
 use Rattle.engine.proofs.Ordered.{Rises, rises_insert, All-inserted, missing, found, added, replaced}
 use Rattle.engine.proofs.Numbers.{unused_unused, number_bounds, numbers_set, numbers_insert}
 use Rattle.engine.proofs.NamesApart.{apart_set}
-use Rattle.engine.proofs.SpelledSizes.{ping-sendable, insert-sendable, drop-sendable, refusal-sendable, batch_items, cursor-sendable, kill-sendable, told_few, hello-sendable}
+use Rattle.engine.proofs.SpelledSizes.{create_indexes-sendable, ping-sendable, insert-sendable, drop-sendable, refusal-sendable, batch_items, cursor-sendable, kill-sendable, told_few, hello-sendable}
 
 -- ---- collections
 
@@ -318,6 +321,39 @@ good_drop w name h short = λ x e.
     let same : (record w { collections = s.0 }, reply) ≡ x = cc in
     subst (λ (y : World × Pairs). IsLawful y.0 × IsSendable (ok_reply y.1)) same (record { collections = dropped_lawful w.collections name s.0 h.collections s.1; cursors = h.cursors }, drop-sendable (index_count w.collections name) name short)
 
+-- the collections with indexes made in one of them
+indexed_lawful : (cs : List Collection) (name : List ℕ) (ns : List NewIndex) (next : List Collection) → IsLawfulState cs → length name ≤ 255 → indexed cs name ns ≡ Ok next → IsLawfulState next
+indexed_lawful cs name ns next h short e =
+    let put : Collection → Result (List Collection) Refusal = λ c. Ok (put_collection c cs) in
+    let p = passed (is_full cs name) refusals.TooMany (with_new_indexes (collection_of cs name) ns >>= put) next e in
+    let s = step_of (with_new_indexes (collection_of cs name) ns) put next p.1 in
+    let more = with_new_indexes_more (collection_of cs name) s.0 ns s.1 in
+    let kept = stored_at cs name h.kept in
+    let bounds = number_bounds cs name h.kept (room cs name p.0) in
+    let one : IsKept s.0 = record {
+      lawful = record { rising = subst IsRising (sym more.documents) kept.0; stored = subst (All IsStored) (sym more.documents) kept.1 };
+      short = subst (λ (n : List ℕ). length n ≤ 255) (sym more.named) short;
+      least = subst (λ (n : ℕ). 1 ≤ n) (sym more.numbered) bounds.least;
+      most = subst (λ (n : ℕ). n ≤ 1000) (sym more.numbered) bounds.most;
+    } in
+    let now : put_collection s.0 cs ≡ next = cc in
+    subst IsLawfulState now (
+      put_kept s.0 cs h one (subst (λ (n : List ℕ). is_full cs n ≡ false) (sym more.named) p.0)
+      (more.numbered ∙ ap (λ (n : List ℕ). number_or (unused cs) (find_collection cs n)) (sym more.named))
+    )
+
+pub good_create_indexes : (w : World) (name : List ℕ) (ns : List NewIndex) → IsLawful w → length name ≤ 255 → Good (run_create_indexes w (record { namespace = name; indexes = ns }))
+unfolding run_create_indexes
+good_create_indexes w name ns h short = λ x e.
+    let is_new = not (is_some (find_collection w.collections name)) in
+    let reply : List Collection → Pairs = λ cs. create_indexes_reply (index_count w.collections name) (index_count cs name) is_new in
+    let s = step_of (indexed w.collections name ns) (λ cs. let r : Result (World × Pairs) Refusal = Ok (record w { collections = cs }, reply cs) in r) x e in
+    let same : (record w { collections = s.0 }, reply s.0) ≡ x = cc in
+    subst (λ (y : World × Pairs). IsLawful y.0 × IsSendable (ok_reply y.1)) same (
+      record { collections = indexed_lawful w.collections name ns s.0 h.collections short s.1; cursors = h.cursors },
+      create_indexes-sendable (index_count w.collections name) (index_count s.0 name) is_new,
+    )
+
 good_list_collections : (w : World) (c : ListCollections) → IsLawful w → length c.database ≤ 63 → Good (run_list_collections w c)
 unfolding run_list_collections
 good_list_collections w c h short =
@@ -389,7 +425,7 @@ good_run w connection (aggregate c) h b = good_aggregate w connection c h b
 good_run w connection (create_of c) h b = good_create w c.namespace h b
 good_run w connection (drop_of c) h b = good_drop w c.namespace h b
 good_run w connection (list_collections c) h b = good_list_collections w c h b
-good_run w connection (create_indexes c) h b = λ x e. absurd cc
+good_run w connection (create_indexes c) h b = good_create_indexes w c.namespace c.indexes h b.0
 good_run w connection (drop_indexes c) h b = λ x e. absurd cc
 good_run w connection (list_indexes c) h b = λ x e. absurd cc
 

@@ -82,3 +82,8 @@ pub mod UpdateLemmas
 pub mod MeantLemmas
 pub mod EnteringLemmas
 pub mod EnteringSteps
+pub mod NewIndexLemmas
+pub mod NotingEach
+pub mod IndexingLemmas
+pub mod IndexingSteps
+pub mod CreatingIndexes

@@ -1,6 +1,6 @@
 -- What an undone turn leaves of cursors.
 use Rattle.std.proofs.Common.{◌≡◌, ◌⊎◌, ⊎_elim, inl, inr, ℕ, zero, suc, ◌+◌, Bool, true, false, List, [], ◌∷◌, ◌++◌, length, set, remove, drop, Option, Some, None, Result, Ok, Err, refl, sym, ap, ◌∙◌}
-use Rattle.std.specs.Prelude.{◌&&◌, not, nat_le, if◌then◌else◌, codes, unwrap_or}
+use Rattle.std.specs.Prelude.{◌&&◌, not, is_some, nat_le, if◌then◌else◌, codes, unwrap_or}
 use Rattle.std.specs.List.{filter, position}
 use Rattle.bson.specs.Tree.{Pairs, pair, no_pairs}
 use Rattle.bson.specs.declared.fault.BsonFault.{BsonFault}
@@ -19,12 +19,14 @@ use Rattle.commands.specs.Create.{Create}
 use Rattle.commands.specs.DropCollection.{DropCollection}
 use Rattle.commands.specs.ListCollections.{ListCollections}
 use Rattle.engine.specs.Create.{created, run_create}
+use Rattle.commands.specs.CreateIndexes.{CreateIndexes}
+use Rattle.engine.specs.CreateIndexes.{create_indexes_reply, indexed, run_create_indexes}
 use Rattle.engine.specs.DropCollection.{drop_reply, dropped, index_count, run_drop}
 use Rattle.engine.specs.ListCollections.{run_list_collections}
 use Rattle.commands.specs.Command.{Command, ping, hello, insert, find, get_more, kill_cursors, count, delete, update, aggregate, create, drop as drop_of, list_collections, create_indexes, drop_indexes, list_indexes, command_of}
 use Rattle.aggregate.specs.Pipeline.{run as after_pipeline}
 use Rattle.engine.specs.World.{collection_of, World, Cursor, documents_of, with_documents, untouched, are_untouched}
-use Rattle.index.specs.State.{Collection, put_collection}
+use Rattle.index.specs.State.{Collection, put_collection, find_collection}
 use Rattle.engine.specs.Documents.{insert_all}
 use Rattle.engine.specs.Refusals.{int}
 use Rattle.engine.specs.Insert.{is_full}
@@ -171,6 +173,18 @@ module _ (w : World) (connection : ℕ) where
       at (Err e) d rests h = h
       at (Ok cs) d rests h = h
 
+  indexed_so : (c : CreateIndexes) → Comes (run_create_indexes w c)
+  unfolding run_create_indexes
+  indexed_so c = at (indexed w.collections c.namespace c.indexes)
+    where
+      is_new : Bool
+      is_new = not (is_some (find_collection w.collections c.namespace))
+
+      at : (r : Result (List Collection) Refusal)
+          → Comes (r >>= (λ cs. let x : Result (World × Pairs) Refusal = Ok (record w { collections = cs }, create_indexes_reply (index_count w.collections c.namespace) (index_count cs c.namespace) is_new) in x))
+      at (Err e) d rests h = h
+      at (Ok cs) d rests h = h
+
   dropped_so : (c : DropCollection) → Comes (run_drop w c)
   unfolding run_drop
   dropped_so c = at (dropped w.collections c.namespace)
@@ -199,7 +213,7 @@ module _ (w : World) (connection : ℕ) where
   ran (Ok (create c)) d rests h = made c d rests h
   ran (Ok (drop_of c)) d rests h = dropped_so c d rests h
   ran (Ok (list_collections c)) d rests h = listed_so c d rests h
-  ran (Ok (create_indexes c)) d rests h = h
+  ran (Ok (create_indexes c)) d rests h = indexed_so c d rests h
   ran (Ok (drop_indexes c)) d rests h = h
   ran (Ok (list_indexes c)) d rests h = h
 

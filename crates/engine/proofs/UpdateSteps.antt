@@ -11,7 +11,7 @@ use Rattle.path.specs.declared.refusal.Refusal.TheVariants as refusals
 use Rattle.collections.specs.Reading.{IsWithinLimits}
 use Rattle.collections.proofs.LawLemmas as laws
 use Rattle.commands.specs.Command.{update}
-use Rattle.index.specs.Entering.{DocumentWrite, entered}
+use Rattle.index.specs.Entering.{DocumentWrite, enter_each, entered}
 use Rattle.index.specs.LawfulState as states
 use Rattle.index.specs.State.{Collection, put_collection}
 use Rattle.index.specs.declared.catalogue_reading.Catalogued.{Catalogued}
@@ -22,7 +22,7 @@ use Rattle.engine.specs.Looking.{OnlyReads}
 use Rattle.engine.specs.Putting.{ArePlanned, AreWritesOf, NotesWrites}
 use Rattle.engine.specs.Storing.{AreNoted, HasNoted, IsFull, MayEnter, Notes, entering, write_of}
 use Rattle.engine.specs.Trying.{Tries}
-use Rattle.engine.specs.UpdateCommand.{enter_each, written_in}
+use Rattle.engine.specs.UpdateCommand.{written_in}
 use Rattle.engine.specs.Updating.{MayBePut, news_of, seen}
 use Rattle.engine.specs.View.{world}
 use Rattle.engine.specs.World.{collection_of, documents_of}

@@ -15,6 +15,7 @@ pub mod UpdateCommand
 pub mod Create
 pub mod DropCollection
 pub mod ListCollections
+pub mod CreateIndexes
 pub mod Step
 pub mod Lawful
 pub mod Places
@@ -45,4 +46,5 @@ pub mod Trying
 pub mod Numbering
 pub mod Storing
 pub mod Dropping
+pub mod Indexing
 pub mod FileOpening

@@ -5,19 +5,12 @@ use Rattle.outcome.specs.Outcome.{◌>>=◌, unless}
 use Rattle.path.specs.declared.refusal.Refusal.{Refusal}
 use Rattle.path.specs.declared.refusal.Refusal.TheVariants as refusals
 use Rattle.commands.specs.Update.{UpdateStatement, Update}
-use Rattle.index.specs.Entering.{DocumentWrite, entered}
+use Rattle.index.specs.Entering.{DocumentWrite, enter_each}
 use Rattle.index.specs.State.{Collection, put_collection}
 use Rattle.engine.specs.Insert.{is_full}
 use Rattle.engine.specs.Update.{run_all, update_reply}
 use Rattle.engine.specs.World.{World, collection_of, documents_of}
 use Rattle.engine.specs.Writes.{writes_of}
-
--- the collection with these, one after the other, or the first refusal
-abbrev pub enter_each : Collection → List DocumentWrite → Result Collection Refusal
-enter_each c [] = Ok c
-enter_each c (w ∷ ws) = do
-  next ← entered c w
-  enter_each next ws
 
 -- the collections with these in the one of a name; a missing one is made, where there are not 1,000 yet
 abbrev pub written_in : List ℕ → List DocumentWrite → List Collection → Result (List Collection) Refusal

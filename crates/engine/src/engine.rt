@@ -119,7 +119,9 @@ impl<D: Disk> Engine<D> {
             Command::Create(c) => built(self.create(c.namespace.as_str())),
             Command::Drop(c) => built(self.drop_collection(c.namespace.as_str())),
             Command::ListCollections(c) => spelled(self.list_collections(c.database)),
-            Command::CreateIndexes(_) => Err(Refusal::CommandNotFound),
+            Command::CreateIndexes(c) => {
+                built(self.create_indexes(c.namespace.as_str(), &c.indexes))
+            }
             Command::DropIndexes(_) => Err(Refusal::CommandNotFound),
             Command::ListIndexes(_) => Err(Refusal::CommandNotFound),
         }

@@ -8,6 +8,7 @@ ghost use Rattle.bson.specs.Lookup.{lookup};
 ghost use Rattle.bson.specs.Spelling.{frame_of, pairs_bytes};
 ghost use Rattle.bson.specs.Lawful.{levels};
 ghost use Rattle.engine.specs.View.{outcome_of};
+ghost use Rattle.engine.specs.CreateIndexes.{create_indexes_reply};
 ghost use Rattle.engine.specs.DropCollection.{drop_reply};
 ghost use Rattle.engine.specs.ListCollections.{listed};
 ghost use Rattle.engine.specs.Refusals.{int, total, words, ok_reply, refusal_reply};
@@ -118,6 +119,25 @@ pub(crate) fn drop_reply(alloc: Global, count: usize, namespace: &str) -> Result
     let mut reply = Document::new(alloc);
     put(&mut reply, "nIndexesWas", Value::Int32(count as i32))?;
     put(&mut reply, "ns", text_value(alloc, namespace)?)?;
+    done(reply)
+}
+
+/// The reply of a `createIndexes`: how many indexes the collection had, that of `_id` among them, how many it has, and whether it
+/// was made.
+pub(crate) fn create_indexes_reply(
+    alloc: Global,
+    before: usize,
+    after: usize,
+    is_new: bool,
+) -> Result<Document, NoMemory>
+    requires before { before ≤ 1000 }
+    requires after { after ≤ 1000 }
+    ensures { IfOk result (λ d. d ≡ ok_reply (create_indexes_reply before after is_new)) }
+{
+    let mut reply = Document::new(alloc);
+    put(&mut reply, "numIndexesBefore", Value::Int32(before as i32))?;
+    put(&mut reply, "numIndexesAfter", Value::Int32(after as i32))?;
+    put(&mut reply, "createdCollectionAutomatically", Value::Bool(is_new))?;
     done(reply)
 }
 

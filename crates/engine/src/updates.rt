@@ -18,7 +18,8 @@ ghost use Rattle.engine.specs.Putting.{AreWritesOf, HasNumber, IsFullFor, IsFull
 ghost use Rattle.engine.specs.Step.{ChangesNone};
 ghost use Rattle.engine.specs.Storing.{MayEnter, Notes, entering};
 ghost use Rattle.engine.specs.Trying.{Tries};
-ghost use Rattle.engine.specs.UpdateCommand.{enter_each, run_update};
+ghost use Rattle.index.specs.Entering.{enter_each};
+ghost use Rattle.engine.specs.UpdateCommand.{run_update};
 ghost use Rattle.engine.specs.Updating.{MayBePut, news_of, seen};
 ghost use Rattle.engine.specs.View.{world, IsSendable};
 

@@ -56,6 +56,8 @@ pub mod BuildingLaws
 pub mod CatalogueReadLaws
 pub mod FrontLemmas
 pub mod OtherEditLaws
+pub mod SharedKeyLemmas
 pub mod OtherKeyLaws
+pub mod IndexMakingLaws
 pub mod OtherPutLemmas
 pub mod EditLookLemmas

@@ -166,13 +166,42 @@ put_there es xs x h = by (value_at x.key (change (puts es) xs)) refl
     by None e = absurd (let f : true ≡ false = sym (put_some x es (value_at x.key xs) h) ∙ ap is_some (sym (change_value x.key (puts es) xs) ∙ e) in cc)
     by (Some v) e = (v, value_entry x.key v (change (puts es) xs) e)
 
-pub tells_other_put : TellsOtherPut
-tells_other_put xs cs c i ds d key h found defined new all stored keyed =
-    one_truth (has_other_key c.number i.number key (tree_text (key_of d)) (change (puts es) xs)) (another_has i key (key_of d) ds) forth back
-  where
-    es : List Entry
-    es = flat_map (λ e. index_entries c.number e i) ds
+-- Behind a map without an entry of the index, such an entry is one of a document whose entries were put.
+module _ (n : ℕ) (i : Definition) (ds : List Pairs) (d : Pairs) (key : List ℕ) (xs : List Entry) (none : (x : Entry) (rest : List ℕ) → Among x xs → x.key ≡ key_under n i.number rest → ⊥)
+  (all : All IsStorable ds) (stored : IsStorable d) (keyed : is_among (encoded_keys i.fields d) key ≡ true) where
+  put_entries : List Entry
+  put_entries = flat_map (λ e. index_entries n e i) ds
 
+  put_forth : has_other_key n i.number key (tree_text (key_of d)) (change (puts put_entries) xs) ≡ true → another_has i key (key_of d) ds ≡ true
+  put_forth t =
+      let o = any_told (λ (x : Entry). is_another (key_under n i.number key) (tree_text (key_of d)) x.key) (change (puts put_entries) xs) t in
+      let a = another_told (key_under n i.number key) (tree_text (key_of d)) o.one.key o.so in
+      elim (puts_told put_entries o.one xs o.there) [
+        | inl g ↦
+            let e = among_flat (λ (f : Pairs). index_entries n f i) o.one ds g in
+            let he : IsStorable e.0 = of_all IsStorable ds e.0 all e.1 in
+            let told = keyed_told n i d key stored keyed e.0 o.one a.rest he e.2 a.is in
+            any_there (has_it n i d key stored keyed) ds e.0 e.1 (has_told n i d key stored keyed e.0 a.rest he told.0 told.1 a.other)
+        | inr g ↦ absurd (none o.one (key ++ a.rest) g (a.is ∙ front_rest n i.number key a.rest))
+      ]
+
+  put_back : another_has i key (key_of d) ds ≡ true → has_other_key n i.number key (tree_text (key_of d)) (change (puts put_entries) xs) ≡ true
+  put_back t =
+      let o = any_told (has_it n i d key stored keyed) ds t in
+      let e = o.one in
+      let has = both_true (is_among (encoded_keys i.fields e) key) (not (is_eq (compare (key_of d) (key_of e)))) o.so in
+      let x : Entry = index_entry n i.number (key_of e) key in
+      let put : Among x put_entries = among_each (λ (f : Pairs). index_entries n f i) x e ds o.there (key_among n i e key (test_among (encoded_keys i.fields e) key has.0)) in
+      let here = put_there put_entries xs x put in
+      any_there (λ (y : Entry). is_another (key_under n i.number key) (tree_text (key_of d)) y.key) (change (puts put_entries) xs) (record { key = x.key; value = here.0 }) here.1
+      (entry_told n i d key stored keyed e (of_all IsStorable ds e all o.there) o.so)
+
+  pub tells_put : has_other_key n i.number key (tree_text (key_of d)) (change (puts (flat_map (λ e. index_entries n e i) ds)) xs) ≡ another_has i key (key_of d) ds
+  tells_put = one_truth (has_other_key n i.number key (tree_text (key_of d)) (change (puts put_entries) xs)) (another_has i key (key_of d) ds) put_forth put_back
+
+pub tells_other_put : TellsOtherPut
+tells_other_put xs cs c i ds d key h found defined new all stored keyed = tells_put c.number i ds d key xs none_old all stored keyed
+  where
     there : Among c cs
     there = found_in cs c.name c found
 
@@ -205,27 +234,3 @@ tells_other_put xs cs c i ds d key h found defined new all stored keyed =
             let both = these home.collection.number k.index.number (key_under_of home.collection x home_kept k) in
             let one : home.collection ≡ c = one_number cs home.collection c h.lawful.numbers home.there there both.0 in
             of_all (λ j. j.number ≢ i.number) c.indexes k.index new (subst (λ (f : Collection). Among k.index f.indexes) one k.listed) both.1
-
-    forth : has_other_key c.number i.number key (tree_text (key_of d)) (change (puts es) xs) ≡ true → another_has i key (key_of d) ds ≡ true
-    forth t =
-        let o = any_told (λ (x : Entry). is_another (key_under c.number i.number key) (tree_text (key_of d)) x.key) (change (puts es) xs) t in
-        let a = another_told (key_under c.number i.number key) (tree_text (key_of d)) o.one.key o.so in
-        elim (puts_told es o.one xs o.there) [
-          | inl g ↦
-              let e = among_flat (λ (f : Pairs). index_entries c.number f i) o.one ds g in
-              let he : IsStorable e.0 = of_all IsStorable ds e.0 all e.1 in
-              let told = keyed_told c.number i d key stored keyed e.0 o.one a.rest he e.2 a.is in
-              any_there (has_it c.number i d key stored keyed) ds e.0 e.1 (has_told c.number i d key stored keyed e.0 a.rest he told.0 told.1 a.other)
-          | inr g ↦ absurd (none_old o.one (key ++ a.rest) g (a.is ∙ front_rest c.number i.number key a.rest))
-        ]
-
-    back : another_has i key (key_of d) ds ≡ true → has_other_key c.number i.number key (tree_text (key_of d)) (change (puts es) xs) ≡ true
-    back t =
-        let o = any_told (has_it c.number i d key stored keyed) ds t in
-        let e = o.one in
-        let has = both_true (is_among (encoded_keys i.fields e) key) (not (is_eq (compare (key_of d) (key_of e)))) o.so in
-        let x : Entry = index_entry c.number i.number (key_of e) key in
-        let put : Among x es = among_each (λ (f : Pairs). index_entries c.number f i) x e ds o.there (key_among c.number i e key (test_among (encoded_keys i.fields e) key has.0)) in
-        let here = put_there es xs x put in
-        any_there (λ (y : Entry). is_another (key_under c.number i.number key) (tree_text (key_of d)) y.key) (change (puts es) xs) (record { key = x.key; value = here.0 }) here.1
-        (entry_told c.number i d key stored keyed e (of_all IsStorable ds e all o.there) o.so)

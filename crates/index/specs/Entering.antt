@@ -63,6 +63,13 @@ entered c w = do
   keys ← keys_in_all c.indexes w.document
   unless (is_duplicate c w) refusals.DuplicateKey (Ok (with_document w.document c))
 
+-- the collection with these, one after the other, or the first refusal
+abbrev pub enter_each : Collection → List DocumentWrite → Result Collection Refusal
+enter_each c [] = Ok c
+enter_each c (w ∷ ws) = do
+  next ← entered c w
+  enter_each next ws
+
 -- ---- what stays
 
 -- Documents in ascending order of `_id`, and indexes of them, with different numbers.

@@ -27,4 +27,5 @@ pub mod Indexed
 pub mod IndexBuilding
 pub mod CatalogueReading
 pub mod Entering
+pub mod IndexMaking
 pub mod OtherKeys

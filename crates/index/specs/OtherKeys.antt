@@ -29,6 +29,11 @@ has_other_key number index key id entries =
 abbrev pub puts_another : List ℕ → List ℕ → List Edit → Bool
 puts_another front id edits = list_any (λ e. is_some e.value && is_another front id e.key) edits
 
+-- one of them puts an entry of the index for one of these encoded keys, and for another `_id` than the one of this text
+abbrev pub puts_any : ℕ → ℕ → List ℕ → List (List ℕ) → List Edit → Bool
+puts_any number index id keys edits =
+    list_any (λ key. puts_another (key_under number index key) id edits) keys
+
 -- the entry is such a one, and the edits leave it
 abbrev pub leaves_another : List ℕ → List ℕ → List Edit → Entry → Bool
 leaves_another front id edits x = is_another front id x.key && not (is_among (edit_keys edits) x.key)

@@ -82,7 +82,8 @@ impl IndexField {
     }
 }
 
-fn copy_fields(alloc: Global, fields: &[IndexField]) -> Result<Vec<IndexField>, NoMemory>
+/// Equal fields of their own.
+pub fn copy_fields(alloc: Global, fields: &[IndexField]) -> Result<Vec<IndexField>, NoMemory>
     ensures { IfOk result (λ v. v.items ≡ fields.now) }
 {
     let mut copies = Vec::with_capacity(alloc, fields.len())?;

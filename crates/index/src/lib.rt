@@ -22,6 +22,7 @@ mod indexed_edits;
 mod indexed_entries;
 mod keys;
 pub mod laws;
+mod making;
 mod other_keys;
 mod replacing_edits;
 mod state_edits;
@@ -30,12 +31,13 @@ mod texts;
 
 pub use catalogue_reading::{Catalogued, catalogue_told};
 pub use changes::{KeyChanges, entry_key};
-pub use definition::{IndexField, IndexSpec};
+pub use definition::{IndexField, IndexSpec, copy_fields};
 pub use edits::Edits;
 pub use entering::{Keyed, stay_indexed};
 pub use entry_keys::{catalogue_key, document_key, first_key, index_key};
 pub use entry_reading::{catalogue_number, document_in, namespace_in};
 pub use keys::keys_in_all;
+pub use making::NewEntries;
 pub use other_keys::{end_of, is_another};
 
 /// The most bytes of the texts of a key's values together.

@@ -6,9 +6,11 @@ ghost use Rattle.std.specs.List.Sorted.{IsPartitionPoint};
 ghost use Rattle.btree.specs.Change.{edit_keys};
 ghost use Rattle.btree.specs.Keys.{Each, Rises, key_cmp};
 ghost use Rattle.index.specs.EditList.{IsEditList, edits_in};
-ghost use Rattle.index.specs.OtherKeys.{IsEndOf, is_another, puts_another};
+ghost use Rattle.index.specs.OtherKeys.{IsEndOf, is_another, puts_another, puts_any};
+ghost use Rattle.index.specs.View.{texts_of};
 
 use crate::edits::{Edits, OwnEdit};
+use crate::entry_keys::index_key;
 use bson::NoMemory;
 use std::alloc::Global;
 
@@ -87,5 +89,27 @@ impl Edits {
     {
         let (_, from) = self.edits.split_at(count_below(&self.edits, front));
         puts_from(from, front, id)
+    }
+
+    /// Whether an index gets an entry for one of these encoded keys, and for another `_id` than the one of this text.
+    pub(crate) fn puts_any_other(
+        &self,
+        number: u32,
+        index: u32,
+        keys: &[Vec<u8>],
+        id: &[u8],
+    ) -> Result<bool, NoMemory>
+        ensures puts { IfOk result (λ puts. puts
+            ≡ puts_any number index id.now (texts_of keys.now) self.now) }
+        ensures lawful { IsEditList self.now }
+    {
+        let alloc = self.allocator();
+        'keys: for key in keys {
+            let front = index_key(alloc, number, index, key)?;
+            if self.puts_other(&front, id) {
+                return Ok(true);
+            }
+        }
+        Ok(false)
     }
 }

@@ -85,11 +85,6 @@ returns-in-Update-clause-has_changes g c = λ k wrote.
     let spelled = c.in_ok-read.ensures.gives ∙ ap (λ (x : Command). Ok (command_read x)) c.in-Update.is in
     c.update.ensures.has_changes k wrote.0 (subst (λ (u : updates.Update). ChangesNone w (commands.update u)) same (wrote.1 (commands.update asked) spelled))
 
-pub returns-in-CreateIndexes-clause-performs : goal.returns-in-CreateIndexes-clause-performs
-returns-in-CreateIndexes-clause-performs g c =
-    let old = c.args.self.now in
-    performs_told g.D.Disk.history old old c.args.connection c.args.body.now _ c.requires.sound refl refl refl (search rules)
-
 pub returns-in-DropIndexes-clause-performs : goal.returns-in-DropIndexes-clause-performs
 returns-in-DropIndexes-clause-performs g c =
     let old = c.args.self.now in

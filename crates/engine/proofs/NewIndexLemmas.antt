@@ -1,0 +1,120 @@
+-- Which indexes are to be made, and what they make of a collection.
+use Rattle.std.proofs.Common.{◌≡◌, ◌≢◌, ◌⊎◌, inl, inr, ◌+◌, ◌<◌, ◌≤◌, ℕ, Bool, true, false, ◌||◌, List, [], ◌∷◌, ◌++◌, length, length-append, map, Result, Ok, Err, refl, sym, ap, subst, ◌∙◌, arith}
+use Rattle.std.specs.Prelude.{◌==◌, nat_le, if◌then◌else◌, All}
+use Rattle.std.proofs.lemmas.Bool.Decides.{nat_tests}
+use Rattle.outcome.specs.Outcome.{◌>>=◌, unless}
+use Rattle.path.specs.declared.refusal.Refusal.{Refusal}
+use Rattle.path.specs.declared.refusal.Refusal.TheVariants as refusals
+use Rattle.commands.specs.NewIndex.{NewIndex, defined}
+use Rattle.commands.specs.OutcomeLaws.{step_of}
+use Rattle.index.specs.Definition.{Definition}
+use Rattle.index.specs.Entering.{DocumentWrite, enter_each, entered}
+use Rattle.index.specs.IndexMaking.{alone, as_new, with_index}
+use Rattle.index.specs.KeptLaws.{noted}
+use Rattle.index.specs.State.{Collection, empty_collection, uses}
+use Rattle.index.proofs.EnteringLemmas.{has_entered}
+use Rattle.index.proofs.KeptSteps.{long_map}
+use Rattle.index.proofs.LawfulLaws.{all_of}
+use Rattle.index.proofs.MemberLemmas.{Among}
+use Rattle.engine.specs.CreateIndexes.{is_in_conflict, is_there, unused_index, with_new_index, with_new_indexes}
+use Rattle.engine.proofs.Numbers.{unused_unused}
+
+-- ---- the number of a new index
+
+-- none of the indexes has the new one's number
+pub fresh_number : (is : List Definition) → All (λ j. j.number ≢ unused_index is) is
+fresh_number is = all_of (λ j. j.number ≢ unused_index is) is (λ j there same. by is j there same (unused_unused (map (λ i. empty_collection [] i.number) is)))
+  where
+    by : (js : List Definition) (j : Definition) → Among j js → j.number ≡ unused_index is → uses (map (λ i. empty_collection [] i.number) js) (unused_index is) ≡ false → ⊥
+    by [] j there same free = there
+    by (k ∷ js) j (inl this) same free =
+        let is_it : (k.number == unused_index is) ≡ true = grind (arith, nat_tests, ap (λ (x : Definition). x.number) this, same) in
+        let both : true ≡ false = sym (ap (λ (b : Bool). b || uses (map (λ i. empty_collection [] i.number) js) (unused_index is)) is_it) ∙ free in
+        cc
+    by (k ∷ js) j (inr later) same free = by js j later same (rest (k.number == unused_index is) free)
+      where
+        rest : (b : Bool) → (b || uses (map (λ i. empty_collection [] i.number) js) (unused_index is)) ≡ false → uses (map (λ i. empty_collection [] i.number) js) (unused_index is) ≡ false
+        rest true e = absurd cc
+        rest false e = e
+
+-- ---- what is planned
+
+module _ (c : Collection) (n : NewIndex) where
+  abbrev after_conflict : Bool → Result Collection Refusal
+  after_conflict b = unless b refusals.IndexOptionsConflict (unless (nat_le 16 (length c.indexes)) refusals.TooMany (with_index c (defined (unused_index c.indexes) n)))
+
+  pub planned_there : is_there c.indexes n ≡ true → with_new_index c n ≡ Ok c
+  planned_there there = ap (λ (b : Bool). if b then Ok c else after_conflict (is_in_conflict c.indexes n)) there
+
+  module _ (new : is_there c.indexes n ≡ false) where
+    planned_new : with_new_index c n ≡ after_conflict (is_in_conflict c.indexes n)
+    planned_new = ap (λ (b : Bool). if b then Ok c else after_conflict (is_in_conflict c.indexes n)) new
+
+    pub planned_conflict : is_in_conflict c.indexes n ≡ true → with_new_index c n ≡ Err refusals.IndexOptionsConflict
+    planned_conflict conflict = planned_new ∙ ap after_conflict conflict
+
+    module _ (clear : is_in_conflict c.indexes n ≡ false) where
+      pub planned_full : 16 ≤ length c.indexes → with_new_index c n ≡ Err refusals.TooMany
+      planned_full many =
+          let full : nat_le 16 (length c.indexes) ≡ true = grind (arith, nat_tests) in
+          planned_new ∙ ap after_conflict clear ∙ ap (λ (b : Bool). unless b refusals.TooMany (with_index c (defined (unused_index c.indexes) n))) full
+
+      pub planned_made : length c.indexes < 16 → with_new_index c n ≡ with_index c (defined (unused_index c.indexes) n)
+      planned_made few =
+          let room : nat_le 16 (length c.indexes) ≡ false = grind (arith, nat_tests) in
+          planned_new ∙ ap after_conflict clear ∙ ap (λ (b : Bool). unless b refusals.TooMany (with_index c (defined (unused_index c.indexes) n))) room
+
+-- the collection is as it was, or has an index more and is as it was but for its indexes
+pub record IsWithMore (c next : Collection) : Type 0 where
+  pub named : next.name ≡ c.name
+  pub numbered : next.number ≡ c.number
+  pub documents : next.documents ≡ c.documents
+  pub longer : (next ≡ c) ⊎ (length c.indexes < length next.indexes)
+
+with_more_itself : (c : Collection) → IsWithMore c c
+with_more_itself c = record { named = refl; numbered = refl; documents = refl; longer = inl refl }
+
+each_long : (ws : List DocumentWrite) (c next : Collection) → enter_each c ws ≡ Ok next → length next.indexes ≡ length c.indexes
+each_long [] c next e = let same : c ≡ next = cc in ap (λ (n : Collection). length n.indexes) (sym same)
+each_long (w ∷ ws) c next e =
+    let s = step_of (entered c w) (λ mid. enter_each mid ws) next e in
+    each_long ws s.0 next s.2 ∙ ap (λ (n : Collection). length n.indexes) (has_entered c s.0 w s.1).is ∙ long_map (noted w.document) c.indexes
+
+with_index_more : (c next : Collection) (i : Definition) → with_index c i ≡ Ok next → IsWithMore c next
+with_index_more c next i e =
+    let s = step_of (enter_each (alone c i) (map as_new c.documents)) (λ made. Ok (record c { indexes = c.indexes ++ made.indexes })) next e in
+    let long = each_long (map as_new c.documents) (alone c i) s.0 s.1 in
+    let same : record c { indexes = c.indexes ++ s.0.indexes } ≡ next = cc in
+    subst (IsWithMore c) same (record { named = refl; numbered = refl; documents = refl; longer = inr (omega (arith, long, length-append c.indexes s.0.indexes)) })
+
+pub with_new_index_more : (c next : Collection) (n : NewIndex) → with_new_index c n ≡ Ok next → IsWithMore c next
+with_new_index_more c next n e = by (is_there c.indexes n) (is_in_conflict c.indexes n) (nat_le 16 (length c.indexes)) e
+  where
+    new : Definition
+    new = defined (unused_index c.indexes) n
+
+    by : (there conflict full : Bool) → (if there then Ok c else unless conflict refusals.IndexOptionsConflict (unless full refusals.TooMany (with_index c new))) ≡ Ok next → IsWithMore c next
+    by true conflict full f = let same : c ≡ next = cc in subst (IsWithMore c) same (with_more_itself c)
+    by false true full f = absurd cc
+    by false false true f = absurd cc
+    by false false false f = with_index_more c next new f
+
+more_behind : (a b c : Collection) → IsWithMore a b → IsWithMore b c → IsWithMore a c
+more_behind a b c first later = record {
+  named = later.named ∙ first.named;
+  numbered = later.numbered ∙ first.numbered;
+  documents = later.documents ∙ first.documents;
+  longer = by first.longer later.longer;
+}
+  where
+    by : (b ≡ a) ⊎ (length a.indexes < length b.indexes) → (c ≡ b) ⊎ (length b.indexes < length c.indexes) → (c ≡ a) ⊎ (length a.indexes < length c.indexes)
+    by (inl e) (inl f) = inl (f ∙ e)
+    by (inl e) (inr g) = inr (omega (arith, g, ap (λ (x : Collection). length x.indexes) e))
+    by (inr l) (inl f) = inr (omega (arith, l, ap (λ (x : Collection). length x.indexes) f))
+    by (inr l) (inr g) = inr (omega (arith, l, g))
+
+pub with_new_indexes_more : (c next : Collection) (ns : List NewIndex) → with_new_indexes c ns ≡ Ok next → IsWithMore c next
+with_new_indexes_more c next [] e = let same : c ≡ next = cc in subst (IsWithMore c) same (with_more_itself c)
+with_new_indexes_more c next (n ∷ ns) e =
+    let s = step_of (with_new_index c n) (λ mid. with_new_indexes mid ns) next e in
+    more_behind c s.0 next (with_new_index_more c s.0 n s.1) (with_new_indexes_more s.0 next ns s.2)
