@@ -1,7 +1,6 @@
 -- An index is made of a collection's documents, one after the other.
 use Rattle.std.proofs.Common.{◌≡◌, ◌≢◌, inl, inr, ◌<◌, ◌≤◌, ℕ, suc, Bool, true, false, ◌&&◌, ◌||◌, List, [], ◌∷◌, ◌++◌, length, map, Option, Some, None, Result, Ok, Err, refl, sym, ap, subst, ◌∙◌, arith, append_assoc}
 use Rattle.std.specs.Prelude.{All, if◌then◌else◌, is_some}
-use Rattle.std.specs.Global.{Vec}
 use Rattle.std.specs.List.{AllPairs, list_any}
 use Rattle.std.specs.Ordering.{is_eq}
 use Rattle.std.specs.declared.cmp.Ordering.{Ordering}
@@ -12,27 +11,26 @@ use Rattle.bson.specs.Tree.{Pairs}
 use Rattle.value_order.specs.KeyText.{tree_text}
 use Rattle.value_order.specs.Order.{compare}
 use Rattle.btree.specs.Change.{edit_keys}
-use Rattle.btree.specs.Keys.{Edit, Entry, Rises, change}
+use Rattle.btree.specs.Keys.{Edit, Rises, change}
 use Rattle.outcome.specs.Outcome.{◌>>=◌, unless}
 use Rattle.path.specs.declared.refusal.Refusal.{Refusal}
 use Rattle.path.specs.declared.refusal.Refusal.TheVariants as refusals
 use Rattle.index.specs.Changes.{is_among}
-use Rattle.index.specs.Definition.{Definition, IsDefinition}
+use Rattle.index.specs.Definition.{Definition}
 use Rattle.index.specs.Documents.{put_document}
-use Rattle.index.specs.Entering.{AreIndexed, DocumentWrite, clashes, enter_each, entered, is_duplicate, is_other, share_key, with_document}
+use Rattle.index.specs.Entering.{AreIndexed, DocumentWrite, clashes, enter_each, entered, is_duplicate, is_other, with_document}
 use Rattle.index.specs.IndexBuilding.{HasPutEntries}
 use Rattle.index.specs.IndexKeys.{has_parallel_arrays, is_multikey}
 use Rattle.index.specs.IndexMaking.{Begins, HasEntries, MakesIndexOf, RefusesNext, TakesNext, alone, as_new, with_index}
 use Rattle.index.specs.Indexed.{GoesOnBy, catalogue_put}
 use Rattle.index.specs.KeptLaws.{noted}
 use Rattle.index.specs.KeyTexts.{encoded_keys, is_too_long, keys_in, keys_in_all}
-use Rattle.index.specs.LawfulState.{IsIndexOf, IsKept, IsLawfulState, IsRising, IsStorable}
+use Rattle.index.specs.LawfulState.{IsIndexOf, IsKept, IsRising, IsStorable}
 use Rattle.index.specs.OtherKeys.{another_has, has_other_key, is_another, puts_another, puts_any}
-use Rattle.index.specs.State.{Collection, by_order, find_collection, key_of, put_collection}
-use Rattle.index.specs.StateEntries.{entry_keys, index_entries, key_under, puts}
+use Rattle.index.specs.State.{Collection, by_order, find_collection, key_of}
+use Rattle.index.specs.StateEntries.{index_entries, key_under, puts}
 use Rattle.index.specs.StateLaws.{MayBecome}
 use Rattle.index.specs.StateReads.{find_document}
-use Rattle.index.specs.View.{texts_of}
 use Rattle.index.specs.declared.making.NewEntries.{NewEntries}
 use Rattle.index.proofs.BuildingLaws.{makes_index_of_all, puts_one_more}
 use Rattle.index.proofs.DocumentPlaces.{turned}
@@ -42,12 +40,15 @@ use Rattle.index.proofs.HomeLemmas.{kept_of}
 use Rattle.index.proofs.IndexedLaws.{known_one}
 use Rattle.index.proofs.KeptSteps.{kept_with_index, noted_number}
 use Rattle.index.proofs.LawfulLaws.{all_of, pairs_of, stays_lawful}
-use Rattle.index.proofs.ManyEditsLaws.{goes_on}
 use Rattle.index.proofs.MemberLemmas.{Among, among_back, among_front, first_of, of_all}
 use Rattle.index.proofs.OtherEditLaws.{after_edits}
 use Rattle.index.proofs.OtherKeyLaws.{tells_put}
 use Rattle.index.proofs.PlaceLemmas.{found_in, found_name}
 use Rattle.index.proofs.SharedKeyLemmas.{is_there, swapped}
+
+pub none_left : {X : Type 0} (xs : List X) → length xs ≤ 0 → xs ≡ []
+none_left [] le = refl
+none_left (x ∷ xs) le = absurd (omega (arith, le))
 
 -- ---- a document behind all others
 
@@ -73,13 +74,17 @@ not_found d (x ∷ ds) behind =
 
 -- ---- one after the other
 
+abbrev is_ok : Collection → Result Collection Refusal
+is_ok c = Ok c
+
 each_append : (ws vs : List DocumentWrite) (c : Collection) → enter_each c (ws ++ vs) ≡ (enter_each c ws >>= (λ m. enter_each m vs))
 each_append [] vs c = refl
-each_append (w ∷ ws) vs c = by (entered c w)
+each_append (w ∷ ws) vs c = by (entered c w) (each_append ws vs)
   where
-    by : (r : Result Collection Refusal) → (r >>= (λ m. enter_each m (ws ++ vs))) ≡ ((r >>= (λ m. enter_each m ws)) >>= (λ m. enter_each m vs))
-    by (Err e) = refl
-    by (Ok m) = each_append ws vs m
+    by : (r : Result Collection Refusal) → ((m : Collection) → enter_each m (ws ++ vs) ≡ (enter_each m ws >>= (λ n. enter_each n vs)))
+        → (r >>= (λ m. enter_each m (ws ++ vs))) ≡ ((r >>= (λ m. enter_each m ws)) >>= (λ m. enter_each m vs))
+    by (Err e) later = refl
+    by (Ok m) later = later m
 
 one_entered : (c : Collection) (w : DocumentWrite) → enter_each c (w ∷ []) ≡ entered c w
 one_entered c w = by (entered c w)
@@ -111,7 +116,7 @@ pub begins : (number : ℕ) (i : Definition) (n : NewEntries) → n.number ≡ n
 begins number i n number_is index_is entries_is c numbered lawful = record {
   number = number_is ∙ sym numbered;
   index = ap (λ (j : Definition). j.number) index_is;
-  entered = ap (λ (j : Definition). Ok {E = Refusal} (record c { documents = []; indexes = j ∷ [] })) (sym index_is);
+  entered = ap (λ (j : Definition). is_ok (record c { documents = []; indexes = j ∷ [] })) (sym index_is);
   indexed = subst (λ (j : Definition). AreIndexed [] (j ∷ [])) (sym index_is) (record {
     rising = λ k j e less below. absurd (omega (arith, below));
     indexes = all_of (IsIndexOf []) (i ∷ []) (λ j there. only j there);
@@ -136,9 +141,9 @@ begins number i n number_is index_is entries_is c numbered lawful = record {
 -- ---- the next document
 
 -- a document behind others, which all may be stored
-record IsNext (done : List Pairs) (d : Pairs) : Type 0 where
-  rising : IsRising (done ++ d ∷ [])
-  storable : All IsStorable (done ++ d ∷ [])
+pub record IsNext (done : List Pairs) (d : Pairs) : Type 0 where
+  pub rising : IsRising (done ++ d ∷ [])
+  pub storable : All IsStorable (done ++ d ∷ [])
 
 pairs_front : {X : Type 0} (R : X → X → Type 0) (xs ys : List X) → AllPairs R (xs ++ ys) → AllPairs R xs
 pairs_front R [] ys h = λ i j x less below. absurd (omega (arith, below))
@@ -158,7 +163,7 @@ next_of c done rest d kept all =
     }
 
 module _ (c : Collection) (i : Definition) (done : List Pairs) (n : NewEntries) (d : Pairs) (next : IsNext done d) (has : HasEntries c i done n) where
-  so_far : Collection
+  abbrev pub so_far : Collection
   so_far = record c { documents = done; indexes = n.index ∷ [] }
 
   behind : (e : Pairs) → Among e done → Below e d
@@ -226,14 +231,14 @@ module _ (c : Collection) (i : Definition) (done : List Pairs) (n : NewEntries) 
   -- ---- it enters
 
   module _ (keys : List (List ℕ)) (keyed : keys_in n.index.fields d ≡ Ok keys) (clear : clashes done d n.index ≡ false) where
-    with_it : Collection
+    abbrev with_it : Collection
     with_it = record c { documents = done ++ d ∷ []; indexes = noted d n.index ∷ [] }
 
     enters : entered so_far (as_new d) ≡ Ok with_it
     enters =
         entered_by (Ok keys) keyed
         ∙ ap (λ (b : Bool). unless b refusals.DuplicateKey (Ok (with_document d so_far))) clear
-        ∙ ap (λ (ds : List Pairs). Ok {E = Refusal} (record c { documents = ds; indexes = noted d n.index ∷ [] })) (put_last d done behind)
+        ∙ ap (λ (ds : List Pairs). is_ok (record c { documents = ds; indexes = noted d n.index ∷ [] })) (put_last d done behind)
 
     pub has_next : (new : NewEntries) → new.number ≡ n.number → new.index ≡ noted d n.index → GoesOnBy n.entries (puts (index_entries n.number d n.index)) new.entries → HasEntries c i (done ++ d ∷ []) new
     has_next new number_is index_is goes = record {
@@ -244,7 +249,7 @@ module _ (c : Collection) (i : Definition) (done : List Pairs) (n : NewEntries) 
           ∙ ap (λ (r : Result Collection Refusal). r >>= (λ m. enter_each m (as_new d ∷ []))) has.entered
           ∙ one_entered so_far (as_new d)
           ∙ enters
-          ∙ ap (λ (j : Definition). Ok {E = Refusal} (record c { documents = done ++ d ∷ []; indexes = j ∷ [] })) (sym index_is);
+          ∙ ap (λ (j : Definition). is_ok (record c { documents = done ++ d ∷ []; indexes = j ∷ [] })) (sym index_is);
       indexed = subst (λ (j : Definition). AreIndexed (done ++ d ∷ []) (j ∷ [])) (sym index_is) (stay_indexed so_far with_it (as_new d) has.indexed enters);
       entries =
           let more = (puts_one_more [] n.number n.index).1 n.entries new.entries done d has.entries goes in

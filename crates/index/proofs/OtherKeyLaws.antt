@@ -1,6 +1,6 @@
 -- An entry of another `_id` stands for a key in an index where a document of another `_id` has the key.
 use Rattle.std.proofs.Common.{◌≡◌, ℕ, ◌<◌, ◌^◌, ◌≢◌, Bool, true, false, not, ◌&&◌, List, [], ◌∷◌, ◌++◌, Option, Some, None, ◌⊎◌, inl, inr, refl, sym, ap, subst, ◌∙◌, arith, append_assoc}
-use Rattle.std.specs.Prelude.{is_some, if◌then◌else◌}
+use Rattle.std.specs.Prelude.{All, is_some, if◌then◌else◌}
 use Rattle.std.specs.Int.{w32, to_be_bytes}
 use Rattle.std.specs.List.{flat_map}
 use Rattle.std.specs.Ordering.{is_eq, is_lt}
@@ -169,7 +169,7 @@ put_there es xs x h = by (value_at x.key (change (puts es) xs)) refl
 -- Behind a map without an entry of the index, such an entry is one of a document whose entries were put.
 module _ (n : ℕ) (i : Definition) (ds : List Pairs) (d : Pairs) (key : List ℕ) (xs : List Entry) (none : (x : Entry) (rest : List ℕ) → Among x xs → x.key ≡ key_under n i.number rest → ⊥)
   (all : All IsStorable ds) (stored : IsStorable d) (keyed : is_among (encoded_keys i.fields d) key ≡ true) where
-  put_entries : List Entry
+  abbrev put_entries : List Entry
   put_entries = flat_map (λ e. index_entries n e i) ds
 
   put_forth : has_other_key n i.number key (tree_text (key_of d)) (change (puts put_entries) xs) ≡ true → another_has i key (key_of d) ds ≡ true

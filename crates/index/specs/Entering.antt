@@ -1,5 +1,5 @@
 -- What becomes of a collection where a document is written to it (MongoDB manual, "Unique Indexes" and "Multikey Indexes").
-use Rattle.std.specs.Prelude.{◌≡◌, ◌≢◌, ◌≤◌, ◌&&◌, ◌||◌, ℕ, Bool, not, Option, Some, is_some, List, length, map, Result, Ok, All}
+use Rattle.std.specs.Prelude.{◌≡◌, ◌≢◌, ◌≤◌, ◌&&◌, ◌||◌, ℕ, Bool, not, Option, Some, is_some, List, [], ◌∷◌, length, map, Result, Ok, All}
 use Rattle.std.specs.List.{AllPairs, list_any}
 use Rattle.std.specs.Ordering.{is_eq}
 use Rattle.bson.specs.Tree.{Pairs}

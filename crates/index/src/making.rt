@@ -4,7 +4,6 @@ ghost use Rattle.std.specs.Prelude.{◌≡◌, ◌≢◌, ◌<◌, ◌≤◌, �
 ghost use Rattle.value_order.specs.KeyText.{tree_text};
 ghost use Rattle.index.specs.Definition.{IsDefinition};
 ghost use Rattle.index.specs.IndexMaking.{Begins, MakesIndexOf, RefusesNext, TakesNext};
-ghost use Rattle.index.specs.EditList.{IsEditList};
 ghost use Rattle.index.specs.Indexed.{GoesOnBy};
 ghost use Rattle.index.specs.OtherKeys.{puts_any};
 ghost use Rattle.index.specs.State.{key_of};
@@ -42,10 +41,9 @@ impl NewEntries {
 
     /// Whether the index is unique and has one of these encoded keys of a document for another `_id` than the one of this text.
     fn is_taken(&self, id: &[u8], keys: &[Vec<u8>]) -> Result<bool, NoMemory>
-        ensures taken { IfOk result (λ taken. taken ≡ (self.now.index.is_unique
+        ensures { IfOk result (λ taken. taken ≡ (self.now.index.is_unique
             && puts_any self.now.number self.now.index.number id.now (texts_of keys.now)
             self.now.entries)) }
-        ensures lawful { IsEditList self.now.entries }
     {
         if !self.index.is_unique() {
             return Ok(false);
@@ -81,6 +79,7 @@ impl Edits {
     fn note_each(&mut self, edits: Edits) -> Result<(), NoMemory>
         ensures { OnOk result (GoesOnBy self.old edits self.new) }
     {
+        let _alloc = self.allocator();
         'edits: for edit in edits.edits {
             self.note(edit.key, edit.value)?;
         }

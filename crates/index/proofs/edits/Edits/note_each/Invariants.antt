@@ -1,0 +1,12 @@
+use Rattle.btree.specs.Keys.{Each}
+use Rattle.index.specs.EditList.{IsShortEdit, edits_in}
+use Rattle.index.specs.Indexed.{NotesUpTo}
+use Rattle.index.proofs.edits.Edits.note_each.Given as goal
+
+abbrev pub invariant-edits : goal.invariant-edits
+invariant-edits l = record {
+  can : goal.iterator-edits.can_next l.edit-iterator;
+  finite : goal.iterator-edits.is_finite l.edit-iterator;
+  noted : NotesUpTo l.initial.self (edits_in l.initial.edit-iterator.rest.items) (edits_in l.edit-iterator.rest.items) l.self;
+  short : Each IsShortEdit (edits_in l.edit-iterator.rest.items);
+}
