@@ -1,12 +1,10 @@
 -- A key of a document is taken in a unique index exactly where the document clashes with another.
-use Rattle.std.proofs.Common.{◌≡◌, inl, inr, ℕ, Bool, true, false, ◌||◌, ◌&&◌, List, [], ◌∷◌, map, Some, refl, sym, ap, ◌∙◌}
+use Rattle.std.proofs.Common.{◌≡◌, inl, inr, ℕ, ◌||◌, ◌&&◌, List, [], ◌∷◌, map, Some, refl, ◌∙◌}
 use Rattle.std.specs.Prelude.{Contains}
 use Rattle.std.specs.List.{list_any}
-use Rattle.std.specs.Ordering.{is_eq}
 use Rattle.bson.specs.Tree.{Pairs}
 use Rattle.btree.specs.Keys.{Entry}
 use Rattle.value_order.specs.KeyText.{tree_text}
-use Rattle.value_order.specs.Order.{bytes_cmp}
 use Rattle.index.specs.Changes.{is_among}
 use Rattle.index.specs.Definition.{Definition}
 use Rattle.index.specs.Entering.{clashes, is_other, share_key}

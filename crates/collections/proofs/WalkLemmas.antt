@@ -1,5 +1,5 @@
 -- What a walk makes of the documents from its key on.
-use Rattle.std.proofs.Common.{◌≡◌, ◌⊎◌, ℕ, suc, ◌+◌, ◌-◌, ◌*◌, ◌<◌, ◌≤◌, Bool, true, false, not, List, [], ◌∷◌, ◌++◌, length, map, take, drop, refl, sym, ◌∙◌, ap, subst, arith, inl, inr, length-append, append_assoc}
+use Rattle.std.proofs.Common.{◌≡◌, ◌⊎◌, ℕ, suc, ◌+◌, ◌*◌, ◌<◌, ◌≤◌, Bool, true, false, not, List, [], ◌∷◌, ◌++◌, length, map, take, drop, refl, sym, ◌∙◌, ap, subst, arith, inl, inr, length-append, append_assoc}
 use Rattle.std.specs.Prelude.{◌&&◌, Option, Some, None, All, IfOk, Result, Ok, Err}
 use Rattle.std.specs.Option.{option_map}
 use Rattle.std.specs.Global.{Vec}
@@ -30,7 +30,6 @@ use Rattle.collections.specs.Calls.{Reads}
 use Rattle.collections.specs.Reading.{AreEach, IsBatchOf, IsInTree, IsOfDocument, OrMemory, ReadsOf}
 use Rattle.collections.specs.Standing.{IsTurnOf}
 use Rattle.collections.specs.State.{State}
-use Rattle.collections.specs.View.{disk_history, is_stopped}
 use Rattle.collections.specs.Walk.{AreAhead, AreBehind, AreNext, BeginsWalk, GoesOnWalking, HasNext, IsWalk, StepsOn, next_key}
 use Rattle.collections.specs.declared.walk.Walk.{Walk}
 use Rattle.collections.proofs.FoundLemmas.{each_document}

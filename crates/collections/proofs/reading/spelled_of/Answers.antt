@@ -1,4 +1,4 @@
-use Rattle.std.proofs.Common.{◌≡◌, List, [], ◌∷◌, ◌++◌, length, length-append, ap, subst, ◌∙◌, arith}
+use Rattle.std.proofs.Common.{[], ◌∷◌, ◌++◌, length, length-append, ap, subst, ◌∙◌, arith}
 use Rattle.bson.specs.Tree.{Pairs}
 use Rattle.collections.proofs.FoundLemmas.{AreMade, one_left}
 use Rattle.collections.proofs.reading.spelled_of.Goals as goal
