@@ -1,7 +1,8 @@
 -- Documents of a collection enter a new index, batch after batch.
-use Rattle.std.proofs.Common.{◌≡◌, ◌≢◌, ◌⊎◌, inl, inr, ◌+◌, ◌<◌, ℕ, zero, suc, Bool, true, false, List, [], ◌∷◌, ◌++◌, length, take, drop, Option, Some, None, Result, Ok, Err, refl, sym, ap, subst, ◌∙◌, arith, append_assoc, append-nil}
+use Rattle.std.proofs.Common.{◌≡◌, ◌≢◌, ◌⊎◌, inl, inr, ◌+◌, ◌<◌, ℕ, zero, suc, Bool, true, false, List, [], ◌∷◌, ◌++◌, length, get_or, take, drop, Option, Some, None, Result, Ok, Err, refl, sym, ap, subst, ◌∙◌, arith, append_assoc, append-nil}
 use Rattle.std.specs.Prelude.{not, option_map}
 use Rattle.std.specs.Global.{Vec}
+use Rattle.std.proofs.lemmas.List.{take-append-drop, take_more}
 use Rattle.bson.specs.Tree.{Pairs}
 use Rattle.page.specs.History.{History, KeepsWord}
 use Rattle.path.specs.declared.refusal.Refusal.{Refusal}
@@ -28,7 +29,7 @@ use Rattle.engine.specs.World.{documents_of, documents_or_none}
 use Rattle.engine.specs.declared.engine.Engine.{Engine}
 use Rattle.engine.proofs.NewCollections.{IsNumberOf, IsThere, none_of, there_of}
 use Rattle.engine.proofs.OnlyReading.{cause_from, now_same, reads_file, reads_none, reads_on, word_before}
-use Rattle.engine.proofs.WalkingLemmas.{none_there}
+use Rattle.engine.proofs.Steps.{drop_step}
 
 -- ---- document after document
 
@@ -74,15 +75,19 @@ module _ (first mid : NewEntries) (ds : List Pairs) (d : Pairs) (far : TakesEach
         by refusals.OutOfMemory h = inr refl
         by f h = inl (h (λ g. absurd cc))
 
+-- ---- the documents of a batch
+
+module _ (ds : List Pairs) (i : ℕ) (d : Pairs) (within : i < length ds) (is : d ≡ get_or ds i d) where
+  pub taken_next : take (i + 1) ds ≡ take i ds ++ d ∷ []
+  taken_next = take_more ds i d within ∙ ap (λ (x : Pairs). take i ds ++ x ∷ []) (sym is)
+
+  pub around_it : take i ds ++ d ∷ drop (i + 1) ds ≡ ds
+  around_it = ap (λ (xs : List Pairs). take i ds ++ xs) (sym (drop_step ds i d within is)) ∙ take-append-drop i ds
+
 -- ---- a batch
 
-take_and_drop : (n : ℕ) (xs : List Pairs) → xs ≡ take n xs ++ drop n xs
-take_and_drop zero xs = refl
-take_and_drop (suc n) [] = refl
-take_and_drop (suc n) (x ∷ xs) = ap (λ (ys : List Pairs). x ∷ ys) (take_and_drop n xs)
-
 batch_cut : (rest batch : List Pairs) → batch ≡ take (length batch) rest → rest ≡ batch ++ drop (length batch) rest
-batch_cut rest batch first = take_and_drop (length batch) rest ∙ ap (λ (xs : List Pairs). xs ++ drop (length batch) rest) (sym first)
+batch_cut rest batch first = sym (take-append-drop (length batch) rest) ∙ ap (λ (xs : List Pairs). xs ++ drop (length batch) rest) (sym first)
 
 module _ {D : Type 0} (history : D → History) (old : Engine D) (h : IsSound history old) (made after : NewEntries) (walk later : Walk) (file : State D) where
   abbrev new : Engine D

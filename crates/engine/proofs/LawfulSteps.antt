@@ -322,7 +322,7 @@ good_drop w name h short = λ x e.
     subst (λ (y : World × Pairs). IsLawful y.0 × IsSendable (ok_reply y.1)) same (record { collections = dropped_lawful w.collections name s.0 h.collections s.1; cursors = h.cursors }, drop-sendable (index_count w.collections name) name short)
 
 -- the collections with indexes made in one of them
-indexed_lawful : (cs : List Collection) (name : List ℕ) (ns : List NewIndex) (next : List Collection) → IsLawfulState cs → length name ≤ 255 → indexed cs name ns ≡ Ok next → IsLawfulState next
+pub indexed_lawful : (cs : List Collection) (name : List ℕ) (ns : List NewIndex) (next : List Collection) → IsLawfulState cs → length name ≤ 255 → indexed cs name ns ≡ Ok next → IsLawfulState next
 indexed_lawful cs name ns next h short e =
     let put : Collection → Result (List Collection) Refusal = λ c. Ok (put_collection c cs) in
     let p = passed (is_full cs name) refusals.TooMany (with_new_indexes (collection_of cs name) ns >>= put) next e in

@@ -7,7 +7,9 @@ use Rattle.outcome.specs.Outcome.{unless}
 use Rattle.path.specs.declared.refusal.Refusal.{Refusal}
 use Rattle.path.specs.declared.refusal.Refusal.TheVariants as refusals
 use Rattle.index.specs.State.{Collection, find_collection, put_collection}
+use Rattle.commands.specs.NewIndex.{NewIndex}
 use Rattle.engine.specs.Create.{created, run_create}
+use Rattle.engine.specs.CreateIndexes.{indexed}
 use Rattle.engine.specs.Insert.{inserted, run_insert}
 use Rattle.engine.specs.Lawful.{IsLawful, IsLawfulState}
 use Rattle.engine.specs.Refusals.{int}
@@ -15,7 +17,7 @@ use Rattle.engine.specs.Numbering.{IsTooMany}
 use Rattle.engine.specs.World.{World, with_documents}
 use Rattle.engine.specs.Writing.{planned_or}
 use Rattle.engine.proofs.Creating.{run_create-is}
-use Rattle.engine.proofs.LawfulSteps.{good_create, good_insert}
+use Rattle.engine.proofs.LawfulSteps.{good_create, good_insert, indexed_lawful}
 use Rattle.engine.proofs.MakingLemmas.{with_reply}
 use Rattle.engine.proofs.Running.{run_insert-done, run_insert-refused}
 
@@ -39,6 +41,9 @@ pub created_lawful : (cs : List Collection) (name : List ℕ) → IsLawfulState 
 created_lawful cs name h short = planned_lawful cs (created cs name) h (λ next is.
     let w = world_of_these cs in
     (good_create w name (lawful_world cs h) short (record w { collections = next }, no_pairs) (run_create-is w name next is)).0.collections)
+
+pub indexed_planned : (cs : List Collection) (name : List ℕ) (ns : List NewIndex) → IsLawfulState cs → length name ≤ 255 → IsLawfulState (planned_or cs (indexed cs name ns))
+indexed_planned cs name ns h short = planned_lawful cs (indexed cs name ns) h (λ next is. indexed_lawful cs name ns next h short is)
 
 -- ---- replies
 
