@@ -98,7 +98,7 @@ module _ {D : Type 0} (history : D → History) (name : List ℕ) (ns : List New
         all_reads : OnlyReads history last new → OnlyReads history old new
         all_reads later = reads_on history old last new (reads_on history old mid last first.reads target.reads) later
 
-        start : List Collection → Collection
+        abbrev start : List Collection → Collection
         start cs = collection_of cs name
 
         noted_first : KeepsWord (disk_history history last) → AreNoted (world last).collections name home edits (start (world last).collections)

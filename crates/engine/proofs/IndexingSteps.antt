@@ -30,7 +30,7 @@ use Rattle.engine.proofs.NotingEach.{Plan}
 use Rattle.engine.proofs.OnlyReading.{reads_none, word_before}
 
 -- one index after the other
-pub each_index : List ℕ → Plan NewIndex
+abbrev pub each_index : List ℕ → Plan NewIndex
 each_index name = record {
   one = with_new_index;
   all = with_new_indexes;
@@ -97,14 +97,14 @@ module _ {D : Type 0} (history : D → History) (old : Engine D) (h : IsSound hi
         unbegun : states.IsLawfulState cs → (c : Collection) → AreNoted cs name home before c → HasDocumentsOf cs name c → IsUnbegun name begun cs (asked c)
         unbegun lawful c noted so = record { documents = so; kept = kept_so lawful c noted; has = begins c noted.numbered lawful_spec }
 
-        module _ (made : NewEntries) (new : Engine D) where
+        module _ (made : NewEntries) (last : Engine D) where
           abbrev Takes : Result (Unit {0}) Refusal → Type 0
-          Takes r = TriesOf history (IsUnbegun name begun) (IsIndexed made) IsUnindexable r old new
+          Takes r = TriesOf history (IsUnbegun name begun) (IsIndexed made) IsUnindexable r old last
 
-          lawful_then : OnlyReads history old new → KeepsWord (disk_history history new) → states.IsLawfulState cs
-          lawful_then reads k = lawful_now history old h (word_before history old.file new.file reads.goes k) running
+          lawful_then : OnlyReads history old last → KeepsWord (disk_history history last) → states.IsLawfulState cs
+          lawful_then reads k = lawful_now history old h (word_before history old.file last.file reads.goes k) running
 
-          pub index_refused : (e : Refusal) → Takes (Err e) → NotesIt home before (Err e) new
+          pub index_refused : (e : Refusal) → Takes (Err e) → NotesIt home before (Err e) last
           index_refused e takes = record {
             reads = takes.reads;
             answers = λ k c noted so. elim (takes.answers k (asked c) (unbegun (lawful_then takes.reads k) c noted so)) [
@@ -114,11 +114,11 @@ module _ {D : Type 0} (history : D → History) (old : Engine D) (h : IsSound hi
           }
 
           module _ (takes : Takes (Ok tt)) (home_after : Catalogued) (after : List Edit) where
-            pub index_unmade : (e : Refusal) → e ≡ refusals.OutOfMemory → NotesIt home_after after (Err e) new
+            pub index_unmade : (e : Refusal) → e ≡ refusals.OutOfMemory → NotesIt home_after after (Err e) last
             index_unmade e memory = record { reads = takes.reads; answers = λ k c noted so. inr (inl memory) }
 
             pub index_made : home_after.number ≡ home.number → home_after.indexes.items ≡ home.indexes.items ++ made.index ∷ [] → MakesIndexOf before after name home.number home.indexes.items made
-                → NotesIt home_after after (Ok tt) new
+                → NotesIt home_after after (Ok tt) last
             index_made number_is indexes_are makes = record {
               reads = takes.reads;
               answers = λ k c noted so.

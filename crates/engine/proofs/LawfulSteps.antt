@@ -46,7 +46,7 @@ use Rattle.engine.proofs.Listing.{go_into_one}
 use Rattle.engine.specs.Refusals.{int, total, words, ok_reply}
 use Rattle.commands.specs.Command.{Command, ping, insert as insert_of, find as find_of, count as count_of_all, delete, update, aggregate, create as create_of, drop as drop_of, list_collections, create_indexes, drop_indexes, list_indexes, command_of, IsBounded, get_more, kill_cursors, hello}
 use Rattle.engine.specs.Lawful.{IsStored, IsWithin, IsKept, IsLawfulState, IsLawful, AreLawfulCursors}
-use Rattle.index.specs.LawfulState.{AreNamedApart, AreNumberedApart}
+use Rattle.index.specs.LawfulState.{AreNamedApart, AreNumberedApart, IsRising}
 use Rattle.engine.specs.Places.{collection_at, no_collection}
 use Rattle.engine.specs.Insert.{is_full}
 use Rattle.engine.specs.Cursors.{items_of_documents, batch_of, cursor_reply, number_after, batch_reply, is_refused, new_cursor, open_cursor, first_batch, is_cursor, no_cursor, cursor_at}

@@ -1,13 +1,15 @@
 -- Which indexes are to be made, and what they make of a collection.
-use Rattle.std.proofs.Common.{◌≡◌, ◌≢◌, ◌⊎◌, inl, inr, ◌+◌, ◌<◌, ◌≤◌, ℕ, Bool, true, false, ◌||◌, List, [], ◌∷◌, ◌++◌, length, length-append, map, Result, Ok, Err, refl, sym, ap, subst, ◌∙◌, arith}
+use Rattle.std.proofs.Common.{◌≡◌, ◌≢◌, ◌⊎◌, inl, inr, ◌+◌, ◌<◌, ◌≤◌, ℕ, suc, Bool, true, false, ◌&&◌, ◌||◌, List, [], ◌∷◌, ◌++◌, length, length-append, get_or, drop, map, Result, Ok, Err, refl, sym, ap, subst, ◌∙◌, arith}
 use Rattle.std.specs.Prelude.{◌==◌, nat_le, if◌then◌else◌, All}
+use Rattle.std.specs.List.{list_any}
 use Rattle.std.proofs.lemmas.Bool.Decides.{nat_tests}
+use Rattle.std.proofs.lemmas.List.{drop_all}
 use Rattle.outcome.specs.Outcome.{◌>>=◌, unless}
 use Rattle.path.specs.declared.refusal.Refusal.{Refusal}
 use Rattle.path.specs.declared.refusal.Refusal.TheVariants as refusals
 use Rattle.commands.specs.NewIndex.{NewIndex, defined}
 use Rattle.commands.specs.OutcomeLaws.{step_of}
-use Rattle.index.specs.Definition.{Definition}
+use Rattle.index.specs.Definition.{Definition, Field}
 use Rattle.index.specs.Entering.{DocumentWrite, enter_each, entered}
 use Rattle.index.specs.IndexMaking.{alone, as_new, with_index}
 use Rattle.index.specs.KeptLaws.{noted}
@@ -16,10 +18,42 @@ use Rattle.index.proofs.EnteringLemmas.{has_entered}
 use Rattle.index.proofs.KeptSteps.{long_map}
 use Rattle.index.proofs.LawfulLaws.{all_of}
 use Rattle.index.proofs.MemberLemmas.{Among}
-use Rattle.engine.specs.CreateIndexes.{is_in_conflict, is_there, unused_index, with_new_index, with_new_indexes}
+use Rattle.engine.specs.CreateIndexes.{are_same_fields, is_in_conflict, is_same_field, is_there, numbered, unused_index, with_new_index, with_new_indexes}
 use Rattle.engine.proofs.Numbers.{unused_unused}
+use Rattle.engine.proofs.Steps.{drop_step}
+
+-- ---- fields
+
+pub longer_differ : (a b : List Field) → (length a ≡ length b → ⊥) → are_same_fields a b ≡ false
+longer_differ [] [] other = absurd (other refl)
+longer_differ [] (g ∷ gs) other = refl
+longer_differ (f ∷ fs) [] other = refl
+longer_differ (f ∷ fs) (g ∷ gs) other =
+    ap (λ (b : Bool). is_same_field f g && b) (longer_differ fs gs (λ same. other (ap suc same))) ∙ and_false (is_same_field f g)
+  where
+    and_false : (b : Bool) → (b && false) ≡ false
+    and_false true = refl
+    and_false false = refl
+
+module _ (a b : List Field) (i : ℕ) (long : length a ≡ length b) (so_far : are_same_fields (drop i a) (drop i b) ≡ are_same_fields a b) where
+  module _ (f g : Field) (within : i < length a) (f_is : f ≡ get_or a i f) (g_is : g ≡ get_or b i g) where
+    next_fields : are_same_fields (drop i a) (drop i b) ≡ (is_same_field f g && are_same_fields (drop (i + 1) a) (drop (i + 1) b))
+    next_fields t = are_same_fields (drop_step a i f within f_is t) (drop_step b i g (omega (arith, within, long)) g_is t)
+
+    pub differ_here : is_same_field f g ≡ false → false ≡ are_same_fields a b
+    differ_here other = sym (next_fields ∙ ap (λ (x : Bool). x && are_same_fields (drop (i + 1) a) (drop (i + 1) b)) other) ∙ so_far
+
+    pub same_here : is_same_field f g ≡ true → are_same_fields (drop (i + 1) a) (drop (i + 1) b) ≡ are_same_fields a b
+    same_here same = sym (next_fields ∙ ap (λ (x : Bool). x && are_same_fields (drop (i + 1) a) (drop (i + 1) b)) same) ∙ so_far
+
+  pub same_all : length a ≤ i → true ≡ are_same_fields a b
+  same_all past = sym (λ t. are_same_fields (drop_all i a past t) (drop_all i b (omega (arith, past, long)) t)) ∙ so_far
 
 -- ---- the number of a new index
+
+pub has_number_is : (is : List Definition) (n : ℕ) → uses (numbered is) n ≡ list_any (λ i. i.number == n) is
+has_number_is [] n = refl
+has_number_is (i ∷ is) n = ap (λ (b : Bool). (i.number == n) || b) (has_number_is is n)
 
 -- none of the indexes has the new one's number
 pub fresh_number : (is : List Definition) → All (λ j. j.number ≢ unused_index is) is

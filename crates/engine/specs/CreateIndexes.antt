@@ -34,14 +34,16 @@ is_id_key [] = false
 is_id_key (f ∷ []) = bytes_eq f.path (codes "_id") && is_ascending f.direction
 is_id_key (f ∷ g ∷ fs) = false
 
--- the same paths in the same directions, in order
+-- the same path in the same direction
+abbrev pub is_same_field : Field → Field → Bool
+is_same_field f g = bytes_eq f.path g.path && beq (is_ascending f.direction) (is_ascending g.direction)
+
+-- so each, in order
 abbrev pub are_same_fields : List Field → List Field → Bool
 are_same_fields [] [] = true
 are_same_fields [] (g ∷ gs) = false
 are_same_fields (f ∷ fs) [] = false
-are_same_fields (f ∷ fs) (g ∷ gs) =
-    (bytes_eq f.path g.path && beq (is_ascending f.direction) (is_ascending g.direction))
-    && are_same_fields fs gs
+are_same_fields (f ∷ fs) (g ∷ gs) = is_same_field f g && are_same_fields fs gs
 
 abbrev pub has_name : NewIndex → Definition → Bool
 has_name n i = bytes_eq i.name n.name
@@ -49,19 +51,36 @@ has_name n i = bytes_eq i.name n.name
 abbrev pub has_definition : NewIndex → Definition → Bool
 has_definition n i = are_same_fields i.fields n.fields && beq i.is_unique n.is_unique
 
+-- both, or one of them
+abbrev pub is_same : NewIndex → Definition → Bool
+is_same n i = has_name n i && has_definition n i
+
+abbrev pub is_alike : NewIndex → Definition → Bool
+is_alike n i = has_name n i || has_definition n i
+
+-- it is that on `_id`
+abbrev pub is_id_index : NewIndex → Bool
+is_id_index n = has_id_name n && is_id_key n.fields
+
+-- it has its name or its key
+abbrev pub is_like_id_index : NewIndex → Bool
+is_like_id_index n = has_id_name n || is_id_key n.fields
+
 -- it is that on `_id`, or one of the indexes has its name and its definition
 abbrev pub is_there : List Definition → NewIndex → Bool
-is_there is n = (has_id_name n && is_id_key n.fields)
-    || list_any (λ i. has_name n i && has_definition n i) is
+is_there is n = is_id_index n || list_any (is_same n) is
 
--- it has the name or the key of that on `_id`, or one of the indexes has its name or its definition
+-- it is like that on `_id`, or one of the indexes has its name or its definition
 abbrev pub is_in_conflict : List Definition → NewIndex → Bool
-is_in_conflict is n = (has_id_name n || is_id_key n.fields)
-    || list_any (λ i. has_name n i || has_definition n i) is
+is_in_conflict is n = is_like_id_index n || list_any (is_alike n) is
+
+-- collections that have their numbers
+abbrev pub numbered : List Definition → List Collection
+numbered is = map (λ i. empty_collection [] i.number) is
 
 -- the least number from 1 on that none of the indexes has, as collections get theirs
 abbrev pub unused_index : List Definition → ℕ
-unused_index is = unused (map (λ i. empty_collection [] i.number) is)
+unused_index is = unused (numbered is)
 
 -- ---- what they make of a collection
 

@@ -1,10 +1,8 @@
 //! Which indexes are to be made.
 
-ghost use Rattle.std.specs.Prelude.{◌≡◌, ◌+◌, ◌≤◌, ◌&&◌, length};
-ghost use Rattle.std.specs.Bool.{beq};
+ghost use Rattle.std.specs.Prelude.{◌≡◌, ◌==◌, ◌+◌, ◌≤◌, length};
 ghost use Rattle.std.specs.List.{list_any};
-ghost use Rattle.std.specs.Str.{bytes_eq};
-ghost use Rattle.engine.specs.CreateIndexes.{are_same_fields, has_definition, has_id_name, has_name, is_ascending, is_id_key, is_in_conflict, is_there, unused_index};
+ghost use Rattle.engine.specs.CreateIndexes.{are_same_fields, has_definition, has_name, is_alike, is_ascending, is_id_index, is_id_key, is_in_conflict, is_like_id_index, is_same, is_same_field, is_there, unused_index};
 
 use crate::documents::ID;
 use commands::NewIndex;
@@ -35,8 +33,7 @@ fn is_id_key(fields: &[IndexField]) -> bool
 
 /// Whether two fields have the same path and the same direction.
 fn is_same_field(a: &IndexField, b: &IndexField) -> bool
-    ensures { result ≡ (bytes_eq a.now.path b.now.path
-        && beq (is_ascending a.now.direction) (is_ascending b.now.direction)) }
+    ensures { result ≡ is_same_field a.now b.now }
 {
     a.text() == b.text() && is_ascending(a.direction()) == is_ascending(b.direction())
 }
@@ -70,28 +67,67 @@ fn has_definition(index: &IndexSpec, new: &NewIndex) -> bool
     are_same_fields(index.fields(), new.fields()) && index.is_unique() == new.is_unique()
 }
 
+/// Whether it has the new one's name and definition.
+fn is_same(index: &IndexSpec, new: &NewIndex) -> bool
+    ensures { result ≡ is_same new.now index.now }
+{
+    has_name(index, new) && has_definition(index, new)
+}
+
+/// Whether it has the new one's name or definition.
+fn is_alike(index: &IndexSpec, new: &NewIndex) -> bool
+    ensures { result ≡ is_alike new.now index.now }
+{
+    has_name(index, new) || has_definition(index, new)
+}
+
+/// Whether one of these indexes has the new one's name and definition.
+fn has_same(indexes: &[IndexSpec], new: &NewIndex) -> bool
+    ensures { result ≡ list_any (is_same new.now) indexes.now }
+{
+    indexes.iter().any(|index| is_same(index, new))
+}
+
+/// Whether one of these indexes has the new one's name or definition.
+fn has_alike(indexes: &[IndexSpec], new: &NewIndex) -> bool
+    ensures { result ≡ list_any (is_alike new.now) indexes.now }
+{
+    indexes.iter().any(|index| is_alike(index, new))
+}
+
+/// Whether a new index is that on `_id`.
+fn is_id_index(new: &NewIndex) -> bool
+    ensures { result ≡ is_id_index new.now }
+{
+    new.name() == ID_INDEX && is_id_key(new.fields())
+}
+
+/// Whether it has the name or the key of that on `_id`.
+fn is_like_id_index(new: &NewIndex) -> bool
+    ensures { result ≡ is_like_id_index new.now }
+{
+    new.name() == ID_INDEX || is_id_key(new.fields())
+}
+
 /// Whether the index is there already: it is that on `_id`, or one of these has its name and its definition.
 pub(crate) fn is_there(indexes: &[IndexSpec], new: &NewIndex) -> bool
     ensures { result ≡ is_there indexes.now new.now }
 {
-    if new.name() == ID_INDEX && is_id_key(new.fields()) {
-        return true;
-    }
-    indexes
-        .iter()
-        .any(|index| has_name(index, new) && has_definition(index, new))
+    is_id_index(new) || has_same(indexes, new)
 }
 
 /// Whether one that is there has its name or its definition, that on `_id` among them.
 pub(crate) fn is_in_conflict(indexes: &[IndexSpec], new: &NewIndex) -> bool
     ensures { result ≡ is_in_conflict indexes.now new.now }
 {
-    if new.name() == ID_INDEX || is_id_key(new.fields()) {
-        return true;
-    }
-    indexes
-        .iter()
-        .any(|index| has_name(index, new) || has_definition(index, new))
+    is_like_id_index(new) || has_alike(indexes, new)
+}
+
+/// Whether one of these indexes has this number.
+fn has_number(indexes: &[IndexSpec], number: u32) -> bool
+    ensures { result ≡ list_any (λ i. i.number == number) indexes.now }
+{
+    indexes.iter().any(|index| index.number() == number)
 }
 
 /// The least number from 1 on that none of these indexes has.
@@ -102,7 +138,7 @@ pub(crate) fn unused_number(indexes: &[IndexSpec]) -> u32
 {
     let mut number: u32 = 1;
     'numbers: for _ in 0..indexes.len() {
-        if !indexes.iter().any(|index| index.number() == number) {
+        if !has_number(indexes, number) {
             return number;
         }
         number += 1;

@@ -1,26 +1,22 @@
-use Rattle.std.proofs.Common.{rules, ◌≡◌, ◌+◌, ◌≤◌, ◌&&◌, length, ℕ, ◌-◌, ◌*◌, ◌<◌, ◌/◌, ◌%◌, Bool, true, false, nat_eq, nat_lt, List, [], ◌∷◌, ◌++◌, slice_index_or, slice_set, bit_and, bit_or, Fits, w8, w32, w64, Bor, MutBor}
-use Rattle.std.specs.Bool.{beq}
-use Rattle.std.specs.List.{list_any}
-use Rattle.std.specs.Str.{bytes_eq}
-use Rattle.engine.specs.CreateIndexes.{are_same_fields, has_definition, has_id_name, has_name, is_ascending, is_id_key, is_in_conflict, is_there, unused_index}
+use Rattle.std.proofs.Common.{refl, sym, ◌∙◌}
+use Rattle.engine.proofs.NewIndexLemmas.{differ_here, longer_differ, same_all, same_here}
 use Rattle.engine.proofs.new_indexes.are_same_fields.Goals as goal
 
--- src/new_indexes.rt:49:9
 pub returns-then-a-b : goal.returns-then-a-b
-returns-then-a-b c = ?
+returns-then-a-b c = sym (longer_differ c.args.a.now c.args.b.now c.if-a-b.true)
 
--- src/new_indexes.rt:51:5
 pub fields-init : goal.fields-init
-fields-init c = ?
+fields-init c = refl
 
--- src/new_indexes.rt:53:13
 pub returns-then-not-is_same_field : goal.returns-then-not-is_same_field
-returns-then-not-is_same_field c = ?
+returns-then-not-is_same_field c =
+    differ_here c.args.a.now c.args.b.now c.fields.at c.if-a-b.false c.fields.invariant c.index-a-at.result c.index-b-at.result c.fields-test.true c.index-a-at.is c.index-b-at.is
+    (sym c.is_same_field.ensures ∙ c.if-not-is_same_field.true)
 
--- src/new_indexes.rt:51:5
 pub fields-preserved : goal.fields-preserved
-fields-preserved c = ?
+fields-preserved c =
+    same_here c.args.a.now c.args.b.now c.fields.at c.if-a-b.false c.fields.invariant c.index-a-at.result c.index-b-at.result c.fields-test.true c.index-a-at.is c.index-b-at.is
+    (sym c.is_same_field.ensures ∙ c.if-not-is_same_field.false)
 
--- src/new_indexes.rt:45:1
 pub returns : goal.returns
-returns c = ?
+returns c = same_all c.args.a.now c.args.b.now c.fields.at c.if-a-b.false c.fields.invariant c.fields-test.false

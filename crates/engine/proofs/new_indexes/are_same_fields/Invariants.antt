@@ -1,6 +1,6 @@
-use Rattle.std.proofs.Common.{◌≡◌, drop, length}
+use Rattle.std.proofs.Common.{◌≡◌, drop}
 use Rattle.engine.specs.CreateIndexes.{are_same_fields}
 use Rattle.engine.proofs.new_indexes.are_same_fields.Given as goal
 
 abbrev pub invariant-fields : goal.invariant-fields
-invariant-fields l = are_same_fields (drop l.field-index l.a) (drop l.field-index l.b) ≡ are_same_fields l.a l.b
+invariant-fields l = are_same_fields (drop l.at l.a) (drop l.at l.b) ≡ are_same_fields l.a l.b

@@ -21,7 +21,7 @@ batches-init g c =
     (rw c.in-Some.is at c.in_ok-number.ensures) c.in_ok-walk.ensures
 
 pub take_batch-requires : goal.take_batch-requires
-take_batch-requires g c = c.batches.invariant.reads.sound
+take_batch-requires g c = record { sound = c.batches.invariant.reads.sound }
 
 pub batches-preserved : goal.batches-preserved
 batches-preserved g c =

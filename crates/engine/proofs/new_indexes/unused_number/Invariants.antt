@@ -1,0 +1,6 @@
+use Rattle.engine.specs.CreateIndexes.{numbered}
+use Rattle.engine.proofs.Numbers.{Searched}
+use Rattle.engine.proofs.new_indexes.unused_number.Given as goal
+
+abbrev pub invariant-numbers : goal.invariant-numbers
+invariant-numbers l = Searched (numbered l.indexes) l.end l.counter l.number
