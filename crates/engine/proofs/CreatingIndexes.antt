@@ -62,6 +62,10 @@ some_number : (found : Option ℕ) (o : Option Collection) → found ≡ option_
 some_number found None e = ap is_some e
 some_number found (Some c) e = ap is_some e
 
+turned : (a b : Bool) → b ≡ not a → a ≡ not b
+turned true b e = ap not (sym e)
+turned false b e = ap not (sym e)
+
 -- ---- the plan is made
 
 module _ {D : Type 0} (history : D → History) (name : List ℕ) (ns : List NewIndex) (old : Engine D) where
@@ -116,7 +120,7 @@ module _ {D : Type 0} (history : D → History) (name : List ℕ) (ns : List New
               ];
         }
 
-        pub plan_made : NotesAll (Ok tt) → (p : PlannedIndexes) → p.edits ≡ after → p.before ≡ length home.indexes.items → p.after ≡ length home_after.indexes.items → p.is_new ≡ not (is_some found) → Plans (Ok p) new
+        pub plan_made : NotesAll (Ok tt) → (p : PlannedIndexes) → p.edits ≡ after → p.before ≡ length home.indexes.items → p.after ≡ length home_after.indexes.items → is_some found ≡ not p.is_new → Plans (Ok p) new
         plan_made notes p edits_are before_is after_is new_is = record {
           reads = all_reads notes.reads;
           answers = λ k.
@@ -131,7 +135,7 @@ module _ {D : Type 0} (history : D → History) (name : List ℕ) (ns : List New
                 room = noted.room;
                 before = before_is ∙ ap length (sym noted.indexed);
                 after = after_is ∙ ap length (sym has.noted.indexed);
-                is_new = new_is ∙ ap not (some_number found (find_collection (world old).collections name) (first.answers k_mid))
+                is_new = turned p.is_new (is_some found) new_is ∙ ap not (some_number found (find_collection (world old).collections name) (first.answers k_mid))
                     ∙ ap (λ (ds : List Collection). not (is_some (find_collection ds name))) (sym (same_last ∙ same_mid));
                 leads = λ lawful. subst (λ (es : List Edit). Leads es cs (put_collection has.next cs) × states.IsLawfulState (put_collection has.next cs)) (sym edits_are) (has.noted.leads lawful);
               } in

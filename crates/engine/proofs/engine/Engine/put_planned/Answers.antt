@@ -8,6 +8,10 @@ pub returns-then-is_stopped-clause-makes : goal.returns-then-is_stopped-clause-m
 returns-then-is_stopped-clause-makes g c =
     put_stopped g.D.Disk.history c.args.namespace.now c.args.indexes.now c.args.self.now c.requires.sound c.args.planned.now c.requires.planned (sym c.is_stopped.ensures ∙ c.if-is_stopped.true)
 
+pub returns-then-planned-clause-makes : goal.returns-then-planned-clause-makes
+returns-then-planned-clause-makes g c =
+    put_nothing g.D.Disk.history c.args.namespace.now c.args.indexes.now c.args.self.now c.requires.sound c.args.planned.now c.requires.planned c.if-not-planned.true c.if-planned.true
+
 pub write-requires : goal.write-requires
 write-requires g c κs within = (
   search rules,
