@@ -38,8 +38,11 @@ use Rattle.commands.specs.ListCollections.{ListCollections}
 use Rattle.engine.specs.Create.{created, run_create}
 use Rattle.engine.specs.DropCollection.{drop_reply, dropped, index_count, run_drop}
 use Rattle.engine.specs.ListCollections.{names_in, listed, run_list_collections}
+use Rattle.engine.specs.ListIndexes.{indexes_reply, run_list_indexes}
 use Rattle.engine.proofs.Creating.{dropped_lawful}
 use Rattle.engine.proofs.Listing.{go_into_one}
+use Rattle.engine.proofs.ListingIndexes.{indexes-sendable}
+use Rattle.engine.proofs.ShortIndexes.{short_at}
 use Rattle.engine.specs.Refusals.{int, total, words, ok_reply}
 use Rattle.commands.specs.Command.{Command, ping, insert as insert_of, find as find_of, count as count_of_all, delete, update, aggregate, create as create_of, drop as drop_of, list_collections, create_indexes, drop_indexes, list_indexes, command_of, IsBounded, get_more, kill_cursors, hello}
 use Rattle.engine.specs.Lawful.{IsStored, IsWithin, IsKept, IsLawfulState, IsLawful, AreLawfulCursors}
@@ -65,7 +68,7 @@ use Rattle.engine.proofs.Located.{Gap, There, located}
 use Rattle.engine.proofs.Deleting.{deleted_lawful}
 use Rattle.engine.proofs.Finding.{found_within}
 use Rattle.engine.proofs.Ordered.{Rises, rises_insert, All-inserted, missing, found, added, replaced}
-use Rattle.engine.proofs.Numbers.{unused_unused, number_bounds, numbers_set, numbers_insert}
+use Rattle.engine.proofs.Numbers.{found_kept, unused_unused, number_bounds, numbers_set, numbers_insert}
 use Rattle.engine.proofs.NamesApart.{apart_set}
 use Rattle.engine.proofs.SpelledSizes.{ping-sendable, insert-sendable, drop-sendable, refusal-sendable, batch_items, cursor-sendable, kill-sendable, told_few, hello-sendable}
 
@@ -151,6 +154,7 @@ good_insert w name documents h short = at (is_full w.collections name) refl
           short = subst (λ (n : List ℕ). length n ≤ 255) (sym grown.named) short;
           least = subst (λ (n : ℕ). 1 ≤ n) (sym grown.numbered) bounds.least;
           most = subst (λ (n : ℕ). n ≤ 1000) (sym grown.numbered) bounds.most;
+          indexes = grown.indexes (short_at cs name h.collections.kept);
         } in
         let p = put_kept next cs h.collections one (subst (λ (n : List ℕ). is_full cs n ≡ false) (sym grown.named) free)
         (grown.numbered ∙ ap (λ (n : List ℕ). number_or (unused cs) (find_collection cs n)) (sym grown.named)) in
@@ -307,6 +311,7 @@ good_create w name h short = λ x e.
           short = short;
           least = bounds.least;
           most = bounds.most;
+          indexes = short_at w.collections name h.collections.kept;
         } in
         subst IsLawfulState now (put_kept new w.collections h.collections one free refl)
 
@@ -326,6 +331,14 @@ good_list_collections w c h short =
     let small : fits_in ds = subst fits_in (take_all (length ds) ds (omega arith)) (subst (λ (n : ℕ). fits_in (take n ds)) one.whole (batch_items (length ds) (900000 - 5) ds one.within)) in
     good_one w (cursor_reply (codes "firstBatch") ds 0 (c.database ++ codes ".$cmd.listCollections")) h
     (cursor-sendable (codes "firstBatch") ds 0 (c.database ++ codes ".$cmd.listCollections") (lit≤ tt) small (omega (arith, short, length-append c.database (codes ".$cmd.listCollections"))))
+
+good_list_indexes : (w : World) (name : List ℕ) → IsLawful w → length name ≤ 255 → Good (run_list_indexes w (record { namespace = name }))
+unfolding run_list_indexes
+good_list_indexes w name h short = at (find_collection w.collections name) refl
+  where
+    at : (o : Option Collection) → find_collection w.collections name ≡ o → Good (or_refused o refusals.NamespaceNotFound >>= (λ found. let r : Result (World × Pairs) Refusal = Ok (w, indexes_reply name found.indexes) in r))
+    at None e = λ x f. absurd cc
+    at (Some c) e = good_one w (indexes_reply name c.indexes) h (indexes-sendable c.indexes (found_kept w.collections name c h.collections.kept e).indexes name short)
 
 -- ---- updates
 
@@ -350,6 +363,7 @@ entered_lawful cs name ss next h short read e =
           short = subst (λ (n : List ℕ). length n ≤ 255) (sym stays.named) short;
           least = subst (λ (n : ℕ). 1 ≤ n) (sym stays.numbered) bounds.least;
           most = subst (λ (n : ℕ). n ≤ 1000) (sym stays.numbered) bounds.most;
+          indexes = stays.indexes (short_at cs name h.kept);
         } in
         let same : put_collection s.0 cs ≡ next = cc in
         subst IsLawfulState same
@@ -391,7 +405,7 @@ good_run w connection (drop_of c) h b = good_drop w c.namespace h b
 good_run w connection (list_collections c) h b = good_list_collections w c h b
 good_run w connection (create_indexes c) h b = λ x e. absurd cc
 good_run w connection (drop_indexes c) h b = λ x e. absurd cc
-good_run w connection (list_indexes c) h b = λ x e. absurd cc
+good_run w connection (list_indexes c) h b = good_list_indexes w c.namespace h b
 
 -- the world after a step, and its reply
 pub record Steps (x : World × Pairs) : Type 0 where

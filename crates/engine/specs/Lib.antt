@@ -15,6 +15,7 @@ pub mod UpdateCommand
 pub mod Create
 pub mod DropCollection
 pub mod ListCollections
+pub mod ListIndexes
 pub mod Step
 pub mod Lawful
 pub mod Places

@@ -121,7 +121,7 @@ impl<D: Disk> Engine<D> {
             Command::ListCollections(c) => spelled(self.list_collections(c.database)),
             Command::CreateIndexes(_) => Err(Refusal::CommandNotFound),
             Command::DropIndexes(_) => Err(Refusal::CommandNotFound),
-            Command::ListIndexes(_) => Err(Refusal::CommandNotFound),
+            Command::ListIndexes(c) => spelled(self.list_indexes(c.namespace.as_str())),
         }
     }
 
