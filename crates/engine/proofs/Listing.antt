@@ -1,5 +1,5 @@
 -- The names of a database's collections, and that they all go into one batch.
-use Rattle.std.proofs.Common.{◌≡◌, ℕ, zero, suc, ◌+◌, ◌-◌, ◌*◌, ◌<◌, ◌≤◌, Bool, true, false, List, [], ◌∷◌, ◌++◌, length, drop, get_or, map, take, Option, Some, None, Result, Ok, refl, sym, ap, subst, ◌∙◌, append_assoc, length-append, arith}
+use Rattle.std.proofs.Common.{◌≡◌, ℕ, zero, suc, ◌+◌, ◌-◌, ◌*◌, ◌<◌, ◌≤◌, Bool, true, false, List, [], ◌∷◌, ◌++◌, length, drop, get_or, map, take, Option, Some, None, Result, Ok, refl, sym, ap, subst, ◌∙◌, append_assoc, length-append, suc-mul, arith}
 use Rattle.std.specs.Prelude.{◌||◌, ◌==◌, nat_eq, nat_le, if◌then◌else◌, codes, option_map, string_bytes, All, MatchOption}
 use Rattle.std.specs.Borrow.{Bor}
 use Rattle.std.specs.Fmt.{decimal}
@@ -116,13 +116,13 @@ listed_within (n ∷ ns) h = All-cons IsWithin (listed n) (map listed ns) (recor
 pub all_fit : (size i most room : ℕ) (ds : List Pairs) → length ds ≤ most → i + length ds ≤ 1000 → Small size ds → length ds * (size + 10) ≤ room → batch_len i most room ds ≡ length ds
 all_fit size i most room [] few within small fits = refl
 all_fit size i zero room (d ∷ ds) few within small fits = absurd (omega (arith, few))
-all_fit size i (suc most) room (d ∷ ds) few within small fits = step (length ds * (size + 10)) fits (all_fit size (i + 1) most (room - item_size i d) ds (omega (arith, few)) (omega (arith, within)) small.1)
+all_fit size i (suc most) room (d ∷ ds) few within small fits = step (length ds * (size + 10)) (omega (arith, suc-mul (length ds) (size + 10), fits)) (all_fit size (i + 1) most (room - item_size i d) ds (omega (arith, few)) (omega (arith, within)) small.1)
   where
     digits : length (decimal i) ≤ 3
     digits = length-decimal-le 3 i (omega arith) (omega (arith, within)) (omega (arith, within))
 
-    one : item_size i d ≤ size + 10
-    one = omega (arith, small.0, digits, length-append (decimal i) (0 ∷ frame_of (pairs_bytes d)))
+    item : item_size i d ≤ size + 10
+    item = omega (arith, small.0, digits, length-append (decimal i) (0 ∷ frame_of (pairs_bytes d)))
 
     at : (first one : Bool) → one ≡ true → batch_len (i + 1) most (room - item_size i d) ds ≡ length ds
         → (if first || one then suc (batch_len (i + 1) most (room - item_size i d) ds) else 0) ≡ suc (length ds)
@@ -133,8 +133,8 @@ all_fit size i (suc most) room (d ∷ ds) few within small fits = step (length d
     step : (more : ℕ) → size + 10 + more ≤ room → (more ≤ room - item_size i d → batch_len (i + 1) most (room - item_size i d) ds ≡ length ds)
         → (if (i == 0) || nat_le (item_size i d) room then suc (batch_len (i + 1) most (room - item_size i d) ds) else 0) ≡ suc (length ds)
     step more fits later =
-        let fit : nat_le (item_size i d) room ≡ true = grind (arith, nat_tests, one, fits) in
-        at (i == 0) (nat_le (item_size i d) room) fit (later (omega (arith, one, fits)))
+        let fit : nat_le (item_size i d) room ≡ true = grind (arith, nat_tests, item, fits) in
+        at (i == 0) (nat_le (item_size i d) room) fit (later (omega (arith, item, fits)))
 
 -- All that is said of at most 1,000 collections goes into one batch.
 pub record GoIntoOne (ds : List Pairs) : Type 0 where

@@ -1,5 +1,5 @@
 -- What is said of a collection's indexes, and that it all goes into one batch.
-use Rattle.std.proofs.Common.{◌≡◌, ℕ, suc, max, ◌+◌, ◌-◌, ◌*◌, ◌≤◌, Bool, true, false, inl, List, [], ◌∷◌, ◌++◌, length, get_or, drop, map, take, Option, Some, None, Result, Ok, Err, refl, sym, ap, subst, ◌∙◌, append_assoc, arith, lit≤}
+use Rattle.std.proofs.Common.{◌≡◌, ℕ, suc, max, ◌+◌, ◌-◌, ◌*◌, ◌<◌, ◌≤◌, Bool, true, false, inl, List, [], ◌∷◌, ◌++◌, length, get_or, drop, map, take, Option, Some, None, Result, Ok, Err, refl, sym, ap, subst, ◌∙◌, append_assoc, arith, lit≤}
 use Rattle.std.specs.Prelude.{All, codes, if◌then◌else◌, nat_le}
 use Rattle.std.specs.List.{AllByRecursion}
 use Rattle.std.proofs.lemmas.List.Elements.{All-cons}
@@ -111,6 +111,13 @@ each_within (i ∷ is) h =
     (record { size = omega (arith, index_size i h.0); depth = described_depth (key_document i.fields) i.name i.is_unique (key_levels i.fields) })
     (each_within is h.1)
 
+abbrev zero_if : Bool → ℕ
+zero_if b = if b then 0 else 0
+
+zero_either : (b : Bool) → zero_if b ≡ 0
+zero_either true = refl
+zero_either false = refl
+
 module _ (is : List Definition) (h : AreShortIndexes is) where
   all_small : Small 1300 (described_all is)
   all_small = (described_size (pair (codes "_id") (int 1) no_pairs) (codes "_id_") true id_size (lit≤ tt), each_small is h.each)
@@ -142,10 +149,6 @@ module _ (is : List Definition) (h : AreShortIndexes is) where
       let all : take n ds ≡ described_all is = take_all n ds (omega (arith, whole)) ∙ made in
       let none : number_after n ds 0 ≡ 0 = zero_either (nat_le (length ds) n) in
       (λ i. cursor_reply (codes "firstBatch") (all i) (none i) name)
-    where
-      zero_either : (b : Bool) → (if b then 0 else 0) ≡ 0
-      zero_either true = refl
-      zero_either false = refl
 
 -- ---- the command
 
