@@ -19,6 +19,7 @@ use Rattle.commands.specs.Create.{Create, read_create}
 use Rattle.commands.specs.DropCollection.{DropCollection, read_drop}
 use Rattle.commands.specs.ListCollections.{ListCollections, read_list_collections}
 use Rattle.commands.specs.CreateIndexes.{CreateIndexes, read_create_indexes}
+use Rattle.commands.specs.NewIndex.{IsShortNewIndex}
 use Rattle.commands.specs.DropIndexes.{DropIndexes, read_drop_indexes}
 use Rattle.commands.specs.ListIndexes.{ListIndexes, read_list_indexes}
 use Rattle.commands.specs.Update.{UpdateStatement, Update, read_update_command, IsRead}
@@ -72,7 +73,7 @@ command_of (pair name t ps) =
     Err refusals.CommandNotFound
 
 -- What a command that was read keeps: a namespace of at most 255 bytes, and from 1 to 1,000 documents, statements, cursors or
--- indexes.
+-- indexes, of which each is within its limits.
 abbrev pub IsBounded : Command → Type 0
 IsBounded ping = Unit {0}
 IsBounded hello = Unit {0}
@@ -91,6 +92,6 @@ IsBounded (create c) = length c.namespace ≤ 255
 IsBounded (drop c) = length c.namespace ≤ 255
 IsBounded (list_collections c) = length c.database ≤ 63
 IsBounded (create_indexes c) =
-    (length c.namespace ≤ 255) × (1 ≤ length c.indexes)
+    (length c.namespace ≤ 255) × (1 ≤ length c.indexes) × All IsShortNewIndex c.indexes
 IsBounded (drop_indexes c) = length c.namespace ≤ 255
 IsBounded (list_indexes c) = length c.namespace ≤ 255

@@ -15,6 +15,7 @@ use Rattle.outcome.specs.Outcome.{◌>>=◌, unless, or_refused, Gives}
 use Rattle.path.specs.declared.refusal.Refusal.{Refusal}
 use Rattle.path.specs.declared.refusal.Refusal.TheVariants as refusals
 use Rattle.commands.specs.OutcomeLaws.{step_of, passed}
+use Rattle.commands.specs.FieldsLaws.{each_has, fields_keep, first_false, later_false, there}
 use Rattle.commands.specs.Values.{text_in, bool_in, items_of, document_in, spelled_in, id_in}
 use Rattle.commands.specs.Fields.{CommonFields, read_fields, common_field, no_common}
 use Rattle.commands.specs.Statements.{statements_in, some_in, each_of}
@@ -33,19 +34,12 @@ use Rattle.commands.specs.Alone.{read_alone}
 use Rattle.commands.specs.Create.{Create, read_create}
 use Rattle.commands.specs.DropCollection.{DropCollection, read_drop}
 use Rattle.commands.specs.ListCollections.{ListCollections, read_list_collections}
-use Rattle.commands.specs.NewIndex.{NewIndex, read_new_index}
+use Rattle.commands.specs.NewIndex.{IsShortNewIndex, NewIndex, read_new_index}
+use Rattle.commands.specs.NewIndexLaws.{new_index_short}
 use Rattle.commands.specs.CreateIndexes.{CreateIndexes, CreateIndexesFields, no_create_indexes_fields, new_indexes_in, create_indexes_field, read_create_indexes}
 use Rattle.commands.specs.DropIndexes.{DropIndexes, dropped_by, no_drop_indexes_fields, drop_indexes_field, read_drop_indexes}
 use Rattle.commands.specs.ListIndexes.{ListIndexes, read_list_indexes}
 use Rattle.commands.specs.Command.{Command, ping, insert, find, count, delete, update, aggregate, create, drop, list_collections, create_indexes, drop_indexes, list_indexes, as_command, command_of, IsBounded, get_more, kill_cursors, hello}
-
-later_false : (a b : Bool) → (a || b) ≡ false → b ≡ false
-later_false true b e = absurd cc
-later_false false b e = e
-
-first_false : (a b : Bool) → (a || b) ≡ false → a ≡ false
-first_false true b e = absurd cc
-first_false false b e = refl
 
 -- ---- namespaces
 
@@ -115,28 +109,6 @@ few_there None ds h e = absurd cc
 few_there (Some es) ds h e = let same : es ≡ ds = cc in subst AreFew same h
 
 -- ---- updates
-
--- what each field keeps, all fields keep
-fields_keep : {F : Type 0} (P : F → Type 0) (read : F → List ℕ → Tree → Result F Refusal) → ((found next : F) (name : List ℕ) (t : Tree) → P found → read found name t ≡ Ok next → P next)
-    → (ps : Pairs) (found next : F) → P found → read_fields read found ps ≡ Ok next → P next
-fields_keep P read one no_pairs found next h e = let same : found ≡ next = cc in subst P same h
-fields_keep P read one (pair name t ps) found next h e =
-    let s = step_of (read found name t) (λ mid. read_fields read mid ps) next e in
-    fields_keep P read one ps s.0 next (one found s.0 name t h s.1) s.2
-
--- what holds of whatever is read holds of all that are read
-each_has : {X : Type 0} (P : X → Type 0) (read : Tree → Result X Refusal) → ((t : Tree) (x : X) → read t ≡ Ok x → P x) → (ts : Items) (xs : List X) → each_of read ts ≡ Ok xs → All P xs
-each_has {X} P read one no_items xs e = let none : [] ≡ xs = cc in subst (λ (ys : List X). All P ys) none (λ k d below. absurd (omega arith))
-each_has {X} P read one (item t ts) xs e =
-    let s = step_of (read t) (λ x. each_of read ts >>= (λ others. let r : Result (List X) Refusal = Ok (x ∷ others) in r)) xs e in
-    let more : List X → Result (List X) Refusal = λ others. Ok (s.0 ∷ others) in
-    let o = step_of (each_of read ts) more xs s.2 in
-    let same : s.0 ∷ o.0 ≡ xs = cc in
-    subst (λ (ys : List X). All P ys) same (All-cons P s.0 o.0 (one t s.0 s.1) (each_has P read one ts o.0 o.1))
-
-there : {X : Type 0} (o : Option X) (x : X) → or_refused o refusals.FailedToParse ≡ Ok x → o ≡ Some x
-there None x e = absurd cc
-there {X} (Some y) x e = let same : y ≡ x = cc in ap (λ (z : X). Some z) same
 
 abbrev ReadAt : Option Change → Type 0
 ReadAt None = Unit {0}
@@ -257,7 +229,7 @@ module _ (found next : KillCursorsFields) (name : List ℕ) (t : Tree) (h : FewI
 -- ---- indexes to be made
 
 abbrev SomeIndexes : List NewIndex → Type 0
-SomeIndexes is = 1 ≤ length is
+SomeIndexes is = (1 ≤ length is) × All IsShortNewIndex is
 
 some_items : (t : Tree) (ts : Items) → some_in t ≡ Ok ts → 1 ≤ items_len ts
 some_items t ts e =
@@ -273,7 +245,10 @@ SomeIndexesAt (Some is) = SomeIndexes is
 some_indexes : (t : Tree) (is : List NewIndex) → new_indexes_in t ≡ Ok is → SomeIndexes is
 some_indexes t is e =
     let s = step_of (some_in t) (each_of (spelled_in read_new_index)) is e in
-    omega (arith, as_many (spelled_in read_new_index) s.0 is s.2, some_items t s.0 s.1)
+    (
+      omega (arith, as_many (spelled_in read_new_index) s.0 is s.2, some_items t s.0 s.1),
+      each_has IsShortNewIndex (spelled_in read_new_index) (λ t i e. let d = step_of (document_in t) read_new_index i e in new_index_short d.0 i d.2) s.0 is s.2,
+    )
 
 module _ (found next : CreateIndexesFields) (name : List ℕ) (t : Tree) (h : SomeIndexesAt found.indexes) where
   abbrev with_indexes : List NewIndex → Result CreateIndexesFields Refusal
@@ -409,7 +384,7 @@ create_indexes_bounded t ps c e =
     let few = fields_keep (λ (f : CreateIndexesFields). SomeIndexesAt f.indexes) create_indexes_field
     (λ found next name t h e. some_indexes_by_field found next name t h (bytes_eq name (codes "indexes")) e) ps no_create_indexes_fields s.0 tt s.1 in
     let some : SomeIndexes d.0 = subst SomeIndexesAt (there s.0.indexes d.0 d.1) few in
-    subst (λ (x : CreateIndexes). IsBounded (create_indexes x)) same (short b.0 n.0 m.0 m.1, some)
+    subst (λ (x : CreateIndexes). IsBounded (create_indexes x)) same (short b.0 n.0 m.0 m.1, some.0, some.1)
 
 pub drop_indexes_bounded : (t : Tree) (ps : Pairs) (c : DropIndexes) → read_drop_indexes t ps ≡ Ok c → length c.namespace ≤ 255
 drop_indexes_bounded t ps c e =

@@ -24,4 +24,6 @@ pub mod ListIndexes
 pub mod Command
 pub mod View
 pub mod OutcomeLaws
+pub mod FieldsLaws
+pub mod NewIndexLaws
 pub mod CommandLaws

@@ -35,6 +35,12 @@ pub record IsNewIndex (i : NewIndex) : Type 0 where
   pub named : IsIndexName i.name
   pub fields : AreFields i.fields
 
+-- the limits of that, whether its bytes are texts or not
+pub record IsShortNewIndex (i : NewIndex) : Type 0 where
+  pub short : length i.name ≤ 127
+  pub few : length i.fields ≤ 4
+  pub paths : AllByRecursion (λ f. length f.path ≤ 255) i.fields
+
 -- ---- its key: one to four paths, none of them twice, with 1 or -1
 
 abbrev pub direction_of : ℤ → Result Direction Refusal

@@ -21,10 +21,12 @@ use Rattle.commands.specs.Aggregate.{Aggregate}
 use Rattle.commands.specs.Create.{Create}
 use Rattle.commands.specs.DropCollection.{DropCollection}
 use Rattle.commands.specs.ListCollections.{ListCollections}
+use Rattle.commands.specs.ListIndexes.{ListIndexes}
+use Rattle.engine.specs.ListIndexes.{indexes_reply, run_list_indexes}
 use Rattle.commands.specs.Command.{Command, ping, hello, insert, find, get_more, kill_cursors, count, delete, update, aggregate, create, drop as drop_of, list_collections, create_indexes, drop_indexes, list_indexes, command_of}
 use Rattle.aggregate.specs.Pipeline.{run as after_pipeline}
 use Rattle.engine.specs.World.{collection_of, World, Cursor, documents_of, with_documents, at_rest, untouched, without_cursors}
-use Rattle.index.specs.State.{Collection, put_collection, find_collection}
+use Rattle.index.specs.State.{Collection, find_collection, put_collection}
 use Rattle.engine.specs.Documents.{insert_all}
 use Rattle.engine.specs.Refusals.{int}
 use Rattle.engine.specs.Insert.{is_full}
@@ -261,6 +263,14 @@ module _ (k : ℕ) (w : World) (connection : ℕ) (left : List Pairs) (drawn : k
   unfolding run_list_collections
   listed_so c = same
 
+  indexes_listed : (c : ListIndexes) → Keeps (run_list_indexes w c)
+  unfolding run_list_indexes
+  indexes_listed c = at (find_collection w.collections c.namespace)
+    where
+      at : (o : Option Collection) → Keeps (or_refused o refusals.NamespaceNotFound >>= (λ found. let x : Result (World × Pairs) Refusal = Ok (w, indexes_reply c.namespace found.indexes) in x))
+      at None = same
+      at (Some found) = same
+
   batched : (name : List ℕ) (ds : List Pairs) (n : ℕ) → Keeps (first_batch w connection name ds n)
   batched name ds n = at (nat_le (length ds) n) (is_refused connection w.cursors w.next)
     where
@@ -329,7 +339,7 @@ module _ (k : ℕ) (w : World) (connection : ℕ) (left : List Pairs) (drawn : k
   ran (Ok (list_collections c)) = listed_so c
   ran (Ok (create_indexes c)) = indexed_so c
   ran (Ok (drop_indexes c)) = same
-  ran (Ok (list_indexes c)) = same
+  ran (Ok (list_indexes c)) = indexes_listed c
 
   -- ---- one event
 

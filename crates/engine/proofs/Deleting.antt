@@ -162,6 +162,7 @@ deleted_lawful cs name deletions h = at (located nat_list_cmp_total (λ (c : Col
           short = kept.short;
           least = kept.least;
           most = kept.most;
+          indexes = kept.indexes;
         } in
         subst IsLawfulState (sym (loses name deletions cs t.place there)) (record {
           apart = apart_set cs t.place less t.within refl h.apart;

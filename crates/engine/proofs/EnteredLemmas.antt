@@ -14,9 +14,10 @@ use Rattle.index.proofs.DocumentPlaces.{IsBetween, IsInstead, placed}
 use Rattle.index.proofs.EnteringLemmas.{has_entered, stay_with}
 use Rattle.index.proofs.EnteringSteps.{all_put, some_instead}
 use Rattle.engine.specs.Documents.{checked, insert_all, insert_one, key_of}
-use Rattle.engine.specs.Lawful.{IsStored}
+use Rattle.engine.specs.Lawful.{AreShortIndexes, IsStored}
 use Rattle.engine.specs.WriteLaws.{documents_in}
 use Rattle.engine.proofs.Checked.{keeps}
+use Rattle.engine.proofs.ShortIndexes.{noted_short}
 
 -- a document put among others keeps them in ascending order
 pub rising_put : (d : Pairs) (ds : List Pairs) → IsRising ds → IsRising (put_document d ds)
@@ -39,9 +40,10 @@ pub record HasGrown (c next : Collection) (by : ℕ) : Type 0 where
   pub rising : IsRising c.documents → IsRising next.documents
   pub stored : IsRising c.documents → All IsStored c.documents → All IsStored next.documents
   pub longer : IsRising c.documents → length next.documents ≡ length c.documents + by
+  pub indexes : AreShortIndexes c.indexes → AreShortIndexes next.indexes
 
 grown_none : (c : Collection) → HasGrown c c 0
-grown_none c = record { named = refl; numbered = refl; rising = λ up. up; stored = λ up all. all; longer = λ up. omega arith }
+grown_none c = record { named = refl; numbered = refl; rising = λ up. up; stored = λ up all. all; longer = λ up. omega arith; indexes = λ h. h }
 
 grown_one : (c next : Collection) (ps : Pairs) → insert_one c ps ≡ Ok next → HasGrown c next 1
 unfolding insert_one
@@ -56,6 +58,7 @@ grown_one c next ps e =
       rising = λ up. subst IsRising (sym same) (rising_put d c.documents up);
       stored = λ up all. subst (All IsStored) (sym same) (all_put IsStored d c.documents (placed d c.documents up) all (keeps ps s.0 s.1).lawful);
       longer = λ up. ap length same ∙ longer_put d c.documents (placed d c.documents up) x.is_new;
+      indexes = λ h. subst AreShortIndexes (sym (ap (λ (n : Collection). n.indexes) x.is)) (noted_short d c.indexes h);
     }
 
 -- as many more as there are
@@ -71,6 +74,7 @@ has_grown c next (ps ∷ rest) e =
       rising = λ up. later.rising (first.rising up);
       stored = λ up all. later.stored (first.rising up) (first.stored up all);
       longer = λ up. omega (arith, first.longer up, later.longer (first.rising up));
+      indexes = λ h. later.indexes (first.indexes h);
     }
 
 -- ---- what is written
@@ -81,6 +85,7 @@ pub record StaysKept (c next : Collection) : Type 0 where
   pub numbered : next.number ≡ c.number
   pub rising : IsRising c.documents → IsRising next.documents
   pub stored : IsRising c.documents → All IsStored c.documents → All IsStored next.documents
+  pub indexes : AreShortIndexes c.indexes → AreShortIndexes next.indexes
 
 stays_one : (c next : Collection) (w : DocumentWrite) → IsStored w.document → entered c w ≡ Ok next → StaysKept c next
 stays_one c next w good e =
@@ -91,10 +96,11 @@ stays_one c next w good e =
       numbered = ap (λ (n : Collection). n.number) x.is;
       rising = λ up. subst IsRising (sym same) (rising_put w.document c.documents up);
       stored = λ up all. subst (All IsStored) (sym same) (all_put IsStored w.document c.documents (placed w.document c.documents up) all good);
+      indexes = λ h. subst AreShortIndexes (sym (ap (λ (n : Collection). n.indexes) x.is)) (noted_short w.document c.indexes h);
     }
 
 pub stays_kept : (c next : Collection) (ws : List DocumentWrite) → All IsStored (documents_in ws) → enter_each c ws ≡ Ok next → StaysKept c next
-stays_kept c next [] stored e = let same : c ≡ next = cc in subst (StaysKept c) same (record { named = refl; numbered = refl; rising = λ up. up; stored = λ up all. all })
+stays_kept c next [] stored e = let same : c ≡ next = cc in subst (StaysKept c) same (record { named = refl; numbered = refl; rising = λ up. up; stored = λ up all. all; indexes = λ h. h })
 stays_kept c next (w ∷ ws) stored e =
     let s = step_of (entered c w) (λ mid. enter_each mid ws) next e in
     let first = stays_one c s.0 w (All-head IsStored w.document (documents_in ws) stored) s.1 in
@@ -104,4 +110,5 @@ stays_kept c next (w ∷ ws) stored e =
       numbered = later.numbered ∙ first.numbered;
       rising = λ up. later.rising (first.rising up);
       stored = λ up all. later.stored (first.rising up) (first.stored up all);
+      indexes = λ h. later.indexes (first.indexes h);
     }

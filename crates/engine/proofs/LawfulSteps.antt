@@ -36,13 +36,16 @@ use Rattle.engine.proofs.KeptLemmas.{Kept, stored_at}
 use Rattle.engine.proofs.WriteLawLemmas.{writes_stored}
 use Rattle.commands.specs.ListCollections.{ListCollections}
 use Rattle.engine.specs.Create.{created, run_create}
-use Rattle.commands.specs.NewIndex.{NewIndex}
+use Rattle.commands.specs.NewIndex.{IsShortNewIndex, NewIndex}
 use Rattle.engine.specs.CreateIndexes.{create_indexes_reply, indexed, run_create_indexes, with_new_indexes}
-use Rattle.engine.proofs.NewIndexLemmas.{with_new_indexes_more}
+use Rattle.engine.proofs.NewIndexLemmas.{with_new_indexes_more, with_new_indexes_short}
 use Rattle.engine.specs.DropCollection.{drop_reply, dropped, index_count, run_drop}
 use Rattle.engine.specs.ListCollections.{names_in, listed, run_list_collections}
+use Rattle.engine.specs.ListIndexes.{indexes_reply, run_list_indexes}
 use Rattle.engine.proofs.Creating.{dropped_lawful}
 use Rattle.engine.proofs.Listing.{go_into_one}
+use Rattle.engine.proofs.ListingIndexes.{indexes-sendable}
+use Rattle.engine.proofs.ShortIndexes.{short_at}
 use Rattle.engine.specs.Refusals.{int, total, words, ok_reply}
 use Rattle.commands.specs.Command.{Command, ping, insert as insert_of, find as find_of, count as count_of_all, delete, update, aggregate, create as create_of, drop as drop_of, list_collections, create_indexes, drop_indexes, list_indexes, command_of, IsBounded, get_more, kill_cursors, hello}
 use Rattle.engine.specs.Lawful.{IsStored, IsWithin, IsKept, IsLawfulState, IsLawful, AreLawfulCursors}
@@ -68,7 +71,7 @@ use Rattle.engine.proofs.Located.{Gap, There, located}
 use Rattle.engine.proofs.Deleting.{deleted_lawful}
 use Rattle.engine.proofs.Finding.{found_within}
 use Rattle.engine.proofs.Ordered.{Rises, rises_insert, All-inserted, missing, found, added, replaced}
-use Rattle.engine.proofs.Numbers.{unused_unused, number_bounds, numbers_set, numbers_insert}
+use Rattle.engine.proofs.Numbers.{found_kept, unused_unused, number_bounds, numbers_set, numbers_insert}
 use Rattle.engine.proofs.NamesApart.{apart_set}
 use Rattle.engine.proofs.SpelledSizes.{create_indexes-sendable, ping-sendable, insert-sendable, drop-sendable, refusal-sendable, batch_items, cursor-sendable, kill-sendable, told_few, hello-sendable}
 
@@ -154,6 +157,7 @@ good_insert w name documents h short = at (is_full w.collections name) refl
           short = subst (λ (n : List ℕ). length n ≤ 255) (sym grown.named) short;
           least = subst (λ (n : ℕ). 1 ≤ n) (sym grown.numbered) bounds.least;
           most = subst (λ (n : ℕ). n ≤ 1000) (sym grown.numbered) bounds.most;
+          indexes = grown.indexes (short_at cs name h.collections.kept);
         } in
         let p = put_kept next cs h.collections one (subst (λ (n : List ℕ). is_full cs n ≡ false) (sym grown.named) free)
         (grown.numbered ∙ ap (λ (n : List ℕ). number_or (unused cs) (find_collection cs n)) (sym grown.named)) in
@@ -310,6 +314,7 @@ good_create w name h short = λ x e.
           short = short;
           least = bounds.least;
           most = bounds.most;
+          indexes = short_at w.collections name h.collections.kept;
         } in
         subst IsLawfulState now (put_kept new w.collections h.collections one free refl)
 
@@ -322,8 +327,8 @@ good_drop w name h short = λ x e.
     subst (λ (y : World × Pairs). IsLawful y.0 × IsSendable (ok_reply y.1)) same (record { collections = dropped_lawful w.collections name s.0 h.collections s.1; cursors = h.cursors }, drop-sendable (index_count w.collections name) name short)
 
 -- the collections with indexes made in one of them
-pub indexed_lawful : (cs : List Collection) (name : List ℕ) (ns : List NewIndex) (next : List Collection) → IsLawfulState cs → length name ≤ 255 → indexed cs name ns ≡ Ok next → IsLawfulState next
-indexed_lawful cs name ns next h short e =
+pub indexed_lawful : (cs : List Collection) (name : List ℕ) (ns : List NewIndex) (next : List Collection) → IsLawfulState cs → length name ≤ 255 → All IsShortNewIndex ns → indexed cs name ns ≡ Ok next → IsLawfulState next
+indexed_lawful cs name ns next h short limits e =
     let put : Collection → Result (List Collection) Refusal = λ c. Ok (put_collection c cs) in
     let p = passed (is_full cs name) refusals.TooMany (with_new_indexes (collection_of cs name) ns >>= put) next e in
     let s = step_of (with_new_indexes (collection_of cs name) ns) put next p.1 in
@@ -335,6 +340,7 @@ indexed_lawful cs name ns next h short e =
       short = subst (λ (n : List ℕ). length n ≤ 255) (sym more.named) short;
       least = subst (λ (n : ℕ). 1 ≤ n) (sym more.numbered) bounds.least;
       most = subst (λ (n : ℕ). n ≤ 1000) (sym more.numbered) bounds.most;
+      indexes = with_new_indexes_short (collection_of cs name) s.0 ns limits (short_at cs name h.kept) s.1;
     } in
     let now : put_collection s.0 cs ≡ next = cc in
     subst IsLawfulState now (
@@ -342,15 +348,15 @@ indexed_lawful cs name ns next h short e =
       (more.numbered ∙ ap (λ (n : List ℕ). number_or (unused cs) (find_collection cs n)) (sym more.named))
     )
 
-pub good_create_indexes : (w : World) (name : List ℕ) (ns : List NewIndex) → IsLawful w → length name ≤ 255 → Good (run_create_indexes w (record { namespace = name; indexes = ns }))
+pub good_create_indexes : (w : World) (name : List ℕ) (ns : List NewIndex) → IsLawful w → length name ≤ 255 → All IsShortNewIndex ns → Good (run_create_indexes w (record { namespace = name; indexes = ns }))
 unfolding run_create_indexes
-good_create_indexes w name ns h short = λ x e.
+good_create_indexes w name ns h short limits = λ x e.
     let is_new = not (is_some (find_collection w.collections name)) in
     let reply : List Collection → Pairs = λ cs. create_indexes_reply (index_count w.collections name) (index_count cs name) is_new in
     let s = step_of (indexed w.collections name ns) (λ cs. let r : Result (World × Pairs) Refusal = Ok (record w { collections = cs }, reply cs) in r) x e in
     let same : (record w { collections = s.0 }, reply s.0) ≡ x = cc in
     subst (λ (y : World × Pairs). IsLawful y.0 × IsSendable (ok_reply y.1)) same (
-      record { collections = indexed_lawful w.collections name ns s.0 h.collections short s.1; cursors = h.cursors },
+      record { collections = indexed_lawful w.collections name ns s.0 h.collections short limits s.1; cursors = h.cursors },
       create_indexes-sendable (index_count w.collections name) (index_count s.0 name) is_new,
     )
 
@@ -362,6 +368,14 @@ good_list_collections w c h short =
     let small : fits_in ds = subst fits_in (take_all (length ds) ds (omega arith)) (subst (λ (n : ℕ). fits_in (take n ds)) one.whole (batch_items (length ds) (900000 - 5) ds one.within)) in
     good_one w (cursor_reply (codes "firstBatch") ds 0 (c.database ++ codes ".$cmd.listCollections")) h
     (cursor-sendable (codes "firstBatch") ds 0 (c.database ++ codes ".$cmd.listCollections") (lit≤ tt) small (omega (arith, short, length-append c.database (codes ".$cmd.listCollections"))))
+
+good_list_indexes : (w : World) (name : List ℕ) → IsLawful w → length name ≤ 255 → Good (run_list_indexes w (record { namespace = name }))
+unfolding run_list_indexes
+good_list_indexes w name h short = at (find_collection w.collections name) refl
+  where
+    at : (o : Option Collection) → find_collection w.collections name ≡ o → Good (or_refused o refusals.NamespaceNotFound >>= (λ found. let r : Result (World × Pairs) Refusal = Ok (w, indexes_reply name found.indexes) in r))
+    at None e = λ x f. absurd cc
+    at (Some c) e = good_one w (indexes_reply name c.indexes) h (indexes-sendable c.indexes (found_kept w.collections name c h.collections.kept e).indexes name short)
 
 -- ---- updates
 
@@ -386,6 +400,7 @@ entered_lawful cs name ss next h short read e =
           short = subst (λ (n : List ℕ). length n ≤ 255) (sym stays.named) short;
           least = subst (λ (n : ℕ). 1 ≤ n) (sym stays.numbered) bounds.least;
           most = subst (λ (n : ℕ). n ≤ 1000) (sym stays.numbered) bounds.most;
+          indexes = stays.indexes (short_at cs name h.kept);
         } in
         let same : put_collection s.0 cs ≡ next = cc in
         subst IsLawfulState same
@@ -425,9 +440,9 @@ good_run w connection (aggregate c) h b = good_aggregate w connection c h b
 good_run w connection (create_of c) h b = good_create w c.namespace h b
 good_run w connection (drop_of c) h b = good_drop w c.namespace h b
 good_run w connection (list_collections c) h b = good_list_collections w c h b
-good_run w connection (create_indexes c) h b = good_create_indexes w c.namespace c.indexes h b.0
+good_run w connection (create_indexes c) h b = good_create_indexes w c.namespace c.indexes h b.0 b.2
 good_run w connection (drop_indexes c) h b = λ x e. absurd cc
-good_run w connection (list_indexes c) h b = λ x e. absurd cc
+good_run w connection (list_indexes c) h b = good_list_indexes w c.namespace h b
 
 -- the world after a step, and its reply
 pub record Steps (x : World × Pairs) : Type 0 where

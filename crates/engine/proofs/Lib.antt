@@ -31,6 +31,8 @@ pub mod ReadingLaws
 pub mod EmptyImage
 pub mod Creating
 pub mod Listing
+pub mod ListingIndexes
+pub mod ShortIndexes
 pub mod CursorSteps
 mod UndoneCursors
 pub mod CursorLives

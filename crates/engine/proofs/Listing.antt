@@ -1,5 +1,5 @@
 -- The names of a database's collections, and that they all go into one batch.
-use Rattle.std.proofs.Common.{◌≡◌, ℕ, zero, suc, ◌+◌, ◌-◌, ◌*◌, ◌<◌, ◌≤◌, Bool, true, false, List, [], ◌∷◌, ◌++◌, length, drop, get_or, map, take, Option, Some, None, Result, Ok, refl, sym, ap, subst, ◌∙◌, append_assoc, length-append, arith}
+use Rattle.std.proofs.Common.{◌≡◌, ℕ, zero, suc, ◌+◌, ◌-◌, ◌*◌, ◌<◌, ◌≤◌, Bool, true, false, List, [], ◌∷◌, ◌++◌, length, drop, get_or, map, take, Option, Some, None, Result, Ok, refl, sym, ap, subst, ◌∙◌, append_assoc, length-append, suc-mul, arith}
 use Rattle.std.specs.Prelude.{◌||◌, ◌==◌, nat_eq, nat_le, if◌then◌else◌, codes, option_map, string_bytes, All, MatchOption}
 use Rattle.std.specs.Borrow.{Bor}
 use Rattle.std.specs.Fmt.{decimal}
@@ -100,10 +100,11 @@ listed_size name short =
       ap length pairs_bytes-none,
     )
 
-abbrev Small : List Pairs → Type 0
-Small ds = AllByRecursion (λ d. length (frame_of (pairs_bytes d)) ≤ 400) ds
+-- documents of at most so many bytes
+abbrev pub Small : ℕ → List Pairs → Type 0
+Small size ds = AllByRecursion (λ d. length (frame_of (pairs_bytes d)) ≤ size) ds
 
-listed_small : (names : List (List ℕ)) → AllByRecursion Short names → Small (map listed names)
+listed_small : (names : List (List ℕ)) → AllByRecursion Short names → Small 400 (map listed names)
 listed_small [] h = tt
 listed_small (n ∷ ns) h = (listed_size n h.0, listed_small ns h.1)
 
@@ -111,20 +112,29 @@ listed_within : (names : List (List ℕ)) → AllByRecursion Short names → All
 listed_within [] h = λ k d below. absurd (omega (arith, below))
 listed_within (n ∷ ns) h = All-cons IsWithin (listed n) (map listed ns) (record { size = omega (arith, listed_size n h.0); depth = omega arith }) (listed_within ns h.1)
 
-all_fit : (i most room : ℕ) (ds : List Pairs) → length ds ≤ most → i + length ds ≤ 1000 → Small ds → 410 * length ds ≤ room → batch_len i most room ds ≡ length ds
-all_fit i most room [] few within small fits = refl
-all_fit i zero room (d ∷ ds) few within small fits = absurd (omega (arith, few))
-all_fit i (suc most) room (d ∷ ds) few within small fits =
-    let digits : length (decimal i) ≤ 3 = length-decimal-le 3 i (omega arith) (omega (arith, within)) (omega (arith, within)) in
-    let size : item_size i d ≤ 410 = omega (arith, small.0, digits, length-append (decimal i) (0 ∷ frame_of (pairs_bytes d))) in
-    let fit : nat_le (item_size i d) room ≡ true = grind (arith, nat_tests, size, fits) in
-    at (i == 0) (nat_le (item_size i d) room) fit (all_fit (i + 1) most (room - item_size i d) ds (omega (arith, few)) (omega (arith, within)) small.1 (omega (arith, size, fits)))
+-- So many of them fit into a batch of this room, with ten bytes more for each.
+pub all_fit : (size i most room : ℕ) (ds : List Pairs) → length ds ≤ most → i + length ds ≤ 1000 → Small size ds → length ds * (size + 10) ≤ room → batch_len i most room ds ≡ length ds
+all_fit size i most room [] few within small fits = refl
+all_fit size i zero room (d ∷ ds) few within small fits = absurd (omega (arith, few))
+all_fit size i (suc most) room (d ∷ ds) few within small fits = step (length ds * (size + 10)) (omega (arith, suc-mul (length ds) (size + 10), fits)) (all_fit size (i + 1) most (room - item_size i d) ds (omega (arith, few)) (omega (arith, within)) small.1)
   where
+    digits : length (decimal i) ≤ 3
+    digits = length-decimal-le 3 i (omega arith) (omega (arith, within)) (omega (arith, within))
+
+    item : item_size i d ≤ size + 10
+    item = omega (arith, small.0, digits, length-append (decimal i) (0 ∷ frame_of (pairs_bytes d)))
+
     at : (first one : Bool) → one ≡ true → batch_len (i + 1) most (room - item_size i d) ds ≡ length ds
         → (if first || one then suc (batch_len (i + 1) most (room - item_size i d) ds) else 0) ≡ suc (length ds)
     at true one e later = ap suc later
     at false true e later = ap suc later
     at false false e later = absurd cc
+
+    step : (more : ℕ) → size + 10 + more ≤ room → (more ≤ room - item_size i d → batch_len (i + 1) most (room - item_size i d) ds ≡ length ds)
+        → (if (i == 0) || nat_le (item_size i d) room then suc (batch_len (i + 1) most (room - item_size i d) ds) else 0) ≡ suc (length ds)
+    step more fits later =
+        let fit : nat_le (item_size i d) room ≡ true = grind (arith, nat_tests, item, fits) in
+        at (i == 0) (nat_le (item_size i d) room) fit (later (omega (arith, item, fits)))
 
 -- All that is said of at most 1,000 collections goes into one batch.
 pub record GoIntoOne (ds : List Pairs) : Type 0 where
@@ -138,7 +148,7 @@ go_into_one front cs kept few =
     let many : length (map listed names) ≡ length names = length-map names listed in
     record {
       within = listed_within names short.0;
-      whole = all_fit 0 (length (map listed names)) (900000 - 5) (map listed names) (omega arith) (omega (arith, many, few, short.1)) (listed_small names short.0) (omega (arith, many, few, short.1));
+      whole = all_fit 400 0 (length (map listed names)) (900000 - 5) (map listed names) (omega arith) (omega (arith, many, few, short.1)) (listed_small names short.0) (omega (arith, many, few, short.1));
     }
 
 -- ---- the reply

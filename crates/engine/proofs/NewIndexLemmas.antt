@@ -1,13 +1,14 @@
 -- Which indexes are to be made, and what they make of a collection.
 use Rattle.std.proofs.Common.{◌≡◌, ◌≢◌, ◌⊎◌, inl, inr, ◌+◌, ◌<◌, ◌≤◌, ℕ, suc, Bool, true, false, ◌&&◌, ◌||◌, List, [], ◌∷◌, ◌++◌, length, length-append, get_or, drop, map, Result, Ok, Err, refl, sym, ap, subst, ◌∙◌, arith}
 use Rattle.std.specs.Prelude.{◌==◌, nat_le, if◌then◌else◌, All}
-use Rattle.std.specs.List.{list_any}
+use Rattle.std.specs.List.{AllByRecursion, list_any}
+use Rattle.std.proofs.lemmas.List.Elements.{All-head, All-tail}
 use Rattle.std.proofs.lemmas.Bool.Decides.{nat_tests}
 use Rattle.std.proofs.lemmas.List.{drop_all}
 use Rattle.outcome.specs.Outcome.{◌>>=◌, unless}
 use Rattle.path.specs.declared.refusal.Refusal.{Refusal}
 use Rattle.path.specs.declared.refusal.Refusal.TheVariants as refusals
-use Rattle.commands.specs.NewIndex.{NewIndex, defined}
+use Rattle.commands.specs.NewIndex.{IsShortNewIndex, NewIndex, defined}
 use Rattle.commands.specs.OutcomeLaws.{step_of}
 use Rattle.index.specs.Definition.{Definition, Field}
 use Rattle.index.specs.Entering.{DocumentWrite, enter_each, entered}
@@ -19,7 +20,9 @@ use Rattle.index.proofs.KeptSteps.{long_map}
 use Rattle.index.proofs.LawfulLaws.{all_of}
 use Rattle.index.proofs.MemberLemmas.{Among}
 use Rattle.engine.specs.CreateIndexes.{are_same_fields, is_in_conflict, is_same_field, is_there, numbered, unused_index, with_new_index, with_new_indexes}
+use Rattle.engine.specs.Lawful.{AreShortIndexes, IsShortIndex}
 use Rattle.engine.proofs.Numbers.{unused_unused}
+use Rattle.engine.proofs.ShortIndexes.{noted_short}
 use Rattle.engine.proofs.Steps.{drop_step}
 
 -- ---- fields
@@ -152,3 +155,45 @@ with_new_indexes_more c next [] e = let same : c ≡ next = cc in subst (IsWithM
 with_new_indexes_more c next (n ∷ ns) e =
     let s = step_of (with_new_index c n) (λ mid. with_new_indexes mid ns) next e in
     more_behind c s.0 next (with_new_index_more c s.0 n s.1) (with_new_indexes_more s.0 next ns s.2)
+
+-- ---- within the limits
+
+each_noted : (ws : List DocumentWrite) (c next : Collection) → enter_each c ws ≡ Ok next → AreShortIndexes c.indexes → AreShortIndexes next.indexes
+each_noted [] c next e h = let same : c ≡ next = cc in subst (λ (n : Collection). AreShortIndexes n.indexes) same h
+each_noted (w ∷ ws) c next e h =
+    let s = step_of (entered c w) (λ mid. enter_each mid ws) next e in
+    each_noted ws s.0 next s.2 (subst AreShortIndexes (sym (ap (λ (n : Collection). n.indexes) (has_entered c s.0 w s.1).is)) (noted_short w.document c.indexes h))
+
+both_short : (is js : List Definition) → AllByRecursion IsShortIndex is → AllByRecursion IsShortIndex js → AllByRecursion IsShortIndex (is ++ js)
+both_short [] js h k = k
+both_short (i ∷ is) js h k = (h.0, both_short is js h.1 k)
+
+with_index_short : (c next : Collection) (i : Definition) → IsShortIndex i → AreShortIndexes c.indexes → length c.indexes < 16 → with_index c i ≡ Ok next → AreShortIndexes next.indexes
+with_index_short c next i short h few e =
+    let s = step_of (enter_each (alone c i) (map as_new c.documents)) (λ made. Ok (record c { indexes = c.indexes ++ made.indexes })) next e in
+    let long = each_long (map as_new c.documents) (alone c i) s.0 s.1 in
+    let made = each_noted (map as_new c.documents) (alone c i) s.0 s.1 (record { each = (short, tt); few = omega arith }) in
+    let same : record c { indexes = c.indexes ++ s.0.indexes } ≡ next = cc in
+    subst (λ (n : Collection). AreShortIndexes n.indexes) same
+    (record { each = both_short c.indexes s.0.indexes h.each made.each; few = omega (arith, long, few, length-append c.indexes s.0.indexes) })
+
+with_new_index_short : (c next : Collection) (n : NewIndex) → IsShortNewIndex n → AreShortIndexes c.indexes → with_new_index c n ≡ Ok next → AreShortIndexes next.indexes
+with_new_index_short c next n short h e = by (is_there c.indexes n) (is_in_conflict c.indexes n) (nat_le 16 (length c.indexes)) refl e
+  where
+    new_short : IsShortIndex (defined (unused_index c.indexes) n)
+    new_short = record { short = short.short; few = short.few; paths = short.paths }
+
+    by : (there conflict full : Bool) → nat_le 16 (length c.indexes) ≡ full
+        → (if there then Ok c else unless conflict refusals.IndexOptionsConflict (unless full refusals.TooMany (with_index c (defined (unused_index c.indexes) n)))) ≡ Ok next → AreShortIndexes next.indexes
+    by true conflict full is f = let same : c ≡ next = cc in subst (λ (m : Collection). AreShortIndexes m.indexes) same h
+    by false true full is f = absurd cc
+    by false false true is f = absurd cc
+    by false false false is f =
+        let few : length c.indexes < 16 = grind (arith, nat_tests, is) in
+        with_index_short c next (defined (unused_index c.indexes) n) new_short h few f
+
+pub with_new_indexes_short : (c next : Collection) (ns : List NewIndex) → All IsShortNewIndex ns → AreShortIndexes c.indexes → with_new_indexes c ns ≡ Ok next → AreShortIndexes next.indexes
+with_new_indexes_short c next [] short h e = let same : c ≡ next = cc in subst (λ (m : Collection). AreShortIndexes m.indexes) same h
+with_new_indexes_short c next (n ∷ ns) short h e =
+    let s = step_of (with_new_index c n) (λ mid. with_new_indexes mid ns) next e in
+    with_new_indexes_short s.0 next ns (All-tail IsShortNewIndex n ns short) (with_new_index_short c s.0 n (All-head IsShortNewIndex n ns short) h s.1) s.2

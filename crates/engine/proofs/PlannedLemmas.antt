@@ -1,13 +1,13 @@
 -- What is planned of the collections is lawful, and commands reply by it.
 use Rattle.std.proofs.Common.{◌≡◌, ◌<◌, ◌≤◌, ℕ, Bool, true, false, List, [], length, Option, Some, None, Result, Ok, Err, refl, sym, ap, ◌∙◌, arith}
-use Rattle.std.specs.Prelude.{nat_le, is_some, codes}
+use Rattle.std.specs.Prelude.{All, nat_le, is_some, codes}
 use Rattle.std.proofs.lemmas.Bool.Decides.{nat_tests}
 use Rattle.bson.specs.Tree.{Pairs, no_pairs, pair}
 use Rattle.outcome.specs.Outcome.{unless}
 use Rattle.path.specs.declared.refusal.Refusal.{Refusal}
 use Rattle.path.specs.declared.refusal.Refusal.TheVariants as refusals
 use Rattle.index.specs.State.{Collection, find_collection, put_collection}
-use Rattle.commands.specs.NewIndex.{NewIndex}
+use Rattle.commands.specs.NewIndex.{IsShortNewIndex, NewIndex}
 use Rattle.engine.specs.Create.{created, run_create}
 use Rattle.engine.specs.CreateIndexes.{indexed}
 use Rattle.engine.specs.Insert.{inserted, run_insert}
@@ -42,8 +42,8 @@ created_lawful cs name h short = planned_lawful cs (created cs name) h (λ next 
     let w = world_of_these cs in
     (good_create w name (lawful_world cs h) short (record w { collections = next }, no_pairs) (run_create-is w name next is)).0.collections)
 
-pub indexed_planned : (cs : List Collection) (name : List ℕ) (ns : List NewIndex) → IsLawfulState cs → length name ≤ 255 → IsLawfulState (planned_or cs (indexed cs name ns))
-indexed_planned cs name ns h short = planned_lawful cs (indexed cs name ns) h (λ next is. indexed_lawful cs name ns next h short is)
+pub indexed_planned : (cs : List Collection) (name : List ℕ) (ns : List NewIndex) → IsLawfulState cs → length name ≤ 255 → All IsShortNewIndex ns → IsLawfulState (planned_or cs (indexed cs name ns))
+indexed_planned cs name ns h short limits = planned_lawful cs (indexed cs name ns) h (λ next is. indexed_lawful cs name ns next h short limits is)
 
 -- ---- replies
 

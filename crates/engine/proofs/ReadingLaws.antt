@@ -12,8 +12,11 @@ use Rattle.commands.specs.Aggregate.{Aggregate}
 use Rattle.aggregate.specs.Pipeline.{run as after_pipeline}
 use Rattle.engine.specs.Aggregate.{run_aggregate}
 use Rattle.commands.specs.ListCollections.{ListCollections}
+use Rattle.commands.specs.ListIndexes.{ListIndexes}
+use Rattle.engine.specs.ListIndexes.{indexes_reply, run_list_indexes}
 use Rattle.engine.specs.ListCollections.{run_list_collections}
 use Rattle.commands.specs.Command.{Command, ping, insert, find, count, delete, update, aggregate, create, drop as drop_of, list_collections, create_indexes, drop_indexes, list_indexes, command_of, get_more, kill_cursors, hello}
+use Rattle.index.specs.State.{Collection, find_collection}
 use Rattle.engine.specs.World.{World, documents_of}
 use Rattle.engine.specs.Cursors.{batch_of, batch_reply, open_cursor, is_refused, new_cursor, first_batch, is_cursor}
 use Rattle.commands.specs.GetMore.{GetMore}
@@ -80,6 +83,14 @@ module _ (w : World) (connection : ℕ) where
   unfolding run_list_collections
   listed_so c = refl
 
+  indexes_listed : (c : ListIndexes) → Leaves (run_list_indexes w c)
+  unfolding run_list_indexes
+  indexes_listed c = at (find_collection w.collections c.namespace)
+    where
+      at : (o : Option Collection) → Leaves (or_refused o refusals.NamespaceNotFound >>= (λ found. let x : Result (World × Pairs) Refusal = Ok (w, indexes_reply c.namespace found.indexes) in x))
+      at None = refl
+      at (Some found) = refl
+
   ran : (r : Result Command Refusal) → OnlyReads r → Leaves (r >>= run w connection)
   ran (Err e) h = refl
   ran (Ok ping) h = refl
@@ -92,7 +103,7 @@ module _ (w : World) (connection : ℕ) where
   ran (Ok (list_collections c)) h = listed_so c
   ran (Ok (create_indexes c)) h = absurd h
   ran (Ok (drop_indexes c)) h = refl
-  ran (Ok (list_indexes c)) h = refl
+  ran (Ok (list_indexes c)) h = indexes_listed c
   ran (Ok (count c)) h = counted c
   ran (Ok (find c)) h = found c
   ran (Ok (get_more c)) h = given c

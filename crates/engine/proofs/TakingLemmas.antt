@@ -25,6 +25,7 @@ use Rattle.index.proofs.DocumentPlaces.{placed}
 use Rattle.index.proofs.EnteringLemmas.{stay_with}
 use Rattle.index.proofs.EnteringSteps.{all_put, noted_so}
 use Rattle.index.proofs.HomeLemmas.{kept_of}
+use Rattle.index.proofs.OneStateLaws.{lawful_indexes}
 use Rattle.index.proofs.LawfulLaws.{all_of, makes_lawful, put_in, stays_lawful}
 use Rattle.index.proofs.MemberLemmas.{Among, first_of, of_all}
 use Rattle.index.proofs.PlaceLemmas.{apart_rest, name_itself}
@@ -32,6 +33,7 @@ use Rattle.index.proofs.StateEditLaws.{put_same}
 use Rattle.engine.specs.Documents.{key_of}
 use Rattle.engine.specs.Judging.{AreLoaded, IsIndexable, IsLoadingAs, IsName, IsStoredAt, bare, keys_among, listed_of, numbered, stands_behind, with_document_at, with_document_in}
 use Rattle.engine.specs.Lawful.{IsLawfulState, IsStored}
+use Rattle.engine.proofs.ShortIndexes.{definitions_short}
 
 -- ---- what is lawful
 
@@ -41,7 +43,13 @@ loaded_lawful now h = record {
   numbers = h.lawful.numbers;
   kept = λ k c below.
       let kept = h.lawful.kept k c below in
-      record { lawful = record { rising = kept.rising; stored = h.stored k c below }; short = kept.short; least = kept.least; most = kept.most };
+      record {
+        lawful = record { rising = kept.rising; stored = h.stored k c below };
+        short = kept.short;
+        least = kept.least;
+        most = kept.most;
+        indexes = definitions_short c.indexes (lawful_indexes c.indexes c.documents kept.indexes) kept.few;
+      };
   few = h.lawful.few;
 }
 

@@ -18,6 +18,8 @@ use Rattle.commands.specs.Aggregate.{Aggregate}
 use Rattle.commands.specs.Create.{Create}
 use Rattle.commands.specs.DropCollection.{DropCollection}
 use Rattle.commands.specs.ListCollections.{ListCollections}
+use Rattle.commands.specs.ListIndexes.{ListIndexes}
+use Rattle.engine.specs.ListIndexes.{indexes_reply, run_list_indexes}
 use Rattle.engine.specs.Create.{created, run_create}
 use Rattle.commands.specs.CreateIndexes.{CreateIndexes}
 use Rattle.engine.specs.CreateIndexes.{create_indexes_reply, indexed, run_create_indexes}
@@ -26,7 +28,7 @@ use Rattle.engine.specs.ListCollections.{run_list_collections}
 use Rattle.commands.specs.Command.{Command, ping, hello, insert, find, get_more, kill_cursors, count, delete, update, aggregate, create, drop as drop_of, list_collections, create_indexes, drop_indexes, list_indexes, command_of}
 use Rattle.aggregate.specs.Pipeline.{run as after_pipeline}
 use Rattle.engine.specs.World.{collection_of, World, Cursor, documents_of, with_documents, untouched, are_untouched}
-use Rattle.index.specs.State.{Collection, put_collection, find_collection}
+use Rattle.index.specs.State.{Collection, find_collection, put_collection}
 use Rattle.engine.specs.Documents.{insert_all}
 use Rattle.engine.specs.Refusals.{int}
 use Rattle.engine.specs.Insert.{is_full}
@@ -198,6 +200,14 @@ module _ (w : World) (connection : ℕ) where
   unfolding run_list_collections
   listed_so c d rests h = h
 
+  indexes_listed : (c : ListIndexes) → Comes (run_list_indexes w c)
+  unfolding run_list_indexes
+  indexes_listed c = at (find_collection w.collections c.namespace)
+    where
+      at : (o : Option Collection) → Comes (or_refused o refusals.NamespaceNotFound >>= (λ found. let x : Result (World × Pairs) Refusal = Ok (w, indexes_reply c.namespace found.indexes) in x))
+      at None d rests h = h
+      at (Some found) d rests h = h
+
   ran : (r : Result Command Refusal) → Comes (r >>= run w connection)
   ran (Err e) d rests h = h
   ran (Ok ping) d rests h = h
@@ -215,7 +225,7 @@ module _ (w : World) (connection : ℕ) where
   ran (Ok (list_collections c)) d rests h = listed_so c d rests h
   ran (Ok (create_indexes c)) d rests h = indexed_so c d rests h
   ran (Ok (drop_indexes c)) d rests h = h
-  ran (Ok (list_indexes c)) d rests h = h
+  ran (Ok (list_indexes c)) d rests h = indexes_listed c d rests h
 
   came : (body : Result Pairs BsonFault) (c : Cursor) → c.touched ≡ false → IsAmong c (step w connection body).0.cursors → IsAmong c w.cursors
   came (Ok body) c rests h = ran (command_of body) c rests h

@@ -1,6 +1,6 @@
 -- What is kept of stored documents and of collections.
 use Rattle.std.specs.Prelude.{◌≡◌, ℕ, Bool, suc, ◌<◌, ◌≤◌, ◌^◌, Bool, false, List, [], ◌∷◌, length, Some, None, All, IsUtf8, refl}
-use Rattle.std.specs.List.{AllPairs}
+use Rattle.std.specs.List.{AllByRecursion, AllPairs}
 use Rattle.std.specs.Ordering.{nat_cmp}
 use Rattle.value_order.specs.Order.{compare}
 use Rattle.value_order.specs.KeyText.{tree_text}
@@ -47,12 +47,24 @@ pub record IsHeld (c : Collection) : Type 0 where
   pub lawful : IsCollection c
   pub readable : IsReadable c
 
+-- an index within the limits: the bytes of its name, its paths and their bytes
+pub record IsShortIndex (i : Definition) : Type 0 where
+  pub short : length i.name ≤ 127
+  pub few : length i.fields ≤ 4
+  pub paths : AllByRecursion (λ f. length f.path ≤ 255) i.fields
+
+-- so are these, which are not too many
+pub record AreShortIndexes (indexes : List Definition) : Type 0 where
+  pub each : AllByRecursion IsShortIndex indexes
+  pub few : length indexes ≤ 16
+
 -- a collection within the limits
 pub record IsKept (c : Collection) : Type 0 where
   pub lawful : IsCollection c
   pub short : length c.name ≤ 255
   pub least : 1 ≤ c.number
   pub most : c.number ≤ 1000
+  pub indexes : AreShortIndexes c.indexes
 
 -- What is kept of the collections: they are in order and within the limits.
 pub record IsLawfulState (collections : List Collection) : Type 0 where

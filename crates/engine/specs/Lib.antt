@@ -16,6 +16,7 @@ pub mod Create
 pub mod DropCollection
 pub mod ListCollections
 pub mod CreateIndexes
+pub mod ListIndexes
 pub mod Step
 pub mod Lawful
 pub mod Places

@@ -1,7 +1,8 @@
 //! `createIndexes`: indexes of a collection are made.
 
-ghost use Rattle.std.specs.Prelude.{◌≡◌, ◌≤◌, Err, IfOk, false, length};
+ghost use Rattle.std.specs.Prelude.{◌≡◌, ◌≤◌, All, Err, IfOk, false, length};
 ghost use Rattle.page.specs.History.{KeepsWord};
+ghost use Rattle.commands.specs.NewIndex.{IsShortNewIndex};
 ghost use Rattle.engine.specs.CreateIndexes.{indexed, run_create_indexes};
 ghost use Rattle.engine.specs.Durable.{disk_history, has_changes, IsSound};
 ghost use Rattle.engine.specs.Indexing.{ArePlanned};
@@ -35,6 +36,7 @@ impl<D: Disk> Engine<D> {
         indexes: &[NewIndex],
     ) -> Result<Document, Refusal>
         requires short { length namespace.now ≤ 255 }
+        requires limits { All IsShortNewIndex indexes.now }
         requires sound { IsSound D.history self.old }
         ensures performs { Performs D.history
             (run_create_indexes (world self.old)
@@ -87,6 +89,7 @@ impl<D: Disk> Engine<D> {
         planned: &PlannedIndexes,
     ) -> Result<(), Refusal>
         requires short { length namespace.now ≤ 255 }
+        requires limits { All IsShortNewIndex indexes.now }
         requires sound { IsSound D.history self.old }
         requires planned { KeepsWord (disk_history D.history self.old)
             → ArePlanned (world self.old).collections namespace.now indexes.now planned.now }

@@ -123,7 +123,7 @@ impl<D: Disk> Engine<D> {
                 built(self.create_indexes(c.namespace.as_str(), &c.indexes))
             }
             Command::DropIndexes(_) => Err(Refusal::CommandNotFound),
-            Command::ListIndexes(_) => Err(Refusal::CommandNotFound),
+            Command::ListIndexes(c) => spelled(self.list_indexes(c.namespace.as_str())),
         }
     }
 

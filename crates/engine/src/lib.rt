@@ -24,6 +24,7 @@ mod judging;
 mod kill_cursors;
 pub mod laws;
 mod list_collections;
+mod list_indexes;
 mod loading;
 mod looking;
 mod new_indexes;

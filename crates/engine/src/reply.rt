@@ -6,11 +6,12 @@ ghost use Rattle.bson.specs.Tree.{pair, no_pairs, append, append_items, item, no
 ghost use Rattle.bson.specs.View.{tree};
 ghost use Rattle.bson.specs.Lookup.{lookup};
 ghost use Rattle.bson.specs.Spelling.{frame_of, pairs_bytes};
-ghost use Rattle.bson.specs.Lawful.{levels};
+ghost use Rattle.bson.specs.Lawful.{levels, pairs_levels};
 ghost use Rattle.engine.specs.View.{outcome_of};
 ghost use Rattle.engine.specs.CreateIndexes.{create_indexes_reply};
 ghost use Rattle.engine.specs.DropCollection.{drop_reply};
 ghost use Rattle.engine.specs.ListCollections.{listed};
+ghost use Rattle.engine.specs.ListIndexes.{described};
 ghost use Rattle.engine.specs.Refusals.{int, total, words, ok_reply, refusal_reply};
 
 use bson::{Array, BuildFault, Document, NoMemory, SpelledDocument, Text, Value};
@@ -149,6 +150,26 @@ pub(crate) fn listed_document(alloc: Global, name: &str) -> Result<Document, NoM
     put(&mut listed, "name", text_value(alloc, name)?)?;
     put(&mut listed, "type", text_value(alloc, "collection")?)?;
     Ok(listed)
+}
+
+/// What `listIndexes` says of an index with this key and this name.
+pub(crate) fn described_document(
+    alloc: Global,
+    key: Document,
+    name: &str,
+    is_unique: bool,
+) -> Result<Document, NoMemory>
+    requires { pairs_levels key ≤ 98 }
+    ensures { IfOk result (λ d. d ≡ described key name.now is_unique) }
+{
+    let mut described = Document::new(alloc);
+    put(&mut described, "key", Value::Document(key))?;
+    put(&mut described, "name", text_value(alloc, name)?)?;
+    if !is_unique {
+        return Ok(described);
+    }
+    put(&mut described, "unique", Value::Bool(true))?;
+    Ok(described)
 }
 
 /// The document that a refusal is answered with.

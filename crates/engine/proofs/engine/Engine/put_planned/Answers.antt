@@ -20,7 +20,7 @@ write-requires g c κs within = (
     (
       c.requires.sound,
       (
-        indexed_planned (world c.args.self.now).collections c.args.namespace.now c.args.indexes.now c.requires.sound.lawful c.requires.short,
+        indexed_planned (world c.args.self.now).collections c.args.namespace.now c.args.indexes.now c.requires.sound.lawful c.requires.short c.requires.limits,
         put_leads g.D.Disk.history c.args.namespace.now c.args.indexes.now c.args.self.now c.requires.sound c.args.planned.now c.requires.planned,
       ),
     ),

@@ -89,8 +89,3 @@ pub returns-in-DropIndexes-clause-performs : goal.returns-in-DropIndexes-clause-
 returns-in-DropIndexes-clause-performs g c =
     let old = c.args.self.now in
     performs_told g.D.Disk.history old old c.args.connection c.args.body.now _ c.requires.sound refl refl refl (search rules)
-
-pub returns-clause-performs : goal.returns-clause-performs
-returns-clause-performs g c =
-    let old = c.args.self.now in
-    performs_told g.D.Disk.history old old c.args.connection c.args.body.now _ c.requires.sound refl refl refl (search rules)
