@@ -23,7 +23,7 @@ use Rattle.commands.specs.DropCollection.{DropCollection}
 use Rattle.commands.specs.ListCollections.{ListCollections}
 use Rattle.commands.specs.Command.{Command, ping, hello, insert, find, get_more, kill_cursors, count, delete, update, aggregate, create, drop as drop_of, list_collections, create_indexes, drop_indexes, list_indexes, command_of}
 use Rattle.aggregate.specs.Pipeline.{run as after_pipeline}
-use Rattle.engine.specs.World.{collection_of, World, Cursor, documents_of, with_documents, at_rest, untouched, without_cursors}
+use Rattle.engine.specs.World.{collection_of, World, Cursor, documents_of, at_rest, untouched, without_cursors}
 use Rattle.index.specs.State.{Collection, put_collection, find_collection}
 use Rattle.engine.specs.Documents.{insert_all}
 use Rattle.engine.specs.Refusals.{int}

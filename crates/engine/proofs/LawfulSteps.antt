@@ -43,7 +43,7 @@ use Rattle.engine.specs.DropCollection.{drop_reply, dropped, index_count, run_dr
 use Rattle.engine.specs.ListCollections.{names_in, listed, run_list_collections}
 use Rattle.engine.proofs.Creating.{dropped_lawful}
 use Rattle.engine.proofs.Listing.{go_into_one}
-use Rattle.engine.specs.Refusals.{int, total, words, ok_reply}
+use Rattle.engine.specs.Refusals.{int, total, ok_reply}
 use Rattle.commands.specs.Command.{Command, ping, insert as insert_of, find as find_of, count as count_of_all, delete, update, aggregate, create as create_of, drop as drop_of, list_collections, create_indexes, drop_indexes, list_indexes, command_of, IsBounded, get_more, kill_cursors, hello}
 use Rattle.engine.specs.Lawful.{IsStored, IsWithin, IsKept, IsLawfulState, IsLawful, AreLawfulCursors}
 use Rattle.index.specs.LawfulState.{AreNamedApart, AreNumberedApart, IsRising}

@@ -25,7 +25,7 @@ use Rattle.engine.specs.DropCollection.{drop_reply, dropped, index_count, run_dr
 use Rattle.engine.specs.ListCollections.{run_list_collections}
 use Rattle.commands.specs.Command.{Command, ping, hello, insert, find, get_more, kill_cursors, count, delete, update, aggregate, create, drop as drop_of, list_collections, create_indexes, drop_indexes, list_indexes, command_of}
 use Rattle.aggregate.specs.Pipeline.{run as after_pipeline}
-use Rattle.engine.specs.World.{collection_of, World, Cursor, documents_of, with_documents, untouched, are_untouched}
+use Rattle.engine.specs.World.{collection_of, World, Cursor, documents_of, untouched, are_untouched}
 use Rattle.index.specs.State.{Collection, put_collection, find_collection}
 use Rattle.engine.specs.Documents.{insert_all}
 use Rattle.engine.specs.Refusals.{int}
