@@ -1,10 +1,8 @@
 -- Documents that are looked up by `_id` where a filter asks for one: they are those that a walk finds.
-use Rattle.std.proofs.Common.{◌≡◌, inl, inr, ◌≤◌, ℕ, zero, suc, ◌<◌, Bool, true, false, List, [], ◌∷◌, length, get_or, take, Option, Some, None, Result, Ok, Err, refl, sym, ap, subst, ◌∙◌, arith}
+use Rattle.std.proofs.Common.{◌≡◌, inl, inr, ◌≤◌, ℕ, zero, suc, ◌<◌, Bool, true, false, List, [], ◌∷◌, length, get_or, take, Option, Some, None, Ok, Err, refl, sym, ap, subst, ◌∙◌, arith}
 use Rattle.std.specs.Prelude.{IfSome, ◌&&◌, ◌||◌, not, is_some, if◌then◌else◌, All, option_and_then}
-use Rattle.std.specs.Global.{Vec}
 use Rattle.std.specs.List.{filter, list_all, list_any}
 use Rattle.std.specs.Ordering.{is_eq}
-use Rattle.std.specs.Str.{bytes_eq}
 use Rattle.std.specs.declared.cmp.Ordering.{Ordering}
 use Rattle.std.specs.declared.cmp.Ordering.TheVariants as orders
 use Rattle.std.proofs.lemmas.List.Elements.{All-head, All-tail}
@@ -15,7 +13,7 @@ use Rattle.page.specs.History.{History, KeepsWord}
 use Rattle.path.specs.Reach.{Reached, reach, candidates}
 use Rattle.path.specs.declared.refusal.Refusal.{Refusal}
 use Rattle.path.specs.declared.refusal.Refusal.TheVariants as refusals
-use Rattle.update.specs.Stored.{limits_fault, id_name, no_array, id_of}
+use Rattle.update.specs.Stored.{limits_fault, id_name, no_array}
 use Rattle.filter.specs.Condition.{equal, at, is, Conditions, condition}
 use Rattle.commands.specs.Delete.{Deletion}
 use Rattle.commands.specs.Update.{UpdateStatement}
@@ -28,7 +26,7 @@ use Rattle.value_order.specs.KeyText.{tree_text}
 use Rattle.value_order.specs.Laws.{IsKey}
 use Rattle.value_order.specs.TotalLaws.{compare_total}
 use Rattle.index.specs.LawfulState.{IsLawfulState, IsRising}
-use Rattle.index.specs.State.{Collection, find_collection}
+use Rattle.index.specs.State.{Collection}
 use Rattle.index.specs.StateReads.{find_document}
 use Rattle.index.proofs.FoundLawLemmas.{found_collection, found_document}
 use Rattle.collections.specs.Calls.{HasCause}
@@ -38,7 +36,7 @@ use Rattle.collections.specs.State.{State}
 use Rattle.collections.specs.View.{disk_history, is_stopped}
 use Rattle.engine.specs.ById.{AsksForId, found_alone}
 use Rattle.engine.specs.Documents.{key_of}
-use Rattle.engine.specs.Durable.{file_of, IsSound}
+use Rattle.engine.specs.Durable.{IsSound}
 use Rattle.engine.specs.Lawful.{IsStored, IsWithin}
 use Rattle.engine.specs.Looking.{LooksOf, OnlyReads, is_within}
 use Rattle.engine.specs.Merging.{has_key_of, is_deleted, is_meant_by}

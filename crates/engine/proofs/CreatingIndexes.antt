@@ -1,6 +1,6 @@
 -- The steps of a createIndexes, over engines as values.
-use Rattle.std.proofs.Common.{◌≡◌, ◌⊎◌, inl, inr, ◌+◌, ◌<◌, ◌≤◌, ℕ, Bool, true, false, List, [], length, Option, Some, None, Result, Ok, Err, refl, sym, ap, subst, ◌∙◌, arith}
-use Rattle.std.specs.Prelude.{MatchResult, is_some, not}
+use Rattle.std.proofs.Common.{◌≡◌, inl, inr, ◌+◌, ◌≤◌, ℕ, Bool, true, false, List, length, Option, Some, None, Result, Ok, Err, refl, sym, ap, subst, ◌∙◌, arith}
+use Rattle.std.specs.Prelude.{is_some, not}
 use Rattle.std.specs.Option.{option_map}
 use Rattle.bson.specs.Tree.{Pairs}
 use Rattle.page.specs.History.{History, KeepsWord}
@@ -10,7 +10,6 @@ use Rattle.path.specs.declared.refusal.Refusal.{Refusal}
 use Rattle.path.specs.declared.refusal.Refusal.TheVariants as refusals
 use Rattle.commands.specs.NewIndex.{NewIndex}
 use Rattle.collections.proofs.LawLemmas as laws
-use Rattle.index.specs.Definition.{Definition}
 use Rattle.index.specs.LawfulState as states
 use Rattle.index.specs.State.{Collection, find_collection, put_collection}
 use Rattle.index.specs.StateEntries.{Leads}
@@ -20,13 +19,13 @@ use Rattle.index.proofs.PlaceLemmas.{found_name}
 use Rattle.index.proofs.StateEditLaws.{put_same}
 use Rattle.engine.specs.CreateIndexes.{create_indexes_reply, indexed, run_create_indexes, with_new_indexes}
 use Rattle.engine.specs.DropCollection.{index_count}
-use Rattle.engine.specs.Durable.{disk_history, file_of, has_changes, is_stopped, IsRunning, IsSound}
+use Rattle.engine.specs.Durable.{disk_history, has_changes, is_stopped, IsRunning, IsSound}
 use Rattle.engine.specs.Indexing.{ArePlanned, HasDocumentsOf}
 use Rattle.engine.specs.Insert.{is_full}
 use Rattle.engine.specs.Looking.{Looks, OnlyReads}
 use Rattle.engine.specs.Performing.{Performs}
 use Rattle.engine.specs.Refusals.{ok_reply}
-use Rattle.engine.specs.Storing.{AreNoted, HasNoted, IsFull, Notes}
+use Rattle.engine.specs.Storing.{AreNoted, IsFull, Notes}
 use Rattle.engine.specs.Trying.{Tries}
 use Rattle.engine.specs.View.{world}
 use Rattle.engine.specs.World.{World, collection_of, indexes_or_none}

@@ -1,7 +1,7 @@
 -- How a turn ends: what it changed is durable, or not.
 use Rattle.std.proofs.Common.{◌≡◌, ◌≢◌, ◌⊎◌, inl, inr, ℕ, true, false, List, map, Result, Ok, Err, refl, sym, ap, subst, ◌∙◌, ◌-◌, ◌^◌}
 use Rattle.std.specs.Prelude.{not, All}
-use Rattle.page.specs.History.{History, KeepsWord}
+use Rattle.page.specs.History.{History}
 use Rattle.page.specs.Crash.{GoesOn, LeavesOnly, LeavesNow}
 use Rattle.page.proofs.Moments.{goes_nowhere, started}
 use Rattle.roots.specs.declared.store.CommitFault.{CommitFault}

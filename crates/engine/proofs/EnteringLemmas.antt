@@ -1,6 +1,6 @@
 -- What is known of a collection that edits lead to: which documents and keys it has, and what becomes of it where a document enters.
-use Rattle.std.proofs.Common.{◌≡◌, ◌≢◌, inl, inr, ℕ, ◌≤◌, Bool, true, false, ◌||◌, ◌&&◌, List, [], ◌∷◌, length, map, Option, Some, None, Result, Ok, Err, refl, sym, ap, subst, ◌∙◌, arith}
-use Rattle.std.specs.Prelude.{is_some, not, option_map}
+use Rattle.std.proofs.Common.{◌≡◌, inl, inr, ℕ, Bool, true, false, ◌||◌, List, [], ◌∷◌, map, Option, Some, None, Ok, Err, refl, sym, ap, subst, ◌∙◌}
+use Rattle.std.specs.Prelude.{is_some, option_map}
 use Rattle.std.specs.Global.{Vec}
 use Rattle.std.specs.List.{list_any}
 use Rattle.bson.specs.Spelling.{frame_of, pairs_bytes}
@@ -13,7 +13,7 @@ use Rattle.path.specs.declared.refusal.Refusal.TheVariants as refusals
 use Rattle.collections.specs.OtherKeys.{is_taken}
 use Rattle.collections.proofs.TakenLemmas.{taken_told}
 use Rattle.index.specs.Definition.{Definition, Field}
-use Rattle.index.specs.Entering.{AreKeyed, DocumentWrite, Enters, clashes, entered, is_duplicate, with_document}
+use Rattle.index.specs.Entering.{Enters, clashes, is_duplicate, with_document}
 use Rattle.index.specs.KeptLaws.{noted}
 use Rattle.index.specs.IndexKeys.{has_parallel_arrays}
 use Rattle.index.specs.KeyTexts.{encoded_keys, is_too_long, keys_in, keys_in_all}
@@ -24,8 +24,7 @@ use Rattle.index.specs.StateEntries.{Leads, Spells, key_under}
 use Rattle.index.specs.StateReads.{SpellsLawful, find_document}
 use Rattle.index.specs.View.{texts_of}
 use Rattle.index.specs.declared.catalogue_reading.Catalogued.{Catalogued}
-use Rattle.index.specs.declared.entering.Keyed.{Keyed}
-use Rattle.index.proofs.EnteringLemmas.{HasEntered, has_entered}
+use Rattle.index.proofs.EnteringLemmas.{has_entered}
 use Rattle.index.proofs.EntryLemmas.{id_is_key}
 use Rattle.index.proofs.FoundLawLemmas.{finds_put, put_twice}
 use Rattle.index.proofs.IndexedLaws.{known}
@@ -34,7 +33,6 @@ use Rattle.index.proofs.MemberLemmas.{Among, of_all}
 use Rattle.index.proofs.PlaceLemmas.{found_in}
 use Rattle.index.proofs.ReadLaws.{document_some, finds_document}
 use Rattle.engine.specs.Documents.{key_of}
-use Rattle.engine.specs.Insert.{is_full}
 use Rattle.engine.specs.Storing.{AreNoted, HasNoted, IsReplaced, entering, write_of}
 
 some_map : {X Y : Type 0} (f : X → Y) (o : Option X) → is_some (option_map f o) ≡ is_some o

@@ -1,12 +1,10 @@
 -- An insert of some documents changes the collections.
-use Rattle.std.proofs.Common.{◌≡◌, ℕ, ◌+◌, ◌≤◌, List, [], ◌∷◌, length, Option, Some, None, Result, Ok, refl, sym, ap, ◌∙◌, arith}
-use Rattle.std.specs.Prelude.{option_map}
+use Rattle.std.proofs.Common.{◌≡◌, ℕ, ◌≤◌, List, [], ◌∷◌, length, Some, Result, Ok, refl, sym, ap, ◌∙◌, arith}
 use Rattle.std.specs.Cmp.Lexicographic.{slice_cmp}
 use Rattle.std.specs.Ordering.{nat_cmp}
 use Rattle.std.specs.declared.cmp.Ordering.{Ordering}
 use Rattle.std.specs.declared.cmp.Ordering.TheVariants as orders
-use Rattle.bson.specs.Tree.{Tree, Pairs}
-use Rattle.value_order.specs.Order.{compare}
+use Rattle.bson.specs.Tree.{Pairs}
 use Rattle.engine.specs.World.{collection_of, documents_of, documents_or_none}
 use Rattle.index.specs.State.{Collection, by_order, find_collection, put_collection}
 use Rattle.outcome.specs.Outcome.{◌>>=◌}

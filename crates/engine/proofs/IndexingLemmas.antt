@@ -1,6 +1,5 @@
 -- Documents of a collection enter a new index, batch after batch.
-use Rattle.std.proofs.Common.{◌≡◌, ◌≢◌, ◌⊎◌, inl, inr, ◌+◌, ◌<◌, ℕ, zero, suc, Bool, true, false, List, [], ◌∷◌, ◌++◌, length, get_or, take, drop, Option, Some, None, Result, Ok, Err, refl, sym, ap, subst, ◌∙◌, arith, append_assoc, append-nil}
-use Rattle.std.specs.Prelude.{not, option_map}
+use Rattle.std.proofs.Common.{◌≡◌, ◌≢◌, ◌⊎◌, inl, inr, ◌+◌, ◌<◌, ℕ, zero, suc, Bool, true, false, List, [], ◌∷◌, ◌++◌, length, get_or, take, drop, Some, None, Result, Ok, Err, refl, sym, ap, subst, ◌∙◌, append_assoc, append-nil}
 use Rattle.std.specs.Global.{Vec}
 use Rattle.std.proofs.lemmas.List.{take-append-drop, take_more}
 use Rattle.bson.specs.Tree.{Pairs}
@@ -12,7 +11,6 @@ use Rattle.collections.specs.State.{State}
 use Rattle.collections.specs.Walk.{BeginsWalk, IsWalk, StepsOn}
 use Rattle.collections.specs.declared.walk.Walk.{Walk}
 use Rattle.collections.proofs.StandingLemmas.{stopped_same}
-use Rattle.index.specs.Definition.{Definition}
 use Rattle.index.specs.IndexMaking.{HasEntries, RefusesNext, TakesNext, with_index}
 use Rattle.index.specs.LawfulState as states
 use Rattle.index.specs.LawfulState.{IsStorable}
@@ -25,10 +23,10 @@ use Rattle.engine.specs.Indexing.{HasIndexed, Indexed, IsIndexed, IsIndexing, Is
 use Rattle.engine.specs.Looking.{Looks, OnlyReads}
 use Rattle.engine.specs.Trying.{TriesOf}
 use Rattle.engine.specs.View.{world}
-use Rattle.engine.specs.World.{documents_of, documents_or_none}
+use Rattle.engine.specs.World.{documents_or_none}
 use Rattle.engine.specs.declared.engine.Engine.{Engine}
-use Rattle.engine.proofs.NewCollections.{IsNumberOf, IsThere, none_of, there_of}
-use Rattle.engine.proofs.OnlyReading.{cause_from, now_same, reads_file, reads_none, reads_on, word_before}
+use Rattle.engine.proofs.NewCollections.{IsNumberOf, none_of, there_of}
+use Rattle.engine.proofs.OnlyReading.{cause_from, now_same, reads_file, reads_on, word_before}
 use Rattle.engine.proofs.Steps.{drop_step}
 
 -- ---- document after document

@@ -5,7 +5,7 @@ use Rattle.std.specs.List.{AllByRecursion, list_any}
 use Rattle.std.proofs.lemmas.List.Elements.{All-head, All-tail}
 use Rattle.std.proofs.lemmas.Bool.Decides.{nat_tests}
 use Rattle.std.proofs.lemmas.List.{drop_all}
-use Rattle.outcome.specs.Outcome.{◌>>=◌, unless}
+use Rattle.outcome.specs.Outcome.{unless}
 use Rattle.path.specs.declared.refusal.Refusal.{Refusal}
 use Rattle.path.specs.declared.refusal.Refusal.TheVariants as refusals
 use Rattle.commands.specs.NewIndex.{IsShortNewIndex, NewIndex, defined}

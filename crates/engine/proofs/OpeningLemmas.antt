@@ -5,7 +5,7 @@ use Rattle.index.specs.State.{Collection}
 use Rattle.collections.specs.Standing.{HasState}
 use Rattle.engine.specs.World.{CursorTable}
 use Rattle.engine.specs.Lawful.{AreLawfulCursors, IsLawfulState}
-use Rattle.engine.specs.View.{turn_start, world}
+use Rattle.engine.specs.View.{world}
 use Rattle.engine.specs.FileOpening.{IsFileOpened}
 use Rattle.engine.specs.Opening.{IsOpened}
 use Rattle.engine.specs.declared.engine.Engine.{Engine}

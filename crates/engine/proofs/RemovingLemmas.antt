@@ -1,5 +1,5 @@
 -- A delete over the file: what it takes out of the collections of an engine.
-use Rattle.std.proofs.Common.{◌≡◌, ◌≢◌, inl, inr, ℕ, ◌-◌, Bool, true, false, List, [], ◌∷◌, ◌++◌, length, Option, Some, None, Result, Ok, Err, refl, sym, ap, subst, ◌∙◌, arith}
+use Rattle.std.proofs.Common.{◌≡◌, ◌≢◌, inr, ℕ, ◌-◌, Bool, true, false, List, [], ◌∷◌, ◌++◌, length, Option, Some, None, Result, Ok, Err, refl, sym, ap, subst, ◌∙◌, arith}
 use Rattle.std.specs.Prelude.{All, not, if◌then◌else◌, codes}
 use Rattle.std.specs.List.{filter}
 use Rattle.bson.specs.Tree.{Pairs, pair, no_pairs}
@@ -20,7 +20,6 @@ use Rattle.index.proofs.PlaceLemmas.{found_in, found_name}
 use Rattle.index.proofs.StateEditLaws.{put_same}
 use Rattle.engine.specs.Delete.{after_deletion, after_deletions, deleted_in, run_delete}
 use Rattle.engine.specs.Durable.{disk_history, file_of, IsSound}
-use Rattle.engine.specs.Known.{Known}
 use Rattle.engine.specs.Looking.{Looks, OnlyReads}
 use Rattle.engine.specs.Performing.{Performs}
 use Rattle.engine.specs.Redoing.{without_each, taken, all_taken}

@@ -12,9 +12,9 @@ use Rattle.aggregate.specs.Pipeline.{run as after_pipeline}
 use Rattle.engine.specs.Aggregate.{run_aggregate}
 use Rattle.engine.specs.Find.{query_result, matching, window, run_find}
 use Rattle.commands.specs.Delete.{Delete}
-use Rattle.engine.specs.View.{world_of, with_ok, Runs}
+use Rattle.engine.specs.View.{with_ok}
 use Rattle.engine.specs.Delete.{after_deletions, deleted_in, run_delete}
-use Rattle.engine.specs.World.{World, Cursor, CursorTable, collection_of, documents_of}
+use Rattle.engine.specs.World.{World, Cursor, collection_of, documents_of}
 use Rattle.index.specs.State.{Collection, find_collection, put_collection}
 use Rattle.outcome.specs.Outcome.{◌>>=◌, unless, or_refused}
 use Rattle.std.specs.List.{filter, position}

@@ -3,11 +3,10 @@ use Rattle.std.proofs.Common.{◌≡◌, ◌⊎◌, inl, inr, ℕ, false, List, 
 use Rattle.std.specs.Prelude.{◌==◌, not, All, OnErr}
 use Rattle.std.proofs.lemmas.List.Elements.{All-filter}
 use Rattle.bson.specs.Tree.{Pairs}
-use Rattle.page.specs.History.{History, KeepsWord}
-use Rattle.collections.specs.Calls.{GoesFrom, HasWriteCause, IsOfFile}
+use Rattle.page.specs.History.{History}
+use Rattle.collections.specs.Calls.{GoesFrom}
 use Rattle.collections.specs.Standing.{HasState}
 use Rattle.collections.specs.State.{State}
-use Rattle.collections.specs.View.{disk_history}
 use Rattle.engine.specs.World.{World, Cursor, forget, after_undo}
 use Rattle.index.specs.State.{Collection}
 use Rattle.engine.specs.Lawful.{IsWithin, IsLawfulState, IsLawful}
@@ -18,7 +17,6 @@ use Rattle.engine.specs.Writing.{FileCause}
 use Rattle.engine.specs.declared.engine.Engine.{Engine}
 use Rattle.engine.specs.declared.told.Told.{Told}
 use Rattle.engine.specs.Refusals.{refusal_reply}
-use Rattle.outcome.specs.Outcome.{Fails}
 use Rattle.collections.proofs.LawLemmas as laws
 use Rattle.engine.specs.Performing.{DoesPlanned, Performs}
 use Rattle.engine.specs.Known.{Known}

@@ -9,10 +9,7 @@ use Rattle.outcome.specs.Outcome.{◌>>=◌, unless}
 use Rattle.path.specs.declared.refusal.Refusal.{Refusal}
 use Rattle.path.specs.declared.refusal.Refusal.TheVariants as refusals
 use Rattle.collections.specs.Reading.{IsWithinLimits}
-use Rattle.collections.proofs.LawLemmas as laws
-use Rattle.commands.specs.Command.{update}
 use Rattle.index.specs.Entering.{DocumentWrite, enter_each, entered}
-use Rattle.index.specs.LawfulState as states
 use Rattle.index.specs.State.{Collection, put_collection}
 use Rattle.index.specs.declared.catalogue_reading.Catalogued.{Catalogued}
 use Rattle.index.proofs.EnteringLemmas.{has_entered}

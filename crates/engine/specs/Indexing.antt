@@ -1,5 +1,5 @@
 -- Documents of a collection that enter a new index, batch after batch, and indexes that are noted as edits of the file.
-use Rattle.std.specs.Prelude.{◌≡◌, ◌⊎◌, ℕ, Bool, false, not, is_some, List, [], ◌∷◌, ◌++◌, length, Result, Ok, Err, MatchResult}
+use Rattle.std.specs.Prelude.{◌≡◌, ◌⊎◌, ℕ, Bool, false, not, is_some, List, [], ◌++◌, length, Ok, Err}
 use Rattle.bson.specs.Tree.{Pairs}
 use Rattle.collections.specs.Walk.{IsWalk}
 use Rattle.collections.specs.declared.walk.Walk.{Walk}

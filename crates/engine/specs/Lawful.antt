@@ -4,16 +4,14 @@ use Rattle.std.specs.List.{AllByRecursion, AllPairs}
 use Rattle.std.specs.Ordering.{nat_cmp}
 use Rattle.value_order.specs.Order.{compare}
 use Rattle.value_order.specs.KeyText.{tree_text}
-use Rattle.std.specs.Cmp.Lexicographic.{slice_cmp}
 use Rattle.std.specs.Coded.{Coded, code_by, coded×, coded_ℕ, coded_bool, coded_list}
-use Rattle.std.specs.declared.cmp.Ordering.TheVariants as orders
 use Rattle.bson.specs.Tree.{Pairs}
 use Rattle.bson.specs.TreeCode.{coded_pairs}
 use Rattle.bson.specs.Lawful.{pairs_levels, IsDocument}
 use Rattle.bson.specs.Spelling.{frame_of, pairs_bytes}
 use Rattle.index.specs.Definition.{Definition}
 use Rattle.index.specs.DefinitionCode.{definition_code}
-use Rattle.index.specs.State.{Collection, uses}
+use Rattle.index.specs.State.{Collection}
 use Rattle.index.specs.LawfulState.{IsRising, AreNamedApart, AreNumberedApart}
 use Rattle.engine.specs.World.{World, Cursor, CursorTable}
 use Rattle.engine.specs.Documents.{key_of}

@@ -9,7 +9,7 @@ use Rattle.update.specs.Stored.{limits_fault}
 use Rattle.index.specs.State.{Collection}
 use Rattle.collections.specs.Calls.{GoesFrom, HasCause}
 use Rattle.engine.specs.Durable.{disk_history, file_of, has_changes, IsSound}
-use Rattle.engine.specs.View.{world, turn_start}
+use Rattle.engine.specs.View.{world}
 use Rattle.engine.specs.declared.engine.Engine.{Engine}
 
 -- The file was read, and nothing else was done.

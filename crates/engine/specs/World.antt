@@ -1,11 +1,6 @@
 -- What an engine holds: collections, open cursors, and the number of the next cursor.
-use Rattle.std.specs.Prelude.{ℕ, zero, suc, Bool, false, not, ◌==◌, if◌then◌else◌, List, [], ◌∷◌, length, map, Option, Some, None}
-use Rattle.std.specs.Str.{bytes_eq}
-use Rattle.std.specs.List.{filter, list_all, list_any}
-use Rattle.std.specs.Ordering.{nat_cmp}
-use Rattle.std.specs.Cmp.Lexicographic.{slice_cmp}
-use Rattle.std.specs.declared.cmp.Ordering.{Ordering}
-use Rattle.std.specs.declared.cmp.Ordering.TheVariants as orders
+use Rattle.std.specs.Prelude.{ℕ, zero, suc, Bool, false, not, ◌==◌, if◌then◌else◌, List, [], length, map, Option, Some, None}
+use Rattle.std.specs.List.{filter, list_all}
 use Rattle.bson.specs.Tree.{Pairs}
 use Rattle.index.specs.Definition.{Definition}
 use Rattle.index.specs.State.{Collection, find_collection, uses}

@@ -1,4 +1,4 @@
-use Rattle.std.proofs.Common.{ap, subst}
+use Rattle.std.proofs.Common.{subst}
 use Rattle.std.specs.Prelude.{◌≤◌, length, List, ℕ}
 use Rattle.bson.specs.View.{tree}
 use Rattle.index.proofs.ShortKeys.{short_is_key}

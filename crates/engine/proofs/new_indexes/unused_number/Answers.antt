@@ -1,7 +1,7 @@
-use Rattle.std.proofs.Common.{◌≡◌, ◌≤◌, ◌+◌, [], length, true, false, sym, ◌∙◌, arith}
+use Rattle.std.proofs.Common.{[], length, sym, ◌∙◌, arith}
 use Rattle.std.proofs.lemmas.List.{length-map}
 use Rattle.index.specs.Definition.{Definition}
-use Rattle.index.specs.State.{empty_collection, uses}
+use Rattle.index.specs.State.{empty_collection}
 use Rattle.engine.specs.CreateIndexes.{numbered}
 use Rattle.engine.proofs.NewIndexLemmas.{has_number_is}
 use Rattle.engine.proofs.Numbers.{searched_all, searched_found, searched_none, searched_one}

@@ -1,6 +1,5 @@
-use Rattle.std.proofs.Common.{Bool, true, false, Ok, Err, Result, subst, sym}
+use Rattle.std.proofs.Common.{Bool, true, Ok, Err, subst, sym}
 use Rattle.std.proofs.lemmas.Result.{err_from_is_err_and}
-use Rattle.path.specs.declared.refusal.Refusal.{Refusal}
 use Rattle.collections.specs.Calls.{Reads}
 use Rattle.collections.specs.OtherKeys.{TellsDocument}
 use Rattle.engine.specs.Looking.{LooksOf}

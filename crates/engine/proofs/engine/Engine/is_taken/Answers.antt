@@ -1,5 +1,4 @@
-use Rattle.std.proofs.Common.{◌≡◌, List, Bool, map, subst, ap}
-use Rattle.std.specs.Global.{Vec}
+use Rattle.std.proofs.Common.{◌≡◌, List, Bool, map, subst}
 use Rattle.btree.specs.Keys.{Entry}
 use Rattle.collections.specs.Calls.{Reads}
 use Rattle.collections.specs.OtherKeys.{TellsOf, is_taken}

@@ -1,4 +1,4 @@
-use Rattle.std.proofs.Common.{◌≡◌, Some, Result, Ok, Err, refl, sym, ap, subst, ◌∙◌, rules}
+use Rattle.std.proofs.Common.{◌≡◌, Some, Result, Ok, refl, sym, ap, subst, ◌∙◌, rules}
 use Rattle.std.specs.Prelude.{unwrap_or}
 use Rattle.bson.specs.Tree.{Pairs}
 use Rattle.engine.specs.World.{World}
@@ -11,7 +11,7 @@ use Rattle.engine.specs.Aggregate.{run_aggregate}
 use Rattle.engine.specs.Step.{run, read_and_run, ChangesNone}
 use Rattle.engine.specs.Find.{run_find}
 use Rattle.commands.specs.View.{command_read, find_read, update_read, aggregate_read}
-use Rattle.engine.specs.View.{world, outcome_of, IsSendable, Runs}
+use Rattle.engine.specs.View.{world, IsSendable}
 use Rattle.commands.specs.declared.command.Command.{Command}
 use Rattle.path.specs.declared.refusal.Refusal.{Refusal}
 use Rattle.engine.proofs.Running.{run_find-default, run_aggregate-default}

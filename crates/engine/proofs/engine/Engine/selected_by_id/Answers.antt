@@ -1,4 +1,4 @@
-use Rattle.std.proofs.Common.{◌≡◌, ℕ, Option, Vec, Global, List, Ok, Err, take, refl, subst, ◌∙◌}
+use Rattle.std.proofs.Common.{◌≡◌, ℕ, Option, Vec, Global, Ok, Err, take, refl, subst, ◌∙◌}
 use Rattle.std.specs.Prelude.{IfSome}
 use Rattle.std.specs.List.{filter}
 use Rattle.std.proofs.lemmas.Result.{err_from_is_err_and}
@@ -7,8 +7,7 @@ use Rattle.bson.specs.View.{tree}
 use Rattle.value_order.specs.Order.{value}
 use Rattle.value_order.specs.KeyText.{tree_text}
 use Rattle.value_order.specs.Laws.{IsKey}
-use Rattle.index.specs.State.{Collection}
-use Rattle.collections.specs.Reading.{IsNumbered, IsPlaceOf, stored_at}
+use Rattle.collections.specs.Reading.{IsPlaceOf, stored_at}
 use Rattle.engine.proofs.ByIdLemmas.{looked_up, no_memory_then, not_looked_up}
 use Rattle.engine.proofs.LookingLemmas.{looks_so_of}
 use Rattle.engine.proofs.engine.Engine.selected_by_id.Goals as goal
