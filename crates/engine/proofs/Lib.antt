@@ -82,3 +82,4 @@ pub mod UpdateLemmas
 pub mod MeantLemmas
 pub mod EnteringLemmas
 pub mod EnteringSteps
+pub mod Dumping

@@ -46,3 +46,5 @@ pub mod Numbering
 pub mod Storing
 pub mod Dropping
 pub mod FileOpening
+pub mod CheckFaults
+pub mod Dump
