@@ -17,7 +17,6 @@ use Rattle.engine.specs.Dump.{BeginsDump, GoesOnDumping, HasFaultCause}
 use Rattle.engine.specs.Durable.{file_of}
 use Rattle.engine.specs.Looking.{Looks, LooksOf}
 use Rattle.engine.specs.View.{turn_start, world}
-use Rattle.engine.specs.declared.check_fault.CheckFault.{CheckFault}
 use Rattle.engine.specs.declared.check_fault.CheckFault.TheVariants as faults
 use Rattle.engine.specs.declared.engine.Engine.{Engine}
 use Rattle.engine.proofs.LookingLemmas.{collections_same}

@@ -1,5 +1,5 @@
 -- What a dump is given: the documents of a collection, in ascending order of `_id`, a batch at a time.
-use Rattle.std.specs.Prelude.{◌≡◌, ⊤, ℕ, List, Option, Some, None, Result, MatchResult}
+use Rattle.std.specs.Prelude.{◌≡◌, ⊤, ℕ, List, Some, None, Result, MatchResult}
 use Rattle.std.specs.Global.{Vec}
 use Rattle.bson.specs.Tree.{Pairs}
 use Rattle.page.specs.History.{History, KeepsWord}
