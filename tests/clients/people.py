@@ -1,6 +1,6 @@
-"""Runs `docpage import`, `export` and `ask` as a person does: at a terminal (a pseudo-terminal), in pipes, and with a reader that goes away.
+"""Runs `docpage import`, `export`, `dump` and `ask` as a person does: at a terminal (a pseudo-terminal), in pipes, and with a reader that goes away.
 Usage: people.py PROGRAM. Every wait has an end, and so has the whole."""
-import json, os, pty, re, select, signal, subprocess, sys, tempfile, time
+import json, os, pty, re, select, signal, struct, subprocess, sys, tempfile, time
 
 PROGRAM = os.path.abspath(sys.argv[1])
 FOLDER = tempfile.mkdtemp(prefix="people.")
@@ -80,8 +80,25 @@ def nothing_in_a_pipe(documents):
         assert given == [json.loads(line) for line in file], "an export isn't what was imported"
 
 
+def string_pair(name, text):
+    value = text.encode() + b"\0"
+    return b"\x02" + name + b"\0" + struct.pack("<i", len(value)) + value
+
+
+def bytes_of(number):
+    """The BSON of a document of the file, from the public specification."""
+    pairs = b"\x10_id\0" + struct.pack("<i", number) + string_pair(b"name", f"customer {number}") + string_pair(b"note", "n" * 60)
+    return struct.pack("<i", len(pairs) + 5) + pairs + b"\0"
+
+
+def a_dump(_documents):
+    output, errors, status = piped(["dump", path("c"), "t.c"])
+    assert (errors, status) == ("", 0), (errors, status)
+    assert output == "".join(bytes_of(number).hex() + "\n" for number in range(COUNT)), "a dump isn't what was imported"
+
+
 def a_reader_that_goes_away(_documents):
-    for words in (["export", path("c"), "t.c"], ["ask", path("c"), "--db", "t", "--all", '{"find": "c"}']):
+    for words in (["export", path("c"), "t.c"], ["dump", path("c"), "t.c"], ["ask", path("c"), "--db", "t", "--all", '{"find": "c"}']):
         ran = subprocess.Popen([PROGRAM, *words], stdin=subprocess.DEVNULL, stdout=subprocess.PIPE, stderr=subprocess.PIPE)
         ran.stdout.readline()
         ran.stdout.close()
@@ -102,7 +119,7 @@ def an_import_that_is_killed(documents):
 
 
 documents = lines_file()
-for case in (progress_of_a_file, progress_of_a_pipe, nothing_in_a_pipe, a_reader_that_goes_away, an_import_that_is_killed):
+for case in (progress_of_a_file, progress_of_a_pipe, nothing_in_a_pipe, a_dump, a_reader_that_goes_away, an_import_that_is_killed):
     case(documents)
     print(f"{case.__name__}: ok", flush=True)
 for name in os.listdir(FOLDER):

@@ -89,3 +89,4 @@ pub mod NotingEach
 pub mod IndexingLemmas
 pub mod IndexingSteps
 pub mod CreatingIndexes
+pub mod Dumping

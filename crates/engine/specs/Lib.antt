@@ -49,3 +49,5 @@ pub mod Storing
 pub mod Dropping
 pub mod Indexing
 pub mod FileOpening
+pub mod CheckFaults
+pub mod Dump

@@ -2,6 +2,7 @@
 
 use op_msg::FrameFault;
 use roots::OpenFault;
+use server::CheckFault;
 use shell::ShellFault;
 use sockets::ServeFault;
 use thiserror::Error;
@@ -33,6 +34,9 @@ pub enum ProgramFault {
     /// The input has a fault of a frame.
     #[error("{}", .0.name())]
     Frame(FrameFault),
+    /// The file was not looked through to its end.
+    #[error("{}", .0.name())]
+    Check(CheckFault),
     /// A command was refused, or a line is no document.
     #[error("{}", .0)]
     Shell(ShellFault),
@@ -50,6 +54,7 @@ impl ProgramFault {
             | ProgramFault::Stopped
             | ProgramFault::Accept
             | ProgramFault::Frame(_)
+            | ProgramFault::Check(_)
             | ProgramFault::Shell(_) => 1,
         }
     }
@@ -61,6 +66,12 @@ impl From<ServeFault> for ProgramFault {
             ServeFault::Accept => ProgramFault::Accept,
             ServeFault::Stopped => ProgramFault::Stopped,
         }
+    }
+}
+
+impl From<CheckFault> for ProgramFault {
+    fn from(fault: CheckFault) -> ProgramFault {
+        ProgramFault::Check(fault)
     }
 }
 

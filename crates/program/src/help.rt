@@ -7,6 +7,7 @@ docpage keeps documents in one file and answers MongoDB-style commands.
   docpage ask FILE [--db NAME] [--all] [--pretty] [COMMAND]..
   docpage import FILE NAMESPACE
   docpage export FILE NAMESPACE [--canonical]
+  docpage dump FILE NAMESPACE
   docpage exec FILE
   docpage listen FILE --port P [--idle-seconds S]
   docpage serve FILE --port P --connections N --turns T
@@ -50,6 +51,15 @@ Prints the documents of a collection, one a line in MongoDB Extended JSON, in as
   docpage export people.docpage test.people >people.json
 ";
 
+const DUMP: &str = "\
+docpage dump FILE NAMESPACE
+
+Prints the documents of a collection as the file has them: the bytes of each as BSON in lower case hexadecimal, one document a
+line, in ascending order of _id. FILE is read and never written. A collection that is missing is the fault NamespaceNotFound.
+
+  docpage dump people.docpage test.people
+";
+
 const EXEC: &str = "\
 docpage exec FILE
 
@@ -82,6 +92,7 @@ fn page(word: &str) -> &'static str {
         "ask" => ASK,
         "import" => IMPORT,
         "export" => EXPORT,
+        "dump" => DUMP,
         "exec" => EXEC,
         "listen" => LISTEN,
         "serve" => SERVE,

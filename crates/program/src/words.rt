@@ -18,16 +18,18 @@ enum Program {
     Ask,
     Import,
     Export,
+    Dump,
 }
 
 /// All programs.
-const PROGRAMS: [Program; 6] = [
+const PROGRAMS: [Program; 7] = [
     Program::Exec,
     Program::Serve,
     Program::Listen,
     Program::Ask,
     Program::Import,
     Program::Export,
+    Program::Dump,
 ];
 
 /// What the program is to do, over which file.
@@ -52,6 +54,8 @@ pub(crate) enum Task {
     Import(ImportWords),
     /// To write documents out.
     Export(ExportWords),
+    /// To write the bytes of documents out.
+    Dump(DumpWords),
 }
 
 /// The commands that are asked; none stands for the lines of the input.
@@ -74,6 +78,12 @@ pub(crate) struct ImportWords {
 pub(crate) struct ExportWords {
     pub namespace: String,
     pub canonical: bool,
+}
+
+/// Of which collection the bytes of documents are written.
+#[derive(Drop)]
+pub(crate) struct DumpWords {
+    pub namespace: String,
 }
 
 /// A port, and which connections are served on it for how long.
@@ -118,6 +128,9 @@ fn words_in(alloc: Global, matches: &ArgMatches<'_>) -> Result<Option<Words>, Al
     if let Some(export) = matches.subcommand_matches("export") {
         return words_of(alloc, export, export_of(alloc, export)?);
     }
+    if let Some(dump) = matches.subcommand_matches("dump") {
+        return words_of(alloc, dump, dump_of(alloc, dump)?);
+    }
     Ok(None)
 }
 
@@ -154,6 +167,7 @@ fn words_for<'a>(alloc: Global, program: Program) -> Result<Command<'a>, AllocEr
         Program::Ask => ask_words(alloc),
         Program::Import => import_words(alloc),
         Program::Export => export_words(alloc),
+        Program::Dump => dump_words(alloc),
     }
 }
 
@@ -196,6 +210,12 @@ fn export_words<'a>(alloc: Global) -> Result<Command<'a>, AllocError> {
         .arg(file(alloc))?
         .arg(namespace(alloc))?
         .arg(flag(alloc, "canonical"))
+}
+
+fn dump_words<'a>(alloc: Global) -> Result<Command<'a>, AllocError> {
+    Command::new(alloc, "dump")
+        .arg(file(alloc))?
+        .arg(namespace(alloc))
 }
 
 /// The file of a program.
@@ -294,6 +314,15 @@ fn export_of(alloc: Global, matches: &ArgMatches<'_>) -> Result<Option<Task>, Al
         namespace: String::from_str(alloc, namespace)?,
         canonical: matches.get_flag("canonical"),
     })))
+}
+
+/// What `dump` is to do.
+fn dump_of(alloc: Global, matches: &ArgMatches<'_>) -> Result<Option<Task>, AllocError> {
+    let Some(namespace) = matches.get_str("NAMESPACE") else {
+        return Ok(None);
+    };
+    let namespace = String::from_str(alloc, namespace)?;
+    Ok(Some(Task::Dump(DumpWords { namespace })))
 }
 
 /// The port that the words name.

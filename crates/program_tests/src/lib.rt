@@ -2,6 +2,8 @@
 #![tactic(auto)]
 
 #[cfg(test)]
+mod dumping;
+#[cfg(test)]
 mod endings;
 #[cfg(test)]
 mod people;

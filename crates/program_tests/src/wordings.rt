@@ -7,8 +7,11 @@ use std::net::TcpListener;
 use std::test::Fail;
 
 /// Words that no program has, with a blank between, behind the program's own.
-const WRONG: [&str; 26] = [
+const WRONG: [&str; 29] = [
     "dump",
+    "dump no/f",
+    "dump no/f t.c more",
+    "dump no/f t.c --canonical",
     "ask",
     "exec",
     "exec no/f more",
@@ -37,10 +40,12 @@ const WRONG: [&str; 26] = [
 ];
 
 /// Words of a program whose file can't be opened.
-const NO_FILE: [&str; 6] = [
+const NO_FILE: [&str; 8] = [
     "exec no/f",
     "export no/f t.c",
     "export missing.docpage t.c",
+    "dump no/f t.c",
+    "dump missing.docpage t.c",
     "serve no/f --port 65535 --connections 64 --turns 18446744073709551615",
     "listen no/f --port 0",
     "listen no/f --idle-seconds 007 --port 1",

@@ -11,3 +11,4 @@ pub mod ConnectionsServed
 pub mod StreamsTaken
 pub mod Ascending
 pub mod AnewLemmas
+pub mod Reading

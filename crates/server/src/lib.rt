@@ -4,6 +4,7 @@
 mod anew;
 mod connection;
 mod drive;
+mod dump;
 pub mod laws;
 mod preparing;
 mod service;
@@ -14,6 +15,7 @@ mod turn;
 pub use anew::run_anew;
 pub use connection::FeedFault;
 pub use drive::{DriveFault, DriveOut};
+pub use engine::CheckFault;
 pub use roots::{Config, OpenFault};
 pub use service::serve_on;
 pub use sockets::ServeFault;

@@ -1,0 +1,18 @@
+-- Why a file is not looked through.
+use Rattle.std.specs.Prelude.{ℕ, List, codes}
+use Rattle.path.specs.declared.refusal.Refusal.{Refusal}
+use Rattle.path.specs.declared.refusal.Refusal.TheVariants as refusals
+use Rattle.engine.specs.declared.check_fault.CheckFault.{CheckFault}
+use Rattle.engine.specs.declared.check_fault.CheckFault.TheVariants as faults
+
+abbrev pub check_fault_name : CheckFault → List ℕ
+check_fault_name faults.Device = codes "Device"
+check_fault_name faults.Memory = codes "Memory"
+check_fault_name faults.Damaged = codes "Damaged"
+check_fault_name faults.NamespaceNotFound = codes "NamespaceNotFound"
+
+-- the fault that a refusal to read is
+abbrev pub check_fault : Refusal → CheckFault
+check_fault refusals.OutOfMemory = faults.Memory
+check_fault refusals.Full = faults.Memory
+check_fault _ = faults.Device
