@@ -1,5 +1,5 @@
 -- What is kept of the collections while the entries of a file are taken.
-use Rattle.std.proofs.Common.{◌≡◌, ℕ, ◌<◌, Bool, true, false, not, ◌&&◌, ◌||◌, List, [], ◌∷◌, ◌++◌, length, map, Some, None, inl, inr, refl, sym, ap, subst, ◌∙◌, arith, eqb-true}
+use Rattle.std.proofs.Common.{◌≡◌, ℕ, ◌<◌, Bool, true, false, not, ◌&&◌, ◌||◌, List, [], ◌∷◌, ◌++◌, length, map, Some, None, inl, inr, refl, sym, ap, subst, ◌∙◌, arith, eqb-true, get_or}
 use Rattle.std.specs.Prelude.{All, ◌==◌, if◌then◌else◌, Option, codes, unwrap_or}
 use Rattle.std.specs.List.{list_all, list_any}
 use Rattle.std.specs.Option.{option_and_then}
@@ -43,12 +43,13 @@ loaded_lawful now h = record {
   numbers = h.lawful.numbers;
   kept = λ k c below.
       let kept = h.lawful.kept k c below in
+      let one = get_or now k c in
       record {
         lawful = record { rising = kept.rising; stored = h.stored k c below };
         short = kept.short;
         least = kept.least;
         most = kept.most;
-        indexes = definitions_short c.indexes (lawful_indexes c.indexes c.documents kept.indexes) kept.few;
+        indexes = definitions_short one.indexes (lawful_indexes one.indexes one.documents kept.indexes) kept.few;
       };
   few = h.lawful.few;
 }
