@@ -16,6 +16,7 @@ pub mod Create
 pub mod DropCollection
 pub mod ListCollections
 pub mod CreateIndexes
+pub mod DropIndexes
 pub mod Step
 pub mod Lawful
 pub mod Places
@@ -47,4 +48,5 @@ pub mod Numbering
 pub mod Storing
 pub mod Dropping
 pub mod Indexing
+pub mod Unindexing
 pub mod FileOpening

@@ -13,6 +13,7 @@ mod cursors;
 mod delete;
 mod documents;
 mod drop_collection;
+mod drop_indexes;
 mod engine;
 mod entering;
 mod find;
@@ -34,6 +35,7 @@ mod reply;
 mod shared_document;
 mod statements;
 mod told;
+mod unindexing;
 mod updates;
 mod writing;
 
