@@ -14,8 +14,9 @@ use Rattle.std.proofs.lemmas.Map.Lookups.{exact_bytes}
 use Rattle.bson.specs.Tree.{Pairs, pair, no_pairs}
 use Rattle.bson.specs.Spelling.{items_bytes}
 use Rattle.bson.specs.declared.fault.BsonFault.{BsonFault}
-use Rattle.engine.specs.World.{World, Cursor, collection_of, unused, number_or, with_documents, documents_of}
+use Rattle.engine.specs.World.{World, Cursor, collection_of, unused, number_or, with_documents, documents_of, documents_or_none}
 use Rattle.index.specs.State.{Collection, find_collection, uses, put_collection}
+use Rattle.index.proofs.PlaceLemmas.{found_name}
 use Rattle.outcome.specs.Outcome.{◌>>=◌, unless, or_refused}
 use Rattle.engine.specs.Documents.{place, insert_all}
 use Rattle.commands.specs.Find.{Query}
@@ -39,6 +40,8 @@ use Rattle.engine.specs.Create.{created, run_create}
 use Rattle.commands.specs.NewIndex.{NewIndex}
 use Rattle.engine.specs.CreateIndexes.{create_indexes_reply, indexed, run_create_indexes, with_new_indexes}
 use Rattle.engine.proofs.NewIndexLemmas.{with_new_indexes_more}
+use Rattle.commands.specs.DropIndexes.{DroppedIndexes}
+use Rattle.engine.specs.DropIndexes.{drop_indexes_reply, dropped_in, index_dropped, left_by, run_drop_indexes, without_indexes}
 use Rattle.engine.specs.DropCollection.{drop_reply, dropped, index_count, run_drop}
 use Rattle.engine.specs.ListCollections.{names_in, listed, run_list_collections}
 use Rattle.engine.proofs.Creating.{dropped_lawful}
@@ -70,7 +73,7 @@ use Rattle.engine.proofs.Finding.{found_within}
 use Rattle.engine.proofs.Ordered.{Rises, rises_insert, All-inserted, missing, found, added, replaced}
 use Rattle.engine.proofs.Numbers.{unused_unused, number_bounds, numbers_set, numbers_insert}
 use Rattle.engine.proofs.NamesApart.{apart_set}
-use Rattle.engine.proofs.SpelledSizes.{create_indexes-sendable, ping-sendable, insert-sendable, drop-sendable, refusal-sendable, batch_items, cursor-sendable, kill-sendable, told_few, hello-sendable}
+use Rattle.engine.proofs.SpelledSizes.{create_indexes-sendable, drop_indexes-sendable, ping-sendable, insert-sendable, drop-sendable, refusal-sendable, batch_items, cursor-sendable, kill-sendable, told_few, hello-sendable}
 
 -- ---- collections
 
@@ -354,6 +357,46 @@ good_create_indexes w name ns h short = λ x e.
       create_indexes-sendable (index_count w.collections name) (index_count s.0 name) is_new,
     )
 
+-- the collections without indexes in one of them
+pub index_dropped_lawful : (cs : List Collection) (name : List ℕ) (away : DroppedIndexes) (next : List Collection) → IsLawfulState cs → length name ≤ 255 → index_dropped cs name away ≡ Ok next → IsLawfulState next
+index_dropped_lawful cs name away next h short e = by (find_collection cs name) refl e
+  where
+    and_false : (b : Bool) → (b && false) ≡ false
+    and_false true = refl
+    and_false false = refl
+
+    by : (o : Option Collection) → find_collection cs name ≡ o → dropped_in away cs o ≡ Ok next → IsLawfulState next
+    by None there f = absurd cc
+    by (Some c) is_found f =
+        let s = step_of (without_indexes away c) (λ d. let r : Result (List Collection) Refusal = Ok (put_collection d cs) in r) next f in
+        let t = step_of (left_by away c.indexes) (λ left. let r : Result Collection Refusal = Ok (record c { indexes = left }) in r) s.0 s.1 in
+        let named : name ≡ c.name = found_name cs name c is_found in
+        let there : find_collection cs c.name ≡ Some c = subst (λ (n : List ℕ). find_collection cs n ≡ Some c) named is_found in
+        let number : number_or (unused cs) (find_collection cs c.name) ≡ c.number = ap (number_or (unused cs)) there in
+        let free : is_full cs c.name ≡ false = ap (λ (o : Option Collection). nat_le 1000 (length cs) && not (is_some o)) there ∙ and_false (nat_le 1000 (length cs)) in
+        let same : documents_of cs c.name ≡ c.documents = ap documents_or_none there in
+        let kept = stored_at cs c.name h.kept in
+        let bounds = number_bounds cs c.name h.kept (room cs c.name free) in
+        let left : Collection = record c { indexes = t.0 } in
+        let one : IsKept left = record {
+          lawful = record { rising = subst IsRising same kept.0; stored = subst (All IsStored) same kept.1 };
+          short = subst (λ (n : List ℕ). length n ≤ 255) named short;
+          least = subst (λ (n : ℕ). 1 ≤ n) number bounds.least;
+          most = subst (λ (n : ℕ). n ≤ 1000) number bounds.most;
+        } in
+        let is : left ≡ s.0 = cc in
+        let now : put_collection s.0 cs ≡ next = cc in
+        subst IsLawfulState (ap (λ (d : Collection). put_collection d cs) is ∙ now) (put_kept left cs h one free (sym number))
+
+pub good_drop_indexes : (w : World) (name : List ℕ) (away : DroppedIndexes) → IsLawful w → length name ≤ 255 → Good (run_drop_indexes w (record { namespace = name; indexes = away }))
+unfolding run_drop_indexes
+good_drop_indexes w name away h short = λ x e.
+    let reply = drop_indexes_reply (index_count w.collections name) in
+    let s = step_of (index_dropped w.collections name away) (λ cs. let r : Result (World × Pairs) Refusal = Ok (record w { collections = cs }, reply) in r) x e in
+    let same : (record w { collections = s.0 }, reply) ≡ x = cc in
+    subst (λ (y : World × Pairs). IsLawful y.0 × IsSendable (ok_reply y.1)) same
+    (record { collections = index_dropped_lawful w.collections name away s.0 h.collections short s.1; cursors = h.cursors }, drop_indexes-sendable (index_count w.collections name))
+
 good_list_collections : (w : World) (c : ListCollections) → IsLawful w → length c.database ≤ 63 → Good (run_list_collections w c)
 unfolding run_list_collections
 good_list_collections w c h short =
@@ -426,7 +469,7 @@ good_run w connection (create_of c) h b = good_create w c.namespace h b
 good_run w connection (drop_of c) h b = good_drop w c.namespace h b
 good_run w connection (list_collections c) h b = good_list_collections w c h b
 good_run w connection (create_indexes c) h b = good_create_indexes w c.namespace c.indexes h b.0
-good_run w connection (drop_indexes c) h b = λ x e. absurd cc
+good_run w connection (drop_indexes c) h b = good_drop_indexes w c.namespace c.indexes h b
 good_run w connection (list_indexes c) h b = λ x e. absurd cc
 
 -- the world after a step, and its reply

@@ -87,3 +87,6 @@ pub mod NotingEach
 pub mod IndexingLemmas
 pub mod IndexingSteps
 pub mod CreatingIndexes
+pub mod DroppedIndexLemmas
+pub mod UnindexingLemmas
+pub mod DroppingIndexes

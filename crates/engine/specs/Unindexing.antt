@@ -1,5 +1,5 @@
 -- Documents of a collection whose entries are removed from an index, batch after batch, and indexes that are noted as dropped.
-use Rattle.std.specs.Prelude.{◌≡◌, ℕ, Bool, false, List, ◌++◌, Some, Ok, All, Result}
+use Rattle.std.specs.Prelude.{◌≡◌, ℕ, Bool, false, List, [], ◌++◌, Some, Ok, All, Result}
 use Rattle.bson.specs.Tree.{Pairs}
 use Rattle.btree.specs.Keys.{Edit}
 use Rattle.collections.specs.Reading.{IsNumbered}

@@ -1,0 +1,133 @@
+-- Which indexes are dropped, and what that makes of a collection.
+use Rattle.std.proofs.Common.{◌≡◌, ◌≢◌, ◌+◌, ◌<◌, ◌≤◌, ℕ, zero, suc, Bool, true, false, ◌||◌, cond, List, [], ◌∷◌, ◌++◌, length, get_or, take, drop, Option, Some, None, Result, Ok, Err, refl, sym, ap, subst, ◌∙◌, arith}
+use Rattle.std.specs.Prelude.{nat_lt, not, is_some}
+use Rattle.std.specs.List.{filter, list_any, position, position_or_len, remove}
+use Rattle.std.proofs.lemmas.Bool.Decides.{nat_tests}
+use Rattle.std.proofs.lemmas.List.Edits.{length-remove}
+use Rattle.std.proofs.lemmas.List.Elements.{filter-append}
+use Rattle.std.proofs.lemmas.List.Quantifiers.{position-Some}
+use Rattle.std.proofs.lemmas.List.Sums.{count_by-le-length, length-filter}
+use Rattle.outcome.specs.Outcome.{◌>>=◌, unless}
+use Rattle.path.specs.declared.refusal.Refusal.{Refusal}
+use Rattle.path.specs.declared.refusal.Refusal.TheVariants as refusals
+use Rattle.commands.specs.DropIndexes.{DroppedIndexes, all, named}
+use Rattle.index.specs.Definition.{Definition}
+use Rattle.index.specs.State.{Collection, find_collection, put_collection}
+use Rattle.index.proofs.IndexMakingLaws.{cut_at}
+use Rattle.engine.specs.DropIndexes.{dropped_in, index_dropped, is_dropped, left_by, remaining, without_indexes}
+
+-- ---- the first that passes a test
+
+module _ {X : Type 0} (p : X → Bool) where
+  fails_all : (xs : List X) → length xs ≤ position_or_len p xs → filter (λ x. not (p x)) xs ≡ xs
+  fails_all [] past = refl
+  fails_all (x ∷ xs) past = by (p x) past (fails_all xs)
+    where
+      by : (b : Bool) → suc (length xs) ≤ cond (not b) (1 + position_or_len p xs) 0 → (length xs ≤ position_or_len p xs → filter (λ x. not (p x)) xs ≡ xs)
+          → cond (not b) (x ∷ filter (λ x. not (p x)) xs) (filter (λ x. not (p x)) xs) ≡ x ∷ xs
+      by true past rest = absurd (omega (arith, past))
+      by false past rest = ap (λ (ys : List X). x ∷ ys) (rest (omega (arith, past)))
+
+  none_any : (xs : List X) → length xs ≤ position_or_len p xs → list_any p xs ≡ false
+  none_any [] past = refl
+  none_any (x ∷ xs) past = by (p x) past (none_any xs)
+    where
+      by : (b : Bool) → suc (length xs) ≤ cond (not b) (1 + position_or_len p xs) 0 → (length xs ≤ position_or_len p xs → list_any p xs ≡ false) → (b || list_any p xs) ≡ false
+      by true past rest = absurd (omega (arith, past))
+      by false past rest = rest (omega (arith, past))
+
+  past_all : (xs : List X) → position p xs ≡ None → length xs ≤ position_or_len p xs
+  past_all xs is =
+      let outside = by (nat_lt (position_or_len p xs) (length xs)) (position_or_len p xs) is in
+      grind (arith, nat_tests, outside)
+    where
+      by : (b : Bool) (n : ℕ) → cond b (Some n) None ≡ None → b ≡ false
+      by true n e = absurd cc
+      by false n e = refl
+
+  pub nothing_passes : (xs : List X) → position p xs ≡ None → filter (λ x. not (p x)) xs ≡ xs
+  nothing_passes xs is = fails_all xs (past_all xs is)
+
+  pub none_passes : (xs : List X) → position p xs ≡ None → list_any p xs ≡ false
+  none_passes xs is = none_any xs (past_all xs is)
+
+  any_at : (xs : List X) (i : ℕ) (d : X) → i < length xs → p (get_or xs i d) ≡ true → list_any p xs ≡ true
+  any_at [] i d within passes = absurd (omega (arith, within))
+  any_at (x ∷ xs) zero d within passes = ap (λ (b : Bool). b || list_any p xs) passes
+  any_at (x ∷ xs) (suc i) d within passes = by (p x) (any_at xs i d (omega (arith, within)) passes)
+    where
+      by : (b : Bool) → list_any p xs ≡ true → (b || list_any p xs) ≡ true
+      by true e = refl
+      by false e = e
+
+  pub one_passes : (xs : List X) (i : ℕ) (d : X) → position p xs ≡ Some i → list_any p xs ≡ true
+  one_passes xs i d is = let at = position-Some p xs i d is in any_at xs i d at.0 at.1
+
+  -- what passes is filtered out, whether it stands there or not
+  pub left_without : (xs : List X) (i : ℕ) (x : X) → i < length xs → x ≡ get_or xs i x → p x ≡ true → filter (λ y. not (p y)) (remove xs i) ≡ filter (λ y. not (p y)) xs
+  left_without xs i x within here passes =
+      let q : X → Bool = λ y. not (p y) in
+      let front = take i xs in
+      let back = drop (suc i) xs in
+      let gone : filter q (x ∷ back) ≡ filter q back = ap (λ (b : Bool). cond (not b) (x ∷ filter q back) (filter q back)) passes in
+      filter-append q front back ∙ ap (λ (ys : List X). filter q front ++ ys) (sym gone) ∙ sym (filter-append q front (x ∷ back)) ∙ ap (filter q) (sym (cut_at xs i x within here))
+
+-- ---- indexes
+
+module _ (away : DroppedIndexes) (is : List Definition) where
+  abbrev goes : Definition → Bool
+  goes = is_dropped away
+
+  pub all_remain : position goes is ≡ None → remaining away is ≡ is
+  all_remain none = nothing_passes goes is none
+
+  module _ (at : ℕ) (found : position goes is ≡ Some at) where
+    pub within_them : at < length is
+    within_them = some_length is found
+      where
+        some_length : (js : List Definition) → position goes js ≡ Some at → at < length js
+        some_length [] e = absurd cc
+        some_length (j ∷ js) e = (position-Some goes (j ∷ js) at j e).0
+
+    pub remain_without : (i : Definition) → i ≡ get_or is at i → remaining away (remove is at) ≡ remaining away is
+    remain_without i here =
+        let passes : goes i ≡ true = ap goes here ∙ (position-Some goes is at i found).1 in
+        left_without goes is at i within_them here passes
+
+    pub fewer_remain : length (remaining away is) < length is
+    fewer_remain = by is refl
+      where
+        by : (js : List Definition) → js ≡ is → length (remaining away is) < length is
+        by [] none = absurd (omega (arith, within_them, ap length none))
+        by (j ∷ js) there =
+            let i = get_or is at j in
+            let here : i ≡ get_or is at i = same_there is at j i within_them in
+            let stays : length (remaining away (remove is at)) ≤ length (remove is at) =
+            subst (λ (n : ℕ). n ≤ length (remove is at)) (sym (length-filter (λ k. not (goes k)) (remove is at))) (count_by-le-length (λ k. not (goes k)) (remove is at)) in
+            omega (arith, stays, ap length (remain_without i here), length-remove is at within_them)
+
+        same_there : (js : List Definition) (k : ℕ) (d e : Definition) → k < length js → get_or js k d ≡ get_or js k e
+        same_there [] k d e below = absurd (omega (arith, below))
+        same_there (j ∷ js) zero d e below = refl
+        same_there (j ∷ js) (suc k) d e below = same_there js k d e (omega (arith, below))
+
+-- ---- refusals
+
+pub left_all : (is : List Definition) → left_by all is ≡ Ok (remaining all is)
+left_all [] = refl
+left_all (i ∷ is) = left_all is
+
+module _ (name : List ℕ) (is : List Definition) where
+  abbrev judged : Bool → Bool → Result (List Definition) Refusal
+  judged a b = unless a refusals.BadValue (unless (not b) refusals.IndexNotFound (Ok (remaining (named name) is)))
+
+  pub left_id : (a : Bool) → a ≡ true → left_by (named name) is ≡ judged a (list_any (is_dropped (named name)) is) → left_by (named name) is ≡ Err refusals.BadValue
+  left_id a yes e = e ∙ ap (λ (x : Bool). judged x (list_any (is_dropped (named name)) is)) yes
+
+-- ---- a collection of the name
+
+pub dropped_there : (cs : List Collection) (name : List ℕ) (away : DroppedIndexes) (c : Collection) → find_collection cs name ≡ Some c → (r : Result (List Definition) Refusal) → left_by away c.indexes ≡ r
+    → index_dropped cs name away ≡ ((r >>= (λ left. let x : Result Collection Refusal = Ok (record c { indexes = left }) in x)) >>= (λ next. let x : Result (List Collection) Refusal = Ok (put_collection next cs) in x))
+dropped_there cs name away c found r is =
+    ap (dropped_in away cs) found
+    ∙ ap (λ (q : Result (List Definition) Refusal). (q >>= (λ left. let x : Result Collection Refusal = Ok (record c { indexes = left }) in x)) >>= (λ next. let x : Result (List Collection) Refusal = Ok (put_collection next cs) in x)) is
