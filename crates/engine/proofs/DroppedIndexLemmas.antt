@@ -28,14 +28,6 @@ module _ {X : Type 0} (p : X → Bool) where
       by true past rest = absurd (omega (arith, past))
       by false past rest = ap (λ (ys : List X). x ∷ ys) (rest (omega (arith, past)))
 
-  none_any : (xs : List X) → length xs ≤ position_or_len p xs → list_any p xs ≡ false
-  none_any [] past = refl
-  none_any (x ∷ xs) past = by (p x) past (none_any xs)
-    where
-      by : (b : Bool) → suc (length xs) ≤ cond (not b) (1 + position_or_len p xs) 0 → (length xs ≤ position_or_len p xs → list_any p xs ≡ false) → (b || list_any p xs) ≡ false
-      by true past rest = absurd (omega (arith, past))
-      by false past rest = rest (omega (arith, past))
-
   past_all : (xs : List X) → position p xs ≡ None → length xs ≤ position_or_len p xs
   past_all xs is =
       let outside = by (nat_lt (position_or_len p xs) (length xs)) (position_or_len p xs) is in
@@ -47,21 +39,6 @@ module _ {X : Type 0} (p : X → Bool) where
 
   pub nothing_passes : (xs : List X) → position p xs ≡ None → filter (λ x. not (p x)) xs ≡ xs
   nothing_passes xs is = fails_all xs (past_all xs is)
-
-  pub none_passes : (xs : List X) → position p xs ≡ None → list_any p xs ≡ false
-  none_passes xs is = none_any xs (past_all xs is)
-
-  any_at : (xs : List X) (i : ℕ) (d : X) → i < length xs → p (get_or xs i d) ≡ true → list_any p xs ≡ true
-  any_at [] i d within passes = absurd (omega (arith, within))
-  any_at (x ∷ xs) zero d within passes = ap (λ (b : Bool). b || list_any p xs) passes
-  any_at (x ∷ xs) (suc i) d within passes = by (p x) (any_at xs i d (omega (arith, within)) passes)
-    where
-      by : (b : Bool) → list_any p xs ≡ true → (b || list_any p xs) ≡ true
-      by true e = refl
-      by false e = e
-
-  pub one_passes : (xs : List X) (i : ℕ) (d : X) → position p xs ≡ Some i → list_any p xs ≡ true
-  one_passes xs i d is = let at = position-Some p xs i d is in any_at xs i d at.0 at.1
 
   -- what passes is filtered out, whether it stands there or not
   pub left_without : (xs : List X) (i : ℕ) (x : X) → i < length xs → x ≡ get_or xs i x → p x ≡ true → filter (λ y. not (p y)) (remove xs i) ≡ filter (λ y. not (p y)) xs
@@ -97,6 +74,11 @@ module _ (away : DroppedIndexes) (is : List Definition) where
     pub fewer_remain : length (remaining away is) < length is
     fewer_remain = by is refl
       where
+        same_there : (js : List Definition) (k : ℕ) (d e : Definition) → k < length js → get_or js k d ≡ get_or js k e
+        same_there [] k d e below = absurd (omega (arith, below))
+        same_there (j ∷ js) zero d e below = refl
+        same_there (j ∷ js) (suc k) d e below = same_there js k d e (omega (arith, below))
+
         by : (js : List Definition) → js ≡ is → length (remaining away is) < length is
         by [] none = absurd (omega (arith, within_them, ap length none))
         by (j ∷ js) there =
@@ -106,23 +88,11 @@ module _ (away : DroppedIndexes) (is : List Definition) where
             subst (λ (n : ℕ). n ≤ length (remove is at)) (sym (length-filter (λ k. not (goes k)) (remove is at))) (count_by-le-length (λ k. not (goes k)) (remove is at)) in
             omega (arith, stays, ap length (remain_without i here), length-remove is at within_them)
 
-        same_there : (js : List Definition) (k : ℕ) (d e : Definition) → k < length js → get_or js k d ≡ get_or js k e
-        same_there [] k d e below = absurd (omega (arith, below))
-        same_there (j ∷ js) zero d e below = refl
-        same_there (j ∷ js) (suc k) d e below = same_there js k d e (omega (arith, below))
-
 -- ---- refusals
 
 pub left_all : (is : List Definition) → left_by all is ≡ Ok (remaining all is)
 left_all [] = refl
 left_all (i ∷ is) = left_all is
-
-module _ (name : List ℕ) (is : List Definition) where
-  abbrev judged : Bool → Bool → Result (List Definition) Refusal
-  judged a b = unless a refusals.BadValue (unless (not b) refusals.IndexNotFound (Ok (remaining (named name) is)))
-
-  pub left_id : (a : Bool) → a ≡ true → left_by (named name) is ≡ judged a (list_any (is_dropped (named name)) is) → left_by (named name) is ≡ Err refusals.BadValue
-  left_id a yes e = e ∙ ap (λ (x : Bool). judged x (list_any (is_dropped (named name)) is)) yes
 
 -- ---- a collection of the name
 

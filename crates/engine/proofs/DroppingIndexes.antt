@@ -192,7 +192,7 @@ module _ {D : Type 0} (history : D → History) (name : List ℕ) (away : Droppe
           let has = subst (λ (ds : List Collection). HasNoted ds name home_after after (drop_at at f.reached)) same_now (step.answers k f.reached now.0 now.1) in
           let c = f.reached in
           let next = without_index_at c at in
-          let is : next ≡ has.next = some_ok (has.is) in
+          let is : next ≡ has.next = ap (λ (r : Result Collection Refusal). elim r [ Ok z ↦ z | Err f ↦ next ]) has.is in
           let there = ap (position (is_dropped away)) f.noted.indexed ∙ found in
           let less : remaining away (remove c.indexes at) ≡ remaining away c.indexes = remain_without away c.indexes at there i (here ∙ ap (λ (js : List Definition). get_or js at i) (sym f.noted.indexed)) in
           record {
@@ -202,9 +202,6 @@ module _ {D : Type 0} (history : D → History) (name : List ℕ) (away : Droppe
             same = f.same ∙ ap (λ (js : List Definition). let r : Result Collection Refusal = Ok (record c { indexes = js }) in r) (sym less);
           };
     }
-      where
-        some_ok : {x y : Collection} → Ok {E = Refusal} x ≡ Ok y → x ≡ y
-        some_ok {x} {y} e = ap (λ (r : Result Collection Refusal). elim r [ Ok z ↦ z | Err f ↦ x ]) e
 
   pub drops_all : (new : Engine D) (home : Catalogued) (edits : List Edit) → position (is_dropped away) home.indexes.items ≡ None → DropsTo history name away home_before home before edits old new → NotesAll home edits (Ok tt) new
   drops_all new home edits none far = record {

@@ -1,7 +1,8 @@
 //! `dropIndexes`: indexes of a collection are taken away.
 
 ghost use Rattle.std.specs.Prelude.{◌≡◌, ◌≤◌, Err, IfErr, IfOk, Ok, OnOk, length};
-ghost use Rattle.std.specs.List.{position};
+ghost use Rattle.std.specs.List.{list_any, position};
+ghost use Rattle.commands.specs.DropIndexes.{named};
 ghost use Rattle.commands.specs.View.{dropped_of};
 ghost use Rattle.page.specs.History.{KeepsWord};
 ghost use Rattle.engine.specs.DropIndexes.{index_dropped, is_dropped, left_by, remaining, run_drop_indexes};
@@ -38,22 +39,38 @@ pub(crate) fn first_dropped(indexes: &[IndexSpec], dropped: &DroppedIndexes<'_>)
     indexes.iter().position(|index| is_dropped(index, dropped))
 }
 
-/// Whether indexes may be dropped: not that on `_id` by its name, and one of a name only where it is there.
+/// Whether one of these indexes has a name.
+fn has_name(indexes: &[IndexSpec], name: &str) -> bool
+    ensures { result ≡ list_any (is_dropped (named name.now)) indexes.now }
+{
+    indexes.iter().any(|index| index.name() == name)
+}
+
+/// Whether the index of a name may be dropped: not that on `_id`, and one that is there.
+fn check_name(indexes: &[IndexSpec], name: &str) -> Result<(), Refusal>
+    ensures may { OnOk result (left_by (named name.now) indexes.now
+        ≡ Ok (remaining (named name.now) indexes.now)) }
+    ensures refused { IfErr result (λ e. left_by (named name.now) indexes.now ≡ Err e) }
+{
+    if name == ID_INDEX {
+        return Err(Refusal::BadValue);
+    }
+    if !has_name(indexes, name) {
+        return Err(Refusal::IndexNotFound);
+    }
+    Ok(())
+}
+
+/// Whether indexes may be dropped, all or the one of a name.
 fn check_dropped(indexes: &[IndexSpec], dropped: &DroppedIndexes<'_>) -> Result<(), Refusal>
     ensures may { OnOk result (left_by (dropped_of dropped.now) indexes.now
         ≡ Ok (remaining (dropped_of dropped.now) indexes.now)) }
     ensures refused { IfErr result (λ e. left_by (dropped_of dropped.now) indexes.now ≡ Err e) }
 {
-    let DroppedIndexes::Named(name) = dropped else {
-        return Ok(());
-    };
-    if *name == ID_INDEX {
-        return Err(Refusal::BadValue);
+    match dropped {
+        DroppedIndexes::Named(name) => check_name(indexes, name),
+        DroppedIndexes::All => Ok(()),
     }
-    if first_dropped(indexes, dropped).is_none() {
-        return Err(Refusal::IndexNotFound);
-    }
-    Ok(())
 }
 
 impl<D: Disk> Engine<D> {
