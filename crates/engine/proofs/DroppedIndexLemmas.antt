@@ -49,6 +49,11 @@ module _ {X : Type 0} (p : X → Bool) where
       let gone : filter q (x ∷ back) ≡ filter q back = ap (λ (b : Bool). cond (not b) (x ∷ filter q back) (filter q back)) passes in
       filter-append q front back ∙ ap (λ (ys : List X). filter q front ++ ys) (sym gone) ∙ sym (filter-append q front (x ∷ back)) ∙ ap (filter q) (sym (cut_at xs i x within here))
 
+element_at : {X : Type 0} (xs : List X) (i : ℕ) → i < length xs → (x : X) × (x ≡ get_or xs i x)
+element_at [] i below = absurd (omega (arith, below))
+element_at (x ∷ xs) zero below = (x, refl)
+element_at (x ∷ xs) (suc i) below = element_at xs i (omega (arith, below))
+
 -- ---- indexes
 
 module _ (away : DroppedIndexes) (is : List Definition) where
@@ -66,27 +71,16 @@ module _ (away : DroppedIndexes) (is : List Definition) where
         some_length [] e = absurd cc
         some_length (j ∷ js) e = (position-Some goes (j ∷ js) at j e).0
 
-    pub remain_without : (i : Definition) → i ≡ get_or is at i → remaining away (remove is at) ≡ remaining away is
-    remain_without i here =
-        let passes : goes i ≡ true = ap goes here ∙ (position-Some goes is at i found).1 in
-        left_without goes is at i within_them here passes
+    pub remain_without : remaining away (remove is at) ≡ remaining away is
+    remain_without =
+        let e = element_at is at within_them in
+        left_without goes is at e.0 within_them e.1 (ap goes e.1 ∙ (position-Some goes is at e.0 found).1)
 
     pub fewer_remain : length (remaining away is) < length is
-    fewer_remain = by is refl
-      where
-        same_there : (js : List Definition) (k : ℕ) (d e : Definition) → k < length js → get_or js k d ≡ get_or js k e
-        same_there [] k d e below = absurd (omega (arith, below))
-        same_there (j ∷ js) zero d e below = refl
-        same_there (j ∷ js) (suc k) d e below = same_there js k d e (omega (arith, below))
-
-        by : (js : List Definition) → js ≡ is → length (remaining away is) < length is
-        by [] none = absurd (omega (arith, within_them, ap length none))
-        by (j ∷ js) there =
-            let i = get_or is at j in
-            let here : i ≡ get_or is at i = same_there is at j i within_them in
-            let stays : length (remaining away (remove is at)) ≤ length (remove is at) =
-            subst (λ (n : ℕ). n ≤ length (remove is at)) (sym (length-filter (λ k. not (goes k)) (remove is at))) (count_by-le-length (λ k. not (goes k)) (remove is at)) in
-            omega (arith, stays, ap length (remain_without i here), length-remove is at within_them)
+    fewer_remain =
+        let stays : length (remaining away (remove is at)) ≤ length (remove is at) =
+        subst (λ (n : ℕ). n ≤ length (remove is at)) (sym (length-filter (λ k. not (goes k)) (remove is at))) (count_by-le-length (λ k. not (goes k)) (remove is at)) in
+        omega (arith, stays, ap length remain_without, length-remove is at within_them)
 
 -- ---- refusals
 

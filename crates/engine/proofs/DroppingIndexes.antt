@@ -182,8 +182,8 @@ module _ {D : Type 0} (history : D → History) (name : List ℕ) (away : Droppe
           ];
     }
 
-    pub drops_on : position (is_dropped away) home.indexes.items ≡ Some at → (i : Definition) → i ≡ get_or home.indexes.items at i → Step (Ok tt) → IsWithinLimits home_after → DropsTo history name away home_before home_after before after old new
-    drops_on found i here step limits = record {
+    pub drops_on : position (is_dropped away) home.indexes.items ≡ Some at → Step (Ok tt) → IsWithinLimits home_after → DropsTo history name away home_before home_after before after old new
+    drops_on found step limits = record {
       reads = reads_on history old mid new far.reads step.reads;
       limits = limits;
       answers = λ k first noted so.
@@ -194,7 +194,7 @@ module _ {D : Type 0} (history : D → History) (name : List ℕ) (away : Droppe
           let next = without_index_at c at in
           let is : next ≡ has.next = ap (λ (r : Result Collection Refusal). elim r [ Ok z ↦ z | Err f ↦ next ]) has.is in
           let there = ap (position (is_dropped away)) f.noted.indexed ∙ found in
-          let less : remaining away (remove c.indexes at) ≡ remaining away c.indexes = remain_without away c.indexes at there i (here ∙ ap (λ (js : List Definition). get_or js at i) (sym f.noted.indexed)) in
+          let less : remaining away (remove c.indexes at) ≡ remaining away c.indexes = remain_without away c.indexes at there in
           record {
             reached = next;
             noted = subst (AreNoted (world old).collections name home_after after) (sym is) has.noted;
