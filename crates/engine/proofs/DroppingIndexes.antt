@@ -310,6 +310,15 @@ module _ {D : Type 0} (history : D → History) (name : List ℕ) (away : Droppe
           makes_written history Plan old last new notes.reads r
           (λ k. let t = home_last k in planned_is (world last).collections (put_collection (left_of t.collection) (world last).collections) (Plan (world last).collections) (planned_left (world last).collections t)) writes
 
+-- there is a place, or none
+pub no_place : (o : Option ℕ) → is_some o ≡ false → o ≡ None
+no_place None e = refl
+no_place (Some n) e = absurd cc
+
+pub some_place : (o : Option ℕ) → is_some o ≡ true → (n : ℕ) × (o ≡ Some n)
+some_place None e = absurd cc
+some_place (Some n) e = (n, refl)
+
 -- where one is dropped, fewer stay
 pub some_go : {X : Type 0} (away : DroppedIndexes) (is : List Definition) (at : ℕ) → position (is_dropped away) is ≡ Some at → length is ≤ length (remaining away is) → X
 some_go away is at found long = absurd (omega (arith, long, fewer_remain away is at found))
