@@ -84,9 +84,13 @@ module _ (away : DroppedIndexes) (is : List Definition) where
 
 -- ---- refusals
 
-pub left_all : (is : List Definition) → left_by all is ≡ Ok (remaining all is)
-left_all [] = refl
-left_all (i ∷ is) = left_all is
+none_remain : (is : List Definition) → remaining all is ≡ []
+none_remain [] = refl
+none_remain (i ∷ is) = none_remain is
+
+pub left_all : (away : DroppedIndexes) (is : List Definition) → away ≡ all → left_by away is ≡ Ok (remaining away is)
+left_all away is every =
+    subst (λ (d : DroppedIndexes). left_by d is ≡ Ok (remaining d is)) (sym every) (ap (λ (js : List Definition). let r : Result (List Definition) Refusal = Ok js in r) (sym (none_remain is)))
 
 -- ---- a collection of the name
 

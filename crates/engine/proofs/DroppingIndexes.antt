@@ -323,6 +323,10 @@ some_place (Some n) e = (n, refl)
 pub some_go : {X : Type 0} (away : DroppedIndexes) (is : List Definition) (at : ℕ) → position (is_dropped away) is ≡ Some at → length is ≤ length (remaining away is) → X
 some_go away is at found long = absurd (omega (arith, long, fewer_remain away is at found))
 
+-- they may be dropped from a list, so from an equal one
+pub may_be_left : (away : DroppedIndexes) (is js : List Definition) → is ≡ js → left_by away is ≡ Ok (remaining away is) → left_by away js ≡ Ok (remaining away js)
+may_be_left away is js same may = subst (λ (ks : List Definition). left_by away ks ≡ Ok (remaining away ks)) same may
+
 -- ---- the command
 
 run_drops : (w : World) (name : List ℕ) (away : DroppedIndexes)
