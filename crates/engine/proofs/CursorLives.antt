@@ -43,6 +43,8 @@ use Rattle.engine.specs.Aggregate.{run_aggregate}
 use Rattle.engine.specs.Create.{created, run_create}
 use Rattle.commands.specs.CreateIndexes.{CreateIndexes}
 use Rattle.engine.specs.CreateIndexes.{create_indexes_reply, indexed, run_create_indexes}
+use Rattle.commands.specs.DropIndexes.{DropIndexes}
+use Rattle.engine.specs.DropIndexes.{drop_indexes_reply, index_dropped, run_drop_indexes}
 use Rattle.engine.specs.DropCollection.{drop_reply, dropped, index_count, run_drop}
 use Rattle.engine.specs.ListCollections.{run_list_collections}
 use Rattle.engine.specs.Step.{run, answered, step}
@@ -250,6 +252,15 @@ module _ (k : ℕ) (w : World) (connection : ℕ) (left : List Pairs) (drawn : k
       at (Err e) = same
       at (Ok cs) = on cs
 
+  unindexed_so : (c : DropIndexes) → Keeps (run_drop_indexes w c)
+  unfolding run_drop_indexes
+  unindexed_so c = at (index_dropped w.collections c.namespace c.indexes)
+    where
+      at : (r : Result (List Collection) Refusal)
+          → Keeps (r >>= (λ cs. let x : Result (World × Pairs) Refusal = Ok (record w { collections = cs }, drop_indexes_reply (index_count w.collections c.namespace)) in x))
+      at (Err e) = same
+      at (Ok cs) = on cs
+
   dropped_so : (c : DropCollection) → Keeps (run_drop w c)
   unfolding run_drop
   dropped_so c = at (dropped w.collections c.namespace)
@@ -338,7 +349,7 @@ module _ (k : ℕ) (w : World) (connection : ℕ) (left : List Pairs) (drawn : k
   ran (Ok (drop_of c)) = dropped_so c
   ran (Ok (list_collections c)) = listed_so c
   ran (Ok (create_indexes c)) = indexed_so c
-  ran (Ok (drop_indexes c)) = same
+  ran (Ok (drop_indexes c)) = unindexed_so c
   ran (Ok (list_indexes c)) = indexes_listed c
 
   -- ---- one event

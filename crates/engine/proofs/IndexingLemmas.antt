@@ -84,7 +84,7 @@ module _ (ds : List Pairs) (i : ℕ) (d : Pairs) (within : i < length ds) (is : 
 
 -- ---- a batch
 
-batch_cut : (rest batch : List Pairs) → batch ≡ take (length batch) rest → rest ≡ batch ++ drop (length batch) rest
+pub batch_cut : (rest batch : List Pairs) → batch ≡ take (length batch) rest → rest ≡ batch ++ drop (length batch) rest
 batch_cut rest batch first = sym (take-append-drop (length batch) rest) ∙ ap (λ (xs : List Pairs). xs ++ drop (length batch) rest) (sym first)
 
 module _ {D : Type 0} (history : D → History) (old : Engine D) (h : IsSound history old) (made after : NewEntries) (walk later : Walk) (file : State D) where

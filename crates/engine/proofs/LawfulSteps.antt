@@ -14,8 +14,9 @@ use Rattle.std.proofs.lemmas.Map.Lookups.{exact_bytes}
 use Rattle.bson.specs.Tree.{Pairs, pair, no_pairs}
 use Rattle.bson.specs.Spelling.{items_bytes}
 use Rattle.bson.specs.declared.fault.BsonFault.{BsonFault}
-use Rattle.engine.specs.World.{World, Cursor, collection_of, unused, number_or, with_documents, documents_of}
+use Rattle.engine.specs.World.{World, Cursor, collection_of, unused, number_or, with_documents, documents_of, documents_or_none}
 use Rattle.index.specs.State.{Collection, find_collection, uses, put_collection}
+use Rattle.index.proofs.PlaceLemmas.{found_name}
 use Rattle.outcome.specs.Outcome.{◌>>=◌, unless, or_refused}
 use Rattle.engine.specs.Documents.{place, insert_all}
 use Rattle.commands.specs.Find.{Query}
@@ -39,6 +40,8 @@ use Rattle.engine.specs.Create.{created, run_create}
 use Rattle.commands.specs.NewIndex.{IsShortNewIndex, NewIndex}
 use Rattle.engine.specs.CreateIndexes.{create_indexes_reply, indexed, run_create_indexes, with_new_indexes}
 use Rattle.engine.proofs.NewIndexLemmas.{with_new_indexes_more, with_new_indexes_short}
+use Rattle.commands.specs.DropIndexes.{DroppedIndexes}
+use Rattle.engine.specs.DropIndexes.{drop_indexes_reply, dropped_in, index_dropped, left_by, run_drop_indexes, without_indexes}
 use Rattle.engine.specs.DropCollection.{drop_reply, dropped, index_count, run_drop}
 use Rattle.engine.specs.ListCollections.{names_in, listed, run_list_collections}
 use Rattle.engine.specs.ListIndexes.{indexes_reply, run_list_indexes}
@@ -73,61 +76,9 @@ use Rattle.engine.proofs.Finding.{found_within}
 use Rattle.engine.proofs.Ordered.{Rises, rises_insert, All-inserted, missing, found, added, replaced}
 use Rattle.engine.proofs.Numbers.{found_kept, unused_unused, number_bounds, numbers_set, numbers_insert}
 use Rattle.engine.proofs.NamesApart.{apart_set}
-use Rattle.engine.proofs.SpelledSizes.{create_indexes-sendable, ping-sendable, insert-sendable, drop-sendable, refusal-sendable, batch_items, cursor-sendable, kill-sendable, told_few, hello-sendable}
+use Rattle.engine.proofs.SpelledSizes.{create_indexes-sendable, drop_indexes-sendable, ping-sendable, insert-sendable, drop-sendable, refusal-sendable, batch_items, cursor-sendable, kill-sendable, told_few, hello-sendable}
 
--- ---- collections
-
-abbrev ByName : List Collection → Type 0
-ByName cs = Rises (slice_cmp nat_cmp) (λ (c : Collection). c.name) cs
-
-room : (cs : List Collection) (name : List ℕ) → is_full cs name ≡ false → find_collection cs name ≡ None → length cs < 1000
-room cs name e none = at (nat_le 1000 (length cs)) refl (ap (λ (o : Option Collection). nat_le 1000 (length cs) && not (is_some o)) (sym none) ∙ e)
-  where
-    at : (b : Bool) → nat_le 1000 (length cs) ≡ b → (b && true) ≡ false → length cs < 1000
-    at true full e = absurd cc
-    at false few e = grind (arith, nat_tests)
-
-put_kept : (new : Collection) (cs : List Collection) → IsLawfulState cs → IsKept new → is_full cs new.name ≡ false → new.number ≡ number_or (unused cs) (find_collection cs new.name) → IsLawfulState (put_collection new cs)
-put_kept new cs h one free numbered = at (located nat_list_cmp_total (λ (c : Collection). c.name) cs new.name h.apart)
-  where
-    at : Gap (slice_cmp nat_cmp) (λ (c : Collection). c.name) cs new.name ⊎ There (slice_cmp nat_cmp) (λ (c : Collection). c.name) cs new.name → IsLawfulState (put_collection new cs)
-    at (inl g) =
-        let put : put_collection new cs ≡ insert cs g.0 new = added cs g.0 new.name new g.1 refl in
-        let none = missing cs g.0 new.name g.1 in
-        let less = room cs new.name free none in
-        let fresh : uses cs new.number ≡ false = ap (uses cs) (numbered ∙ ap (number_or (unused cs)) none) ∙ unused_unused cs in
-        record {
-          apart = subst AreNamedApart (sym put) (rises_insert nat_list_cmp_total (λ (c : Collection). c.name) cs g.0 new h.apart g.1);
-          numbers = subst AreNumberedApart (sym put) (numbers_insert cs g.0 new g.1.within fresh h.numbers);
-          kept = subst (λ (ds : List Collection). All IsKept ds) (sym put) (All-inserted IsKept cs g.0 new g.1.within h.kept one);
-          few = omega (arith, ap length put, length-insert cs g.0 new g.1.within);
-        }
-    at (inr t) =
-        let put : put_collection new cs ≡ set cs t.place new = replaced cs t.place new.name new h.apart t.within (t.same no_collection) refl in
-        let same : new.name ≡ (collection_at cs t.place).name = sym (exact_bytes (collection_at cs t.place).name new.name (t.same no_collection)) in
-        let there = found cs t.place new.name h.apart t.within (t.same no_collection) in
-        let kept_number : new.number ≡ (collection_at cs t.place).number = numbered ∙ ap (number_or (unused cs)) there in
-        record {
-          apart = subst AreNamedApart (sym put) (apart_set cs t.place new t.within same h.apart);
-          numbers = subst AreNumberedApart (sym put) (numbers_set cs t.place new t.within kept_number h.numbers);
-          kept = subst (λ (ds : List Collection). All IsKept ds) (sym put) (All-set IsKept cs t.place new one h.kept);
-          few = omega (arith, ap length put, length-set cs t.place new, h.few);
-        }
-
--- a collection without documents beside the others
-pub added_lawful : (new : Collection) (cs : List Collection) → IsLawfulState cs → IsKept new → find_collection cs new.name ≡ None → uses cs new.number ≡ false → length cs < 1000 → IsLawfulState (put_collection new cs)
-added_lawful new cs h one none fresh room = at (located nat_list_cmp_total (λ (c : Collection). c.name) cs new.name h.apart)
-  where
-    at : Gap (slice_cmp nat_cmp) (λ (c : Collection). c.name) cs new.name ⊎ There (slice_cmp nat_cmp) (λ (c : Collection). c.name) cs new.name → IsLawfulState (put_collection new cs)
-    at (inl g) =
-        let put : put_collection new cs ≡ insert cs g.0 new = added cs g.0 new.name new g.1 refl in
-        record {
-          apart = subst AreNamedApart (sym put) (rises_insert nat_list_cmp_total (λ (c : Collection). c.name) cs g.0 new h.apart g.1);
-          numbers = subst AreNumberedApart (sym put) (numbers_insert cs g.0 new g.1.within fresh h.numbers);
-          kept = subst (λ (ds : List Collection). All IsKept ds) (sym put) (All-inserted IsKept cs g.0 new g.1.within h.kept one);
-          few = omega (arith, ap length put, length-insert cs g.0 new g.1.within, room);
-        }
-    at (inr t) = let there = found cs t.place new.name h.apart t.within (t.same no_collection) in absurd cc
+use Rattle.engine.proofs.LawfulCollections.{index_dropped_lawful, indexed_lawful, put_kept, room}
 
 -- ---- one command
 
@@ -326,28 +277,6 @@ good_drop w name h short = λ x e.
     let same : (record w { collections = s.0 }, reply) ≡ x = cc in
     subst (λ (y : World × Pairs). IsLawful y.0 × IsSendable (ok_reply y.1)) same (record { collections = dropped_lawful w.collections name s.0 h.collections s.1; cursors = h.cursors }, drop-sendable (index_count w.collections name) name short)
 
--- the collections with indexes made in one of them
-pub indexed_lawful : (cs : List Collection) (name : List ℕ) (ns : List NewIndex) (next : List Collection) → IsLawfulState cs → length name ≤ 255 → All IsShortNewIndex ns → indexed cs name ns ≡ Ok next → IsLawfulState next
-indexed_lawful cs name ns next h short limits e =
-    let put : Collection → Result (List Collection) Refusal = λ c. Ok (put_collection c cs) in
-    let p = passed (is_full cs name) refusals.TooMany (with_new_indexes (collection_of cs name) ns >>= put) next e in
-    let s = step_of (with_new_indexes (collection_of cs name) ns) put next p.1 in
-    let more = with_new_indexes_more (collection_of cs name) s.0 ns s.1 in
-    let kept = stored_at cs name h.kept in
-    let bounds = number_bounds cs name h.kept (room cs name p.0) in
-    let one : IsKept s.0 = record {
-      lawful = record { rising = subst IsRising (sym more.documents) kept.0; stored = subst (All IsStored) (sym more.documents) kept.1 };
-      short = subst (λ (n : List ℕ). length n ≤ 255) (sym more.named) short;
-      least = subst (λ (n : ℕ). 1 ≤ n) (sym more.numbered) bounds.least;
-      most = subst (λ (n : ℕ). n ≤ 1000) (sym more.numbered) bounds.most;
-      indexes = with_new_indexes_short (collection_of cs name) s.0 ns limits (short_at cs name h.kept) s.1;
-    } in
-    let now : put_collection s.0 cs ≡ next = cc in
-    subst IsLawfulState now (
-    put_kept s.0 cs h one (subst (λ (n : List ℕ). is_full cs n ≡ false) (sym more.named) p.0)
-    (more.numbered ∙ ap (λ (n : List ℕ). number_or (unused cs) (find_collection cs n)) (sym more.named))
-    )
-
 pub good_create_indexes : (w : World) (name : List ℕ) (ns : List NewIndex) → IsLawful w → length name ≤ 255 → All IsShortNewIndex ns → Good (run_create_indexes w (record { namespace = name; indexes = ns }))
 unfolding run_create_indexes
 good_create_indexes w name ns h short limits = λ x e.
@@ -359,6 +288,15 @@ good_create_indexes w name ns h short limits = λ x e.
       record { collections = indexed_lawful w.collections name ns s.0 h.collections short limits s.1; cursors = h.cursors },
       create_indexes-sendable (index_count w.collections name) (index_count s.0 name) is_new,
     )
+
+pub good_drop_indexes : (w : World) (name : List ℕ) (away : DroppedIndexes) → IsLawful w → length name ≤ 255 → Good (run_drop_indexes w (record { namespace = name; indexes = away }))
+unfolding run_drop_indexes
+good_drop_indexes w name away h short = λ x e.
+    let reply = drop_indexes_reply (index_count w.collections name) in
+    let s = step_of (index_dropped w.collections name away) (λ cs. let r : Result (World × Pairs) Refusal = Ok (record w { collections = cs }, reply) in r) x e in
+    let same : (record w { collections = s.0 }, reply) ≡ x = cc in
+    subst (λ (y : World × Pairs). IsLawful y.0 × IsSendable (ok_reply y.1)) same
+    (record { collections = index_dropped_lawful w.collections name away s.0 h.collections short s.1; cursors = h.cursors }, drop_indexes-sendable (index_count w.collections name))
 
 good_list_collections : (w : World) (c : ListCollections) → IsLawful w → length c.database ≤ 63 → Good (run_list_collections w c)
 unfolding run_list_collections
@@ -441,7 +379,7 @@ good_run w connection (create_of c) h b = good_create w c.namespace h b
 good_run w connection (drop_of c) h b = good_drop w c.namespace h b
 good_run w connection (list_collections c) h b = good_list_collections w c h b
 good_run w connection (create_indexes c) h b = good_create_indexes w c.namespace c.indexes h b.0 b.2
-good_run w connection (drop_indexes c) h b = λ x e. absurd cc
+good_run w connection (drop_indexes c) h b = good_drop_indexes w c.namespace c.indexes h b
 good_run w connection (list_indexes c) h b = good_list_indexes w c.namespace h b
 
 -- the world after a step, and its reply

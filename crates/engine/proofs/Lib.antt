@@ -8,6 +8,7 @@ pub mod CursorSpelling
 pub mod Running
 pub mod Piping
 pub mod KeptLemmas
+pub mod LawfulCollections
 pub mod LawfulSteps
 pub mod SpelledSizes
 pub mod Replying
@@ -90,3 +91,6 @@ pub mod IndexingLemmas
 pub mod IndexingSteps
 pub mod CreatingIndexes
 pub mod Dumping
+pub mod DroppedIndexLemmas
+pub mod UnindexingLemmas
+pub mod DroppingIndexes

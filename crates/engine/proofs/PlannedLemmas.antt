@@ -9,7 +9,9 @@ use Rattle.path.specs.declared.refusal.Refusal.TheVariants as refusals
 use Rattle.index.specs.State.{Collection, find_collection, put_collection}
 use Rattle.commands.specs.NewIndex.{IsShortNewIndex, NewIndex}
 use Rattle.engine.specs.Create.{created, run_create}
+use Rattle.commands.specs.DropIndexes.{DroppedIndexes}
 use Rattle.engine.specs.CreateIndexes.{indexed}
+use Rattle.engine.specs.DropIndexes.{index_dropped}
 use Rattle.engine.specs.Insert.{inserted, run_insert}
 use Rattle.engine.specs.Lawful.{IsLawful, IsLawfulState}
 use Rattle.engine.specs.Refusals.{int}
@@ -17,7 +19,8 @@ use Rattle.engine.specs.Numbering.{IsTooMany}
 use Rattle.engine.specs.World.{World, with_documents}
 use Rattle.engine.specs.Writing.{planned_or}
 use Rattle.engine.proofs.Creating.{run_create-is}
-use Rattle.engine.proofs.LawfulSteps.{good_create, good_insert, indexed_lawful}
+use Rattle.engine.proofs.LawfulCollections.{index_dropped_lawful, indexed_lawful}
+use Rattle.engine.proofs.LawfulSteps.{good_create, good_insert}
 use Rattle.engine.proofs.MakingLemmas.{with_reply}
 use Rattle.engine.proofs.Running.{run_insert-done, run_insert-refused}
 
@@ -44,6 +47,9 @@ created_lawful cs name h short = planned_lawful cs (created cs name) h (λ next 
 
 pub indexed_planned : (cs : List Collection) (name : List ℕ) (ns : List NewIndex) → IsLawfulState cs → length name ≤ 255 → All IsShortNewIndex ns → IsLawfulState (planned_or cs (indexed cs name ns))
 indexed_planned cs name ns h short limits = planned_lawful cs (indexed cs name ns) h (λ next is. indexed_lawful cs name ns next h short limits is)
+
+pub index_dropped_planned : (cs : List Collection) (name : List ℕ) (away : DroppedIndexes) → IsLawfulState cs → length name ≤ 255 → IsLawfulState (planned_or cs (index_dropped cs name away))
+index_dropped_planned cs name away h short = planned_lawful cs (index_dropped cs name away) h (λ next is. index_dropped_lawful cs name away next h short is)
 
 -- ---- replies
 

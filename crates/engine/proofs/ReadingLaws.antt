@@ -102,7 +102,7 @@ module _ (w : World) (connection : ℕ) where
   ran (Ok (drop_of c)) h = absurd h
   ran (Ok (list_collections c)) h = listed_so c
   ran (Ok (create_indexes c)) h = absurd h
-  ran (Ok (drop_indexes c)) h = refl
+  ran (Ok (drop_indexes c)) h = absurd h
   ran (Ok (list_indexes c)) h = indexes_listed c
   ran (Ok (count c)) h = counted c
   ran (Ok (find c)) h = found c

@@ -1,11 +1,16 @@
 -- Indexes within their limits: those of lawful definitions, of the collection of a name, and where a document is stored.
-use Rattle.std.proofs.Common.{◌≡◌, ℕ, ◌≤◌, Bool, true, false, nat_lt, List, [], ◌∷◌, length, map, Option, Some, None, Ok, refl, arith}
-use Rattle.std.specs.Prelude.{All, if◌then◌else◌}
+use Rattle.std.proofs.Common.{◌≡◌, ℕ, suc, ◌≤◌, Bool, true, false, nat_lt, List, [], ◌∷◌, length, map, Option, Some, None, Ok, refl, subst, arith}
+use Rattle.std.specs.Prelude.{All, codes, if◌then◌else◌, not}
+use Rattle.std.specs.Str.{bytes_eq}
 use Rattle.std.specs.List.{AllByRecursion, list_any}
 use Rattle.std.proofs.lemmas.Bool.Decides.{nat_tests}
 use Rattle.std.proofs.lemmas.List.{length-map}
 use Rattle.bson.specs.Tree.{Pairs}
-use Rattle.outcome.specs.Outcome.{fault_or}
+use Rattle.commands.specs.DropIndexes.{DroppedIndexes, all, named}
+use Rattle.commands.specs.OutcomeLaws.{passed}
+use Rattle.outcome.specs.Outcome.{fault_or, unless}
+use Rattle.path.specs.declared.refusal.Refusal.{Refusal}
+use Rattle.path.specs.declared.refusal.Refusal.TheVariants as refusals
 use Rattle.path.specs.Parts.{is_empty, begins_with_dollar, path_fault, parts_of}
 use Rattle.path.specs.declared.fault.PathFault.{PathFault}
 use Rattle.path.specs.declared.fault.PathFault.TheVariants as faults
@@ -13,6 +18,7 @@ use Rattle.index.specs.Definition.{Field, Definition, IsPath, IsDefinition}
 use Rattle.index.specs.IndexKeys.{is_multikey}
 use Rattle.index.specs.KeptLaws.{noted}
 use Rattle.index.specs.State.{Collection, find_collection}
+use Rattle.engine.specs.DropIndexes.{is_dropped, left_by, remaining}
 use Rattle.engine.specs.Lawful.{AreShortIndexes, IsKept, IsShortIndex}
 use Rattle.engine.specs.World.{indexes_or_none}
 use Rattle.engine.proofs.Numbers.{found_kept}
@@ -72,3 +78,30 @@ short_at cs name h = at (find_collection cs name) refl
     at : (o : Option Collection) → find_collection cs name ≡ o → AreShortIndexes (indexes_or_none o)
     at None e = record { each = tt; few = omega arith }
     at (Some c) e = (found_kept cs name c h e).indexes
+
+-- ---- where some are dropped
+
+module _ (away : DroppedIndexes) where
+  remaining_each : (is : List Definition) → AllByRecursion IsShortIndex is → AllByRecursion IsShortIndex (remaining away is)
+  remaining_each [] h = tt
+  remaining_each (i ∷ is) h = at (not (is_dropped away i)) (remaining_each is h.1)
+    where
+      at : (b : Bool) → AllByRecursion IsShortIndex (remaining away is) → AllByRecursion IsShortIndex (if b then i ∷ remaining away is else remaining away is)
+      at true later = (h.0, later)
+      at false later = later
+
+  remaining_few : (is : List Definition) → length (remaining away is) ≤ length is
+  remaining_few [] = omega arith
+  remaining_few (i ∷ is) = at (not (is_dropped away i)) (remaining_few is)
+    where
+      at : (b : Bool) → length (remaining away is) ≤ length is → length (if b then i ∷ remaining away is else remaining away is) ≤ suc (length is)
+      at true later = omega (arith, later)
+      at false later = omega (arith, later)
+
+pub left_short : (away : DroppedIndexes) (is left : List Definition) → left_by away is ≡ Ok left → AreShortIndexes is → AreShortIndexes left
+left_short all is left e h = let none : [] ≡ left = cc in subst AreShortIndexes none (record { each = tt; few = omega arith })
+left_short (named name) is left e h =
+    let p = passed (bytes_eq name (codes "_id_")) refusals.BadValue (unless (not (list_any (is_dropped (named name)) is)) refusals.IndexNotFound (Ok (remaining (named name) is))) left e in
+    let q = passed (not (list_any (is_dropped (named name)) is)) refusals.IndexNotFound (Ok (remaining (named name) is)) left p.1 in
+    let same : remaining (named name) is ≡ left = cc in
+    subst AreShortIndexes same (record { each = remaining_each (named name) is h.each; few = omega (arith, remaining_few (named name) is, h.few) })

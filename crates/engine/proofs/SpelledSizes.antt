@@ -14,6 +14,7 @@ use Rattle.engine.specs.Refusals.{int, long, words, refusal_reply, ok_reply}
 use Rattle.engine.specs.Cursors.{item_size, batch_len, items_of_documents, cursor_reply}
 use Rattle.engine.specs.KillCursors.{ToldApart, with_id, told_apart, id_items, kill_reply}
 use Rattle.engine.specs.CreateIndexes.{create_indexes_reply}
+use Rattle.engine.specs.DropIndexes.{drop_indexes_reply}
 use Rattle.engine.specs.DropCollection.{drop_reply}
 use Rattle.engine.specs.Hello.{hello_reply}
 use Rattle.engine.specs.Lawful.{IsWithin}
@@ -58,6 +59,10 @@ insert-sendable n = lit≤ tt
 pub create_indexes-sendable : (before after : ℕ) (is_new : Bool) → IsSendable (ok_reply (create_indexes_reply before after is_new))
 unfolding tree_bytes pairs_bytes
 create_indexes-sendable before after is_new = lit≤ tt
+
+pub drop_indexes-sendable : (count : ℕ) → IsSendable (ok_reply (drop_indexes_reply count))
+unfolding tree_bytes pairs_bytes
+drop_indexes-sendable count = lit≤ tt
 
 pub drop-sendable : (count : ℕ) (name : List ℕ) → length name ≤ 255 → IsSendable (ok_reply (drop_reply count name))
 drop-sendable count name short =

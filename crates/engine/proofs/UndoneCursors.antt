@@ -23,6 +23,8 @@ use Rattle.engine.specs.ListIndexes.{indexes_reply, run_list_indexes}
 use Rattle.engine.specs.Create.{created, run_create}
 use Rattle.commands.specs.CreateIndexes.{CreateIndexes}
 use Rattle.engine.specs.CreateIndexes.{create_indexes_reply, indexed, run_create_indexes}
+use Rattle.commands.specs.DropIndexes.{DropIndexes}
+use Rattle.engine.specs.DropIndexes.{drop_indexes_reply, index_dropped, run_drop_indexes}
 use Rattle.engine.specs.DropCollection.{drop_reply, dropped, index_count, run_drop}
 use Rattle.engine.specs.ListCollections.{run_list_collections}
 use Rattle.commands.specs.Command.{Command, ping, hello, insert, find, get_more, kill_cursors, count, delete, update, aggregate, create, drop as drop_of, list_collections, create_indexes, drop_indexes, list_indexes, command_of}
@@ -187,6 +189,15 @@ module _ (w : World) (connection : ℕ) where
       at (Err e) d rests h = h
       at (Ok cs) d rests h = h
 
+  unindexed_so : (c : DropIndexes) → Comes (run_drop_indexes w c)
+  unfolding run_drop_indexes
+  unindexed_so c = at (index_dropped w.collections c.namespace c.indexes)
+    where
+      at : (r : Result (List Collection) Refusal)
+          → Comes (r >>= (λ cs. let x : Result (World × Pairs) Refusal = Ok (record w { collections = cs }, drop_indexes_reply (index_count w.collections c.namespace)) in x))
+      at (Err e) d rests h = h
+      at (Ok cs) d rests h = h
+
   dropped_so : (c : DropCollection) → Comes (run_drop w c)
   unfolding run_drop
   dropped_so c = at (dropped w.collections c.namespace)
@@ -224,7 +235,7 @@ module _ (w : World) (connection : ℕ) where
   ran (Ok (drop_of c)) d rests h = dropped_so c d rests h
   ran (Ok (list_collections c)) d rests h = listed_so c d rests h
   ran (Ok (create_indexes c)) d rests h = indexed_so c d rests h
-  ran (Ok (drop_indexes c)) d rests h = h
+  ran (Ok (drop_indexes c)) d rests h = unindexed_so c d rests h
   ran (Ok (list_indexes c)) d rests h = indexes_listed c d rests h
 
   came : (body : Result Pairs BsonFault) (c : Cursor) → c.touched ≡ false → IsAmong c (step w connection body).0.cursors → IsAmong c w.cursors

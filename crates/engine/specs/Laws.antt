@@ -39,13 +39,13 @@ OnlyReads (Ok (kill_cursors c)) = Unit {0}
 OnlyReads (Ok (count c)) = Unit {0}
 OnlyReads (Ok (aggregate c)) = Unit {0}
 OnlyReads (Ok (list_collections c)) = Unit {0}
-OnlyReads (Ok (drop_indexes c)) = Unit {0}
 OnlyReads (Ok (list_indexes c)) = Unit {0}
 OnlyReads (Ok (insert c)) = ⊥
 OnlyReads (Ok (delete c)) = ⊥
 OnlyReads (Ok (update c)) = ⊥
 OnlyReads (Ok (create c)) = ⊥
 OnlyReads (Ok (create_indexes c)) = ⊥
+OnlyReads (Ok (drop_indexes c)) = ⊥
 OnlyReads (Ok (drop c)) = ⊥
 OnlyReads (Err e) = Unit {0}
 

@@ -17,6 +17,7 @@ pub mod DropCollection
 pub mod ListCollections
 pub mod CreateIndexes
 pub mod ListIndexes
+pub mod DropIndexes
 pub mod Step
 pub mod Lawful
 pub mod Places
@@ -48,6 +49,7 @@ pub mod Numbering
 pub mod Storing
 pub mod Dropping
 pub mod Indexing
+pub mod Unindexing
 pub mod FileOpening
 pub mod CheckFaults
 pub mod Dump

@@ -19,12 +19,13 @@ use Rattle.engine.specs.Aggregate.{run_aggregate}
 use Rattle.engine.specs.Create.{run_create}
 use Rattle.engine.specs.CreateIndexes.{run_create_indexes}
 use Rattle.engine.specs.DropCollection.{run_drop}
+use Rattle.engine.specs.DropIndexes.{run_drop_indexes}
 use Rattle.engine.specs.ListCollections.{run_list_collections}
 use Rattle.engine.specs.ListIndexes.{run_list_indexes}
 use Rattle.engine.specs.Update.{Updated, not_updated, run_statements}
 use Rattle.engine.specs.UpdateCommand.{run_update}
 
--- the table of what commands do; `dropIndexes` is read, and not run yet
+-- the table of what commands do
 abbrev pub run : World → ℕ → Command → Result (World × Pairs) Refusal
 run world connection ping = Ok (world, no_pairs)
 run world connection hello = run_hello world connection
@@ -40,7 +41,7 @@ run world connection (create c) = run_create world c
 run world connection (drop c) = run_drop world c
 run world connection (list_collections c) = run_list_collections world c
 run world connection (create_indexes c) = run_create_indexes world c
-run world connection (drop_indexes c) = Err refusals.CommandNotFound
+run world connection (drop_indexes c) = run_drop_indexes world c
 run world connection (list_indexes c) = run_list_indexes world c
 
 -- a refusal leaves the world as it was

@@ -122,7 +122,9 @@ impl<D: Disk> Engine<D> {
             Command::CreateIndexes(c) => {
                 built(self.create_indexes(c.namespace.as_str(), &c.indexes))
             }
-            Command::DropIndexes(_) => Err(Refusal::CommandNotFound),
+            Command::DropIndexes(c) => {
+                built(self.drop_indexes(c.namespace.as_str(), &c.indexes))
+            }
             Command::ListIndexes(c) => spelled(self.list_indexes(c.namespace.as_str())),
         }
     }

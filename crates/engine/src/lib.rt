@@ -14,6 +14,7 @@ mod cursors;
 mod delete;
 mod documents;
 mod drop_collection;
+mod drop_indexes;
 mod dump;
 mod engine;
 mod entering;
@@ -37,6 +38,7 @@ mod reply;
 mod shared_document;
 mod statements;
 mod told;
+mod unindexing;
 mod updates;
 mod writing;
 

@@ -9,6 +9,7 @@ ghost use Rattle.bson.specs.Spelling.{frame_of, pairs_bytes};
 ghost use Rattle.bson.specs.Lawful.{levels, pairs_levels};
 ghost use Rattle.engine.specs.View.{outcome_of};
 ghost use Rattle.engine.specs.CreateIndexes.{create_indexes_reply};
+ghost use Rattle.engine.specs.DropIndexes.{drop_indexes_reply};
 ghost use Rattle.engine.specs.DropCollection.{drop_reply};
 ghost use Rattle.engine.specs.ListCollections.{listed};
 ghost use Rattle.engine.specs.ListIndexes.{described};
@@ -143,6 +144,16 @@ pub(crate) fn create_indexes_reply(
         "createdCollectionAutomatically",
         Value::Bool(is_new),
     )?;
+    done(reply)
+}
+
+/// The reply of a `dropIndexes` in a collection with so many indexes, that of `_id` among them.
+pub(crate) fn drop_indexes_reply(alloc: Global, count: usize) -> Result<Document, NoMemory>
+    requires { count ≤ 1000 }
+    ensures { IfOk result (λ d. d ≡ ok_reply (drop_indexes_reply count)) }
+{
+    let mut reply = Document::new(alloc);
+    put(&mut reply, "nIndexesWas", Value::Int32(count as i32))?;
     done(reply)
 }
 

@@ -1,11 +1,11 @@
--- An index is made of a collection's documents, one after the other.
-use Rattle.std.proofs.Common.{◌≡◌, ◌≢◌, inl, inr, ◌<◌, ◌≤◌, ℕ, suc, Bool, true, false, ◌&&◌, ◌||◌, List, [], ◌∷◌, ◌++◌, length, map, Option, Some, None, Result, Ok, Err, refl, sym, ap, subst, ◌∙◌, arith, append_assoc}
+-- An index is made of a collection's documents, one after the other, and one is dropped.
+use Rattle.std.proofs.Common.{◌≡◌, ◌≢◌, inl, inr, ◌+◌, ◌<◌, ◌≤◌, ℕ, suc, Bool, true, false, ◌&&◌, ◌||◌, List, [], ◌∷◌, ◌++◌, length, get_or, take, drop, map, Option, Some, None, Result, Ok, Err, refl, sym, ap, subst, ◌∙◌, arith, append_assoc}
 use Rattle.std.specs.Prelude.{All, if◌then◌else◌, is_some}
-use Rattle.std.specs.List.{AllPairs, list_any}
+use Rattle.std.specs.List.{AllPairs, list_any, remove}
 use Rattle.std.specs.Ordering.{is_eq}
 use Rattle.std.specs.declared.cmp.Ordering.{Ordering}
 use Rattle.std.specs.declared.cmp.Ordering.TheVariants as orders
-use Rattle.std.proofs.lemmas.List.{map-append}
+use Rattle.std.proofs.lemmas.List.{map-append, take-append-drop}
 use Rattle.std.proofs.lemmas.List.Elements.{All-head}
 use Rattle.bson.specs.Tree.{Pairs}
 use Rattle.value_order.specs.KeyText.{tree_text}
@@ -19,9 +19,9 @@ use Rattle.index.specs.Changes.{is_among}
 use Rattle.index.specs.Definition.{Definition}
 use Rattle.index.specs.Documents.{put_document}
 use Rattle.index.specs.Entering.{AreIndexed, DocumentWrite, clashes, enter_each, entered, is_duplicate, is_other, with_document}
-use Rattle.index.specs.IndexBuilding.{HasPutEntries}
+use Rattle.index.specs.IndexBuilding.{HasPutEntries, HasRemovedEntries}
 use Rattle.index.specs.IndexKeys.{has_parallel_arrays, is_multikey}
-use Rattle.index.specs.IndexMaking.{Begins, HasEntries, MakesIndexOf, RefusesNext, TakesNext, alone, as_new, with_index}
+use Rattle.index.specs.IndexMaking.{Begins, DropsIndexAt, HasEntries, MakesIndexOf, RefusesNext, TakesNext, alone, as_new, with_index, without_index_at}
 use Rattle.index.specs.Indexed.{GoesOnBy, catalogue_put}
 use Rattle.index.specs.KeptLaws.{noted}
 use Rattle.index.specs.KeyTexts.{encoded_keys, is_too_long, keys_in, keys_in_all}
@@ -32,19 +32,20 @@ use Rattle.index.specs.StateEntries.{index_entries, key_under, puts}
 use Rattle.index.specs.StateLaws.{MayBecome}
 use Rattle.index.specs.StateReads.{find_document}
 use Rattle.index.specs.declared.making.NewEntries.{NewEntries}
-use Rattle.index.proofs.BuildingLaws.{makes_index_of_all, puts_one_more}
+use Rattle.index.proofs.BuildingLaws.{drops_index_of_all, makes_index_of_all, puts_one_more}
 use Rattle.index.proofs.DocumentPlaces.{turned}
 use Rattle.index.proofs.EditLemmas.{rises_change}
 use Rattle.index.proofs.EnteringLemmas.{stay_indexed}
 use Rattle.index.proofs.HomeLemmas.{kept_of}
 use Rattle.index.proofs.IndexedLaws.{known_one}
-use Rattle.index.proofs.KeptSteps.{kept_with_index, noted_number}
+use Rattle.index.proofs.KeptSteps.{kept_with_index, kept_without_index, noted_number}
 use Rattle.index.proofs.LawfulLaws.{all_of, pairs_of, stays_lawful}
 use Rattle.index.proofs.MemberLemmas.{Among, among_back, among_front, first_of, of_all}
 use Rattle.index.proofs.OtherEditLaws.{after_edits}
 use Rattle.index.proofs.OtherKeyLaws.{tells_put}
 use Rattle.index.proofs.PlaceLemmas.{found_in, found_name}
 use Rattle.index.proofs.SharedKeyLemmas.{is_there, swapped}
+use Rattle.index.proofs.TextLemmas.{drop_step}
 
 pub none_left : {X : Type 0} (xs : List X) → length xs ≤ 0 → xs ≡ []
 none_left [] le = refl
@@ -317,3 +318,40 @@ makes_index_of old mid new name number indexes n few goes catalogue a b c i lead
 
     may : MayBecome c next b
     may = record { lawful = lawful; found = subst (λ (m : List ℕ). find_collection b m ≡ Some c) named found; named = refl; numbered = refl; kept = kept }
+
+-- ---- the collection without one
+
+-- what stands around a place
+pub cut_at : {X : Type 0} (xs : List X) (i : ℕ) (x : X) → i < length xs → x ≡ get_or xs i x → xs ≡ take i xs ++ x ∷ drop (suc i) xs
+cut_at xs i x within is =
+    let next : i + 1 ≡ suc i = omega arith in
+    sym (take-append-drop i xs) ∙ ap (λ (ys : List _). take i xs ++ ys) (drop_step xs i x within is ∙ ap (λ (n : ℕ). x ∷ drop n xs) next)
+
+pub drops_index_at : (old new : List Edit) (name : List ℕ) (number : ℕ) (indexes : List Definition) (at : ℕ) → at < length indexes
+    → GoesOnBy old (catalogue_put name number (remove indexes at) ∷ []) new → DropsIndexAt old new name number indexes at
+drops_index_at old new name number indexes at within catalogue first a b c i lead lawful found numbered indexed here removed =
+    (drops_index_of_all first old new a b c (take at c.indexes) (drop (suc at) c.indexes) i lead cut entries put may, stays_lawful b c next may)
+  where
+    named : name ≡ c.name
+    named = found_name b name c found
+
+    next : Collection
+    next = without_index_at c at
+
+    cut : c.indexes ≡ take at c.indexes ++ i ∷ drop (suc at) c.indexes
+    cut = cut_at c.indexes at i (omega (arith, within, ap length indexed)) (here ∙ ap (λ (js : List Definition). get_or js at i) (sym indexed))
+
+    entries : HasRemovedEntries first old c.number i c.documents
+    entries = subst (λ (m : ℕ). HasRemovedEntries first old m i c.documents) (sym numbered) removed
+
+    put : GoesOnBy old (catalogue_put c.name c.number (take at c.indexes ++ drop (suc at) c.indexes) ∷ []) new
+    put xs h = catalogue xs h ∙ (λ t. change (catalogue_put (named t) (sym numbered t) (remove (sym indexed t) at) ∷ []) (change old xs))
+
+    may : MayBecome c next b
+    may = record {
+      lawful = lawful;
+      found = subst (λ (m : List ℕ). find_collection b m ≡ Some c) named found;
+      named = refl;
+      numbered = refl;
+      kept = kept_without_index c (take at c.indexes) (drop (suc at) c.indexes) i (kept_of b c lawful (found_in b name c found)) cut;
+    }

@@ -1,12 +1,14 @@
--- An index that is made of the documents which its collection has already (MongoDB manual, "createIndexes").
-use Rattle.std.specs.Prelude.{◌≡◌, ◌≢◌, true, ℕ, List, [], ◌∷◌, ◌++◌, map, Result, Ok, Err, Some, All}
+-- An index that is made of the documents which its collection has already, and one that is dropped (MongoDB manual, "createIndexes" and
+-- "dropIndexes").
+use Rattle.std.specs.Prelude.{◌≡◌, ◌≢◌, true, ℕ, List, [], ◌∷◌, ◌++◌, get_or, map, Result, Ok, Err, Some, All}
+use Rattle.std.specs.List.{remove}
 use Rattle.bson.specs.Tree.{Pairs}
 use Rattle.btree.specs.Keys.{Edit}
 use Rattle.outcome.specs.Outcome.{◌>>=◌}
 use Rattle.path.specs.declared.refusal.Refusal.{Refusal}
 use Rattle.index.specs.Definition.{Definition, IsDefinition}
 use Rattle.index.specs.Entering.{AreIndexed, DocumentWrite, enter_each}
-use Rattle.index.specs.IndexBuilding.{HasPutEntries}
+use Rattle.index.specs.IndexBuilding.{HasPutEntries, HasRemovedEntries}
 use Rattle.index.specs.LawfulState.{IsKept, IsLawfulState}
 use Rattle.index.specs.State.{Collection, find_collection, put_collection}
 use Rattle.index.specs.StateEntries.{Leads}
@@ -68,3 +70,18 @@ MakesIndexOf old new name number indexes n =
     → HasEntries c i c.documents n
     → let next = record c { indexes = c.indexes ++ n.index ∷ [] } in
     (with_index c i ≡ Ok next) × Leads new a (put_collection next b) × IsLawfulState (put_collection next b)
+
+-- ---- the collection without one
+
+-- the collection without its index at a place
+abbrev pub without_index_at : Collection → ℕ → Collection
+without_index_at c at = record c { indexes = remove c.indexes at }
+
+-- Wherever some edits lead to a lawful state with a collection of this name, this number and these indexes, and the old ones have removals of all
+-- its documents' entries in the index at a place behind them, the new ones lead to the state in which it is without that index.
+abbrev pub DropsIndexAt : List Edit → List Edit → List ℕ → ℕ → List Definition → ℕ → Type 0
+DropsIndexAt old new name number indexes at =
+    (first : List Edit) (a b : List Collection) (c : Collection) (i : Definition) → Leads first a b → IsLawfulState b → find_collection b name ≡ Some c
+    → c.number ≡ number → c.indexes ≡ indexes → i ≡ get_or indexes at i
+    → HasRemovedEntries first old number i c.documents
+    → let next = without_index_at c at in Leads new a (put_collection next b) × IsLawfulState (put_collection next b)

@@ -1,9 +1,10 @@
 //! An index that is made of the documents which its collection has already.
 
 ghost use Rattle.std.specs.Prelude.{◌≡◌, ◌≢◌, ◌<◌, ◌≤◌, ◌&&◌, ◌++◌, [], ◌∷◌, IfErr, IfOk, OnOk, length};
+ghost use Rattle.std.specs.List.{remove};
 ghost use Rattle.value_order.specs.KeyText.{tree_text};
 ghost use Rattle.index.specs.Definition.{IsDefinition};
-ghost use Rattle.index.specs.IndexMaking.{Begins, MakesIndexOf, RefusesNext, TakesNext};
+ghost use Rattle.index.specs.IndexMaking.{Begins, DropsIndexAt, MakesIndexOf, RefusesNext, TakesNext};
 ghost use Rattle.index.specs.Indexed.{GoesOnBy};
 ghost use Rattle.index.specs.OtherKeys.{puts_any};
 ghost use Rattle.index.specs.State.{key_of};
@@ -106,6 +107,27 @@ impl Edits {
     {
         self.note_each(made.entries)?;
         home.indexes.push(made.index)?;
+        self.put_indexes(namespace, home.number, &home.indexes)
+    }
+
+    /// Drops the index at a place among a collection's, where the entries of all its documents were removed from it: the catalogue
+    /// has the others.
+    pub fn drop_index(
+        &mut self,
+        namespace: &str,
+        home: &mut Catalogued,
+        at: usize,
+    ) -> Result<(), NoMemory>
+        requires name { length namespace.now ≤ 255 }
+        requires number { home.old.number ≤ 1000 }
+        requires few { length home.old.indexes.items ≤ 16 }
+        requires within { at < length home.old.indexes.items }
+        ensures number { home.new.number ≡ home.old.number }
+        ensures indexes { home.new.indexes.items ≡ remove home.old.indexes.items at }
+        ensures drops { OnOk result (DropsIndexAt self.old self.new namespace.now home.old.number
+            home.old.indexes.items at) }
+    {
+        let _index = home.indexes.remove(at);
         self.put_indexes(namespace, home.number, &home.indexes)
     }
 }

@@ -1,0 +1,132 @@
+//! `dropIndexes`: indexes of a collection are taken away.
+
+ghost use Rattle.std.specs.Prelude.{◌≡◌, ◌≤◌, Err, IfErr, IfOk, Ok, OnOk, length};
+ghost use Rattle.std.specs.List.{list_any, position};
+ghost use Rattle.commands.specs.DropIndexes.{named};
+ghost use Rattle.commands.specs.View.{dropped_of};
+ghost use Rattle.page.specs.History.{KeepsWord};
+ghost use Rattle.engine.specs.DropIndexes.{index_dropped, is_dropped, left_by, remaining, run_drop_indexes};
+ghost use Rattle.engine.specs.Durable.{disk_history, has_changes, IsSound};
+ghost use Rattle.engine.specs.Performing.{Performs};
+ghost use Rattle.engine.specs.TakingOut.{HasHome};
+ghost use Rattle.engine.specs.View.{world, IsSendable};
+ghost use Rattle.engine.specs.Writing.{Makes};
+ghost use Rattle.collections.specs.Reading.{IsWithinLimits};
+
+use crate::engine::Engine;
+use crate::new_indexes::ID_INDEX;
+use crate::reply::drop_indexes_reply;
+use bson::Document;
+use commands::DroppedIndexes;
+use index::{Catalogued, Edits, IndexSpec};
+use page::Disk;
+use path::Refusal;
+
+/// Whether an index is one of those that are dropped.
+fn is_dropped(index: &IndexSpec, dropped: &DroppedIndexes<'_>) -> bool
+    ensures { result ≡ is_dropped (dropped_of dropped.now) index.now }
+{
+    match dropped {
+        DroppedIndexes::Named(name) => index.name() == *name,
+        DroppedIndexes::All => true,
+    }
+}
+
+/// Where the first of these indexes stands that is dropped.
+pub(crate) fn first_dropped(indexes: &[IndexSpec], dropped: &DroppedIndexes<'_>) -> Option<usize>
+    ensures { result ≡ position (is_dropped (dropped_of dropped.now)) indexes.now }
+{
+    indexes.iter().position(|index| is_dropped(index, dropped))
+}
+
+/// Whether one of these indexes has a name.
+fn has_name(indexes: &[IndexSpec], name: &str) -> bool
+    ensures { result ≡ list_any (is_dropped (named name.now)) indexes.now }
+{
+    indexes.iter().any(|index| index.name() == name)
+}
+
+/// Whether the index of a name may be dropped: not that on `_id`, and one that is there.
+fn check_name(indexes: &[IndexSpec], name: &str) -> Result<(), Refusal>
+    ensures may { OnOk result (left_by (named name.now) indexes.now
+        ≡ Ok (remaining (named name.now) indexes.now)) }
+    ensures refused { IfErr result (λ e. left_by (named name.now) indexes.now ≡ Err e) }
+{
+    if name == ID_INDEX {
+        return Err(Refusal::BadValue);
+    }
+    if !has_name(indexes, name) {
+        return Err(Refusal::IndexNotFound);
+    }
+    Ok(())
+}
+
+/// Whether indexes may be dropped, all or the one of a name.
+fn check_dropped(indexes: &[IndexSpec], dropped: &DroppedIndexes<'_>) -> Result<(), Refusal>
+    ensures may { OnOk result (left_by (dropped_of dropped.now) indexes.now
+        ≡ Ok (remaining (dropped_of dropped.now) indexes.now)) }
+    ensures refused { IfErr result (λ e. left_by (dropped_of dropped.now) indexes.now ≡ Err e) }
+{
+    match dropped {
+        DroppedIndexes::Named(name) => check_name(indexes, name),
+        DroppedIndexes::All => Ok(()),
+    }
+}
+
+impl<D: Disk> Engine<D> {
+    /// Takes an index of a collection away, or all but that on `_id`. Where there is none of them nothing is written.
+    pub(crate) fn drop_indexes(
+        &mut self,
+        namespace: &str,
+        dropped: &DroppedIndexes<'_>,
+    ) -> Result<Document, Refusal>
+        requires short { length namespace.now ≤ 255 }
+        requires sound { IsSound D.history self.old }
+        ensures performs { Performs D.history
+            (run_drop_indexes (world self.old)
+            (record { namespace = namespace.now; indexes = dropped_of dropped.now }))
+            result self.old self.new }
+        ensures has_changes { KeepsWord (disk_history D.history self.new)
+            → (world self.new).collections ≡ (world self.old).collections
+            → has_changes self.new ≡ has_changes self.old }
+        ensures sendable { IfOk result (λ d. IsSendable d) }
+    {
+        let Some(home) = self.catalogued(namespace)? else {
+            return Err(Refusal::NamespaceNotFound);
+        };
+        check_dropped(&home.indexes, dropped)?;
+        let reply = drop_indexes_reply(self.alloc, 1 + home.indexes.len())?;
+        self.remove_indexes(namespace, home, dropped)?;
+        Ok(reply)
+    }
+
+    /// Takes them out of the file, where there are some.
+    fn remove_indexes(
+        &mut self,
+        namespace: &str,
+        home: Catalogued,
+        dropped: &DroppedIndexes<'_>,
+    ) -> Result<(), Refusal>
+        requires short { length namespace.now ≤ 255 }
+        requires sound { IsSound D.history self.old }
+        requires limits { IsWithinLimits home }
+        requires may { left_by (dropped_of dropped.now) home.indexes.items
+            ≡ Ok (remaining (dropped_of dropped.now) home.indexes.items) }
+        requires home { KeepsWord (disk_history D.history self.old)
+            → HasHome (world self.old).collections namespace.now home }
+        ensures makes { Makes D.history
+            (index_dropped (world self.old).collections namespace.now (dropped_of dropped.now))
+            result self.old self.new }
+        ensures has_changes { length home.indexes.items
+            ≤ length (remaining (dropped_of dropped.now) home.indexes.items)
+            → has_changes self.new ≡ has_changes self.old }
+    {
+        if first_dropped(&home.indexes, dropped).is_none() {
+            return Ok(());
+        }
+        let mut edits = Edits::new(self.alloc);
+        let mut home = home;
+        self.note_dropped(&mut edits, namespace, &mut home, dropped)?;
+        self.write(&edits, &(namespace, dropped))
+    }
+}
