@@ -233,7 +233,7 @@ module _ (cs : List Collection) (name : List ℕ) (ns : List NewIndex) (p : Plan
   counted = (
     ap (λ (n : ℕ). 1 + n) a.before,
     ap (λ (n : ℕ). 1 + n) a.after ∙ ap (λ (o : Option Collection). 1 + length (indexes_or_none o)) (sym next_found)
-    ∙ ap (λ (r : Result (List Collection) Refusal). index_count (planned_or cs r) name) (sym (planned_next cs name ns p a)),
+        ∙ ap (λ (r : Result (List Collection) Refusal). index_count (planned_or cs r) name) (sym (planned_next cs name ns p a)),
   )
 
 module _ {D : Type 0} (history : D → History) (name : List ℕ) (ns : List NewIndex) (old mid : Engine D) where

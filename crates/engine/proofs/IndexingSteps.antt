@@ -79,7 +79,7 @@ module _ {D : Type 0} (history : D → History) (old : Engine D) (h : IsSound hi
       index_without_memory e is = record { reads = reads_none history old h; answers = λ k c noted so. inr (inl is) }
 
       module _ (few : length home.indexes.items < 16) (spec : Definition) (is : spec ≡ defined (unused_index home.indexes.items) n) (begun : NewEntries) (begins : Begins home.number spec begun) (lawful_spec : IsDefinition spec)
-        (running : IsRunning old) where
+          (running : IsRunning old) where
         abbrev cs : List Collection
         cs = (world old).collections
 

@@ -341,8 +341,8 @@ indexed_lawful cs name ns next h short e =
     } in
     let now : put_collection s.0 cs ≡ next = cc in
     subst IsLawfulState now (
-      put_kept s.0 cs h one (subst (λ (n : List ℕ). is_full cs n ≡ false) (sym more.named) p.0)
-      (more.numbered ∙ ap (λ (n : List ℕ). number_or (unused cs) (find_collection cs n)) (sym more.named))
+    put_kept s.0 cs h one (subst (λ (n : List ℕ). is_full cs n ≡ false) (sym more.named) p.0)
+    (more.numbered ∙ ap (λ (n : List ℕ). number_or (unused cs) (find_collection cs n)) (sym more.named))
     )
 
 pub good_create_indexes : (w : World) (name : List ℕ) (ns : List NewIndex) → IsLawful w → length name ≤ 255 → Good (run_create_indexes w (record { namespace = name; indexes = ns }))

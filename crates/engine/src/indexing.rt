@@ -23,11 +23,7 @@ use path::Refusal;
 use std::alloc::Global;
 
 /// Documents enter an index, one after the other, up to the first that it refuses.
-fn take_each(
-    alloc: Global,
-    made: &mut NewEntries,
-    documents: &[Document],
-) -> Result<(), Refusal>
+fn take_each(alloc: Global, made: &mut NewEntries, documents: &[Document]) -> Result<(), Refusal>
     ensures takes { OnOk result (TakesEach made.old made.new documents.now) }
     ensures refuses { IfErr result (RefusesOne made.old documents.now) }
 {

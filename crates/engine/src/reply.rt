@@ -138,7 +138,11 @@ pub(crate) fn create_indexes_reply(
     let mut reply = Document::new(alloc);
     put(&mut reply, "numIndexesBefore", Value::Int32(before as i32))?;
     put(&mut reply, "numIndexesAfter", Value::Int32(after as i32))?;
-    put(&mut reply, "createdCollectionAutomatically", Value::Bool(is_new))?;
+    put(
+        &mut reply,
+        "createdCollectionAutomatically",
+        Value::Bool(is_new),
+    )?;
     done(reply)
 }
 

@@ -224,9 +224,9 @@ module _ (c : Collection) (i : Definition) (done : List Pairs) (n : NewEntries) 
     taken_is id keys text keyed =
         let known = (known_one n.index.fields d keys keyed).1 in
         ap (λ (b : Bool). n.index.is_unique && b) (
-          (λ t. puts_any n.number n.index.number (text t) (sym known t) n.entries)
-          ∙ keys_told (encoded_keys n.index.fields d) (λ key there. there)
-          ∙ swapped (λ (e : Pairs) (key : List ℕ). is_among (encoded_keys n.index.fields e) key) (is_other d) (encoded_keys n.index.fields d) done
+        (λ t. puts_any n.number n.index.number (text t) (sym known t) n.entries)
+        ∙ keys_told (encoded_keys n.index.fields d) (λ key there. there)
+        ∙ swapped (λ (e : Pairs) (key : List ℕ). is_among (encoded_keys n.index.fields e) key) (is_other d) (encoded_keys n.index.fields d) done
         )
 
   -- ---- it enters
@@ -278,8 +278,8 @@ pub refuses_taken : (old : NewEntries) (d : Pairs) (id : List ℕ) (keys : List 
 refuses_taken old d id keys rises text keyed taken c i done rest kept all has =
     let next = next_of c done rest d kept all in
     refused_next c i done old d next has rest refusals.DuplicateKey all (
-      entered_by c i done old d next has (Ok keys) keyed
-      ∙ ap (λ (b : Bool). unless b refusals.DuplicateKey (Ok (with_document d (so_far c i done old d next has)))) (sym (taken_is c i done old d next has rises id keys text keyed) ∙ taken)
+    entered_by c i done old d next has (Ok keys) keyed
+    ∙ ap (λ (b : Bool). unless b refusals.DuplicateKey (Ok (with_document d (so_far c i done old d next has)))) (sym (taken_is c i done old d next has rises id keys text keyed) ∙ taken)
     )
 
 -- ---- the collection with it

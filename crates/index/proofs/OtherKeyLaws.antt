@@ -168,7 +168,7 @@ put_there es xs x h = by (value_at x.key (change (puts es) xs)) refl
 
 -- Behind a map without an entry of the index, such an entry is one of a document whose entries were put.
 module _ (n : ℕ) (i : Definition) (ds : List Pairs) (d : Pairs) (key : List ℕ) (xs : List Entry) (none : (x : Entry) (rest : List ℕ) → Among x xs → x.key ≡ key_under n i.number rest → ⊥)
-  (all : All IsStorable ds) (stored : IsStorable d) (keyed : is_among (encoded_keys i.fields d) key ≡ true) where
+    (all : All IsStorable ds) (stored : IsStorable d) (keyed : is_among (encoded_keys i.fields d) key ≡ true) where
   abbrev put_entries : List Entry
   put_entries = flat_map (λ e. index_entries n e i) ds
 

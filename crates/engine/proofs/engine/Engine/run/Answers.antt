@@ -1,4 +1,4 @@
-use Rattle.std.proofs.Common.{◌≡◌, Some, Result, Ok, Err, refl, sym, ap, subst, ◌∙◌, rules}
+use Rattle.std.proofs.Common.{◌≡◌, Some, Result, Ok, refl, sym, ap, subst, ◌∙◌, rules}
 use Rattle.std.specs.Prelude.{unwrap_or}
 use Rattle.bson.specs.Tree.{Pairs}
 use Rattle.engine.specs.World.{World}
@@ -11,7 +11,7 @@ use Rattle.engine.specs.Aggregate.{run_aggregate}
 use Rattle.engine.specs.Step.{run, read_and_run, ChangesNone}
 use Rattle.engine.specs.Find.{run_find}
 use Rattle.commands.specs.View.{command_read, find_read, update_read, aggregate_read}
-use Rattle.engine.specs.View.{world, outcome_of, IsSendable, Runs}
+use Rattle.engine.specs.View.{world, IsSendable}
 use Rattle.commands.specs.declared.command.Command.{Command}
 use Rattle.path.specs.declared.refusal.Refusal.{Refusal}
 use Rattle.engine.proofs.Running.{run_find-default, run_aggregate-default}
@@ -84,11 +84,6 @@ returns-in-Update-clause-has_changes g c = λ k wrote.
     let same : asked ≡ called = λ i. record { namespace = sym c.as_str-in-Update.ensures.value i; statements = sym c.deref-in-Update.ensures.value i } in
     let spelled = c.in_ok-read.ensures.gives ∙ ap (λ (x : Command). Ok (command_read x)) c.in-Update.is in
     c.update.ensures.has_changes k wrote.0 (subst (λ (u : updates.Update). ChangesNone w (commands.update u)) same (wrote.1 (commands.update asked) spelled))
-
-pub returns-in-DropIndexes-clause-performs : goal.returns-in-DropIndexes-clause-performs
-returns-in-DropIndexes-clause-performs g c =
-    let old = c.args.self.now in
-    performs_told g.D.Disk.history old old c.args.connection c.args.body.now _ c.requires.sound refl refl refl (search rules)
 
 pub returns-clause-performs : goal.returns-clause-performs
 returns-clause-performs g c =
