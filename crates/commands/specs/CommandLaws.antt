@@ -244,8 +244,7 @@ SomeIndexesAt (Some is) = SomeIndexes is
 
 some_indexes : (t : Tree) (is : List NewIndex) → new_indexes_in t ≡ Ok is → SomeIndexes is
 some_indexes t is e =
-    let s = step_of (some_in t) (each_of (spelled_in read_new_index)) is e in
-    (
+    let s = step_of (some_in t) (each_of (spelled_in read_new_index)) is e in (
       omega (arith, as_many (spelled_in read_new_index) s.0 is s.2, some_items t s.0 s.1),
       each_has IsShortNewIndex (spelled_in read_new_index) (λ t i e. let d = step_of (document_in t) read_new_index i e in new_index_short d.0 i d.2) s.0 is s.2,
     )

@@ -77,7 +77,6 @@ use Rattle.engine.proofs.Ordered.{Rises, rises_insert, All-inserted, missing, fo
 use Rattle.engine.proofs.Numbers.{found_kept, unused_unused, number_bounds, numbers_set, numbers_insert}
 use Rattle.engine.proofs.NamesApart.{apart_set}
 use Rattle.engine.proofs.SpelledSizes.{create_indexes-sendable, drop_indexes-sendable, ping-sendable, insert-sendable, drop-sendable, refusal-sendable, batch_items, cursor-sendable, kill-sendable, told_few, hello-sendable}
-
 use Rattle.engine.proofs.LawfulCollections.{index_dropped_lawful, indexed_lawful, put_kept, room}
 
 -- ---- one command
