@@ -21,8 +21,9 @@ pub record CountsPages {D : Type 0} (history : D → History) (result : Result P
   pub same : KeepsWord (pager_history history new)
       → IsSame (store_of history old) (store_of history new)
   pub cause : IfErr result (HasCause (pager_history history old) (pager_history history new))
-  pub stands : KeepsWord (pager_history history new) → let image = reads (now (pager_history history old)) in
-      IfOk result (CountsTree image (durable_root old.store))
+  pub stands : let image = reads (now (pager_history history old)) in
+      KeepsWord (pager_history history new)
+      → IfOk result (CountsTree image (durable_root old.store))
   pub counts : KeepsWord (pager_history history new)
       → (start : State D) (live : List ℕ) (entries : List Entry) → IsBegun history start live entries
       → Grows (store_of history start) (store_of history old)
