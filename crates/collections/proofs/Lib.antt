@@ -1,5 +1,6 @@
 pub mod ApplyLemmas
 pub mod CommitLemmas
+pub mod CountLemmas
 pub mod EntryLemmas
 pub mod FoundLemmas
 pub mod LawLemmas

@@ -2,9 +2,11 @@
 use Rattle.std.specs.Prelude.{◌≡◌, ℕ, false, List, [], replicate}
 use Rattle.page.specs.History.{History, KeepsWord}
 use Rattle.page.specs.Crash.{LeavesNow}
+use Rattle.roots.specs.declared.counting.PageCounts.{PageCounts}
 use Rattle.index.specs.State.{Collection}
 use Rattle.collections.specs.State.{State}
 use Rattle.collections.specs.Calls.{GoesFrom}
+use Rattle.collections.specs.Counting.{HasCounts}
 use Rattle.collections.specs.Holding.{Holds}
 use Rattle.collections.specs.Standing.{HasState}
 use Rattle.collections.specs.View.{disk_history, is_changed, is_stopped}
@@ -31,6 +33,11 @@ HasOneState {D = D} history = (c : State D) (start now start' now' : List Collec
 -- An image holds one list of collections at most.
 abbrev pub HoldsOne : Type 0
 HoldsOne = (image : ℕ → List ℕ) (a b : List Collection) → Holds image a → Holds image b → a ≡ b
+
+-- The pages of an image are counted in one way.
+abbrev pub HasOneCount : Type 0
+HasOneCount = (image : ℕ → List ℕ) (a b : List Collection) (one other : PageCounts)
+    → HasCounts image a one → HasCounts image b other → one ≡ other
 
 -- An image whose root sectors are zeros holds no collection.
 abbrev pub ZerosHoldNothing : Type 0

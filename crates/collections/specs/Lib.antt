@@ -1,6 +1,7 @@
 pub mod Applying
 pub mod Calls
 pub mod Committing
+pub mod Counting
 pub mod Entries
 pub mod Holding
 pub mod IndexChecks

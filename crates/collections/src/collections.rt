@@ -5,7 +5,7 @@ ghost use Rattle.std.specs.Prelude.{◌≡◌};
 use crate::mark::Mark;
 use page::Disk;
 use pager::Pager;
-use roots::{CommitFault, OpenFault};
+use roots::{CommitFault, OpenFault, PageCounts};
 use std::alloc::Global;
 use std::marker::Model;
 
@@ -36,6 +36,7 @@ impl<D: Disk> Model for Collections<D> {
 impl<D: Disk> Collections<D> {
     ghost use Rattle.std.specs.Prelude.{IfErr, IfOk};
     ghost use Rattle.collections.specs.Committing.{Commits};
+    ghost use Rattle.collections.specs.Counting.{CountsPages};
     ghost use Rattle.collections.specs.Marks.{IsMarkOf, ReturnsTo, Undoes};
     ghost use Rattle.collections.specs.Opening.{IsOpened, IsRefused};
     ghost use Rattle.collections.specs.View.{disk_history, generation, is_changed, is_stopped};
@@ -84,6 +85,17 @@ impl<D: Disk> Collections<D> {
         ensures { result ≡ is_changed self.now }
     {
         self.root != self.pager.root()
+    }
+
+    /// How many pages the file has by the last commit, and how many of them nothing reaches. It reads each page of the committed
+    /// tree from the disk. Damaged where these pages are no tree, Device where a write or a sync has failed.
+    pub fn count_pages(&mut self) -> Result<PageCounts, OpenFault>
+        ensures { CountsPages D.history result self.old self.new }
+    {
+        if self.pager.is_stopped() {
+            return Err(OpenFault::Device);
+        }
+        self.pager.count_pages()
     }
 
     /// How far the turn has come.

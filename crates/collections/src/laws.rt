@@ -1,6 +1,6 @@
 //! Laws of turns, each the contract of a function that does nothing.
 
-ghost use Rattle.collections.specs.Laws.{GoesFromItself, GoesFurther, HasOneState, HoldsOne, LeavesStart, RestsAtStart, ZerosHoldNothing};
+ghost use Rattle.collections.specs.Laws.{GoesFromItself, GoesFurther, HasOneCount, HasOneState, HoldsOne, LeavesStart, RestsAtStart, ZerosHoldNothing};
 
 use page::Disk;
 
@@ -22,6 +22,11 @@ pub fn has_one_state<D: Disk>()
 /// An image holds one list of collections at most.
 pub fn holds_one()
     ensures { HoldsOne }
+{}
+
+/// The pages of an image are counted in one way.
+pub fn has_one_count()
+    ensures { HasOneCount }
 {}
 
 /// An image whose root sectors are zeros holds no collection.

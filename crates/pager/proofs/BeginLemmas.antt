@@ -1,15 +1,14 @@
 -- A pager in which no turn runs has the tree of its committed root.
-use Rattle.std.proofs.Common.{◌≡◌, ℕ, ◌<◌, ◌≤◌, Bool, true, false, List, [], ◌∷◌, length, get_or, refl, sym, ◌∙◌, ap, arith, inl, inr}
+use Rattle.std.proofs.Common.{◌≡◌, ℕ, ◌≤◌, Bool, true, false, List, [], ◌∷◌, length, get_or, refl, ◌∙◌, ap, arith, inl, inr}
 use Rattle.std.specs.Prelude.{◌&&◌, not, is_ok, nat_lt, reverse, Result}
 use Rattle.std.proofs.lemmas.Bool.{cases_lt}
 use Rattle.std.proofs.lemmas.List.{get_or_past}
-use Rattle.page.specs.Content.{Content}
 use Rattle.page.specs.Format.{Sheet}
 use Rattle.page.specs.History.{History, KeepsWord, now, reads}
 use Rattle.page.specs.declared.page_fault.PageFault.{PageFault}
 use Rattle.btree.specs.Keys.{Each, Entry, times}
 use Rattle.btree.specs.Reach.{HasMap}
-use Rattle.btree.specs.Store.{IsAt, Store, flag}
+use Rattle.btree.specs.Store.{flag}
 use Rattle.btree.proofs.ReachLemmas.{Moves, map_moved}
 use Rattle.btree.proofs.StoreLemmas.{grows_itself}
 use Rattle.freelist.specs.Book.{is_free, is_free_state, is_in_use, is_used_state}

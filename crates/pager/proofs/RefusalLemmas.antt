@@ -1,17 +1,16 @@
 -- Why a disk isn't opened.
-use Rattle.std.proofs.Common.{◌≡◌, ◌≢◌, ℕ, ◌<◌, List, refl, sym, ◌∙◌, ap, subst, arith}
+use Rattle.std.proofs.Common.{◌≡◌, ◌≢◌, ℕ, ◌<◌, List, refl, sym, ◌∙◌, subst, arith}
 use Rattle.std.specs.Prelude.{Ok, Err}
 use Rattle.page.specs.History.{History, KeepsWord, IsImage, now, reads}
 use Rattle.page.specs.Crash.{ReadsOnly}
-use Rattle.page.proofs.Moments.{goes_further, leaves_further, leaves_now, reads_moments, reads_nothing}
+use Rattle.page.proofs.Moments.{goes_further, leaves_further, leaves_now, reads_moments}
 use Rattle.btree.specs.Keys.{Entry}
-use Rattle.roots.specs.Root.{root_of}
 use Rattle.roots.specs.declared.opening.OpenFault.{OpenFault}
 use Rattle.roots.specs.declared.opening.OpenFault.TheVariants as faults
 use Rattle.roots.specs.declared.root.Root.{Root}
 use Rattle.roots.specs.declared.store.Store.{Store}
 use Rattle.roots.specs.Image.{HoldsMap, StandsFor, sheet_at}
-use Rattle.roots.specs.Opening.{IsOpened as IsStoreOpened, IsRefused as IsStoreRefused}
+use Rattle.roots.specs.Opening.{IsOpened as IsStoreOpened}
 use Rattle.roots.specs.Store.{IsCommitted, disk_history, durable_root}
 use Rattle.roots.specs.Walk.{FindsFree, HasCause}
 use Rattle.pager.specs.Opening.{IsRefused}

@@ -1,6 +1,7 @@
 pub mod Calls
 pub mod Capacity
 pub mod Commit
+pub mod Counting
 pub mod Kept
 pub mod Opening
 pub mod State

@@ -9,7 +9,7 @@ use crate::writing::{keep_all, plan_commit};
 use btree::{Pages, TreeFault};
 use freelist::FreePages;
 use page::{Disk, PageCache, PageContent, SharedPage};
-use roots::{CommitFault, MAX_PAGES, OpenFault, Store};
+use roots::{CommitFault, MAX_PAGES, OpenFault, PageCounts, Store};
 use std::alloc::Global;
 use std::marker::Model;
 
@@ -47,6 +47,7 @@ impl<D: Disk> Pager<D> {
     ghost use Rattle.roots.specs.Store.{durable_root, is_stopped};
     ghost use Rattle.pager.specs.Capacity.{TreesFit};
     ghost use Rattle.pager.specs.Commit.{Commits, MovesTurns};
+    ghost use Rattle.pager.specs.Counting.{CountsPages};
     ghost use Rattle.pager.specs.Opening.{HasLimit, IsOpened, IsRefused};
     ghost use Rattle.pager.specs.State.{State};
     ghost use Rattle.pager.specs.Turn.{IsOrderly, LeadsBack, Returns, is_changed, undone_to};
@@ -113,6 +114,14 @@ impl<D: Disk> Pager<D> {
         ensures { TreesFit D.history self.now }
     {
         let _ = &self.made;
+    }
+
+    /// How many pages the file has by the last commit, and how many of them nothing reaches. It reads each page of the committed
+    /// tree from the disk, not from the cache. Damaged where these pages are no tree.
+    pub fn count_pages(&mut self) -> Result<PageCounts, OpenFault>
+        ensures { CountsPages D.history result self.old self.new }
+    {
+        self.store.count_pages(self.alloc)
     }
 
     /// Whether the running turn has made or retired a page.

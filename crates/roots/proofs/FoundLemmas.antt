@@ -6,7 +6,7 @@ use Rattle.std.specs.Ordering.{is_lt, nat_cmp}
 use Rattle.std.specs.Cmp.Lexicographic.{slice_cmp}
 use Rattle.std.specs.declared.cmp.Ordering.{Ordering}
 use Rattle.std.specs.declared.cmp.Ordering.TheVariants.{Less, Equal, Greater}
-use Rattle.std.proofs.Math.Seq.{take-append_seam, drop-append_seam, take-length}
+use Rattle.std.proofs.Math.Seq.{take-append_seam, drop-append_seam}
 use Rattle.std.proofs.lemmas.List.{take_all, drop_all, nil_from_length}
 use Rattle.std.proofs.lemmas.Option.{slice_get_within}
 use Rattle.std.proofs.lemmas.Bool.{cases_lt}
@@ -20,11 +20,11 @@ use Rattle.btree.specs.Calls.{IsPart}
 use Rattle.btree.specs.Keys.{Each, IsBetween, IsPast, IsUnder, IsWithin, Pair, Rises}
 use Rattle.btree.specs.Search.{AreBounds}
 use Rattle.btree.specs.Store.{IsAt, Store}
-use Rattle.btree.specs.Tree.{Body, HasChain, HasLinks, IsFan, IsSound, IsWhole, Shows, Twig, arm_of, content_of, high_of, item_of, next_of, pages_of, pair_keys, place_of, twig_keys, with_low}
+use Rattle.btree.specs.Tree.{Body, HasChain, HasLinks, IsFan, IsSound, IsWhole, Shows, Twig, arm_of, content_of, item_of, next_of, pages_of, pair_keys, place_of, twig_keys, with_low}
 use Rattle.btree.proofs.FanLemmas.{fan_append}
 use Rattle.btree.proofs.GetLemmas.{child_part}
 use Rattle.btree.proofs.KeyLemmas.{under_trans, up_to_then_under, within_wider}
-use Rattle.btree.proofs.ListLemmas.{At, at_place, each_append, each_map, flat_append, long_map, map_append, rises_append, take_more}
+use Rattle.btree.proofs.ListLemmas.{At, each_append, each_map, flat_append, long_map, map_append, rises_append, take_more}
 use Rattle.btree.proofs.SearchLemmas.{got_itself}
 use Rattle.page.specs.History.{History, now}
 use Rattle.roots.specs.declared.opening.OpenFault.{OpenFault}

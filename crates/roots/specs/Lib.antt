@@ -1,4 +1,5 @@
 pub mod Commit
+pub mod Counting
 pub mod FaultNames
 pub mod Found
 pub mod Image

@@ -1,6 +1,7 @@
 //! A store with two root sectors over a disk: what is committed survives a crash at any moment.
 #![tactic(auto)]
 
+mod counting;
 pub mod laws;
 mod opening;
 mod replace;
@@ -8,6 +9,7 @@ mod root;
 mod store;
 mod walk;
 
+pub use counting::PageCounts;
 pub use opening::OpenFault;
 pub use root::{MAX_PAGES, Root};
 pub use store::{CommitFault, Config, LEAST_LIMIT, Store};

@@ -5,6 +5,7 @@ ghost use Rattle.page.specs.History.{KeepsWord, now, reads};
 ghost use Rattle.page.specs.Crash.{GoesOn, LeavesOnly, IsImageOutside};
 ghost use Rattle.page.specs.Format.{Sheet, page_bytes};
 ghost use Rattle.page.specs.Page.{IsSectorOf, page_at};
+ghost use Rattle.roots.specs.Counting.{CountsPages};
 ghost use Rattle.roots.specs.Commit.{CommitsRoot, LeavesPages, MovesDisk, MovesMaps};
 ghost use Rattle.roots.specs.Image.{IsOnPages};
 ghost use Rattle.roots.specs.Opening.{IsOpened, IsRefused};
@@ -12,6 +13,7 @@ ghost use Rattle.roots.specs.Store.{disk_history, durable_root, is_stopped, limi
 ghost use Rattle.roots.specs.Walk.{FindsFree, Looks, ReadsSheet};
 ghost use Rattle.roots.specs.Turn.{AreWritten, LieBehind, end_behind, numbers_of};
 
+use crate::counting::{PageCounts, counts_of};
 use crate::opening::{OpenFault, read_root};
 use crate::replace::replace;
 use crate::root::{MAX_PAGES, Root};
@@ -216,6 +218,17 @@ impl<D: Disk> Store<D> {
         let in_use = reached_pages(alloc, &mut self.disk, self.root)?;
         let limit = greater(limit, self.root.pages);
         Ok(FreePages::open(alloc, &in_use, limit, self.root.generation)?)
+    }
+
+    /// How many pages the file has, and how many of them nothing reaches: neither page 0 nor one of the committed tree is free.
+    /// It reads each page of the tree once. Damaged where the pages are no tree.
+    pub fn count_pages(&mut self, alloc: Global) -> Result<PageCounts, OpenFault>
+        ensures looks { Looks result (disk_history D.history self.old)
+            (disk_history D.history self.new) }
+        ensures counts { CountsPages D.history result self.old self.new }
+    {
+        let reached = reached_pages(alloc, &mut self.disk, self.root)?;
+        Ok(counts_of(self.root, reached.len()))
     }
 
     /// Makes the tree below this page the committed one. The pages that the turn made ascend; they are written, then the next

@@ -1,4 +1,4 @@
-use Rattle.std.proofs.Common.{rules, arith, ◌≡◌, ◌≢◌, ◌<◌, ◌≤◌, ◌+◌, ℕ, zero, suc, List, [], ◌∷◌, ◌++◌, map, length, take, ap, sym, ◌∙◌, subst, refl, append-nil, inl, inr, true, false}
+use Rattle.std.proofs.Common.{rules, arith, ◌≡◌, ◌≢◌, ◌<◌, ◌≤◌, ◌+◌, ℕ, zero, suc, List, ◌∷◌, ◌++◌, map, length, take, ap, sym, ◌∙◌, subst, refl, append-nil, inl, inr}
 use Rattle.std.specs.Option.{option_map}
 use Rattle.std.proofs.lemmas.Bool.{cases_lt}
 use Rattle.page.specs.CellView.{arm_of as child_arm}
@@ -16,7 +16,7 @@ use Rattle.btree.proofs.GetLemmas.{bounds_are}
 use Rattle.btree.proofs.ListLemmas.{at_place, long_map}
 use Rattle.roots.specs.Found.{HasFoundFan, HasFoundPairs, HasFoundPart, ReachesDepth}
 use Rattle.roots.specs.Image.{sheet_at}
-use Rattle.roots.specs.Walk.{CanReach, Reaches, pages_in, pages_so_far}
+use Rattle.roots.specs.Walk.{CanReach, pages_in, pages_so_far}
 use Rattle.roots.proofs.FoundLemmas.{branch_found, child_can, child_reached, child_there, depth_failed, fan_height, fan_more, leaf_found, no_fan_found, not_past, page_there, part_moved, part_within}
 use Rattle.roots.proofs.ImageLemmas.{live_below}
 use Rattle.roots.proofs.WalkLemmas.{all_taken, at_branch, at_leaf, behind_first, can_first, can_rest, looks_failed, not_damaged, read_content, same_pages}

@@ -1,0 +1,37 @@
+-- How many pages a file has, and how many of them nothing reaches.
+use Rattle.std.specs.Prelude.{◌≡◌, ◌≢◌, ℕ, ◌+◌, max, List, length, Result, IfOk, MatchResult}
+use Rattle.page.specs.History.{History, KeepsWord, now, reads}
+use Rattle.btree.specs.Keys.{Entry}
+use Rattle.roots.specs.Image.{HoldsMap, sheet_at}
+use Rattle.roots.specs.Store.{IsCommitted, disk_history, durable_root, is_stopped}
+use Rattle.roots.specs.declared.counting.PageCounts.{PageCounts}
+use Rattle.roots.specs.declared.opening.OpenFault.{OpenFault}
+use Rattle.roots.specs.declared.opening.OpenFault.TheVariants as faults
+use Rattle.roots.specs.declared.root.Root.{Root}
+use Rattle.roots.specs.declared.store.Store.{Store}
+
+-- A file has the pages of its root, and always page 0. Page 0, those that the root's tree reaches and the free ones are all of them.
+pub record AreCounts (root : Root) (live : List ℕ) (counts : PageCounts) : Type 0 where
+  pub pages : counts.pages ≡ max root.pages 1
+  pub all : 1 + length live + counts.free ≡ counts.pages
+
+-- the counts of a tree that this root names in the image
+pub record CountsTree (image : ℕ → List ℕ) (root : Root) (counts : PageCounts) : Type 0 where
+  pub live : List ℕ
+  pub entries : List Entry
+  pub holds : HoldsMap (sheet_at image root) root live entries
+  pub are : AreCounts root live counts
+
+-- Nothing of the store has changed, and the root has a tree, of which these are the counts; where one is committed, they are its
+-- own, and the fault isn't one of the pages.
+pub record CountsPages {D : Type 0} (history : D → History) (result : Result PageCounts OpenFault)
+    (old new : Store D) : Type 0 where
+  pub root : durable_root new ≡ durable_root old
+  pub stopped : is_stopped new ≡ is_stopped old
+  pub committed : (live : List ℕ) (entries : List Entry) → IsCommitted history old live entries
+      → IsCommitted history new live entries
+  pub stands : let image = reads (now (disk_history history old)) in
+      KeepsWord (disk_history history new) → IfOk result (CountsTree image (durable_root old))
+  pub counts : KeepsWord (disk_history history new) → (live : List ℕ) (entries : List Entry)
+      → IsCommitted history old live entries
+      → MatchResult result (AreCounts (durable_root old) live) (λ fault. fault ≢ faults.Damaged)
