@@ -33,7 +33,7 @@ use Rattle.index.proofs.PlaceLemmas.{among_put, found_split}
 use Rattle.index.proofs.LawfulLaws.{put_in}
 use Rattle.index.proofs.SetLemmas.{set_sorted}
 use Rattle.collections.specs.IndexChecks.{has_entry, is_empty_at, lacks_any, lacks_key, lacks_one}
-use Rattle.engine.specs.Checking.{document_count}
+use Rattle.engine.specs.Checking.{total_documents}
 use Rattle.engine.specs.Places.{collection_at, no_collection}
 use Rattle.engine.specs.Judging.{AreLoaded, HasItsKeys, IsStoredAt, Progress, bare, key_count, keys_among, listed_of, numbered, with_document_at, with_document_in}
 use Rattle.engine.proofs.OnceLists.{AreOnce, once_append, once_flat, once_map, sorted_once}
@@ -304,18 +304,18 @@ module _ (all done : List Entry) (pair : Entry) (p : Progress) (s : Stands all d
   longer =
       omega (arith, ap (λ (ds : List Pairs). length ds) between.put, ap (λ (ds : List Pairs). length ds) between.split, length-append between.front between.back, length-append between.front (d ∷ between.back))
 
-  one_more : document_count after ≡ p.documents + 1
+  one_more : total_documents after ≡ p.documents + 1
   one_more = at (located nat_list_cmp_total (λ (x : Collection). x.name) p.now c.name s.loaded.lawful.apart)
     where
       it : find_collection p.now c.name ≡ Some c
       it = find_there p.now c s.loaded.lawful.apart there
 
-      at : Gap (slice_cmp nat_cmp) (λ (x : Collection). x.name) p.now c.name ⊎ There (slice_cmp nat_cmp) (λ (x : Collection). x.name) p.now c.name → document_count after ≡ p.documents + 1
+      at : Gap (slice_cmp nat_cmp) (λ (x : Collection). x.name) p.now c.name ⊎ There (slice_cmp nat_cmp) (λ (x : Collection). x.name) p.now c.name → total_documents after ≡ p.documents + 1
       at (inl g) = let never : None ≡ Some c = sym (missing p.now g.0 c.name g.1) ∙ it in absurd cc
       at (inr t) =
           let put : after ≡ set p.now t.place with_it = replaced p.now t.place c.name with_it s.loaded.lawful.apart t.within (t.same no_collection) refl in
           let here : collection_at p.now t.place ≡ c = some_same (sym (found_at p.now t.place c.name s.loaded.lawful.apart t.within (t.same no_collection)) ∙ it) in
-          omega (arith, ap document_count put, count_set p.now t.place with_it no_collection t.within, ap (λ (x : Collection). length x.documents) here, longer, s.documents)
+          omega (arith, ap total_documents put, count_set p.now t.place with_it no_collection t.within, ap (λ (x : Collection). length x.documents) here, longer, s.documents)
         where
           some_same : {x y : Collection} → Some x ≡ Some y → x ≡ y
           some_same e = cc

@@ -13,7 +13,7 @@ use Rattle.index.specs.StateEntries.{catalogue_entry, key_under}
 use Rattle.index.proofs.EntryLemmas.{IsDocumentOf, IsKeyOf}
 use Rattle.index.proofs.HomeLemmas.{listed_of as indexed_of}
 use Rattle.index.proofs.MemberLemmas.{Among, among_append, among_back, among_front}
-use Rattle.engine.specs.Checking.{document_count}
+use Rattle.engine.specs.Checking.{total_documents}
 use Rattle.engine.specs.Judging.{AreLoaded, Progress, TakesKey, TakesName, index_in, is_of_index, listed_of, nothing_read}
 use Rattle.engine.proofs.OnceLists.{AreOnce, only, only_append}
 use Rattle.engine.proofs.TakingLemmas.{name_loaded, none_loaded, put_last}
@@ -52,12 +52,12 @@ not_both b is isnt = absurd (let never : true ≡ false = sym is ∙ isnt in cc)
 
 -- ---- how many documents there are
 
-pub count_append : (xs ys : List Collection) → document_count (xs ++ ys) ≡ document_count xs + document_count ys
+pub count_append : (xs ys : List Collection) → total_documents (xs ++ ys) ≡ total_documents xs + total_documents ys
 count_append [] ys = omega arith
 count_append (x ∷ xs) ys = omega (arith, count_append xs ys)
 
 -- where one of them is put in another's place
-pub count_set : (cs : List Collection) (at : ℕ) (new d : Collection) → at < length cs → document_count (set cs at new) + length (get_or cs at d).documents ≡ document_count cs + length new.documents
+pub count_set : (cs : List Collection) (at : ℕ) (new d : Collection) → at < length cs → total_documents (set cs at new) + length (get_or cs at d).documents ≡ total_documents cs + length new.documents
 count_set [] at new d within = absurd (omega (arith, within))
 count_set (c ∷ cs) zero new d within = omega arith
 count_set (c ∷ cs) (suc at) new d within = omega (arith, count_set cs at new d (omega (arith, within)))
@@ -87,7 +87,7 @@ pub record Stands (all done : List Entry) (p : Progress) : Type 0 where
   pub keyed : (x : Entry) → IsKeyed p.now x → Among x owed
   pub there : (x : Entry) → Among x owed → Among x all
   pub once : AreOnce owed
-  pub documents : document_count p.now ≡ p.documents
+  pub documents : total_documents p.now ≡ p.documents
   pub keys : length owed ≡ p.keys
   pub seen : length (only is_of_index done) ≡ p.seen
 
@@ -187,7 +187,7 @@ module _ (all done : List Entry) (pair : Entry) (p : Progress) (s : Stands all d
       ];
       there = s.there;
       once = s.once;
-      documents = omega (arith, ap document_count last, count_append p.now (n ∷ []), ap (λ (ds : List Pairs). length ds) bare_n, s.documents);
+      documents = omega (arith, ap total_documents last, count_append p.now (n ∷ []), ap (λ (ds : List Pairs). length ds) bare_n, s.documents);
       keys = s.keys;
       seen = seen_same done pair (catalogue_none n pair pair_is) ∙ s.seen;
     }

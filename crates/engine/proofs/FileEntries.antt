@@ -7,7 +7,7 @@ use Rattle.index.specs.StateEntries.{Spells, catalogue_entry, collection_entries
 use Rattle.index.proofs.EntryLemmas.{IsDocumentOf, IsOneOf, document_among, keyed_among}
 use Rattle.index.proofs.HomeLemmas.{home_of, kept_of}
 use Rattle.index.proofs.MemberLemmas.{Among, among_each, among_of, contains_of}
-use Rattle.engine.specs.Checking.{document_count}
+use Rattle.engine.specs.Checking.{total_documents}
 use Rattle.engine.specs.Judging.{AreLoaded, HasItsKeys, IsStoredAt, Makes, Progress, Takes, TakesAll, bare, is_of_index, key_count, keys_among, nothing_read, numbered, with_document_at}
 use Rattle.engine.proofs.OnceLists.{all_within, only, only_there}
 use Rattle.engine.proofs.TakingLemmas.{found_at}
@@ -102,7 +102,7 @@ all_stand all end rises takes = steps_on all [] all nothing_read end rises (noth
 pub record AreSpelled (all : List Entry) (end : Progress) : Type 0 where
   pub spells : Spells all end.now
   pub loaded : AreLoaded end.now
-  pub documents : document_count end.now ≡ end.documents
+  pub documents : total_documents end.now ≡ end.documents
 
 pub made_spell : (all : List Entry) (end : Progress) → Rises (entry_keys all) → Makes all end → AreSpelled all end
 made_spell all end rises m =

@@ -44,7 +44,7 @@ mod updates;
 mod writing;
 
 pub use check_fault::CheckFault;
-pub use checking::CheckReport;
+pub use checking::Counts;
 pub use connection::{CONNECTIONS, ConnId};
 pub use engine::{Engine, Reply};
 pub use path::Refusal;
