@@ -1,5 +1,5 @@
 -- The pages of the file are counted while a turn runs.
-use Rattle.std.proofs.Common.{◌≡◌, ◌≢◌, ℕ, ◌+◌, max, false, List, length, refl, sym, ◌∙◌, ap, subst, arith, inr}
+use Rattle.std.proofs.Common.{◌≡◌, ◌≢◌, ℕ, max, false, List, length, refl, sym, ◌∙◌, ap, subst, arith, inr}
 use Rattle.std.specs.Prelude.{◌==◌, not, Result, Ok, Err, IfErr, MatchResult}
 use Rattle.page.specs.History.{History, KeepsWord, now, reads}
 use Rattle.btree.proofs.OnceLemmas.{old_trees_stay}

@@ -25,7 +25,8 @@ pub record CountsPages {D : Type 0} (history : D → History) (result : Result P
       KeepsWord (pager_history history new)
       → IfOk result (CountsTree image (durable_root old.store))
   pub counts : KeepsWord (pager_history history new)
-      → (start : State D) (live : List ℕ) (entries : List Entry) → IsBegun history start live entries
+      → (start : State D) (live : List ℕ) (entries : List Entry)
+      → IsBegun history start live entries
       → Grows (store_of history start) (store_of history old)
       → MatchResult result (AreCounts (durable_root old.store) live)
       (λ fault. fault ≢ faults.Damaged)
