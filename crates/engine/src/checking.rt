@@ -49,6 +49,9 @@ impl<D: Disk> Engine<D> {
         requires sound { IsSound D.history self.old }
         ensures { ChecksFile D.history result self.old self.new }
     {
+        if self.file.is_stopped() {
+            return Err(CheckFault::Device);
+        }
         let generation = self.file.generation();
         let pages = self.file.count_pages()?;
         let mut told = Told::of(&());
