@@ -1,20 +1,19 @@
 -- Which indexes are dropped, and what that makes of a collection.
-use Rattle.std.proofs.Common.{◌≡◌, ◌≢◌, ◌+◌, ◌<◌, ◌≤◌, ℕ, zero, suc, Bool, true, false, ◌||◌, cond, List, [], ◌∷◌, ◌++◌, length, get_or, take, drop, Option, Some, None, Result, Ok, Err, refl, sym, ap, subst, ◌∙◌, arith}
-use Rattle.std.specs.Prelude.{nat_lt, not, is_some}
-use Rattle.std.specs.List.{filter, list_any, position, position_or_len, remove}
+use Rattle.std.proofs.Common.{◌≡◌, ◌+◌, ◌<◌, ◌≤◌, ℕ, zero, suc, Bool, true, false, cond, List, [], ◌∷◌, ◌++◌, length, get_or, take, drop, Some, None, Result, Ok, refl, sym, ap, subst, ◌∙◌, arith}
+use Rattle.std.specs.Prelude.{nat_lt, not}
+use Rattle.std.specs.List.{filter, position, position_or_len, remove}
 use Rattle.std.proofs.lemmas.Bool.Decides.{nat_tests}
 use Rattle.std.proofs.lemmas.List.Edits.{length-remove}
 use Rattle.std.proofs.lemmas.List.Elements.{filter-append}
 use Rattle.std.proofs.lemmas.List.Quantifiers.{position-Some}
 use Rattle.std.proofs.lemmas.List.Sums.{count_by-le-length, length-filter}
-use Rattle.outcome.specs.Outcome.{◌>>=◌, unless}
+use Rattle.outcome.specs.Outcome.{◌>>=◌}
 use Rattle.path.specs.declared.refusal.Refusal.{Refusal}
-use Rattle.path.specs.declared.refusal.Refusal.TheVariants as refusals
-use Rattle.commands.specs.DropIndexes.{DroppedIndexes, all, named}
+use Rattle.commands.specs.DropIndexes.{DroppedIndexes, all}
 use Rattle.index.specs.Definition.{Definition}
 use Rattle.index.specs.State.{Collection, find_collection, put_collection}
 use Rattle.index.proofs.IndexMakingLaws.{cut_at}
-use Rattle.engine.specs.DropIndexes.{dropped_in, index_dropped, is_dropped, left_by, remaining, without_indexes}
+use Rattle.engine.specs.DropIndexes.{dropped_in, index_dropped, is_dropped, left_by, remaining}
 
 -- ---- the first that passes a test
 

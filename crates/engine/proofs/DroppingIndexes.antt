@@ -1,6 +1,6 @@
 -- The steps of a dropIndexes, over engines as values.
-use Rattle.std.proofs.Common.{◌≡◌, ◌⊎◌, inl, inr, ◌+◌, ◌<◌, ◌≤◌, ℕ, Bool, true, false, ◌&&◌, List, [], ◌∷◌, length, get_or, take, drop, Option, Some, None, Result, Ok, Err, refl, sym, ap, subst, ◌∙◌, arith}
-use Rattle.std.specs.Prelude.{All, MatchResult, is_some, nat_le, not}
+use Rattle.std.proofs.Common.{◌≡◌, inl, inr, ◌+◌, ◌<◌, ◌≤◌, ℕ, Bool, true, false, ◌&&◌, List, [], ◌∷◌, length, get_or, take, Option, Some, None, Result, Ok, Err, refl, sym, ap, subst, ◌∙◌, arith}
+use Rattle.std.specs.Prelude.{All, is_some, nat_le, not}
 use Rattle.std.specs.List.{position, remove}
 use Rattle.std.proofs.lemmas.List.Edits.{length-remove}
 use Rattle.bson.specs.Tree.{Pairs}
@@ -8,7 +8,7 @@ use Rattle.page.specs.History.{History, KeepsWord}
 use Rattle.btree.specs.Keys.{Edit}
 use Rattle.path.specs.declared.refusal.Refusal.{Refusal}
 use Rattle.path.specs.declared.refusal.Refusal.TheVariants as refusals
-use Rattle.collections.specs.Reading.{IsNumbered, IsWithinLimits}
+use Rattle.collections.specs.Reading.{IsWithinLimits}
 use Rattle.collections.proofs.LawLemmas as laws
 use Rattle.commands.specs.DropIndexes.{DroppedIndexes}
 use Rattle.index.specs.Definition.{Definition}
@@ -28,8 +28,7 @@ use Rattle.index.proofs.PlaceLemmas.{found_in, found_name}
 use Rattle.index.proofs.StateEditLaws.{put_same}
 use Rattle.engine.specs.DropCollection.{index_count}
 use Rattle.engine.specs.DropIndexes.{dropped_in, drop_indexes_reply, index_dropped, is_dropped, left_by, remaining, run_drop_indexes}
-use Rattle.engine.specs.Durable.{disk_history, file_of, has_changes, is_stopped, IsRunning, IsSound}
-use Rattle.engine.specs.Insert.{is_full}
+use Rattle.engine.specs.Durable.{disk_history, has_changes, is_stopped, IsRunning, IsSound}
 use Rattle.engine.specs.Looking.{Looks, LooksOf, OnlyReads}
 use Rattle.engine.specs.Performing.{Performs}
 use Rattle.engine.specs.Refusals.{ok_reply}

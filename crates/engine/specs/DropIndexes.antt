@@ -40,13 +40,15 @@ without_indexes dropped c = do
   Ok (record c { indexes = left })
 
 -- so the one of a name, which has to be there
-abbrev pub dropped_in : DroppedIndexes → List Collection → Option Collection → Result (List Collection) Refusal
+abbrev pub dropped_in : DroppedIndexes → List Collection → Option Collection
+    → Result (List Collection) Refusal
 dropped_in dropped cs None = Err refusals.NamespaceNotFound
 dropped_in dropped cs (Some c) = do
   next ← without_indexes dropped c
   Ok (put_collection next cs)
 
-abbrev pub index_dropped : List Collection → List ℕ → DroppedIndexes → Result (List Collection) Refusal
+abbrev pub index_dropped : List Collection → List ℕ → DroppedIndexes
+    → Result (List Collection) Refusal
 index_dropped cs name dropped = dropped_in dropped cs (find_collection cs name)
 
 -- ---- the command

@@ -25,7 +25,8 @@ pub record HasKeysIn (i : Definition) (d : Pairs) : Type 0 where
 -- ---- a walk
 
 -- These documents are still to come in the walk.
-pub record IsUnindexing (i : Definition) (walk : Walk) (now : List Collection) (rest : List Pairs) : Type 0 where
+pub record IsUnindexing (i : Definition) (walk : Walk) (now : List Collection) (rest : List Pairs)
+    : Type 0 where
   pub walks : IsWalk now walk rest
   pub keyed : All (HasKeysIn i) rest
 
@@ -40,12 +41,14 @@ pub record HasUnindexed (number : ℕ) (i : Definition) (before after : List Edi
   pub none : more ≡ false → left ≡ []
 
 -- a collection of this number, whose documents the index doesn't refuse
-pub record IsIndexedBy (number : ℕ) (i : Definition) (now : List Collection) (c : Collection) : Type 0 where
+pub record IsIndexedBy (number : ℕ) (i : Definition) (now : List Collection) (c : Collection)
+    : Type 0 where
   pub numbered : IsNumbered now c number
   pub keyed : All (HasKeysIn i) c.documents
 
 -- all its entries were removed
-abbrev pub IsUnindexed : ℕ → Definition → List Edit → List Edit → List Collection → Collection → Unit {0} → Type 0
+abbrev pub IsUnindexed : ℕ → Definition → List Edit → List Edit → List Collection → Collection
+    → Unit {0} → Type 0
 IsUnindexed number i before after now c u = HasRemovedEntries before after number i c.documents
 
 -- ---- indexes

@@ -31,7 +31,14 @@ fn documents_as_bytes(rt: HostRuntime) -> Result<(), Fail> {
     assert_eq!(rt; imported.status, 0);
     let created = ended(
         &rt,
-        &["docpage", "ask", file, "--db", "t", "{\"create\": \"empty\"}"],
+        &[
+            "docpage",
+            "ask",
+            file,
+            "--db",
+            "t",
+            "{\"create\": \"empty\"}",
+        ],
         &[],
     )?;
     assert_eq!(rt; created.status, 0);
@@ -74,7 +81,14 @@ fn a_file_in_use(rt: HostRuntime) -> Result<(), Fail> {
     fs::write(&rt, file, b"")?;
     let other = File::open(&rt, file)?;
     assert!(rt; other.try_lock_shared().is_ok());
-    assert!(rt; is(&ended(&rt, &words, &[])?, 1, b"", b"docpage: NamespaceNotFound\n"));
+    assert!(rt;
+        is(
+            &ended(&rt, &words, &[])?,
+            1,
+            b"",
+            b"docpage: NamespaceNotFound\n"
+        )
+    );
     drop(other);
     let other = File::open(&rt, file)?;
     assert!(rt; other.try_lock().is_ok());

@@ -1,7 +1,6 @@
-use Rattle.std.proofs.Common.{List, subst, sym}
+use Rattle.std.proofs.Common.{subst, sym}
 use Rattle.std.proofs.lemmas.List.{take_all}
 use Rattle.std.proofs.lemmas.Result.{err_from_is_err_and}
-use Rattle.bson.specs.Tree.{Pairs}
 use Rattle.index.specs.IndexBuilding.{HasRemovedEntries}
 use Rattle.engine.specs.Unindexing.{HasKeysIn}
 use Rattle.engine.proofs.UnindexingLemmas.{removed_next, removed_none}

@@ -1,8 +1,7 @@
-use Rattle.std.proofs.Common.{ℕ, List, length, ◌+◌, ◌≡◌, Ok, sym, subst, ap, ◌∙◌}
+use Rattle.std.proofs.Common.{ℕ, ◌+◌, sym, subst, ap, ◌∙◌}
 use Rattle.std.proofs.lemmas.Result.{err_from_is_err_and}
 use Rattle.commands.specs.View.{dropped_of}
-use Rattle.index.specs.Definition.{Definition}
-use Rattle.engine.specs.DropIndexes.{left_by, remaining, run_drop_indexes}
+use Rattle.engine.specs.DropIndexes.{left_by, run_drop_indexes}
 use Rattle.engine.specs.View.{world, IsSendable}
 use Rattle.engine.proofs.DroppingIndexes.{may_be_left, unlisted_changes, unlisted_done, unlisted_home, unlisted_missing, unlisted_refused, unlisted_undone, unlisted_without_memory}
 use Rattle.engine.proofs.LookingLemmas.{performs_refused}

@@ -19,8 +19,8 @@ use Rattle.engine.proofs.SpelledSizes.{ping-sendable}
 use Rattle.engine.proofs.Sound.{performs_as, performs_told}
 use Rattle.engine.proofs.engine.Engine.run.Goals as goal
 
-pub returns-in-Ping-clause-sendable : goal.returns-in-Ping-clause-sendable
-returns-in-Ping-clause-sendable g c = subst IsSendable (sym c.in_ok-ping_reply-in-Ping.ensures) ping-sendable
+pub returns-in_ok-ping_reply-in-Ping-clause-sendable : goal.returns-in_ok-ping_reply-in-Ping-clause-sendable
+returns-in_ok-ping_reply-in-Ping-clause-sendable g c = subst IsSendable (sym c.in_ok-ping_reply-in-Ping.ensures) ping-sendable
 
 pub returns-in_err-read-clause-performs : goal.returns-in_err-read-clause-performs
 returns-in_err-read-clause-performs g c =
@@ -32,8 +32,8 @@ returns-in_err-ping_reply-in-Ping-clause-performs g c =
     let old = c.args.self.now in
     performs_told g.D.Disk.history old old c.args.connection c.args.body.now _ c.requires.sound refl refl refl (search rules)
 
-pub returns-in-Ping-clause-performs : goal.returns-in-Ping-clause-performs
-returns-in-Ping-clause-performs g c =
+pub returns-in_ok-ping_reply-in-Ping-clause-performs : goal.returns-in_ok-ping_reply-in-Ping-clause-performs
+returns-in_ok-ping_reply-in-Ping-clause-performs g c =
     let old = c.args.self.now in
     performs_told g.D.Disk.history old old c.args.connection c.args.body.now _ c.requires.sound refl refl refl (search rules)
 
@@ -84,8 +84,3 @@ returns-in-Update-clause-has_changes g c = λ k wrote.
     let same : asked ≡ called = λ i. record { namespace = sym c.as_str-in-Update.ensures.value i; statements = sym c.deref-in-Update.ensures.value i } in
     let spelled = c.in_ok-read.ensures.gives ∙ ap (λ (x : Command). Ok (command_read x)) c.in-Update.is in
     c.update.ensures.has_changes k wrote.0 (subst (λ (u : updates.Update). ChangesNone w (commands.update u)) same (wrote.1 (commands.update asked) spelled))
-
-pub returns-in-DropIndexes-clause-performs : goal.returns-in-DropIndexes-clause-performs
-returns-in-DropIndexes-clause-performs g c =
-    let old = c.args.self.now in
-    performs_told g.D.Disk.history old old c.args.connection c.args.body.now _ c.requires.sound refl refl refl (search rules)

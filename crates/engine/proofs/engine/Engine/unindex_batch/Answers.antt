@@ -1,10 +1,8 @@
-use Rattle.std.proofs.Common.{List, subst}
-use Rattle.std.specs.Prelude.{All, not}
+use Rattle.std.proofs.Common.{subst}
+use Rattle.std.specs.Prelude.{not}
 use Rattle.std.proofs.lemmas.Result.{err_from_is_err_and}
-use Rattle.bson.specs.Tree.{Pairs}
 use Rattle.index.specs.IndexBuilding.{HasRemovedEntries}
 use Rattle.engine.specs.Unindexing.{HasKeysIn}
-use Rattle.path.specs.declared.refusal.Refusal.TheVariants as refusals
 use Rattle.engine.proofs.DroppingLemmas.{fewer_left, none_more}
 use Rattle.engine.proofs.UnindexingLemmas.{batch_stays, batch_unindexed, batch_unread, fits_these}
 use Rattle.engine.proofs.engine.Engine.unindex_batch.Goals as goal
