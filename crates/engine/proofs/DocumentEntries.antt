@@ -1,7 +1,10 @@
 -- A document more in what the entries of a file stand for: its entries in indexes stand among all, and are no other document's.
-use Rattle.std.proofs.Common.{◌≡◌, ◌≢◌, ◌⊎◌, ℕ, ◌+◌, Bool, true, false, not, ◌&&◌, ◌||◌, List, [], ◌∷◌, ◌++◌, length, map, Some, None, inl, inr, refl, sym, ap, subst, ◌∙◌, arith, append_assoc, length-append}
+use Rattle.std.proofs.Common.{◌≡◌, ◌≢◌, ◌⊎◌, ℕ, set, ◌+◌, Bool, true, false, not, ◌&&◌, ◌||◌, List, [], ◌∷◌, ◌++◌, length, map, Some, None, inl, inr, refl, sym, ap, subst, ◌∙◌, arith, append_assoc, length-append}
 use Rattle.std.specs.Prelude.{◌==◌, if◌then◌else◌, Option}
 use Rattle.std.specs.Int.{w32, to_be_bytes}
+use Rattle.std.specs.Cmp.Lexicographic.{slice_cmp}
+use Rattle.std.specs.Ordering.{nat_cmp}
+use Rattle.std.proofs.lemmas.Cmp.{nat_list_cmp_total}
 use Rattle.std.specs.List.{flat_map, list_any}
 use Rattle.std.proofs.lemmas.List.{length-map}
 use Rattle.bson.specs.Tree.{Pairs}
@@ -16,7 +19,7 @@ use Rattle.index.specs.KeyTexts.{encoded_keys, entry_key, key_bytes}
 use Rattle.index.specs.IndexKeys.{index_keys}
 use Rattle.index.specs.LawfulState.{IsKept as IsIndexKept, IsStorable}
 use Rattle.index.specs.OtherKeys.{has_other_key, is_another}
-use Rattle.index.specs.State.{Collection, key_of}
+use Rattle.index.specs.State.{Collection, find_collection, key_of}
 use Rattle.index.specs.StateEntries.{catalogue_entry, document_entry, index_entries, index_entry, key_under}
 use Rattle.index.proofs.DocumentPlaces.{IsBetween, placed}
 use Rattle.index.proofs.EntryLemmas.{IsDocumentOf, IsKeyOf, same_first, same_rest, same_second, same_text}
@@ -30,10 +33,14 @@ use Rattle.index.proofs.PlaceLemmas.{among_put, found_split}
 use Rattle.index.proofs.LawfulLaws.{put_in}
 use Rattle.index.proofs.SetLemmas.{set_sorted}
 use Rattle.collections.specs.IndexChecks.{has_entry, is_empty_at, lacks_any, lacks_key, lacks_one}
+use Rattle.engine.specs.Checking.{total_documents}
+use Rattle.engine.specs.Places.{collection_at, no_collection}
 use Rattle.engine.specs.Judging.{AreLoaded, HasItsKeys, IsStoredAt, Progress, bare, key_count, keys_among, listed_of, numbered, with_document_at, with_document_in}
 use Rattle.engine.proofs.OnceLists.{AreOnce, once_append, once_flat, once_map, sorted_once}
 use Rattle.engine.proofs.TakingLemmas.{document_loaded, find_there, is_storable, kept_with}
-use Rattle.engine.proofs.EntriesSoFar.{IsKeyed, IsPlain, Stands, index_fits, not_both, one_of_one, seen_same, under_none}
+use Rattle.engine.proofs.Located.{Gap, There, located}
+use Rattle.engine.proofs.Ordered.{found as found_at, missing, replaced}
+use Rattle.engine.proofs.EntriesSoFar.{count_set, IsKeyed, IsPlain, Stands, index_fits, not_both, one_of_one, seen_same, under_none}
 
 -- ---- what a check of keys tells
 
@@ -292,7 +299,28 @@ module _ (all done : List Entry) (pair : Entry) (p : Progress) (s : Stands all d
           fresh m.document m.there
           (same_keys i.fields m.document d m.key key (storable_of c m.document kept m.there) good (subst (λ (j : Definition). Among m.key (encoded_keys j.fields m.document)) same m.keyed) mine ends).1
 
-  pub document_step : Stands all (done ++ pair ∷ []) (record { now = after; keys = p.keys + key_count (keys_among c.indexes d); seen = p.seen })
+  -- a document more
+  longer : length (put_document d c.documents) ≡ length c.documents + 1
+  longer =
+      omega (arith, ap (λ (ds : List Pairs). length ds) between.put, ap (λ (ds : List Pairs). length ds) between.split, length-append between.front between.back, length-append between.front (d ∷ between.back))
+
+  one_more : total_documents after ≡ p.documents + 1
+  one_more = at (located nat_list_cmp_total (λ (x : Collection). x.name) p.now c.name s.loaded.lawful.apart)
+    where
+      it : find_collection p.now c.name ≡ Some c
+      it = find_there p.now c s.loaded.lawful.apart there
+
+      at : Gap (slice_cmp nat_cmp) (λ (x : Collection). x.name) p.now c.name ⊎ There (slice_cmp nat_cmp) (λ (x : Collection). x.name) p.now c.name → total_documents after ≡ p.documents + 1
+      at (inl g) = let never : None ≡ Some c = sym (missing p.now g.0 c.name g.1) ∙ it in absurd cc
+      at (inr t) =
+          let put : after ≡ set p.now t.place with_it = replaced p.now t.place c.name with_it s.loaded.lawful.apart t.within (t.same no_collection) refl in
+          let here : collection_at p.now t.place ≡ c = some_same (sym (found_at p.now t.place c.name s.loaded.lawful.apart t.within (t.same no_collection)) ∙ it) in
+          omega (arith, ap total_documents put, count_set p.now t.place with_it no_collection t.within, ap (λ (x : Collection). length x.documents) here, longer, s.documents)
+        where
+          some_same : {x y : Collection} → Some x ≡ Some y → x ≡ y
+          some_same e = cc
+
+  pub document_step : Stands all (done ++ pair ∷ []) (record { now = after; documents = p.documents + 1; keys = p.keys + key_count (keys_among c.indexes d); seen = p.seen })
   document_step = record {
     loaded = subst AreLoaded now_is (document_loaded (listed_of p.now) p.now pair (bare c) d (record { named = refl; loaded = s.loaded }) told is).loaded;
     made = λ x h none. elim (among_append x done (pair ∷ []) h) [
@@ -311,6 +339,7 @@ module _ (all done : List Entry) (pair : Entry) (p : Progress) (s : Stands all d
     keyed = keyed_back;
     there = λ x h. elim (among_append x s.owed news h) [ inl g ↦ s.there x g | inr g ↦ news_there x g ];
     once = once_append s.owed news s.once (owed_once c d kept good) news_apart;
+    documents = one_more;
     keys = omega (arith, length-append s.owed news, s.keys, owed_long c.number c.indexes d);
     seen = seen_same done pair (under_none pair c.number (tree_text (key_of d)) (ap (λ (x : Entry). x.key) is.pair_is)) ∙ s.seen;
   }

@@ -1,5 +1,5 @@
 -- What some first entries of a file stand for: each is one of the collections so far, and those that indexes owe are counted.
-use Rattle.std.proofs.Common.{◌≡◌, ◌⊎◌, ℕ, ◌+◌, ◌<◌, ◌≤◌, ◌^◌, Bool, true, false, not, List, [], ◌∷◌, ◌++◌, length, inl, inr, refl, sym, ap, subst, ◌∙◌, arith, append-nil, length-append}
+use Rattle.std.proofs.Common.{◌≡◌, ◌⊎◌, ℕ, zero, suc, get_or, set, ◌+◌, ◌<◌, ◌≤◌, ◌^◌, Bool, true, false, not, List, [], ◌∷◌, ◌++◌, length, inl, inr, refl, sym, ap, subst, ◌∙◌, arith, append-nil, length-append}
 use Rattle.std.specs.Prelude.{◌==◌}
 use Rattle.std.proofs.lemmas.Bool.Decides.{nat_tests}
 use Rattle.std.proofs.lemmas.Nat.{from_be_bytes-to_be_bytes_4}
@@ -13,6 +13,7 @@ use Rattle.index.specs.StateEntries.{catalogue_entry, key_under}
 use Rattle.index.proofs.EntryLemmas.{IsDocumentOf, IsKeyOf}
 use Rattle.index.proofs.HomeLemmas.{listed_of as indexed_of}
 use Rattle.index.proofs.MemberLemmas.{Among, among_append, among_back, among_front}
+use Rattle.engine.specs.Checking.{total_documents}
 use Rattle.engine.specs.Judging.{AreLoaded, Progress, TakesKey, TakesName, index_in, is_of_index, listed_of, nothing_read}
 use Rattle.engine.proofs.OnceLists.{AreOnce, only, only_append}
 use Rattle.engine.proofs.TakingLemmas.{name_loaded, none_loaded, put_last}
@@ -49,6 +50,18 @@ key_some c x kept k =
 pub not_both : {A : Type 0} (b : Bool) → b ≡ true → b ≡ false → A
 not_both b is isnt = absurd (let never : true ≡ false = sym is ∙ isnt in cc)
 
+-- ---- how many documents there are
+
+pub count_append : (xs ys : List Collection) → total_documents (xs ++ ys) ≡ total_documents xs + total_documents ys
+count_append [] ys = omega arith
+count_append (x ∷ xs) ys = omega (arith, count_append xs ys)
+
+-- where one of them is put in another's place
+pub count_set : (cs : List Collection) (at : ℕ) (new d : Collection) → at < length cs → total_documents (set cs at new) + length (get_or cs at d).documents ≡ total_documents cs + length new.documents
+count_set [] at new d within = absurd (omega (arith, within))
+count_set (c ∷ cs) zero new d within = omega arith
+count_set (c ∷ cs) (suc at) new d within = omega (arith, count_set cs at new d (omega (arith, within)))
+
 -- ---- what stands for entries
 
 -- the catalogue's entry of one of the collections, or that of one of its documents
@@ -74,6 +87,7 @@ pub record Stands (all done : List Entry) (p : Progress) : Type 0 where
   pub keyed : (x : Entry) → IsKeyed p.now x → Among x owed
   pub there : (x : Entry) → Among x owed → Among x all
   pub once : AreOnce owed
+  pub documents : total_documents p.now ≡ p.documents
   pub keys : length owed ≡ p.keys
   pub seen : length (only is_of_index done) ≡ p.seen
 
@@ -87,6 +101,7 @@ nothing_stands all = record {
   keyed = λ x h. absurd h.there;
   there = λ x there. absurd there;
   once = tt;
+  documents = refl;
   keys = refl;
   seen = refl;
 }
@@ -131,6 +146,7 @@ module _ (all done : List Entry) (pair : Entry) (p : Progress) (s : Stands all d
     keyed = s.keyed;
     there = s.there;
     once = s.once;
+    documents = s.documents;
     keys = s.keys;
     seen = seen_more done pair t.is ∙ ap (λ (n : ℕ). n + 1) s.seen;
   })
@@ -171,6 +187,7 @@ module _ (all done : List Entry) (pair : Entry) (p : Progress) (s : Stands all d
       ];
       there = s.there;
       once = s.once;
+      documents = omega (arith, ap total_documents last, count_append p.now (n ∷ []), ap (λ (ds : List Pairs). length ds) bare_n, s.documents);
       keys = s.keys;
       seen = seen_same done pair (catalogue_none n pair pair_is) ∙ s.seen;
     }

@@ -19,7 +19,9 @@ use Rattle.collections.specs.View.{disk_history, pages_of}
 use Rattle.collections.proofs.ReadingLemmas.{window_all}
 use Rattle.collections.proofs.StandingLemmas.{stopped_same}
 use Rattle.engine.specs.FileOpening.{HasFault, HasTaken, IsOfEntries, IsRead, Judges, LoadsBatch, LoadsEntries, LoadsFile}
-use Rattle.engine.specs.Judging.{AreLoaded, IsFaultOf, Makes, MakesNone, Progress, RefusesOne, TakesAll, nothing_read}
+use Rattle.engine.specs.Loading.{named_as, progress_of}
+use Rattle.engine.specs.declared.loading.Loading.{Loading}
+use Rattle.engine.specs.Judging.{IsFaultOf, IsLoadingAs, Makes, MakesNone, Progress, RefusesOne, TakesAll, nothing_read}
 
 -- ---- lists of entries, one behind the other
 
@@ -249,24 +251,30 @@ loads_forever history from p last old new up = judged_memory history (λ all u. 
 
 -- ---- the whole file
 
-module _ {D : Type 0} (history : D → History) (end : Progress) (old new : State D) where
+module _ {D : Type 0} (history : D → History) (l : Loading) (last : List Collection) (old new : State D) where
+  abbrev end : Progress
+  end = progress_of l last
+
   abbrev Takes_whole : List Entry → Unit {0} → Type 0
   Takes_whole all u = TakesAll all nothing_read all end
 
   abbrev Refuses_whole : List Entry → Type 0
   Refuses_whole all = RefusesOne all nothing_read all
 
-  pub file_even : (last : List Collection) → LoadsEntries history (Ok tt) end old new → AreLoaded last → end.now ≡ last → end.keys ≡ end.seen → LoadsFile history (Ok tt) last old new
-  file_even last h loaded is even = record {
+  abbrev Makes_whole : List Entry → Loading → Type 0
+  Makes_whole all made = Makes all (progress_of made last)
+
+  pub file_even : LoadsEntries history (Ok tt) end old new → IsLoadingAs (map named_as l.names.items) last → l.keys ≡ l.seen → LoadsFile history (Ok l) last old new
+  file_even h loaded even = record {
     loaded = loaded;
-    judges = judged_as history Takes_whole Refuses_whole (λ all u. Makes all last) MakesNone old new tt tt h (λ all takes. record { end = end; takes = takes; even = even; made = is });
+    judges = judged_as history Takes_whole Refuses_whole Makes_whole MakesNone old new tt l h (λ all takes. record { takes = takes; even = even });
   }
 
-  pub file_uneven : (last : List Collection) → LoadsEntries history (Ok tt) end old new → end.keys ≢ end.seen → LoadsFile history (Err faults.Damaged) last old new
-  file_uneven last h differ = record { loaded = tt; judges = judged_damaged history (λ all u. Makes all last) MakesNone old new h.read (λ k all has. inr (end, h.answers k all has, differ)) }
+  pub file_uneven : LoadsEntries history (Ok tt) end old new → l.keys ≢ l.seen → LoadsFile history (Err faults.Damaged) last old new
+  file_uneven h differ = record { loaded = tt; judges = judged_damaged history Makes_whole MakesNone old new h.read (λ k all has. inr (end, h.answers k all has, differ)) }
 
-  pub file_failed : (fault : OpenFault) (last : List Collection) → LoadsEntries history (Err fault) end old new → LoadsFile history (Err fault) last old new
-  file_failed fault last h = record {
+  pub file_failed : (fault : OpenFault) → LoadsEntries history (Err fault) end old new → LoadsFile history (Err fault) last old new
+  file_failed fault h = record {
     loaded = tt;
-    judges = failed_as history Takes_whole Refuses_whole (λ all u. Makes all last) MakesNone old new fault h (λ all refuses. inl refuses);
+    judges = failed_as history Takes_whole Refuses_whole Makes_whole MakesNone old new fault h (λ all refuses. inl refuses);
   }

@@ -7,6 +7,7 @@ use Rattle.index.specs.StateEntries.{Spells, catalogue_entry, collection_entries
 use Rattle.index.proofs.EntryLemmas.{IsDocumentOf, IsOneOf, document_among, keyed_among}
 use Rattle.index.proofs.HomeLemmas.{home_of, kept_of}
 use Rattle.index.proofs.MemberLemmas.{Among, among_each, among_of, contains_of}
+use Rattle.engine.specs.Checking.{total_documents}
 use Rattle.engine.specs.Judging.{AreLoaded, HasItsKeys, IsStoredAt, Makes, Progress, Takes, TakesAll, bare, is_of_index, key_count, keys_among, nothing_read, numbered, with_document_at}
 use Rattle.engine.proofs.OnceLists.{all_within, only, only_there}
 use Rattle.engine.proofs.TakingLemmas.{found_at}
@@ -37,8 +38,8 @@ one_step all done rest pair p next rises s (inr (inl t)) =
     let made = document_step all done pair p s c t.document at.there found is keyed under in
     let now_same : with_document_at t.collection.number t.document p.now ≡ with_documents c (put_document t.document c.documents) p.now =
     ap (λ (n : ℕ). with_document_at n t.document p.now) (sym at.same) ∙ now_is all done pair p s c t.document at.there found is keyed under in
-    let next_same : record { now = with_documents c (put_document t.document c.documents) p.now; keys = p.keys + key_count (keys_among c.indexes t.document); seen = p.seen } ≡ next =
-    sym (t.next_is ∙ (λ i. record { now = now_same i; keys = p.keys + key_count (keys_among (sym at.told i).indexes t.document); seen = p.seen })) in
+    let next_same : record { now = with_documents c (put_document t.document c.documents) p.now; documents = p.documents + 1; keys = p.keys + key_count (keys_among c.indexes t.document); seen = p.seen } ≡ next =
+    sym (t.next_is ∙ (λ i. record { now = now_same i; documents = p.documents + 1; keys = p.keys + key_count (keys_among (sym at.told i).indexes t.document); seen = p.seen })) in
     subst (Stands all (done ++ pair ∷ [])) next_same made
 
 pub steps_on : (all done pairs : List Entry) (p last : Progress) → Rises (entry_keys (done ++ pairs)) → Stands all done p → TakesAll all p pairs last → Stands all (done ++ pairs) last
@@ -97,10 +98,13 @@ module _ (all : List Entry) (end : Progress) (s : Stands all all end) where
 pub all_stand : (all : List Entry) (end : Progress) → Rises (entry_keys all) → TakesAll all nothing_read all end → Stands all all end
 all_stand all end rises takes = steps_on all [] all nothing_read end rises (nothing_stands all) takes
 
--- Entries that make collections spell them, and the collections are lawful.
-pub made_spell : (all : List Entry) (last : List Collection) → Rises (entry_keys all) → Makes all last → Spells all last × AreLoaded last
-made_spell all last rises m =
-    let s = all_stand all m.end rises m.takes in (
-      subst (Spells all) m.made (stands_spell all m.end s rises m.even),
-      subst AreLoaded m.made s.loaded,
-    )
+-- What entries stand for that make collections: these are lawful, and as many documents as were counted.
+pub record AreSpelled (all : List Entry) (end : Progress) : Type 0 where
+  pub spells : Spells all end.now
+  pub loaded : AreLoaded end.now
+  pub documents : total_documents end.now ≡ end.documents
+
+pub made_spell : (all : List Entry) (end : Progress) → Rises (entry_keys all) → Makes all end → AreSpelled all end
+made_spell all end rises m =
+    let s = all_stand all end rises m.takes in
+    record { spells = stands_spell all end s rises m.even; loaded = s.loaded; documents = s.documents }

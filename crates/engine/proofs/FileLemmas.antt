@@ -19,7 +19,9 @@ use Rattle.engine.specs.Durable.{Holds}
 use Rattle.engine.specs.FileOpening.{IsFileOpened, LoadsFile}
 use Rattle.engine.specs.Known.{Known}
 use Rattle.engine.specs.Lawful.{IsStored}
+use Rattle.engine.specs.Loading.{progress_of}
 use Rattle.engine.specs.Opening.{IsRefused}
+use Rattle.engine.specs.declared.loading.Loading.{Loading}
 use Rattle.engine.proofs.FileEntries.{made_spell}
 use Rattle.engine.proofs.RefusingLemmas.{none_unmade}
 use Rattle.engine.proofs.TakingLemmas.{loaded_lawful}
@@ -42,28 +44,28 @@ module _ {D : Type 0} (history : D → History) (disk : D) (old new : State D) (
       leaves_further h0 h1 h2 (IsImage (now h0)) goes.stays.reads.on (opened.any_moment readable)
       (λ k image left. leaves_now h0 h1 (IsImage (now h0)) opened.on (opened.any_moment readable) (goes.stays.reads.on.kept k) image (reads_moments h1 h2 goes.stays.reads k image left))
 
-  holds_there : (last : List Collection) → LoadsFile history (Ok tt) last old new → KeepsWord (disk_history history new) → Holds (reads (now (history disk))) last
-  holds_there last loads k =
+  holds_there : (l : Loading) (last : List Collection) → LoadsFile history (Ok l) last old new → KeepsWord (disk_history history new) → Holds (reads (now (history disk))) last
+  holds_there l last loads k =
       let read = opened.stands (word_before loads.judges.read.on k) in record {
-        lawful = loaded_lawful last loads.loaded;
+        lawful = loaded_lawful last loads.loaded.loaded;
         file = record {
           entries = read.entries;
           stands = read.image;
-          spells = (made_spell read.entries last (tree_rises history old read.entries read.tree) (loads.judges.answers k read.entries read.tree)).0;
-          state = loads.loaded.lawful;
+          spells = (made_spell read.entries (progress_of l last) (tree_rises history old read.entries read.tree) (loads.judges.answers k read.entries read.tree)).spells;
+          state = loads.loaded.loaded.lawful;
         };
       }
 
-  opened_with : (last : List Collection) → LoadsFile history (Ok tt) last old new → IsFileOpened history disk (record { start = last; now = last }) new
-  opened_with last loads = record {
-    lawful = loaded_lawful last loads.loaded;
+  opened_with : (l : Loading) (last : List Collection) → LoadsFile history (Ok l) last old new → IsFileOpened history disk (record { start = last; now = last }) new
+  opened_with l last loads = record {
+    lawful = loaded_lawful last loads.loaded.loaded;
     idle = refl;
     running = stays_running loads.judges.read.on;
     on = goes_there loads.judges.read.on;
-    file = λ running k. loads.judges.read.same last last (opened.begun last (λ _. (holds_there last loads k).file)) running k;
-    holds = holds_there last loads;
+    file = λ running k. loads.judges.read.same last last (opened.begun last (λ _. (holds_there l last loads k).file)) running k;
+    holds = holds_there l last loads;
     alone = λ k image is.
-        let h : Holds (reads (now (history disk))) last = holds_there last loads k in
+        let h : Holds (reads (now (history disk))) last = holds_there l last loads k in
         record {
           lawful = h.lawful;
           file = opened.alone last h.file (word_before loads.judges.read.on k) image (subst (λ (s : ℕ → Sector). IsImage s image) (loads.judges.read.on.stays.reads.same k) is);
@@ -71,8 +73,8 @@ module _ {D : Type 0} (history : D → History) (disk : D) (old new : State D) (
     any_moment = moments_there loads.judges.read.on;
   }
 
-  pub file_opened : (last : List Collection) (known : Known) → LoadsFile history (Ok tt) last old new → known ≡ record { start = last; now = last } → IsFileOpened history disk known new
-  file_opened last known loads is = subst (λ (k : Known). IsFileOpened history disk k new) (sym is) (opened_with last loads)
+  pub file_opened : (l : Loading) (last : List Collection) (known : Known) → LoadsFile history (Ok l) last old new → known ≡ record { start = last; now = last } → IsFileOpened history disk known new
+  file_opened l last known loads is = subst (λ (k : Known). IsFileOpened history disk k new) (sym is) (opened_with l last loads)
 
   pub file_refused : (back : D) (fault : OpenFault) (last : List Collection) → history back ≡ disk_history history new → LoadsFile history (Err fault) last old new → IsRefused history disk back fault
   file_refused back fault last is loads = record {

@@ -91,6 +91,7 @@ pub mod IndexingLemmas
 pub mod IndexingSteps
 pub mod CreatingIndexes
 pub mod Dumping
+pub mod FileCounts
 pub mod DroppedIndexLemmas
 pub mod UnindexingLemmas
 pub mod DroppingIndexes

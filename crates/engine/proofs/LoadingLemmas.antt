@@ -110,15 +110,15 @@ module _ (names now : List Collection) (number : ℕ) (c : Collection) (pair : E
       subst (λ (n : ℕ). IsLoadingAs names (with_document_at n d now)) same_number
       (document_loaded names now pair c d loading (ap (λ (n : ℕ). numbered n names) same_number ∙ told) is)
 
-  pub document_takes : (all : List Entry) (d : Pairs) (count n seen : ℕ) → IsStoredAt c pair d → IsJudged c count all (d, n)
-      → TakesDocument all (record { now = now; keys = count; seen = seen }) pair (record { now = with_document_at number d now; keys = n; seen = seen })
-  document_takes all d count n seen is judged = record {
+  pub document_takes : (all : List Entry) (d : Pairs) (documents count n seen : ℕ) → IsStoredAt c pair d → IsJudged c count all (d, n)
+      → TakesDocument all (record { now = now; documents = documents; keys = count; seen = seen }) pair (record { now = with_document_at number d now; documents = documents + 1; keys = n; seen = seen })
+  document_takes all d documents count n seen is judged = record {
     collection = c;
     document = d;
     listed = listed_so;
     is = is;
     keyed = judged.0;
-    next_is = λ k. record { now = with_document_at (sym same_number k) d now; keys = judged.1 k; seen = seen };
+    next_is = λ k. record { now = with_document_at (sym same_number k) d now; documents = documents + 1; keys = judged.1 k; seen = seen };
   }
 
   pub document_refuses : (all : List Entry) → IsNone c pair all → (e : Collection) (d : Pairs) → e.number ≡ number → numbered number (listed_of now) ≡ Some e → IsStoredAt e pair d → HasItsKeys all e d → ⊥
@@ -133,17 +133,17 @@ module _ (names now : List Collection) (number : ℕ) (c : Collection) (pair : E
   abbrev Refuses_all : List Entry → Type 0
   Refuses_all all = (e : Collection) (d : Pairs) → e.number ≡ number → numbered number (listed_of now) ≡ Some e → IsStoredAt e pair d → HasItsKeys all e d → ⊥
 
-  module _ {D : Type 0} (history : D → History) (count seen : ℕ) (old new : State D) where
+  module _ {D : Type 0} (history : D → History) (documents count seen : ℕ) (old new : State D) where
     pub document_taken : (d : Pairs) (n : ℕ) (after : List Collection) → after ≡ with_document_at number d now → IsStoredAt c pair d → Judges history (IsJudged c count) (IsNone c pair) (Ok (d, n)) old new
-        → Judges history (λ all (u : Unit {0}). TakesDocument all (record { now = now; keys = count; seen = seen }) pair (record { now = after; keys = n; seen = seen })) Refuses_all (Ok tt) old new
+        → Judges history (λ all (u : Unit {0}). TakesDocument all (record { now = now; documents = documents; keys = count; seen = seen }) pair (record { now = after; documents = documents + 1; keys = n; seen = seen })) Refuses_all (Ok tt) old new
     document_taken d n after made is judged =
-        judged_as history (IsJudged c count) (IsNone c pair) (λ all (u : Unit {0}). TakesDocument all (record { now = now; keys = count; seen = seen }) pair (record { now = after; keys = n; seen = seen })) Refuses_all old new (d, n) tt judged
-        (λ all j. subst (λ (later : List Collection). TakesDocument all (record { now = now; keys = count; seen = seen }) pair (record { now = later; keys = n; seen = seen })) (sym made) (document_takes all d count n seen is j))
+        judged_as history (IsJudged c count) (IsNone c pair) (λ all (u : Unit {0}). TakesDocument all (record { now = now; documents = documents; keys = count; seen = seen }) pair (record { now = after; documents = documents + 1; keys = n; seen = seen })) Refuses_all old new (d, n) tt judged
+        (λ all j. subst (λ (later : List Collection). TakesDocument all (record { now = now; documents = documents; keys = count; seen = seen }) pair (record { now = later; documents = documents + 1; keys = n; seen = seen })) (sym made) (document_takes all d documents count n seen is j))
 
     pub document_failed : (fault : OpenFault) (next : Progress) → Judges history (IsJudged c count) (IsNone c pair) (Err fault) old new
-        → Judges history (λ all (u : Unit {0}). TakesDocument all (record { now = now; keys = count; seen = seen }) pair next) Refuses_all (Err fault) old new
+        → Judges history (λ all (u : Unit {0}). TakesDocument all (record { now = now; documents = documents; keys = count; seen = seen }) pair next) Refuses_all (Err fault) old new
     document_failed fault next judged =
-        failed_as history (IsJudged c count) (IsNone c pair) (λ all (u : Unit {0}). TakesDocument all (record { now = now; keys = count; seen = seen }) pair next) Refuses_all old new fault judged (λ all none. document_refuses all none)
+        failed_as history (IsJudged c count) (IsNone c pair) (λ all (u : Unit {0}). TakesDocument all (record { now = now; documents = documents; keys = count; seen = seen }) pair next) Refuses_all old new fault judged (λ all none. document_refuses all none)
 
 -- ---- which entry is refused
 

@@ -64,7 +64,7 @@ module _ {D : Type 0} (history : D → History) where
   word_before a b goes k = (goes.frame k).word
 
   module _ (a b c : State D) (goes : GoesFrom history a b) (k : KeepsWord (views.disk_history history b)) where
-    failed_from : HasFailed history b c → HasFailed history a c
+    pub failed_from : HasFailed history b c → HasFailed history a c
     failed_from (inl stopped) = inl (sym (stopped_same history a.pager b.pager goes.stays) ∙ stopped)
     failed_from (inr more) = inr (omega (arith, more, (goes.frame k).failures))
 

@@ -352,7 +352,7 @@ module _ (all : List Entry) (cs : List Collection) (spells : Spells all cs) (law
     )
 
     abbrev with_it : Collection → Pairs → Progress
-    with_it e d = record { now = with_document_at e.number d p.now; keys = p.keys + key_count (keys_among e.indexes d); seen = p.seen }
+    with_it e d = record { now = with_document_at e.number d p.now; documents = p.documents + 1; keys = p.keys + key_count (keys_among e.indexes d); seen = p.seen }
 
     takes_document : (d : Pairs) → Among d c.documents → pair ≡ document_entry c.number d → (next : Progress) × Takes all p pair next
     takes_document d inside is =

@@ -1,5 +1,5 @@
 -- What opening a file gives.
-use Rattle.std.specs.Prelude.{◌≡◌, ◌≢◌, ℕ, false, List, ◌++◌, Option, Some, Result, IfErr, MatchResult, OnOk}
+use Rattle.std.specs.Prelude.{◌≡◌, ◌≢◌, ℕ, false, List, ◌++◌, map, Option, Some, Result, IfErr, IfOk, MatchResult}
 use Rattle.std.specs.Global.{Vec}
 use Rattle.std.specs.Option.{option_map}
 use Rattle.page.specs.History.{History, KeepsWord, now, reads, IsImage}
@@ -14,7 +14,9 @@ use Rattle.collections.specs.State.{State}
 use Rattle.collections.specs.Standing.{HasState}
 use Rattle.collections.specs.View.{disk_history, is_stopped}
 use Rattle.engine.specs.Durable.{Holds}
-use Rattle.engine.specs.Judging.{AreLoaded, Makes, MakesNone, Progress, RefusesOne, TakesAll, nothing_read}
+use Rattle.engine.specs.Judging.{IsLoadingAs, Makes, MakesNone, Progress, RefusesOne, TakesAll, nothing_read}
+use Rattle.engine.specs.Loading.{named_as, progress_of}
+use Rattle.engine.specs.declared.loading.Loading.{Loading}
 use Rattle.engine.specs.Lawful.{IsLawfulState}
 use Rattle.engine.specs.Known.{Known}
 
@@ -69,10 +71,10 @@ LoadsEntries history result last old new = Judges history
     result old new
 
 -- All that the file's tree has was read, and it makes these collections.
-pub record LoadsFile {D : Type 0} (history : D → History) (result : Result (Unit {0}) OpenFault)
+pub record LoadsFile {D : Type 0} (history : D → History) (result : Result Loading OpenFault)
     (last : List Collection) (old new : State D) : Type 0 where
-  pub loaded : OnOk result (AreLoaded last)
-  pub judges : Judges history (λ all u. Makes all last) MakesNone result old new
+  pub loaded : IfOk result (λ l. IsLoadingAs (map named_as l.names.items) last)
+  pub judges : Judges history (λ all l. Makes all (progress_of l last)) MakesNone result old new
 
 -- ---- the file
 

@@ -111,14 +111,16 @@ is_of_index pair = not (index_in pair.key == 0)
 
 -- ---- what entries make
 
--- What was read of a file so far: the collections, how many keys their documents have, and how many entries of indexes there were.
+-- What was read of a file so far: the collections, how many documents they have and how many keys these have, and how many entries
+-- of indexes there were.
 pub record Progress : Type 0 where
   pub now : List Collection
+  pub documents : ℕ
   pub keys : ℕ
   pub seen : ℕ
 
 abbrev pub nothing_read : Progress
-nothing_read = record { now = []; keys = 0; seen = 0 }
+nothing_read = record { now = []; documents = 0; keys = 0; seen = 0 }
 
 -- the collection with a document, where none of another `_id` has one of its keys in a unique index
 abbrev pub with_document_in : Option Collection → Pairs → List Collection → List Collection
@@ -144,6 +146,7 @@ pub record TakesDocument (all : List Entry) (p : Progress) (pair : Entry)
   pub keyed : HasItsKeys all collection document
   pub next_is : next ≡ record {
     now = with_document_at collection.number document p.now;
+    documents = p.documents + 1;
     keys = p.keys + key_count (keys_among collection.indexes document);
     seen = p.seen;
   }
@@ -174,11 +177,9 @@ RefusesOne all p (pair ∷ pairs) = Refuses all p pair
     ⊎ ((next : Progress) × Takes all p pair next × RefusesOne all next pairs)
 
 -- All of them are taken, and there are as many entries of indexes as keys.
-pub record Makes (all : List Entry) (last : List Collection) : Type 0 where
-  pub end : Progress
+pub record Makes (all : List Entry) (end : Progress) : Type 0 where
   pub takes : TakesAll all nothing_read all end
   pub even : end.keys ≡ end.seen
-  pub made : end.now ≡ last
 
 -- They make no collections: one of them is refused, or there are more or fewer entries of indexes than keys.
 abbrev pub MakesNone : List Entry → Type 0

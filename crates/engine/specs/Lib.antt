@@ -53,3 +53,4 @@ pub mod Unindexing
 pub mod FileOpening
 pub mod CheckFaults
 pub mod Dump
+pub mod Checking

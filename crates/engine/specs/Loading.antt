@@ -15,4 +15,5 @@ named_as n = record {
 }
 
 abbrev pub progress_of : Loading → List Collection → Progress
-progress_of l now = record { now = now; keys = l.keys; seen = l.seen }
+progress_of l now =
+    record { now = now; documents = l.documents; keys = l.keys; seen = l.seen }

@@ -1,10 +1,11 @@
 //! Why a file is not looked through.
 
 ghost use Rattle.std.specs.Prelude.{◌≡◌};
-ghost use Rattle.engine.specs.CheckFaults.{check_fault, check_fault_name};
+ghost use Rattle.engine.specs.CheckFaults.{check_fault, check_fault_name, reading_fault};
 ghost use Rattle.engine.specs.declared.check_fault.CheckFault.TheVariants as faults;
 
 use path::Refusal;
+use roots::OpenFault;
 use std::alloc::AllocError;
 
 /// Why the file is not looked through to its end.
@@ -43,6 +44,19 @@ impl From<Refusal> for CheckFault {
             Refusal::OutOfMemory => CheckFault::Memory,
             Refusal::Full => CheckFault::Memory,
             _ => CheckFault::Device,
+        }
+    }
+}
+
+/// The fault that a refusal to read the file's pages or its entries is.
+impl From<OpenFault> for CheckFault {
+    ghost from_gives = { λ refusal fault. fault ≡ reading_fault refusal };
+
+    fn from(refusal: OpenFault) -> CheckFault {
+        match refusal {
+            OpenFault::Device => CheckFault::Device,
+            OpenFault::Memory => CheckFault::Memory,
+            _ => CheckFault::Damaged,
         }
     }
 }

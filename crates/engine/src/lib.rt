@@ -6,6 +6,7 @@ mod batch;
 mod batch_reply;
 mod by_id;
 mod check_fault;
+mod checking;
 mod connection;
 mod count;
 mod create;
@@ -43,6 +44,7 @@ mod updates;
 mod writing;
 
 pub use check_fault::CheckFault;
+pub use checking::Counts;
 pub use connection::{CONNECTIONS, ConnId};
 pub use engine::{Engine, Reply};
 pub use path::Refusal;

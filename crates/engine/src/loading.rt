@@ -25,11 +25,12 @@ use std::alloc::Global;
 /// How many entries are read at a time.
 const BATCH: usize = 64;
 
-/// What was read of a file so far, beside what is told: the catalogue, how many keys documents have, and how many entries of
-/// indexes there were.
+/// What was read of a file so far, beside what is told: the catalogue, how many documents there were, how many keys these have, and
+/// how many entries of indexes there were.
 #[derive(Drop)]
 pub(crate) struct Loading {
     pub names: Vec<Named>,
+    pub documents: u64,
     pub keys: u64,
     pub seen: u64,
 }
@@ -127,8 +128,12 @@ fn take_document<D: Disk>(
     let Some(of) = numbered(&loading.names, number) else {
         return Err(OpenFault::Damaged);
     };
+    let Some(documents) = loading.documents.checked_add(1) else {
+        return Err(OpenFault::Memory);
+    };
     match judge_document(alloc, file, of, loading.keys, entry) {
         Ok((document, keys)) => {
+            loading.documents = documents;
             loading.keys = keys;
             told.change(&(number, document));
             Ok(())
@@ -244,7 +249,8 @@ fn load_entries<D: Disk>(
 ) -> Result<(), OpenFault>
     requires read { progress_of loading.old told.old.value.now ≡ nothing_read }
     requires names { loading.old.names.items ≡ [] }
-    ensures loaded { OnOk result (AreLoaded told.new.value.now) }
+    ensures loaded { OnOk result
+        (IsLoadingAs (map named_as loading.new.names.items) told.new.value.now) }
     ensures loads { LoadsEntries D.history result (progress_of loading.new told.new.value.now)
         file.old file.new }
 {
@@ -260,16 +266,17 @@ fn load_entries<D: Disk>(
 }
 
 /// Takes all entries of a file, of which nothing is told yet: there are as many entries of indexes as keys of documents.
-fn load_file<D: Disk>(
+pub(crate) fn load_file<D: Disk>(
     alloc: Global,
     file: &mut FileCollections<D>,
     told: &mut Told,
-) -> Result<(), OpenFault>
+) -> Result<Loading, OpenFault>
     requires { told.old.value.now ≡ [] }
     ensures { LoadsFile D.history result told.new.value.now file.old file.new }
 {
     let mut loading = Loading {
         names: Vec::new(alloc),
+        documents: 0,
         keys: 0,
         seen: 0,
     };
@@ -280,7 +287,7 @@ fn load_file<D: Disk>(
     if loading.keys != loading.seen {
         return Err(OpenFault::Damaged);
     }
-    Ok(())
+    Ok(loading)
 }
 
 /// Opens a disk that a crash may have left, as a file of at most so many pages, or those that it has. Each entry of its tree is
@@ -299,7 +306,7 @@ pub(crate) fn open_file<D: Disk>(
     };
     let mut told = Told::of(&());
     match load_file(alloc, &mut file, &mut told) {
-        Ok(()) => {}
+        Ok(_) => {}
         Err(fault) => return Err((file.into_disk(), fault)),
     }
     told.keep();

@@ -7,6 +7,7 @@ docpage keeps documents in one file and answers MongoDB-style commands.
   docpage ask FILE [--db NAME] [--all] [--pretty] [COMMAND]..
   docpage import FILE NAMESPACE
   docpage export FILE NAMESPACE [--canonical]
+  docpage check FILE
   docpage dump FILE NAMESPACE
   docpage exec FILE
   docpage listen FILE --port P [--idle-seconds S]
@@ -51,6 +52,16 @@ Prints the documents of a collection, one a line in MongoDB Extended JSON, in as
   docpage export people.docpage test.people >people.json
 ";
 
+const CHECK: &str = "\
+docpage check FILE
+
+Reads the whole file, judges every page and document and that its indexes agree with them, and prints how much there is: the number
+of the last commit, collections, documents, indexes (with those on _id), pages, and how many of these are free. FILE is read and
+never written. A file that is not sound is the fault Damaged.
+
+  docpage check people.docpage
+";
+
 const DUMP: &str = "\
 docpage dump FILE NAMESPACE
 
@@ -92,6 +103,7 @@ fn page(word: &str) -> &'static str {
         "ask" => ASK,
         "import" => IMPORT,
         "export" => EXPORT,
+        "check" => CHECK,
         "dump" => DUMP,
         "exec" => EXEC,
         "listen" => LISTEN,

@@ -4,6 +4,7 @@ ghost use Rattle.std.specs.Prelude.{IfOk};
 ghost use Rattle.page.specs.Unknown.{unknown_history};
 ghost use Rattle.server.specs.Durable.{IsSound};
 
+use crate::check::check;
 use crate::dump::dump;
 use crate::exec::exec;
 use crate::fault::ProgramFault;
@@ -52,8 +53,9 @@ pub fn run<
 /// Both print `listening on 127.0.0.1:P` once the port can be connected to; port 0 is any that is free.
 ///
 /// `ask FILE [COMMAND]..` asks commands in Extended JSON, `import FILE NAMESPACE` brings documents in and `export FILE NAMESPACE`
-/// writes them out, one a line; on a terminal they say on `errors` how far they are. `dump FILE NAMESPACE` writes the bytes of
-/// documents in hexadecimal, one document a line. Words that ask for help get it on `output`, and are no program.
+/// writes them out, one a line; on a terminal they say on `errors` how far they are. `check FILE` prints what the file holds, and
+/// `dump FILE NAMESPACE` the bytes of documents in hexadecimal, one document a line. Words that ask for help get it on `output`, and
+/// are no program.
 pub fn run_at<
     R: AllocGlobal + Clock + Files<File = File> + Net<Listener = TcpListener, Stream = TcpStream>,
 >(
@@ -136,6 +138,7 @@ fn run_task<
             import_all(rt, alloc, server, imported, terminal, input, output, errors)
         }
         Task::Export(exported) => export_all(rt, alloc, server, exported, terminal, output, errors),
+        Task::Check => check(&mut server.core, output),
         Task::Dump(dumped) => dump(alloc, &mut server.core, &dumped.namespace, output),
     }
 }
@@ -160,7 +163,7 @@ fn open<R: AllocGlobal + Files<File = File>>(
     ensures { IfOk result (λ server. IsSound (λ _. unknown_history) server.core) }
 {
     let opened = match &words.task {
-        Task::Export(_) | Task::Dump(_) => FileDisk::open_to_read(rt, &words.file),
+        Task::Export(_) | Task::Check | Task::Dump(_) => FileDisk::open_to_read(rt, &words.file),
         _ => FileDisk::open(rt, &words.file, true),
     };
     let disk = match opened {

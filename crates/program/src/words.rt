@@ -18,17 +18,19 @@ enum Program {
     Ask,
     Import,
     Export,
+    Check,
     Dump,
 }
 
 /// All programs.
-const PROGRAMS: [Program; 7] = [
+const PROGRAMS: [Program; 8] = [
     Program::Exec,
     Program::Serve,
     Program::Listen,
     Program::Ask,
     Program::Import,
     Program::Export,
+    Program::Check,
     Program::Dump,
 ];
 
@@ -54,6 +56,8 @@ pub(crate) enum Task {
     Import(ImportWords),
     /// To write documents out.
     Export(ExportWords),
+    /// To look through the file and count what it holds.
+    Check,
     /// To write the bytes of documents out.
     Dump(DumpWords),
 }
@@ -128,6 +132,9 @@ fn words_in(alloc: Global, matches: &ArgMatches<'_>) -> Result<Option<Words>, Al
     if let Some(export) = matches.subcommand_matches("export") {
         return words_of(alloc, export, export_of(alloc, export)?);
     }
+    if let Some(check) = matches.subcommand_matches("check") {
+        return words_of(alloc, check, Some(Task::Check));
+    }
     if let Some(dump) = matches.subcommand_matches("dump") {
         return words_of(alloc, dump, dump_of(alloc, dump)?);
     }
@@ -167,6 +174,7 @@ fn words_for<'a>(alloc: Global, program: Program) -> Result<Command<'a>, AllocEr
         Program::Ask => ask_words(alloc),
         Program::Import => import_words(alloc),
         Program::Export => export_words(alloc),
+        Program::Check => Command::new(alloc, "check").arg(file(alloc)),
         Program::Dump => dump_words(alloc),
     }
 }

@@ -8,7 +8,7 @@ use crate::session::Session;
 use crate::tables::Subject;
 use op_msg::FrameFault;
 use page::MemDisk;
-use server::{OpenFault, TurnOut};
+use server::{Counts, OpenFault, TurnOut};
 use std::alloc::Global;
 use std::collections::VecDeque;
 use std::rc::Rc;
@@ -279,6 +279,15 @@ impl Player {
             Err(Fault::Stopped) => Ok(()),
             Err(fault) => Err(fault),
             Ok(()) => Err(differs(self.alloc, "a turn that is cut", "a turn")?),
+        }
+    }
+
+    /// What the file holds, between turns.
+    pub fn check(&mut self) -> Result<Counts, Fault> {
+        self.is_idle()?;
+        match self.session.as_mut() {
+            Some(session) => session.check(),
+            None => Err(Fault::Form("no server is open")),
         }
     }
 

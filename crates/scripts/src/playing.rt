@@ -196,6 +196,25 @@ impl Player {
         Err(differs(self.alloc, "fewer calls of the device", came.as_str())?)
     }
 
+    /// A check of the file counts this.
+    pub fn counts(&mut self, wanted: &str) -> Result<(), Fault> {
+        let counts = self.check()?;
+        let came = format!(
+            in self.alloc;
+            "generation {} collections {} documents {} indexes {} pages {} free {}",
+            counts.generation,
+            counts.collections,
+            counts.documents,
+            counts.indexes,
+            counts.pages,
+            counts.free,
+        )?;
+        if came.as_str() == wanted {
+            return Ok(());
+        }
+        Err(differs(self.alloc, wanted, came.as_str())?)
+    }
+
     /// `fail N` or `fail N lands`.
     pub fn fail(&mut self, rest: &str) -> Result<(), Fault> {
         let (number, manner) = rest.split_once(' ').unwrap_or((rest, ""));

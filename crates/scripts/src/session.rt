@@ -4,7 +4,7 @@ use crate::device::{Device, Orders};
 use crate::fault::Fault;
 use engine::ConnId;
 use page::MemDisk;
-use server::{Config, Core, FeedFault, OpenFault, TurnFault, TurnOut};
+use server::{CheckFault, Config, Core, Counts, FeedFault, OpenFault, TurnFault, TurnOut};
 use std::alloc::Global;
 use std::marker::Model;
 use std::rc::Rc;
@@ -85,6 +85,20 @@ impl Session {
             Ok(out) => Ok(out),
             Err(TurnFault::Stopped) => Err(Fault::Stopped),
             Err(TurnFault::Memory) => Err(Fault::Memory),
+        }
+    }
+
+    /// What its file holds.
+    pub fn check(&mut self) -> Result<Counts, Fault> {
+        let mut counts = self.core.check();
+        if self.is_patient && matches!(counts, Err(CheckFault::Memory)) {
+            counts = self.core.check();
+        }
+        match counts {
+            Ok(counts) => Ok(counts),
+            Err(CheckFault::Device) => Err(Fault::Refused),
+            Err(CheckFault::Memory) => Err(Fault::Memory),
+            Err(_) => Err(Fault::Form("the file is damaged")),
         }
     }
 

@@ -86,6 +86,7 @@ impl Player {
             Word::Fail => self.fail(rest),
             Word::Cut => self.cut(rest),
             Word::Calls => self.calls(rest),
+            Word::Check => self.counts(rest),
             _ => {
                 self.orders.stop_after(number_in(rest)?);
                 Ok(())

@@ -28,6 +28,7 @@ pub enum Word {
     Fail,
     Cut,
     Calls,
+    Check,
     Json,
     Text,
     Bson,
@@ -38,7 +39,7 @@ pub enum Word {
 }
 
 /// Each word as it is written.
-const WORDS: [(&str, Word); 32] = [
+const WORDS: [(&str, Word); 33] = [
     (">", Word::Command),
     (">>", Word::WholeCommand),
     ("look", Word::Look),
@@ -64,6 +65,7 @@ const WORDS: [(&str, Word); 32] = [
     ("fail", Word::Fail),
     ("cut", Word::Cut),
     ("calls", Word::Calls),
+    ("check", Word::Check),
     ("json", Word::Json),
     ("text", Word::Text),
     ("bson", Word::Bson),
@@ -136,7 +138,8 @@ impl Word {
             | Word::Stop
             | Word::Fail
             | Word::Cut
-            | Word::Calls => Kind::Between,
+            | Word::Calls
+            | Word::Check => Kind::Between,
             Word::Json
             | Word::Text
             | Word::Bson

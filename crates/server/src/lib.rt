@@ -2,6 +2,7 @@
 #![tactic(auto)]
 
 mod anew;
+mod check;
 mod connection;
 mod drive;
 mod dump;
@@ -15,7 +16,7 @@ mod turn;
 pub use anew::run_anew;
 pub use connection::FeedFault;
 pub use drive::{DriveFault, DriveOut};
-pub use engine::CheckFault;
+pub use engine::{CheckFault, Counts};
 pub use roots::{Config, OpenFault};
 pub use service::serve_on;
 pub use sockets::ServeFault;

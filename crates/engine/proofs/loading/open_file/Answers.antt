@@ -10,4 +10,4 @@ returns-in-Err-load_file-clause-refused g c =
 
 pub returns-clause-opened : goal.returns-clause-opened
 returns-clause-opened g c =
-    file_opened g.D.Disk.history c.args.disk c.in-Ok.file c.load_file.new.file c.in-Ok.ensures.opened c.load_file.new.told.value.now c.keep.new.self.value c.in-Ok-load_file.ensures c.keep.ensures
+    file_opened g.D.Disk.history c.args.disk c.in-Ok.file c.load_file.new.file c.in-Ok.ensures.opened _ c.load_file.new.told.value.now c.keep.new.self.value c.in-Ok-load_file.ensures c.keep.ensures

@@ -1,0 +1,71 @@
+//! What a file holds, as a check of it tells.
+
+ghost use Rattle.std.specs.Prelude.{◌≡◌, ◌+◌, IfSome, map};
+ghost use Rattle.engine.specs.Checking.{ChecksFile, total_indexes};
+ghost use Rattle.engine.specs.Durable.{IsSound};
+ghost use Rattle.engine.specs.Loading.{named_as};
+
+use crate::check_fault::CheckFault;
+use crate::engine::Engine;
+use crate::judging::Named;
+use crate::loading::load_file;
+use crate::told::Told;
+use page::Disk;
+
+/// How much a file holds.
+#[derive(Clone, Copy, Debug, PartialEq, Eq)]
+pub struct Counts {
+    /// The number of the last commit.
+    pub generation: u64,
+    /// How many collections there are.
+    pub collections: usize,
+    /// How many documents they have.
+    pub documents: u64,
+    /// How many indexes they have, with the one on `_id` of each.
+    pub indexes: u64,
+    /// How many pages the file has, with the one of its roots.
+    pub pages: u32,
+    /// How many of them nothing reaches.
+    pub free: u32,
+}
+
+/// How many indexes these collections have, with the one on `_id` of each, as far as a u64 counts.
+fn count_indexes(names: &[Named]) -> Option<u64>
+    ensures { IfSome result (λ n. n ≡ total_indexes (map named_as names.now)) }
+{
+    let mut count: u64 = 0;
+    'names: for name in names {
+        let more = count.checked_add(1)?;
+        count = more.checked_add(name.indexes.len() as u64)?;
+    }
+    Some(count)
+}
+
+impl<D: Disk> Engine<D> {
+    /// Looks through the whole file and counts what it holds: each page of the committed tree is read from the disk and judged,
+    /// then each entry, and no more than a batch of them is held. Documents and entries of indexes agree. `Damaged` where
+    /// something of it is wrong. The file is only read.
+    pub fn check(&mut self) -> Result<Counts, CheckFault>
+        requires sound { IsSound D.history self.old }
+        ensures { ChecksFile D.history result self.old self.new }
+    {
+        if self.file.is_stopped() {
+            return Err(CheckFault::Device);
+        }
+        let generation = self.file.generation();
+        let pages = self.file.count_pages()?;
+        let mut told = Told::of(&());
+        let loading = load_file(self.alloc, &mut self.file, &mut told)?;
+        let Some(indexes) = count_indexes(&loading.names) else {
+            return Err(CheckFault::Memory);
+        };
+        Ok(Counts {
+            generation,
+            collections: loading.names.len(),
+            documents: loading.documents,
+            indexes,
+            pages: pages.pages,
+            free: pages.free,
+        })
+    }
+}

@@ -1,0 +1,24 @@
+//! What the file holds, counted beside all turns.
+
+ghost use Rattle.std.specs.Prelude.{◌≡◌};
+ghost use Rattle.engine.specs.Checking.{ChecksFile};
+ghost use Rattle.server.specs.Durable.{IsSound};
+ghost use Rattle.server.specs.View.{state};
+
+use crate::turn::Core;
+use engine::{CheckFault, Counts};
+use page::Disk;
+
+impl<D: Disk> Core<D> {
+    /// Looks through the whole file and counts what it holds: each page of the committed tree and each entry is read and judged, a
+    /// batch at a time. `Damaged` where a page is none of such a file, or where documents and entries of indexes don't agree. The
+    /// file is only read.
+    pub fn check(&mut self) -> Result<Counts, CheckFault>
+        requires sound { IsSound D.history self.old }
+        ensures sound { IsSound D.history self.new }
+        ensures same { state self.new ≡ state self.old }
+        ensures checks { ChecksFile D.history result self.old.engine self.new.engine }
+    {
+        self.engine.check()
+    }
+}
