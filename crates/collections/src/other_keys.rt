@@ -24,9 +24,9 @@ fn leaves_another(entries: &[Entry], edits: &Edits, front: &[u8], id: &[u8]) -> 
 }
 
 /// Whether one of the edits puts such an entry, or they leave one.
-fn tells_another(entries: &[Entry], edits: &Edits, front: &[u8], id: &[u8]) -> bool
-    ensures told { result ≡ (puts_another front.now id.now edits.now
-        || list_any (λ x. leaves_another front.now id.now edits.now (entry_in x)) entries.now) }
+fn tells_another(entries: &[Entry], edits: &Edits, front: &Vec<u8>, id: &[u8]) -> bool
+    ensures told { result ≡ (puts_another front.now.items id.now edits.now
+        || list_any (λ x. leaves_another front.now.items id.now edits.now (entry_in x)) entries.now) }
     ensures lawful { IsEditList edits.now }
 {
     if edits.puts_other(front, id) {

@@ -8,8 +8,7 @@ use Rattle.std.specs.Cmp.Lexicographic.{nat_list_cmp_total}
 use Rattle.std.proofs.lemmas.Map.Lookups.{exact_bytes}
 use Rattle.btree.specs.Change.{edit_keys}
 use Rattle.btree.specs.Keys.{Each, Edit, Entry, IsUnder, Rises, change, edit_map, key_cmp, value_at}
-use Rattle.index.specs.EditList.{edits_in, with_edit, IsEditList, IsShortEdit, LeadsWith}
-use Rattle.index.specs.declared.edits.OwnEdit.{OwnEdit}
+use Rattle.index.specs.EditList.{Noted, edits_in, with_edit, IsEditList, IsShortEdit, LeadsWith}
 use Rattle.index.specs.State.{by_order}
 use Rattle.index.specs.StateEntries.{Spells, entry_keys}
 use Rattle.index.proofs.EditLemmas.{same_key, turned, value_after, change_value, edit_value, rises_change, one_map}
@@ -101,11 +100,11 @@ leads_with e fs up a b c first second xs h =
 
 -- ---- noted, or left where memory ran out
 
-pub noted_lawful : {A E : Type 0} (r : Result A E) (e : Edit) (xs ys : List OwnEdit) → IsShortEdit e → IsEditList (edits_in xs) → OnOk r (edits_in ys ≡ with_edit e (edits_in xs)) → OnErr r (ys ≡ xs) → IsEditList (edits_in ys)
+pub noted_lawful : {A E : Type 0} (r : Result A E) (e : Edit) (xs ys : List Noted) → IsShortEdit e → IsEditList (edits_in xs) → OnOk r (edits_in ys ≡ with_edit e (edits_in xs)) → OnErr r (ys ≡ xs) → IsEditList (edits_in ys)
 noted_lawful (Ok a) e xs ys short h ok err = subst IsEditList (sym ok) (with_lawful e (edits_in xs) short h)
-noted_lawful (Err f) e xs ys short h ok err = subst IsEditList (sym (ap (λ (zs : List OwnEdit). edits_in zs) err)) h
+noted_lawful (Err f) e xs ys short h ok err = subst IsEditList (sym (ap (λ (zs : List Noted). edits_in zs) err)) h
 
-pub noted_leads : {A E : Type 0} (r : Result A E) (e : Edit) (xs ys : List OwnEdit) (old : List Edit) → IsEditList (edits_in xs) → edits_in xs ≡ old → OnOk r (edits_in ys ≡ with_edit e (edits_in xs)) → OnOk r (LeadsWith old e (edits_in ys))
+pub noted_leads : {A E : Type 0} (r : Result A E) (e : Edit) (xs ys : List Noted) (old : List Edit) → IsEditList (edits_in xs) → edits_in xs ≡ old → OnOk r (edits_in ys ≡ with_edit e (edits_in xs)) → OnOk r (LeadsWith old e (edits_in ys))
 noted_leads (Ok a) e xs ys old h view ok =
     subst (λ (es : List Edit). LeadsWith es e (edits_in ys)) view (subst (λ (es : List Edit). LeadsWith (edits_in xs) e es) (sym ok) (leads_with e (edits_in xs) h.rises))
 noted_leads (Err f) e xs ys old h view ok = ok

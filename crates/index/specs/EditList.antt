@@ -7,14 +7,17 @@ use Rattle.btree.specs.Change.{edit_keys}
 use Rattle.btree.specs.Keys.{Each, Edit, Entry, Rises, change, key_cmp, value_at}
 use Rattle.index.specs.State.{Collection, by_order}
 use Rattle.index.specs.StateEntries.{Leads}
-use Rattle.index.specs.declared.edits.OwnEdit.{OwnEdit}
 
 -- what a vector of bytes puts at a key, or none where the key is removed
 abbrev pub edit_of : Vec ℕ → Option (Vec ℕ) → Edit
 edit_of key value = record { key = key.items; value = option_map (λ v. v.items) value }
 
-abbrev pub edits_in : List OwnEdit → List Edit
-edits_in edits = map (λ e. edit_of e.key e.value) edits
+-- a key, and what it is to have: a value, or none where it is removed
+abbrev pub Noted : Type 0
+Noted = Vec ℕ × Option (Vec ℕ)
+
+abbrev pub edits_in : List Noted → List Edit
+edits_in noted = map (λ e. edit_of e.0 e.1) noted
 
 -- at its place by its key, or in place of the one at its key
 abbrev pub with_edit : Edit → List Edit → List Edit

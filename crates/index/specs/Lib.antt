@@ -18,7 +18,6 @@ pub mod StateRows
 pub mod StateReads
 pub mod EditList
 pub mod EditCode
-pub mod EditPlace
 pub mod Documents
 pub mod FoundLaws
 pub mod Batches

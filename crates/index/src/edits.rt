@@ -6,24 +6,20 @@ ghost use Rattle.btree.specs.EditView.{HasRoom, edit_in};
 ghost use Rattle.btree.specs.Keys.{Each, Rises};
 ghost use Rattle.index.specs.Changes.{is_among};
 ghost use Rattle.index.specs.EditList.{edit_at, IsEditList, IsShortEdit, LeadsWith, edit_of, edits_in, with_edit};
-ghost use Rattle.index.specs.EditPlace.{IsPlaceAmong};
 
 use bson::NoMemory;
 use btree::Edit;
 use std::alloc::Global;
+use std::collections::BTreeMap;
 use std::marker::Model;
-
-/// An edit with its bytes: a value that is put at a key, or none, where the key is removed.
-#[derive(Drop)]
-pub(crate) struct OwnEdit {
-    pub(crate) key: Vec<u8>,
-    pub(crate) value: Option<Vec<u8>>,
-}
 
 /// Edits in ascending order of their keys, one at each, short enough for the tree.
 #[derive(Drop)]
 pub struct Edits {
-    pub(crate) edits: Vec<OwnEdit>,
+    alloc: Global,
+
+    /// At each key the value that is put there, or none, where the key is removed.
+    pub(crate) noted: BTreeMap<Vec<u8>, Option<Vec<u8>>>,
 }
 
 impl Model for Edits {
@@ -38,45 +34,32 @@ impl Model for Edits {
 
     ghost use Rattle.index.specs.EditList.{edits_in, IsEditList};
 
-    ghost view = { λ a. edits_in a.edits.items };
+    ghost view = { λ a. edits_in a.noted.entries };
 
-    ghost invariant = { λ a. IsEditList (edits_in a.edits.items) };
+    ghost invariant = { λ a. IsEditList (edits_in a.noted.entries) };
 }
 
-/// Where the edit of a key stands, or would stand.
-fn place_among(edits: &[OwnEdit], key: &[u8]) -> Result<usize, usize>
-    requires { Rises (edit_keys (edits_in edits.now)) }
-    ensures { IsPlaceAmong key.now edits.now result }
+/// Puts a value at a key, or none, in place of what was noted for the key.
+fn put_among(
+    noted: &mut BTreeMap<Vec<u8>, Option<Vec<u8>>>,
+    key: Vec<u8>,
+    value: Option<Vec<u8>>,
+) -> Result<(), NoMemory>
+    ensures ok { OnOk result (edits_in noted.new.entries
+        ≡ with_edit (edit_of key value) (edits_in noted.old.entries)) }
+    ensures err { OnErr result (noted.new.entries ≡ noted.old.entries) }
 {
-    edits.binary_search_by(|edit| edit.key.as_slice().cmp(key))
-}
-
-/// Puts an edit at its place.
-fn put_among(edits: &mut Vec<OwnEdit>, edit: OwnEdit) -> Result<(), NoMemory>
-    requires { Rises (edit_keys (edits_in edits.old.items)) }
-    ensures ok { OnOk result (edits_in edits.new.items
-        ≡ with_edit (edit_of edit.key edit.value) (edits_in edits.old.items)) }
-    ensures err { OnErr result (edits.new.items ≡ edits.old.items) }
-{
-    match place_among(edits, &edit.key) {
-        Ok(at) => {
-            edits[at] = edit;
-            Ok(())
-        }
-        Err(at) => {
-            edits.insert(at, edit)?;
-            Ok(())
-        }
-    }
+    let _before = noted.insert(key, value)?;
+    Ok(())
 }
 
 /// An edit as a tree takes it.
-fn tree_edit(edit: &OwnEdit) -> Edit<'_>
-    ensures { edit_in result ≡ edit_of edit.now.key edit.now.value }
+fn tree_edit<'a>(key: &'a Vec<u8>, value: &'a Option<Vec<u8>>) -> Edit<'a>
+    ensures { edit_in result ≡ edit_of key.now value.now }
 {
     Edit {
-        key: edit.key.as_slice(),
-        value: match &edit.value {
+        key: key.as_slice(),
+        value: match value {
             Some(value) => Some(value.as_slice()),
             None => None,
         },
@@ -84,12 +67,16 @@ fn tree_edit(edit: &OwnEdit) -> Edit<'_>
 }
 
 /// The edits as a tree takes them.
-fn tree_edits(alloc: Global, edits: &[OwnEdit]) -> Result<Vec<Edit<'_>>, NoMemory>
-    ensures { IfOk result (λ v. map edit_in v.items ≡ edits_in edits.now) }
+fn tree_edits(
+    alloc: Global,
+    noted: &BTreeMap<Vec<u8>, Option<Vec<u8>>>,
+) -> Result<Vec<Edit<'_>>, NoMemory>
+    ensures { IfOk result (λ v. map edit_in v.items ≡ edits_in noted.now.entries) }
 {
-    let mut all = Vec::with_capacity(alloc, edits.len())?;
-    'edits: for edit in edits {
-        all.push(tree_edit(edit))?;
+    let mut all = Vec::with_capacity(alloc, noted.len())?;
+    'edits: for edit in noted {
+        let (key, value) = edit;
+        all.push(tree_edit(key, value))?;
     }
     Ok(all)
 }
@@ -100,7 +87,8 @@ impl Edits {
         ensures { result ≡ [] }
     {
         Edits {
-            edits: Vec::new(alloc),
+            alloc,
+            noted: BTreeMap::new(alloc),
         }
     }
 
@@ -108,35 +96,35 @@ impl Edits {
     pub(crate) fn allocator(&self) -> Global
         ensures { IsEditList self.now }
     {
-        *self.edits.allocator()
+        self.alloc
     }
 
     /// How many keys are edited.
     pub fn len(&self) -> usize
         ensures { result ≡ length self.now }
     {
-        self.edits.len()
+        self.noted.len()
     }
 
     /// Whether there is no edit.
     pub fn is_empty(&self) -> bool
         ensures { result ≡ (length self.now == 0) }
     {
-        self.edits.is_empty()
+        self.noted.is_empty()
     }
 
     /// Forgets all edits.
     pub fn clear(&mut self)
         ensures { self.new ≡ [] }
     {
-        self.edits.clear();
+        self.noted.clear();
     }
 
     /// Whether there is an edit at a key.
     pub fn has(&self, key: &[u8]) -> bool
         ensures { result ≡ is_among (edit_keys self.now) key.now }
     {
-        place_among(&self.edits, key).is_ok()
+        self.noted.contains_key(key)
     }
 
     /// Whether an edit of a key puts a value there, or else removes it, if there is one.
@@ -144,9 +132,9 @@ impl Edits {
         ensures told { result ≡ option_map is_some (edit_at key.now self.now) }
         ensures rises { Rises (edit_keys self.now) }
     {
-        match place_among(&self.edits, key) {
-            Ok(at) => Some(self.edits[at].value.is_some()),
-            Err(_) => None,
+        match self.noted.get(key) {
+            Some(value) => Some(value.is_some()),
+            None => None,
         }
     }
 
@@ -156,7 +144,7 @@ impl Edits {
         ensures room { IfOk result (λ v. Each HasRoom v.items) }
         ensures lawful { IsEditList self.now }
     {
-        tree_edits(alloc, &self.edits)
+        tree_edits(alloc, &self.noted)
     }
 
     /// Notes what a key is to have, in place of what was noted for it. Where memory runs out nothing changes.
@@ -166,6 +154,6 @@ impl Edits {
         ensures err { OnErr result (self.new ≡ self.old) }
         ensures leads { OnOk result (LeadsWith self.old (edit_of key value) self.new) }
     {
-        put_among(&mut self.edits, OwnEdit { key, value })
+        put_among(&mut self.noted, key, value)
     }
 }

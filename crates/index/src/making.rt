@@ -81,8 +81,9 @@ impl Edits {
         ensures { OnOk result (GoesOnBy self.old edits self.new) }
     {
         let _alloc = self.allocator();
-        'edits: for edit in edits.edits {
-            self.note(edit.key, edit.value)?;
+        'edits: for edit in edits.noted {
+            let (key, value) = edit;
+            self.note(key, value)?;
         }
         Ok(())
     }

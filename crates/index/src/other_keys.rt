@@ -1,18 +1,18 @@
 //! Entries of an index that stand for a key and for another `_id` than a given one.
 
-ghost use Rattle.std.specs.Prelude.{◌≡◌, ◌+◌, ◌<◌, ◌≤◌, ◌&&◌, ◌++◌, [], ◌∷◌, false, true, IfOk, is_some, length, option_map};
+ghost use Rattle.std.specs.Prelude.{◌≡◌, ◌+◌, ◌<◌, ◌&&◌, ◌++◌, [], ◌∷◌, false, IfOk, is_some, option_map};
 ghost use Rattle.std.specs.Ordering.{is_lt};
-ghost use Rattle.std.specs.List.Sorted.{IsPartitionPoint};
 ghost use Rattle.btree.specs.Change.{edit_keys};
 ghost use Rattle.btree.specs.Keys.{Each, Rises, key_cmp};
 ghost use Rattle.index.specs.EditList.{IsEditList, edits_in};
 ghost use Rattle.index.specs.OtherKeys.{IsEndOf, is_another, puts_another, puts_any};
 ghost use Rattle.index.specs.View.{texts_of};
 
-use crate::edits::{Edits, OwnEdit};
+use crate::edits::Edits;
 use crate::entry_keys::index_key;
 use bson::NoMemory;
 use std::alloc::Global;
+use std::collections::btree_map::Range;
 
 /// Whether a key goes on from this front, and not by this text.
 pub fn is_another(key: &[u8], front: &[u8], id: &[u8]) -> bool
@@ -47,34 +47,25 @@ pub fn end_of(alloc: Global, front: &[u8]) -> Result<Option<Vec<u8>>, NoMemory>
     Ok(None)
 }
 
-/// How many of the edits come before a key.
-fn count_below(edits: &[OwnEdit], key: &[u8]) -> usize
-    requires { Rises (edit_keys (edits_in edits.now)) }
-    ensures bound { result ≤ length edits.now }
-    ensures cut { IsPartitionPoint (λ e. is_lt (key_cmp e.key.items key.now) ≡ true)
-        (λ e. is_lt (key_cmp e.key.items key.now) ≡ false) edits.now result }
-{
-    edits.partition_point(|edit| edit.key.as_slice().cmp(key).is_lt())
-}
-
 /// Whether an edit puts an entry whose key goes on from this front, and not by this text.
-fn puts_another(edit: &OwnEdit, front: &[u8], id: &[u8]) -> bool
-    ensures { result ≡ (is_some edit.now.value && is_another front.now id.now edit.now.key.items) }
+fn puts_another(key: &[u8], value: &Option<Vec<u8>>, front: &[u8], id: &[u8]) -> bool
+    ensures { result ≡ (is_some value.now && is_another front.now id.now key.now) }
 {
-    edit.value.is_some() && is_another(&edit.key, front, id)
+    value.is_some() && is_another(key, front, id)
 }
 
-/// Whether one of the edits, which aren't below this front, puts an entry whose key goes on from it and not by this text.
-fn puts_from(edits: &[OwnEdit], front: &[u8], id: &[u8]) -> bool
-    requires rises { Rises (edit_keys (edits_in edits.now)) }
-    requires above { Each (λ e. is_lt (key_cmp e.key.items front.now) ≡ false) edits.now }
-    ensures { result ≡ puts_another front.now id.now (edits_in edits.now) }
+/// Whether one of these edits, which rise and aren't below this front, puts an entry whose key goes on from it and not by this text.
+fn puts_from(edits: Range<'_, Vec<u8>, Option<Vec<u8>>>, front: &[u8], id: &[u8]) -> bool
+    requires rises { Rises (edit_keys (edits_in edits)) }
+    requires above { Each (λ e. is_lt (key_cmp e.0.items front.now) ≡ false) edits }
+    ensures { result ≡ puts_another front.now id.now (edits_in edits.entry) }
 {
     'edits: for edit in edits {
-        if !edit.key.starts_with(front) {
+        let (key, value) = edit;
+        if !key.starts_with(front) {
             return false;
         }
-        if puts_another(edit, front, id) {
+        if puts_another(key, value, front, id) {
             return true;
         }
     }
@@ -83,12 +74,11 @@ fn puts_from(edits: &[OwnEdit], front: &[u8], id: &[u8]) -> bool
 
 impl Edits {
     /// Whether an entry is put whose key goes on from this front, and not by this text.
-    pub fn puts_other(&self, front: &[u8], id: &[u8]) -> bool
-        ensures puts { result ≡ puts_another front.now id.now self.now }
+    pub fn puts_other(&self, front: &Vec<u8>, id: &[u8]) -> bool
+        ensures puts { result ≡ puts_another front.now.items id.now self.now }
         ensures lawful { IsEditList self.now }
     {
-        let (_, from) = self.edits.split_at(count_below(&self.edits, front));
-        puts_from(from, front, id)
+        puts_from(self.noted.range(front..), front, id)
     }
 
     /// Whether an index gets an entry for one of these encoded keys, and for another `_id` than the one of this text.

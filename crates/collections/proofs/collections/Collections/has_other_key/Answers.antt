@@ -35,7 +35,7 @@ returns g c =
     subst (IsEndOf front) (sym c.as_deref.ensures.value) (subst (λ (k : List ℕ). IsEndOf k (option_map (λ v. v.items) c.in_ok-end.end)) c.deref.ensures.value c.in_ok-end.ensures) in
     let told : c.tells_another.result ≡ (puts_another front id edits || list_any (λ x. leaves_another front id edits (entry_in x)) batch.entries.items) =
     c.tells_another.ensures.told
-    ∙ (λ i. puts_another (c.deref-4.ensures.value i) id edits || list_any (λ x. leaves_another (c.deref-4.ensures.value i) id edits (entry_in x)) (c.deref-3.ensures.value i)) in
+    ∙ (λ i. puts_another front id edits || list_any (λ x. leaves_another front id edits (entry_in x)) (c.deref-3.ensures.value i)) in
     reads_on g.D.Disk.history (IsInTree (IsBatchOf range)) (TellsOtherKey edits c.args.number c.args.index c.args.key.now id) c.args.self.now c.entries_in.new.self batch (Ok c.tells_another.result) c.in_ok-batch.ensures
     (λ now p. subst (TellsOtherKey edits c.args.number c.args.index c.args.key.now id now) (sym told)
     (tells_other now edits c.args.number c.args.index c.args.key.now id front range batch c.tells_another.ensures.lawful.rises c.in_ok-front.ensures c.deref-2.ensures.value ends (sym c.if-is_some.ensures) p))

@@ -7,6 +7,6 @@ abbrev pub invariant-edits : goal.invariant-edits
 invariant-edits l = record {
   can : goal.iterator-edits.can_next l.edit-iterator;
   finite : goal.iterator-edits.is_finite l.edit-iterator;
-  noted : NotesUpTo l.initial.self (edits_in l.initial.edit-iterator.rest.items) (edits_in l.edit-iterator.rest.items) l.self;
-  short : Each IsShortEdit (edits_in l.edit-iterator.rest.items);
+  noted : NotesUpTo l.initial.self (edits_in l.initial.edit-iterator) (edits_in l.edit-iterator) l.self;
+  short : Each IsShortEdit (edits_in l.edit-iterator);
 }
