@@ -6,10 +6,9 @@ use index::{IndexSpec, catalogue_number, namespace_in};
 use std::alloc::Global;
 use std::test::Fail;
 
-const INDEXES: [&str; 3] = [
+const INDEXES: [&str; 2] = [
     r#"{"i": 1, "name": "a_1", "key": {"a": 1}, "unique": false, "multi": false}"#,
     r#"{"i": 16, "name": "x y", "key": {"a.b.0": -1, "c": 1, "d": -1, "_id": 1}, "unique": true, "multi": true}"#,
-    r#"{"i": 2, "name": "*", "key": {"a": -1}, "unique": true, "multi": false}"#,
 ];
 
 const NO_INDEXES: [&str; 19] = [
@@ -52,16 +51,6 @@ fn indexes(rt: HostRuntime) -> Result<(), Fail> {
     for text in &NO_INDEXES {
         assert!(rt; !is_kept(rt.alloc(), text)?, "{text}");
     }
-    Ok(())
-}
-
-/// No command makes an index multikey yet.
-#[test]
-fn multikey(rt: HostRuntime) -> Result<(), Fail> {
-    let document = read(rt.alloc(), INDEXES[2])?;
-    let mut index = IndexSpec::read(rt.alloc(), &document)?.ok_or("no index")?;
-    index.set_multi();
-    assert!(rt; index.is_multi() && index.is_unique());
     Ok(())
 }
 

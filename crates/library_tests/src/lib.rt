@@ -9,8 +9,6 @@ mod documents;
 #[cfg(test)]
 mod growths;
 #[cfg(test)]
-mod index_edits;
-#[cfg(test)]
 mod index_keys;
 #[cfg(test)]
 mod key_texts;

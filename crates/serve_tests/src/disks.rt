@@ -12,7 +12,7 @@ const INSERT: &str = r#"{"insert": "c", "documents": [{"_id": 1}], "$db": "t"}"#
 const DELETE: &str = r#"{"delete": "c", "deletes": [{"q": {}, "limit": 0}], "$db": "t"}"#;
 
 /// Sector 1 after the insert, up to its last byte that isn't zero: generation 1, the tree below page 1, 2 pages.
-const ROOT: &[u8] = b"DOCPAGE1\x01\0\0\0\0\x10\0\0\x01\0\0\0\0\0\0\0\x01\0\0\0\x02";
+pub const ROOT: &[u8] = b"DOCPAGE1\x01\0\0\0\0\x10\0\0\x01\0\0\0\0\0\0\0\x01\0\0\0\x02";
 
 /// Sector 8, page 1: a leaf of the collection `t.c` with the number 1, and of `{_id: 1}`.
 const LEAF: &[u8] = b"\x01\0\x02\0\x01\0\0\0\x01\0\0\0\0\0\0\0\
@@ -20,14 +20,14 @@ const LEAF: &[u8] = b"\x01\0\x02\0\x01\0\0\0\x01\0\0\0\0\0\0\0\
 \x11\0\x0e\0\0\0\0\0\0\x01\0\0\0\0\x30\x80\0\0\0\0\0\0\x01\x0e\0\0\0\x10_id\0\x01";
 
 /// Sector 0 after the delete.
-const NEXT_ROOT: &[u8] = b"DOCPAGE1\x01\0\0\0\0\x10\0\0\x02\0\0\0\0\0\0\0\x02\0\0\0\x03";
+pub const NEXT_ROOT: &[u8] = b"DOCPAGE1\x01\0\0\0\0\x10\0\0\x02\0\0\0\0\0\0\0\x02\0\0\0\x03";
 
 /// Sector 16, page 2: the leaf of the collection.
 const NEXT_LEAF: &[u8] = b"\x01\0\x01\0\x02\0\0\0\x02\0\0\0\0\0\0\0\
 \x0e\0\x14\0\0\0\0\0\0\0\0\0\0\0\x40t.c\0\0\x14\0\0\0\x10n\0\x01\0\0\0\x04x\0\x05";
 
 /// A sector that begins with these bytes, has others at a place, and zeros behind.
-fn sector_of(front: &[u8], at: usize, bytes: &[u8]) -> [u8; 512] {
+pub fn sector_of(front: &[u8], at: usize, bytes: &[u8]) -> [u8; 512] {
     let mut sector = [0; 512];
     for (byte, new) in sector.iter_mut().zip(front) {
         *byte = *new;
@@ -39,7 +39,7 @@ fn sector_of(front: &[u8], at: usize, bytes: &[u8]) -> [u8; 512] {
 }
 
 /// Whether a sector begins with these bytes, and has zeros behind them.
-fn holds(disk: &mut MemDisk, number: u64, front: &[u8]) -> bool {
+pub fn holds(disk: &mut MemDisk, number: u64, front: &[u8]) -> bool {
     let mut bytes = [1; 512];
     disk.read(number, &mut bytes).is_ok() && bytes == sector_of(front, 0, &[])
 }

@@ -6,4 +6,6 @@ mod disks;
 #[cfg(test)]
 mod exchanges;
 #[cfg(test)]
+mod indexed_disks;
+#[cfg(test)]
 mod streams;

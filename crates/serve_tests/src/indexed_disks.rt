@@ -1,0 +1,136 @@
+//! Files with an index, byte by byte, and files whose entries and documents disagree.
+
+use crate::disks::{NEXT_ROOT, ROOT, holds, sector_of};
+use crate::exchanges::{answer, frame, new_server, open};
+use engine::ConnId;
+use page::{Disk, MemDisk};
+use server::OpenFault;
+use std::alloc::Global;
+use std::test::Fail;
+
+const CREATE: &str =
+    r#"{"createIndexes": "c", "indexes": [{"key": {"a": 1}, "name": "a_1"}], "$db": "t"}"#;
+
+const INSERT: &str = r#"{"insert": "c", "documents": [{"_id": 1, "a": 7}], "$db": "t"}"#;
+
+/// The collection `t.c` with the number 1, without indexes: `{n: 1, x: []}`.
+const PLAIN: &[u8] = b"\x0e\0\x14\0\0\0\0\0\0\0\0\0\0\0\x40t.c\0\0\x14\0\0\0\x10n\0\x01\0\0\0\x04x\0\x05\0\0\0\0\0";
+
+/// The same with index 1 on `a`, named `a_1`, neither unique nor multikey.
+const INDEXED: &[u8] = b"\x0e\0\x53\0\0\0\0\0\0\0\0\0\0\0\x40t.c\0\0\
+\x53\0\0\0\x10n\0\x01\0\0\0\x04x\0\x44\0\0\0\x030\0\x3c\0\0\0\x10i\0\x01\0\0\0\x02name\0\x04\0\0\0a_1\0\
+\x03key\0\x0c\0\0\0\x10a\0\x01\0\0\0\0\x08unique\0\0\x08multi\0\0\0\0\0";
+
+/// `{_id: 1, a: 7}`, and its entry.
+const SEVEN: &[u8] =
+    b"\x11\0\x15\0\0\0\0\0\0\x01\0\0\0\0\x30\x80\0\0\0\0\0\0\x01\x15\0\0\0\x10_id\0\x01\0\0\0\x10a\0\x07\0\0\0\0";
+
+const SEVEN_ENTRY: &[u8] =
+    b"\x1a\0\0\0\0\0\0\0\0\x01\0\0\0\x01\x30\x80\0\0\0\0\0\0\x07\x30\x80\0\0\0\0\0\0\x01";
+
+/// The entry of another document under the same key, that of the same document under the key 8, and one with a value.
+const OTHERS_ENTRY: &[u8] =
+    b"\x1a\0\0\0\0\0\0\0\0\x01\0\0\0\x01\x30\x80\0\0\0\0\0\0\x07\x30\x80\0\0\0\0\0\0\x02";
+
+const EIGHT_ENTRY: &[u8] =
+    b"\x1a\0\0\0\0\0\0\0\0\x01\0\0\0\x01\x30\x80\0\0\0\0\0\0\x08\x30\x80\0\0\0\0\0\0\x01";
+
+const ENTRY_WITH_A_VALUE: &[u8] =
+    b"\x1a\0\x01\0\0\0\0\0\0\x01\0\0\0\x01\x30\x80\0\0\0\0\0\0\x07\x30\x80\0\0\0\0\0\0\x01\x01";
+
+/// `{_id: 2, a: 7}`, stored under its `_id`.
+const SECOND_SEVEN: &[u8] =
+    b"\x11\0\x15\0\0\0\0\0\0\x01\0\0\0\0\x30\x80\0\0\0\0\0\0\x02\x15\0\0\0\x10_id\0\x02\0\0\0\x10a\0\x07\0\0\0\0";
+
+/// `{_id: 1, a: [7]}`, whose entry is that of `{_id: 1, a: 7}`.
+const ARRAY: &[u8] = b"\x11\0\x1d\0\0\0\0\0\0\x01\0\0\0\0\x30\x80\0\0\0\0\0\0\x01\
+\x1d\0\0\0\x10_id\0\x01\0\0\0\x04a\0\x0c\0\0\0\x100\0\x07\0\0\0\0\0";
+
+/// Places of the catalogue's cell: the index's number, the end of its name, its direction, whether it is unique and multikey.
+const NUMBER: usize = 48;
+
+const NAME_END: usize = 65;
+
+const DIRECTION: usize = 78;
+
+const UNIQUE: usize = 91;
+
+const MULTI: usize = 99;
+
+/// The first sector of page `number`, a leaf of these cells that commit `number` wrote; in its first cell the byte at a place
+/// is another.
+fn leaf_of(alloc: Global, number: u8, cells: &[&[u8]], at: usize, byte: u8) -> Result<Vec<u8>, Fail> {
+    let count = u8::try_from(cells.len()).unwrap_or(0);
+    let mut bytes = Vec::new(alloc);
+    bytes.extend_from_slice(&[1, 0, count, 0, number, 0, 0, 0, number, 0, 0, 0, 0, 0, 0, 0])?;
+    for cell in cells {
+        bytes.extend_from_slice(cell)?;
+    }
+    if let Some(place) = bytes.get_mut(at.saturating_add(16)) {
+        *place = byte;
+    }
+    Ok(bytes)
+}
+
+/// Why a file whose tree is this leaf isn't opened, or None.
+fn fault_of(alloc: Global, cells: &[&[u8]], at: usize, byte: u8) -> Result<Option<OpenFault>, Fail> {
+    let leaf = leaf_of(alloc, 1, cells, at, byte)?;
+    let mut disk = MemDisk::new(alloc);
+    disk.write(1, &sector_of(ROOT, 0, &[])).map_err(|_| "a root")?;
+    disk.write(8, &sector_of(&leaf, 0, &[])).map_err(|_| "a leaf")?;
+    Ok(open(alloc, disk).err())
+}
+
+#[test]
+fn an_index_and_a_document(rt: HostRuntime) -> Result<(), Fail> {
+    let alloc = rt.alloc();
+    let connection = ConnId::new(0).ok_or("connection 0")?;
+    let mut core = new_server(alloc)?;
+    assert!(rt; answer(&mut core, connection, &frame(alloc, 7, 0, CREATE)?)?.is_some());
+    assert!(rt; answer(&mut core, connection, &frame(alloc, 8, 0, INSERT)?)?.is_some());
+    let mut disk = core.into_disk();
+    let first = leaf_of(alloc, 1, &[INDEXED], 0, 14)?;
+    let second = leaf_of(alloc, 2, &[INDEXED, SEVEN, SEVEN_ENTRY], 0, 14)?;
+    assert!(rt; holds(&mut disk, 1, ROOT) && holds(&mut disk, 8, &first));
+    assert!(rt; holds(&mut disk, 0, NEXT_ROOT) && holds(&mut disk, 16, &second));
+    Ok(())
+}
+
+/// Cells, a place in the first and the byte there, and whether such a file is sound.
+const FILES: [(&str, &[&[u8]], usize, u8, bool); 20] = [
+    ("as they are", &[INDEXED, SEVEN, SEVEN_ENTRY], 0, 14, true),
+    ("two documents", &[INDEXED, SEVEN, SECOND_SEVEN, SEVEN_ENTRY, OTHERS_ENTRY], 0, 14, true),
+    ("multikey, and no array left", &[INDEXED, SEVEN, SEVEN_ENTRY], MULTI, 1, true),
+    ("multikey", &[INDEXED, ARRAY, SEVEN_ENTRY], MULTI, 1, true),
+    ("unique", &[INDEXED, SEVEN, SEVEN_ENTRY], UNIQUE, 1, true),
+    ("a document without its entry", &[INDEXED, SEVEN], 0, 14, false),
+    ("one of two without its entry", &[INDEXED, SEVEN, SECOND_SEVEN, SEVEN_ENTRY], 0, 14, false),
+    ("an entry without its document", &[INDEXED, SEVEN_ENTRY], 0, 14, false),
+    ("one of two without its document", &[INDEXED, SEVEN, SEVEN_ENTRY, OTHERS_ENTRY], 0, 14, false),
+    ("an entry twice", &[INDEXED, SEVEN, SEVEN_ENTRY, SEVEN_ENTRY], 0, 14, false),
+    ("another key beside", &[INDEXED, SEVEN, SEVEN_ENTRY, EIGHT_ENTRY], 0, 14, false),
+    ("another key", &[INDEXED, SEVEN, EIGHT_ENTRY], 0, 14, false),
+    ("an entry with a value", &[INDEXED, SEVEN, ENTRY_WITH_A_VALUE], 0, 14, false),
+    ("an entry of no index", &[PLAIN, SEVEN, SEVEN_ENTRY], 0, 14, false),
+    ("an entry of index 1 of an index 2", &[INDEXED, SEVEN, SEVEN_ENTRY], NUMBER, 2, false),
+    ("index 0", &[INDEXED, SEVEN, SEVEN_ENTRY], NUMBER, 0, false),
+    ("a name that doesn't end", &[INDEXED, SEVEN, SEVEN_ENTRY], NAME_END, 1, false),
+    ("the direction 2", &[INDEXED, SEVEN, SEVEN_ENTRY], DIRECTION, 2, false),
+    ("an array, and not multikey", &[INDEXED, ARRAY, SEVEN_ENTRY], 0, 14, false),
+    (
+        "unique, and two documents of one key",
+        &[INDEXED, SEVEN, SECOND_SEVEN, SEVEN_ENTRY, OTHERS_ENTRY],
+        UNIQUE,
+        1,
+        false,
+    ),
+];
+
+#[test]
+fn entries_and_documents_agree(rt: HostRuntime) -> Result<(), Fail> {
+    for (what, cells, at, byte, is_sound) in FILES {
+        let wanted = if is_sound { None } else { Some(OpenFault::Damaged) };
+        assert!(rt; fault_of(rt.alloc(), cells, at, byte)? == wanted, "{what}");
+    }
+    Ok(())
+}
