@@ -1,13 +1,13 @@
 //! The messages of a turn, answered one after the other.
 
-ghost use Rattle.std.specs.Prelude.{◌≡◌, ◌≢◌, ◌⊎◌, ◌<◌, IfOk, IfSome, IsSome, None, Some, true, false};
+ghost use Rattle.std.specs.Prelude.{◌≡◌, ◌≢◌, ◌⊎◌, ◌+◌, ◌<◌, IfOk, IfSome, IsSome, None, Some, true, false};
 ghost use Rattle.page.specs.History.{KeepsWord};
 ghost use Rattle.page.specs.Crash.{GoesOn, LeavesOnly, LeavesNow};
 ghost use Rattle.op_msg.specs.Request.{reply_bytes};
 ghost use Rattle.engine.specs.World.{are_untouched};
 ghost use Rattle.engine.specs.View.{world, turn_start, reply_of, answer_of, IsSendable};
 ghost use Rattle.collections.specs.Calls.{GoesFrom};
-ghost use Rattle.engine.specs.Durable.{Holds, disk_history, file_of, has_changes, is_stopped, IsRunning, IsSound};
+ghost use Rattle.engine.specs.Durable.{Holds, disk_history, file_of, generation, has_changes, is_stopped, IsRunning, IsSound};
 ghost use Rattle.path.specs.declared.refusal.Refusal.TheVariants.{OutOfMemory};
 ghost use Rattle.std.specs.Prelude.{Result};
 ghost use Rattle.bson.specs.Tree.{Pairs};
@@ -20,6 +20,7 @@ ghost use Rattle.server.specs.Taking.{Serves, IsAnswer, EndsTurn, BreaksTurn};
 ghost use Rattle.server.specs.View.{frames_in};
 ghost use Rattle.server.specs.Causes.{IsCaused, OfAnyCause};
 ghost use Rattle.server.specs.History.{RoomRanOut};
+ghost use Rattle.server.specs.Moment.{FollowsInTurn};
 ghost use Rattle.server.specs.Durable.{engine_moment};
 
 use crate::connection::{Connection, Taken, take_call};
@@ -195,6 +196,11 @@ pub(crate) fn run_messages<D: Disk>(
     ensures device { result ≡ None → KeepsWord (disk_history D.history engine.new)
         → (disk_history D.history engine.old).failures
         < (disk_history D.history engine.new).failures }
+    ensures moment { FollowsInTurn (engine_moment D.history engine.old)
+        (engine_moment D.history engine.new) }
+    ensures commits { IfSome result (λ _.
+        ((world engine.new).collections ≡ (world engine.old).collections)
+        ⊎ (generation engine.new ≡ generation engine.old + 1)) }
     ensures quiet { KeepsWord (disk_history D.history engine.new)
         → ChangeNothing OfAnyCause (world engine.old) (calls connections.old.items)
         → GoesFrom D.history (file_of engine.old) (file_of engine.new) }
