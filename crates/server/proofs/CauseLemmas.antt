@@ -10,6 +10,8 @@ use Rattle.page.specs.History.{History, KeepsWord}
 use Rattle.page.specs.Crash.{GoesOn}
 use Rattle.roots.specs.declared.store.CommitFault.{CommitFault}
 use Rattle.collections.specs.Calls.{GoesFrom, HasWriteCause, IsTooLarge}
+use Rattle.collections.specs.State.{State}
+use Rattle.collections.specs.View as views
 use Rattle.engine.specs.World.{World, after_commit}
 use Rattle.engine.specs.Step.{step, Answers}
 use Rattle.engine.specs.Committing.{Commits}
@@ -205,6 +207,12 @@ commits_changes history old mid new true moved sound goes start done version =
     inr (version ∙ ap (λ (b : Bool). if b then generation mid + 1 else generation mid) moved ∙ ap (λ (n : ℕ). n + 1) (goes_generation history old mid goes))
 commits_changes history old mid new false rests sound goes start done version =
     inl (ap (λ (w : World). w.collections) done ∙ sym (sound.quiet rests) ∙ start)
+
+-- a turn that took no message ends without a call of the disk
+pub idle_commit : {D : Type 0} (history : D → History) (old mid new : Engine D) (result : Result (Unit {0}) CommitFault) → has_changes old ≡ false → mid ≡ old → Commits history result mid new
+    → disk_history history new ≡ disk_history history old
+idle_commit history old mid new result rests same commits =
+    ap (λ (f : State D). views.disk_history history f) (commits.quiet (ap has_changes same ∙ rests)).1 ∙ ap (disk_history history) same
 
 -- the messages of a turn, by the causes of the whole turn
 module _ {D : Type 0} (history : D → History) (old mid new : Engine D) (goes : GoesFrom history (file_of old) (file_of mid)) (after : Follows (engine_moment history mid) (engine_moment history new)) where

@@ -42,6 +42,7 @@ returns-then-is_stopped g c = record {
   device = search rules;
   moment = in_turn_itself (moment_of g.D.Disk.history c.args.self.now);
   commits = tt;
+  void = λ _. refl;
   quiet = λ _ _. goes_from_itself g.D.Disk.history (file_of c.args.self.now);
 }
 
@@ -60,6 +61,7 @@ returns-in_err-refusals g c = record {
   device = search rules;
   moment = in_turn_itself (moment_of g.D.Disk.history c.args.self.now);
   commits = tt;
+  void = λ _. refl;
   quiet = λ _ _. goes_from_itself g.D.Disk.history (file_of c.args.self.now);
 }
 
@@ -98,6 +100,7 @@ returns-in_default g c =
       device = λ _ k. inr (c.in_default.ensures.device refl k);
       moment = ran.moment;
       commits = tt;
+      void = ran.void;
       quiet = ran.quiet;
     }
 
@@ -125,9 +128,9 @@ returns g c =
         ascending = ap are_ascending left ∙ after_ascends connections c.requires.sound.ascending;
       };
       turns = λ k. let old : Moment = engine_moment history core.engine in
-          let settles = subst (λ (m : Moment). EndsTurn (IsCaused old m) (RoomRanOut old) (world core.engine) connections (frames_in c.in-Some.replies.items) (world c.run_messages.new.engine))
+          let settles = subst (λ (m : Moment). EndsTurn (IsCaused old m) (RoomRanOut old (state core)) (world core.engine) connections (frames_in c.in-Some.replies.items) (world c.run_messages.new.engine))
           (sym (same_engine_moment history c.run_messages.new.engine c.forget_closed.new.engine forgot.file)) (c.in-Some.ensures.settles (subst KeepsWord forgot.disk k)) in
-          turned (IsCaused old (engine_moment history c.forget_closed.new.engine)) (RoomRanOut old) core (frames_in c.in-Some.replies.items) (world c.run_messages.new.engine) prepared.closed.items (world c.forget_closed.new.engine) _
+          turned (IsCaused old (engine_moment history c.forget_closed.new.engine)) (RoomRanOut old (state core)) core (frames_in c.in-Some.replies.items) (world c.run_messages.new.engine) prepared.closed.items (world c.forget_closed.new.engine) _
           settles closes forgets left;
       fails = search rules;
       on = search rules;
@@ -143,5 +146,6 @@ returns g c =
           (λ same. inl (ap (λ (w : World). w.collections) forgets ∙ forget_all_state (world c.run_messages.new.engine) prepared.closed.items ∙ same))
           (λ committed. inr (ap (λ (f : State g.row.D.Denot). views.generation f) forgot.file ∙ committed))
           c.in-Some.ensures.commits;
+      void = λ none. forgot.disk ∙ ran.void none;
       quiet = λ k nothing. subst (λ (f : State g.row.D.Denot). GoesFrom history (file_of core) f) (sym forgot.file) (ran.quiet (subst KeepsWord forgot.disk k) nothing);
     }
