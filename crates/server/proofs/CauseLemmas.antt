@@ -115,10 +115,11 @@ module _ (beside other : World → Refusal → Type 0) (weaker : (planned : Worl
   runs_weaker (c ∷ cs) w [] new h = absurd h
   runs_weaker (c ∷ cs) w (r ∷ rs) new h = (h.0, answers_weaker w _ _ h.0 r h.1, runs_weaker cs h.0 rs new h.2)
 
-  pub serves_weaker : (cs : List Call) (old new : World) (ok : Bool) (given now : List (ℕ × List ℕ)) → Serves beside cs old new ok given now → Serves other cs old new ok given now
-  serves_weaker cs old new ok given now s = record {
+  pub serves_weaker : (word before : Type 0) → (word → before) → (cs : List Call) (old new : World) (ok : Bool) (given now : List (ℕ × List ℕ)) → Serves before beside cs old new ok given now → Serves word other cs old new ok given now
+  serves_weaker word before kept cs old new ok given now s = record {
     replies = s.replies;
-    runs = runs_weaker cs old s.replies new s.runs;
+    one_each = s.one_each;
+    runs = λ k. runs_weaker cs old s.replies new (s.runs (kept k));
     frames = s.frames;
   }
 

@@ -36,24 +36,26 @@ is_called old new (Ok None) n r h none = absurd h
 is_called old new (Err e) n r h none = absurd h
 is_called old new (Ok (Some x)) n r h none = absurd cc
 
-pub nothing_served : (beside : World → Refusal → Type 0) (old new : Connection) (front : Front) (t : Taken) (w : World) (given : List (ℕ × List ℕ)) → IsTaken old front t new → ((n : ℕ) (r : Request) → t ≡ takes.Call n r → ⊥) → Serves beside (call_at old front) w w true given given
-nothing_served beside old new (Ok None) t w given h none = record { replies = []; runs = refl; frames = λ e. sym (append-nil given) }
-nothing_served beside old new (Err e) t w given h none = record { replies = []; runs = refl; frames = λ e. sym (append-nil given) }
-nothing_served beside old new (Ok (Some x)) takes.Nothing w given h none = absurd h
-nothing_served beside old new (Ok (Some x)) (takes.Call n r) w given h none = absurd (none n r refl)
+module _ (word : Type 0) (beside : World → Refusal → Type 0) (old new : Connection) where
+  pub nothing_served : (front : Front) (t : Taken) (w : World) (given : List (ℕ × List ℕ)) → IsTaken old front t new → ((n : ℕ) (r : Request) → t ≡ takes.Call n r → ⊥) → Serves word beside (call_at old front) w w true given given
+  nothing_served (Ok None) t w given h none = record { replies = []; one_each = refl; runs = λ k. refl; frames = λ e. sym (append-nil given) }
+  nothing_served (Err e) t w given h none = record { replies = []; one_each = refl; runs = λ k. refl; frames = λ e. sym (append-nil given) }
+  nothing_served (Ok (Some x)) takes.Nothing w given h none = absurd h
+  nothing_served (Ok (Some x)) (takes.Call n r) w given h none = absurd (none n r refl)
 
-pub one_served : (beside : World → Refusal → Type 0) (old new : Connection) (front : Front) (n : ℕ) (r : Request) (w w' : World) (reply : Pairs) (ok : Bool) (given now : List (ℕ × List ℕ)) → IsTaken old front (takes.Call n r) new
-    → IsAnswer beside w old.id r w' reply → (ok ≡ true → now ≡ given ++ frame_unless r.more_to_come old.id n r.request_id reply) → Serves beside (call_at old front) w w' ok given now
-one_served beside old new (Ok None) n r w w' reply ok given now h a f = absurd h
-one_served beside old new (Err e) n r w w' reply ok given now h a f = absurd h
-one_served beside old new (Ok (Some x)) n r w w' reply ok given now h a f = record {
-  replies = reply ∷ [];
-  runs = (w', a (body_of x.0) h.1.body, refl);
-  frames = λ e. f e ∙ ap (λ (fs : List (ℕ × List ℕ)). given ++ fs) (same ∙ sym (append-nil (frame_for (record { connection = old; frame = x.0 }) reply)));
-}
-  where
-    same : frame_unless r.more_to_come old.id n r.request_id reply ≡ frame_for (record { connection = old; frame = x.0 }) reply
-    same = λ i. frame_unless (h.1.more i) old.id (h.0 i) (h.1.number i) reply
+  pub one_served : (front : Front) (n : ℕ) (r : Request) (w w' : World) (reply : Pairs) (ok : Bool) (given now : List (ℕ × List ℕ)) → IsTaken old front (takes.Call n r) new
+      → (word → IsAnswer beside w old.id r w' reply) → (ok ≡ true → now ≡ given ++ frame_unless r.more_to_come old.id n r.request_id reply) → Serves word beside (call_at old front) w w' ok given now
+  one_served (Ok None) n r w w' reply ok given now h a f = absurd h
+  one_served (Err e) n r w w' reply ok given now h a f = absurd h
+  one_served (Ok (Some x)) n r w w' reply ok given now h a f = record {
+    replies = reply ∷ [];
+    one_each = refl;
+    runs = λ k. (w', a k (body_of x.0) h.1.body, refl);
+    frames = λ e. f e ∙ ap (λ (fs : List (ℕ × List ℕ)). given ++ fs) (same ∙ sym (append-nil (frame_for (record { connection = old; frame = x.0 }) reply)));
+  }
+    where
+      same : frame_unless r.more_to_come old.id n r.request_id reply ≡ frame_for (record { connection = old; frame = x.0 }) reply
+      same = λ i. frame_unless (h.1.more i) old.id (h.0 i) (h.1.number i) reply
 
 -- a message that changes nothing wrote nothing
 pub one_quiet : (P : Type 0) (beside other : World → Refusal → Type 0) (weaker : (planned : World) (r : Refusal) → beside planned r → other planned r) (old new : Connection) (front : Front) (n : ℕ) (r : Request) (w w' : World) (reply : Pairs) → IsTaken old front (takes.Call n r) new → IsAnswer beside w old.id r w' reply

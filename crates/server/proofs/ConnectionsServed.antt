@@ -1,6 +1,6 @@
 -- How the links are served, one after the other.
 use Rattle.std.proofs.Common.{◌≡◌, ℕ, zero, suc, ◌+◌, ◌<◌, List, [], ◌∷◌, ◌++◌, length, take, drop, get_or, set, refl, sym, ◌∙◌, ap, subst, arith, append_assoc, append-nil}
-use Rattle.std.proofs.lemmas.List.{take_more, take-append-drop}
+use Rattle.std.proofs.lemmas.List.{length-append, take_more, take-append-drop}
 use Rattle.std.specs.Prelude.{Bool, true, false, ◌&&◌, Option, Result, Ok, Err}
 use Rattle.bson.specs.Tree.{Pairs}
 use Rattle.engine.specs.World.{World, forget}
@@ -18,12 +18,12 @@ runs_on beside [] ds a b c (r ∷ rs) ss h k = absurd h
 runs_on beside (x ∷ cs) ds a b c [] ss h k = absurd h
 runs_on beside (x ∷ cs) ds a b c (r ∷ rs) ss h k = (h.0, h.1, runs_on beside cs ds h.0 b c rs ss h.2 k)
 
-frames_on : (beside : World → Refusal → Type 0) (cs ds : List Call) (a b : World) (rs ss : List Pairs) → Runs beside a cs rs b → frames_of (cs ++ ds) (rs ++ ss) ≡ frames_of cs rs ++ frames_of ds ss
-frames_on beside [] ds a b [] ss h = refl
-frames_on beside [] ds a b (r ∷ rs) ss h = absurd h
-frames_on beside (x ∷ cs) ds a b [] ss h = absurd h
-frames_on beside (x ∷ cs) ds a b (r ∷ rs) ss h =
-    ap (λ (fs : List (ℕ × List ℕ)). frame_for x r ++ fs) (frames_on beside cs ds h.0 b rs ss h.2)
+frames_on : (cs ds : List Call) (rs ss : List Pairs) → length rs ≡ length cs → frames_of (cs ++ ds) (rs ++ ss) ≡ frames_of cs rs ++ frames_of ds ss
+frames_on [] ds [] ss e = refl
+frames_on [] ds (r ∷ rs) ss e = absurd cc
+frames_on (x ∷ cs) ds [] ss e = absurd cc
+frames_on (x ∷ cs) ds (r ∷ rs) ss e =
+    ap (λ (fs : List (ℕ × List ℕ)). frame_for x r ++ fs) (frames_on cs ds rs ss (omega (arith, e)))
     ∙ sym (append_assoc (frame_for x r) (frames_of cs rs) (frames_of ds ss))
 
 -- calls that change nothing leave the collections as they are, and so do those after them
@@ -47,16 +47,22 @@ both : (p q : Bool) → (p && q) ≡ true → (p ≡ true) × (q ≡ true)
 both true q e = (refl, e)
 both false q e = absurd cc
 
-pub serves_on : (beside : World → Refusal → Type 0) (cs ds : List Call) (a b c : World) (p q : Bool) (f g h : List (ℕ × List ℕ)) → Serves beside cs a b p f g → Serves beside ds b c q g h → Serves beside (cs ++ ds) a c (p && q) f h
-serves_on beside cs ds a b c p q f g h s t = record {
+pub serves_on : (word : Type 0) (beside : World → Refusal → Type 0) (cs ds : List Call) (a b c : World) (p q : Bool) (f g h : List (ℕ × List ℕ)) → Serves word beside cs a b p f g → Serves word beside ds b c q g h → Serves word beside (cs ++ ds) a c (p && q) f h
+serves_on word beside cs ds a b c p q f g h s t = record {
   replies = s.replies ++ t.replies;
-  runs = runs_on beside cs ds a b c s.replies t.replies s.runs t.runs;
+  one_each = omega (arith, length-append s.replies t.replies, length-append cs ds, s.one_each, t.one_each);
+  runs = λ k. runs_on beside cs ds a b c s.replies t.replies (s.runs k) (t.runs k);
   frames = λ e.
       let e2 = both p q e in
       t.frames e2.1 ∙ ap (λ (fs : List (ℕ × List ℕ)). fs ++ frames_of ds t.replies) (s.frames e2.0)
       ∙ append_assoc f (frames_of cs s.replies) (frames_of ds t.replies)
-      ∙ ap (λ (fs : List (ℕ × List ℕ)). f ++ fs) (sym (frames_on beside cs ds a b s.replies t.replies s.runs));
+      ∙ ap (λ (fs : List (ℕ × List ℕ)). f ++ fs) (sym (frames_on cs ds s.replies t.replies s.one_each));
 }
+
+-- the refusals of calls, one each
+pub refused_each : (r : Refusal) (cs : List Call) → length (refused_calls r cs) ≡ length cs
+refused_each r [] = refl
+refused_each r (c ∷ cs) = ap suc (refused_each r cs)
 
 calls_append : (ks ls : List Connection) → calls (ks ++ ls) ≡ calls ks ++ calls ls
 calls_append [] ls = refl

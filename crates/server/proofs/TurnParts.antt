@@ -6,14 +6,16 @@ use Rattle.engine.specs.View.{world}
 use Rattle.path.specs.declared.refusal.Refusal.{Refusal}
 use Rattle.op_msg.specs.declared.fault.FrameFault.{FrameFault}
 use Rattle.server.specs.ServerState.{ServerState}
-use Rattle.server.specs.Turn.{Out, Turns, faults, forget_all, connections_after}
+use Rattle.path.specs.declared.refusal.Refusal.TheVariants as refusals
+use Rattle.server.specs.Turn.{Out, Turns, HandsOut, calls, faults, forget_all, connections_after, refused_calls, refused_frames}
+use Rattle.server.proofs.ConnectionsServed.{refused_each}
 use Rattle.server.specs.Taking.{EndsTurn}
 use Rattle.server.specs.View.{state}
 use Rattle.server.specs.declared.connection.Connection.{Connection}
 use Rattle.server.specs.declared.turn.Core.{Core}
 
-module _ {D : Type 0} (beside : World → Refusal → Type 0) (no_room : Type 0) (core : Core D) (given : List (ℕ × List ℕ)) (mid : World) (closed : List (ℕ × FrameFault)) (new : World) (left : List Connection)
-    (s : EndsTurn beside no_room (world core.engine) core.connections.items given mid) (closes : closed ≡ faults core.connections.items) (forgets : new ≡ forget_all mid closed)
+module _ {D : Type 0} (word : Type 0) (beside : World → Refusal → Type 0) (no_room : Type 0) (core : Core D) (given : List (ℕ × List ℕ)) (mid : World) (closed : List (ℕ × FrameFault)) (new : World) (left : List Connection)
+    (s : EndsTurn word beside no_room (world core.engine) core.connections.items given mid) (closes : closed ≡ faults core.connections.items) (forgets : new ≡ forget_all mid closed)
     (go_on : left ≡ connections_after core.connections.items) where
   abbrev connections : List Connection
   connections = core.connections.items
@@ -30,11 +32,24 @@ module _ {D : Type 0} (beside : World → Refusal → Type 0) (no_room : Type 0)
   leaves : (w : World) → mid ≡ w → after ≡ record { world = forget_all w (faults connections); connections = connections_after connections }
   leaves w e = λ i. record { world = (forgets ∙ (λ k. forget_all (e k) (closes k))) i; connections = go_on i }
 
-  pub turned : Turns beside no_room (state core) handed after
-  turned = ⊎_elim
-      (λ done. inl (record { replies = s.replies; last = s.last; runs = s.runs; hands_out = hands _ done.0; leaves = leaves _ done.1 }))
+  pub turned : word → Turns beside no_room (state core) handed after
+  turned k = ⊎_elim
+      (λ done. inl (record { replies = s.replies; last = s.last; runs = s.runs k; hands_out = hands _ done.0; leaves = leaves _ done.1 }))
       (λ refused. inr (⊎_elim
-      (λ memory. inl (record { replies = s.replies; last = s.last; runs = s.runs; hands_out = hands _ memory; leaves = leaves _ refused.1 }))
-      (λ room. inr (room.1, record { replies = s.replies; last = s.last; runs = s.runs; hands_out = hands _ room.0; leaves = leaves _ refused.1 }))
+      (λ memory. inl (record { replies = s.replies; last = s.last; runs = s.runs k; hands_out = hands _ memory; leaves = leaves _ refused.1 }))
+      (λ room. inr (room.1 k, record { replies = s.replies; last = s.last; runs = s.runs k; hands_out = hands _ room.0; leaves = leaves _ refused.1 }))
       refused.0))
       s.ends
+
+  -- to whom the frames go, whatever the replies say
+  pub handed_out : HandsOut (state core) handed
+  handed_out = ⊎_elim
+      (λ done. record { replies = s.replies; one_each = s.one_each; is = hands _ done.0 })
+      (λ refused. ⊎_elim
+      (λ memory. refused_out refusals.OutOfMemory memory)
+      (λ room. refused_out refusals.Full room.0)
+      refused.0)
+      s.ends
+    where
+      refused_out : (r : Refusal) → given ≡ refused_frames r connections → HandsOut (state core) handed
+      refused_out r is = record { replies = refused_calls r (calls connections); one_each = refused_each r (calls connections); is = hands _ is }

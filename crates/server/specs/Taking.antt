@@ -74,11 +74,12 @@ IsTaken old (Ok (Some x)) (takes.Call number request) new =
     × (new ≡ taken_at old (Ok (Some x)))
 IsTaken old front other new = ⊥
 
--- The calls were answered so, and at ok each frame was put at the end.
-pub record Serves (beside : World → Refusal → Type 0) (calls : List Call) (old new : World) (ok : Bool)
-    (given now : List (ℕ × List ℕ)) : Type 0 where
+-- The calls were answered, one reply each, and at ok each frame was put at the end. While the word is kept, they were answered so.
+pub record Serves (word : Type 0) (beside : World → Refusal → Type 0) (calls : List Call)
+    (old new : World) (ok : Bool) (given now : List (ℕ × List ℕ)) : Type 0 where
   pub replies : List Pairs
-  pub runs : Runs beside old calls replies new
+  pub one_each : length replies ≡ length calls
+  pub runs : word → Runs beside old calls replies new
   pub frames : ok ≡ true → now ≡ given ++ frames_of calls replies
 
 -- a request with this body, whatever frame it came in
@@ -88,15 +89,16 @@ IsAnswer beside old id request new reply =
     → Answers beside old id read new reply
 
 -- The messages of the connections ran. The turn kept what they changed and hands out these replies, or it took back what they changed
--- and hands out refusals: for want of room only by its cause.
-pub record EndsTurn (beside : World → Refusal → Type 0) (no_room : Type 0) (old : World)
-    (connections : List Connection) (given : List (ℕ × List ℕ)) (new : World) : Type 0 where
+-- and hands out refusals: for want of room only by its cause. What they were answered, and the cause, is said while the word is kept.
+pub record EndsTurn (word : Type 0) (beside : World → Refusal → Type 0) (no_room : Type 0)
+    (old : World) (connections : List Connection) (given : List (ℕ × List ℕ)) (new : World) : Type 0 where
   pub replies : List Pairs
+  pub one_each : length replies ≡ length (calls connections)
   pub last : World
-  pub runs : Runs beside old (calls connections) replies last
+  pub runs : word → Runs beside old (calls connections) replies last
   pub ends : ((given ≡ frames_of (calls connections) replies) × (new ≡ after_commit last))
       ⊎ (((given ≡ refused_frames refusals.OutOfMemory connections)
-      ⊎ ((given ≡ refused_frames refusals.Full connections) × no_room))
+      ⊎ ((given ≡ refused_frames refusals.Full connections) × (word → no_room)))
       × (new ≡ after_undo old.collections last))
 
 -- The messages of the connections ran, and the device failed when what they changed was to be made durable.

@@ -4,7 +4,7 @@
 -- advanced or killed are closed. A fault at a connection's front closes it, done or undone. Cut, where the device failed in the commit: the
 -- world is the last step's, no reply is handed out, and no connection is closed. A message with moreToCome gets no reply, and
 -- replies that are handed out are numbered 1, 2, 3 and so on for each connection.
-use Rattle.std.specs.Prelude.{◌≡◌, ◌⊎◌, ℕ, ◌+◌, Bool, true, false, nat_lt, if◌then◌else◌, List, [], ◌∷◌, ◌++◌, Result, Ok, Err, Option, Some, None}
+use Rattle.std.specs.Prelude.{◌≡◌, ◌⊎◌, ℕ, ◌+◌, Bool, true, false, nat_lt, if◌then◌else◌, List, [], ◌∷◌, ◌++◌, length, Result, Ok, Err, Option, Some, None}
 use Rattle.bson.specs.Tree.{Pairs}
 use Rattle.op_msg.specs.Frame.{Frame, front}
 use Rattle.op_msg.specs.Request.{body_of, reply_bytes, is_waiting}
@@ -115,6 +115,16 @@ forget_all world (f ∷ fs) = forget_all (forget world f.0) fs
 pub record Out : Type 0 where
   pub replies : List (ℕ × List ℕ)
   pub closed : List (ℕ × FrameFault)
+
+-- What a turn hands out, whatever the replies say: one frame for each message that it takes, to the connection that sent it, with the
+-- next number of its replies and the number of the message, unless none is wanted; a fault at a connection's front closes it.
+pub record HandsOut (state : ServerState) (out : Out) : Type 0 where
+  pub replies : List Pairs
+  pub one_each : length replies ≡ length (calls state.connections)
+  pub is : out ≡ record {
+    replies = frames_of (calls state.connections) replies;
+    closed = faults state.connections;
+  }
 
 -- the connections after the turn
 abbrev pub connections_after : List Connection → List Connection

@@ -4,7 +4,7 @@ use Rattle.page.specs.History.{History, KeepsWord}
 use Rattle.page.specs.Crash.{GoesOn, LeavesOnly, LeavesNow}
 use Rattle.collections.specs.Calls.{GoesFrom}
 use Rattle.engine.specs.Durable.{Holds}
-use Rattle.server.specs.Turn.{calls, Turns, TurnFails, ChangesNothing}
+use Rattle.server.specs.Turn.{calls, connections_after, HandsOut, Turns, TurnFails, ChangesNothing}
 use Rattle.server.specs.Moment.{HoldsEither, FollowsInTurn}
 use Rattle.server.specs.Causes.{IsCaused, OfAnyCause}
 use Rattle.server.specs.History.{RoomRanOut}
@@ -22,6 +22,10 @@ pub record TakesTurn {D : Type 0} (history : D → History) (old : Core D)
   pub turns : IfOk result (λ out. KeepsWord (disk_history history new)
       → Turns (IsCaused (moment_of history old) (moment_of history new))
       (RoomRanOut (moment_of history old) (state old)) (state old) (out_of out) (state new))
+  -- on any disk: to whom its frames go, one for each message that is taken, and what it leaves of what came
+  pub hands_out : IfOk result (λ out. HandsOut (state old) (out_of out))
+  pub leaves : OnOk result
+      ((state new).connections ≡ connections_after (state old).connections)
   pub fails : IfErr result (λ fault.
       TurnFails (KeepsWord (disk_history history new))
       (IsCaused (moment_of history old) (moment_of history new)) (state old) fault

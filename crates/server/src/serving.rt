@@ -104,9 +104,8 @@ fn serve_connection<D: Disk>(
     ensures sound { IsSound D.history engine.new }
     ensures goes { GoesFrom D.history (file_of engine.old) (file_of engine.new) }
     ensures running { is_stopped engine.new ≡ is_stopped engine.old }
-    ensures serves { KeepsWord (disk_history D.history engine.new)
-        → Serves (IsCaused (engine_moment D.history engine.old)
-        (engine_moment D.history engine.new))
+    ensures serves { Serves (KeepsWord (disk_history D.history engine.new))
+        (IsCaused (engine_moment D.history engine.old) (engine_moment D.history engine.new))
         (call_at connection.old (front_of connection.old)) (world engine.old) (world engine.new)
         result (frames_in frames.old.items) (frames_in frames.new.items) }
     ensures connection { connection.new ≡ taken_at connection.old (front_of connection.old) }
@@ -143,9 +142,9 @@ fn serve_connections<D: Disk>(
     ensures sound { IsSound D.history engine.new }
     ensures goes { GoesFrom D.history (file_of engine.old) (file_of engine.new) }
     ensures running { is_stopped engine.new ≡ is_stopped engine.old }
-    ensures serves { KeepsWord (disk_history D.history engine.new)
-        → Serves (IsCaused (engine_moment D.history engine.old)
-        (engine_moment D.history engine.new)) (calls connections.old) (world engine.old)
+    ensures serves { Serves (KeepsWord (disk_history D.history engine.new))
+        (IsCaused (engine_moment D.history engine.old) (engine_moment D.history engine.new))
+        (calls connections.old) (world engine.old)
         (world engine.new) result (frames_in frames.old.items) (frames_in frames.new.items) }
     ensures connections { connections.new ≡ connections_taken connections.old }
     ensures turn_start { turn_start engine.new ≡ turn_start engine.old }
@@ -177,8 +176,8 @@ pub(crate) fn run_messages<D: Disk>(
     requires refusals { frames_in refusals.items
         ≡ refused_frames OutOfMemory connections.old.items }
     ensures sound { IsSound D.history engine.new }
-    ensures settles { IfSome result (λ given. KeepsWord (disk_history D.history engine.new)
-        → EndsTurn
+    ensures settles { IfSome result (λ given. EndsTurn
+        (KeepsWord (disk_history D.history engine.new))
         (IsCaused (engine_moment D.history engine.old) (engine_moment D.history engine.new))
         (NoCommitIsLeft (engine_moment D.history engine.old) (world engine.old) connections.old.items)
         (world engine.old) connections.old.items (frames_in given.items) (world engine.new)) }

@@ -36,19 +36,20 @@ say_full-requires g c =
     subst HaveRoom (sym same) (refused_room c.args.connections.now.items)
 
 pub returns-then-not-serve_connections-clause-settles : goal.returns-then-not-serve_connections-clause-settles
-returns-then-not-serve_connections-clause-settles g c = λ k.
+returns-then-not-serve_connections-clause-settles g c =
     let history = g.D.Disk.history in
     let e0 = c.args.engine.now in
     let e1 = c.serve_connections.new.engine in
     let e2 = c.undo_turn.new.self in
     let serve = c.serve_connections.ensures in
-    let serves = serve.serves (subst KeepsWord c.undo_turn.ensures.disk k) in
+    let serves = serve.serves in
     let taken : c.deref_mut.result.now ≡ c.args.connections.now.items = search rules in
     let after = undo_follows history e1 e2 (on_same (disk_history history e1) (disk_history history e2) c.undo_turn.ensures.disk) c.undo_turn.ensures.takes c.undo_turn.ensures.generation in
-    let ran = runs_over history e0 e1 e2 serve.goes after c.deref_mut.result.now c.args.connections.now.items taken serves.replies serves.runs in
+    let ran = λ k. runs_over history e0 e1 e2 serve.goes after c.deref_mut.result.now c.args.connections.now.items taken serves.replies (serves.runs (subst KeepsWord c.undo_turn.ensures.disk k)) in
     let before : turn_start e1 ≡ (world e0).collections = serve.turn_start ∙ c.requires.idle in
     record {
       replies = serves.replies;
+      one_each = serves.one_each ∙ ap (λ (ls : List Connection). length (calls ls)) taken;
       last = world e1;
       runs = ran;
       ends = inr (inl c.requires.refusals, c.undo_turn.ensures.world ∙ ap (λ (cs : List Collection). after_undo cs (world e1)) before);
@@ -81,56 +82,58 @@ returns-then-not-serve_connections-clause-quiet g c k nothing =
     subst (λ (f : State D). GoesFrom g.D.Disk.history (file_of c.args.engine.now) f) (sym (c.undo_turn.ensures.quiet (same ∙ c.requires.rests))) serve.goes
 
 pub returns-in-Ok-clause-settles : goal.returns-in-Ok-clause-settles
-returns-in-Ok-clause-settles g c = λ k.
+returns-in-Ok-clause-settles g c =
     let history = g.D.Disk.history in
     let e0 = c.args.engine.now in
     let e1 = c.serve_connections.new.engine in
     let e2 = c.commit_turn.new.self in
     let serve = c.serve_connections.ensures in
-    let serves = serve.serves (c.commit_turn.ensures.on.kept k) in
+    let serves = serve.serves in
     let taken : c.deref_mut.result.now ≡ c.args.connections.now.items = search rules in
     let after = (commit_follows history e1 e2 c.commit_turn.result c.commit_turn.ensures).0 in
-    let ran = runs_over history e0 e1 e2 serve.goes after c.deref_mut.result.now c.args.connections.now.items taken serves.replies serves.runs in
+    let ran = λ k. runs_over history e0 e1 e2 serve.goes after c.deref_mut.result.now c.args.connections.now.items taken serves.replies (serves.runs (c.commit_turn.ensures.on.kept k)) in
     let same = ap (λ (ls : List Connection). frames_of (calls ls) serves.replies) taken in
     let none : c.new-replies.result.items ≡ [] = search rules in
     let given : List (ℕ × Vec ℕ Global) → List (ℕ × List ℕ) = λ vs. frames_in vs ++ frames_of (calls c.deref_mut.result.now) serves.replies in
     record {
       replies = serves.replies;
+      one_each = serves.one_each ∙ ap (λ (ls : List Connection). length (calls ls)) taken;
       last = world e1;
       runs = ran;
       ends = inl (serves.frames (search rules) ∙ ap given none ∙ same, c.in-Ok.ensures.done);
     }
 
 pub returns-in-Err-Memory-clause-settles : goal.returns-in-Err-Memory-clause-settles
-returns-in-Err-Memory-clause-settles g c = λ k.
+returns-in-Err-Memory-clause-settles g c =
     let history = g.D.Disk.history in
     let e0 = c.args.engine.now in
     let e1 = c.serve_connections.new.engine in
     let e2 = c.commit_turn.new.self in
     let serve = c.serve_connections.ensures in
-    let serves = serve.serves (c.commit_turn.ensures.on.kept k) in
+    let serves = serve.serves in
     let taken : c.deref_mut.result.now ≡ c.args.connections.now.items = search rules in
     let after = (commit_follows history e1 e2 c.commit_turn.result c.commit_turn.ensures).0 in
-    let ran = runs_over history e0 e1 e2 serve.goes after c.deref_mut.result.now c.args.connections.now.items taken serves.replies serves.runs in
+    let ran = λ k. runs_over history e0 e1 e2 serve.goes after c.deref_mut.result.now c.args.connections.now.items taken serves.replies (serves.runs (c.commit_turn.ensures.on.kept k)) in
     let before : turn_start e1 ≡ (world e0).collections = serve.turn_start ∙ c.requires.idle in
     record {
       replies = serves.replies;
+      one_each = serves.one_each ∙ ap (λ (ls : List Connection). length (calls ls)) taken;
       last = world e1;
       runs = ran;
       ends = inr (inl c.requires.refusals, c.in-Err-Memory.ensures.memory (ap failed c.in-Err-Memory.field-0-is) ∙ ap (λ (cs : List Collection). after_undo cs (world e1)) before);
     }
 
 pub returns-in-Err-Full-clause-settles : goal.returns-in-Err-Full-clause-settles
-returns-in-Err-Full-clause-settles g c = λ k.
+returns-in-Err-Full-clause-settles g c =
     let history = g.D.Disk.history in
     let e0 = c.args.engine.now in
     let e1 = c.serve_connections.new.engine in
     let e2 = c.commit_turn.new.self in
     let serve = c.serve_connections.ensures in
-    let serves = serve.serves (c.commit_turn.ensures.on.kept k) in
+    let serves = serve.serves in
     let taken : c.deref_mut.result.now ≡ c.args.connections.now.items = search rules in
     let after = (commit_follows history e1 e2 c.commit_turn.result c.commit_turn.ensures).0 in
-    let ran = runs_over history e0 e1 e2 serve.goes after c.deref_mut.result.now c.args.connections.now.items taken serves.replies serves.runs in
+    let ran = λ k. runs_over history e0 e1 e2 serve.goes after c.deref_mut.result.now c.args.connections.now.items taken serves.replies (serves.runs (c.commit_turn.ensures.on.kept k)) in
     let before : turn_start e1 ≡ (world e0).collections = serve.turn_start ∙ c.requires.idle in
     let connections = c.args.connections.now.items in
     let new = c.say_full.new.frames in
@@ -142,14 +145,15 @@ returns-in-Err-Full-clause-settles g c = λ k.
     let long : length new ≡ c.args.refusals.len = search rules in
     let full = c.in-Err-Full.ensures.full (ap failed c.in-Err-Full.field-0-is) in
     let generation_was = sym (goes_generation history e0 e1 serve.goes) ∙ full.1 in
-    let changing = λ nothing.
+    let changing = λ k nothing.
         let same = serve.quiet (c.commit_turn.ensures.on.kept k) (subst (λ (ls : List Connection). ChangeNothing OfAnyCause (world e0) (calls ls)) (sym taken) nothing) in
         not_ok c.commit_turn.result c.in-Err-Full.field-0 (c.commit_turn.ensures.quiet (same ∙ c.requires.rests)).0 c.in-Err-Full.is in
     record {
       replies = serves.replies;
+      one_each = serves.one_each ∙ ap (λ (ls : List Connection). length (calls ls)) taken;
       last = world e1;
       runs = ran;
-      ends = inr (inr (ap frames_in (whole new _ c.args.refusals.len long) ∙ given, (generation_was, changing)), full.0 ∙ ap (λ (cs : List Collection). after_undo cs (world e1)) before);
+      ends = inr (inr (ap frames_in (whole new _ c.args.refusals.len long) ∙ given, λ k. (generation_was, changing k)), full.0 ∙ ap (λ (cs : List Collection). after_undo cs (world e1)) before);
     }
 
 pub returns-in-Err-Device-clause-breaks : goal.returns-in-Err-Device-clause-breaks
@@ -159,10 +163,10 @@ returns-in-Err-Device-clause-breaks g c _ k =
     let e1 = c.serve_connections.new.engine in
     let e2 = c.commit_turn.new.self in
     let serve = c.serve_connections.ensures in
-    let serves = serve.serves (c.commit_turn.ensures.on.kept k) in
+    let serves = serve.serves in
     let taken : c.deref_mut.result.now ≡ c.args.connections.now.items = search rules in
     let after = (commit_follows history e1 e2 c.commit_turn.result c.commit_turn.ensures).0 in
-    let ran = runs_over history e0 e1 e2 serve.goes after c.deref_mut.result.now c.args.connections.now.items taken serves.replies serves.runs in
+    let ran = runs_over history e0 e1 e2 serve.goes after c.deref_mut.result.now c.args.connections.now.items taken serves.replies (serves.runs (c.commit_turn.ensures.on.kept k)) in
     record {
       replies = serves.replies;
       last = world e1;

@@ -1,7 +1,8 @@
 use Rattle.std.proofs.Common.{◌≡◌, ℕ, List, [], ◌∷◌, ◌++◌, sym, ◌∙◌, ap, append-nil, rules}
 use Rattle.std.specs.Prelude.{Bool, true, false}
 use Rattle.engine.specs.View.{world, reply_of}
-use Rattle.engine.specs.Durable.{file_of, has_changes}
+use Rattle.page.specs.History.{KeepsWord}
+use Rattle.engine.specs.Durable.{disk_history, file_of, has_changes}
 use Rattle.collections.proofs.LawLemmas.{goes_from_itself}
 use Rattle.server.specs.Causes.{IsCaused, OfAnyCause}
 use Rattle.server.specs.Durable.{engine_moment}
@@ -13,27 +14,27 @@ use Rattle.server.proofs.ConnectionServed.{one_served, one_quiet, nothing_served
 use Rattle.server.proofs.serving.serve_connection.Goals as goal
 
 pub returns-then-request-clause-serves : goal.returns-then-request-clause-serves
-returns-then-request-clause-serves g c = λ k.
+returns-then-request-clause-serves g c =
     let given = frames_in c.args.frames.now.items in
     let connection = c.args.connection.now in
     let r = c.in-Call.request in
-    one_served (IsCaused (engine_moment g.D.Disk.history c.args.engine.now) (engine_moment g.D.Disk.history c.answer-reply.new.engine)) connection c.take_call.new.connection (front_of connection) c.in-Call.number r (world c.args.engine.now) (world c.answer-reply.new.engine) (reply_of c.answer-reply.result) true given given c.in-Call.ensures.taken (c.answer-reply.ensures.answer k)
+    one_served (KeepsWord (disk_history g.D.Disk.history c.answer-reply.new.engine)) (IsCaused (engine_moment g.D.Disk.history c.args.engine.now) (engine_moment g.D.Disk.history c.answer-reply.new.engine)) connection c.take_call.new.connection (front_of connection) c.in-Call.number r (world c.args.engine.now) (world c.answer-reply.new.engine) (reply_of c.answer-reply.result) true given given c.in-Call.ensures.taken c.answer-reply.ensures.answer
     (λ e. sym (append-nil given) ∙ ap (λ (b : Bool). given ++ frame_unless b connection.id c.in-Call.number r.request_id (reply_of c.answer-reply.result)) (sym c.if-request.true))
 
 pub returns-clause-serves : goal.returns-clause-serves
-returns-clause-serves g c = λ k.
+returns-clause-serves g c =
     let given = frames_in c.args.frames.now.items in
     let connection = c.args.connection.now in
-    one_served (IsCaused (engine_moment g.D.Disk.history c.args.engine.now) (engine_moment g.D.Disk.history c.answer-reply.new.engine)) connection c.take_call.new.connection (front_of connection) c.in-Call.number c.in-Call.request (world c.args.engine.now) (world c.answer-reply.new.engine) (reply_of c.answer-reply.result) false given given c.in-Call.ensures.taken (c.answer-reply.ensures.answer k)
+    one_served (KeepsWord (disk_history g.D.Disk.history c.answer-reply.new.engine)) (IsCaused (engine_moment g.D.Disk.history c.args.engine.now) (engine_moment g.D.Disk.history c.answer-reply.new.engine)) connection c.take_call.new.connection (front_of connection) c.in-Call.number c.in-Call.request (world c.args.engine.now) (world c.answer-reply.new.engine) (reply_of c.answer-reply.result) false given given c.in-Call.ensures.taken c.answer-reply.ensures.answer
     (λ e. absurd cc)
 
 pub returns-in-Ok-clause-serves : goal.returns-in-Ok-clause-serves
-returns-in-Ok-clause-serves g c = λ k.
+returns-in-Ok-clause-serves g c =
     let given = frames_in c.args.frames.now.items in
     let connection = c.args.connection.now in
     let r = c.in-Call.request in
     let reply = reply_of c.answer-reply.result in
-    one_served (IsCaused (engine_moment g.D.Disk.history c.args.engine.now) (engine_moment g.D.Disk.history c.answer-reply.new.engine)) connection c.take_call.new.connection (front_of connection) c.in-Call.number r (world c.args.engine.now) (world c.answer-reply.new.engine) reply c.is_ok.result given (frames_in c.push.new.self.items) c.in-Call.ensures.taken (c.answer-reply.ensures.answer k)
+    one_served (KeepsWord (disk_history g.D.Disk.history c.answer-reply.new.engine)) (IsCaused (engine_moment g.D.Disk.history c.args.engine.now) (engine_moment g.D.Disk.history c.answer-reply.new.engine)) connection c.take_call.new.connection (front_of connection) c.in-Call.number r (world c.args.engine.now) (world c.answer-reply.new.engine) reply c.is_ok.result given (frames_in c.push.new.self.items) c.in-Call.ensures.taken c.answer-reply.ensures.answer
     (λ e.
     let put : c.push.new.self.items ≡ c.args.frames.now.items ++ (connection.id, c.in-Ok.bytes) ∷ [] = search rules in
     ap frames_in put ∙ frames_append c.args.frames.now.items ((connection.id, c.in-Ok.bytes) ∷ [])
@@ -41,8 +42,8 @@ returns-in-Ok-clause-serves g c = λ k.
     ∙ ap (λ (b : Bool). given ++ frame_unless b connection.id c.in-Call.number r.request_id reply) (sym c.if-request.false))
 
 pub returns-in_default-clause-serves : goal.returns-in_default-clause-serves
-returns-in_default-clause-serves g c = λ k.
-    nothing_served (IsCaused (engine_moment g.D.Disk.history c.args.engine.now) (engine_moment g.D.Disk.history c.args.engine.now)) c.args.connection.now c.take_call.new.connection (front_of c.args.connection.now) c.take_call.result (world c.args.engine.now) (frames_in c.args.frames.now.items) c.take_call.ensures.taken c.in_default.not-Call
+returns-in_default-clause-serves g c =
+    nothing_served (KeepsWord (disk_history g.D.Disk.history c.args.engine.now)) (IsCaused (engine_moment g.D.Disk.history c.args.engine.now) (engine_moment g.D.Disk.history c.args.engine.now)) c.args.connection.now c.take_call.new.connection (front_of c.args.connection.now) c.take_call.result (world c.args.engine.now) (frames_in c.args.frames.now.items) c.take_call.ensures.taken c.in_default.not-Call
 
 pub returns-in_default-clause-connection : goal.returns-in_default-clause-connection
 returns-in_default-clause-connection g c = taken_link c.args.connection.now c.take_call.new.connection (front_of c.args.connection.now) c.take_call.result c.take_call.ensures.taken

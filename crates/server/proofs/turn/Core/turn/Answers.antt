@@ -1,4 +1,4 @@
-use Rattle.std.proofs.Common.{◌≡◌, ⊎_elim, ap, length, inl, inr, false, true, refl, sym, subst, ◌∙◌, rules}
+use Rattle.std.proofs.Common.{◌≡◌, ℕ, List, ⊎_elim, ap, length, inl, inr, false, true, refl, sym, subst, ◌∙◌, rules}
 use Rattle.std.specs.Prelude.{Bool}
 use Rattle.engine.specs.View.{world}
 use Rattle.engine.specs.Durable.{Holds, disk_history}
@@ -13,7 +13,8 @@ use Rattle.engine.specs.World.{World}
 use Rattle.collections.proofs.LawLemmas.{goes_from_itself}
 use Rattle.server.specs.Durable.{engine_moment, moment_of, file_of, is_stopped}
 use Rattle.server.specs.declared.turn.TurnFault.TheVariants as turns
-use Rattle.server.specs.Turn.{Cut, TurnFails, faults, forget_all, connections_taken}
+use Rattle.server.specs.Turn.{Cut, TurnFails, Runs, calls, faults, forget_all, connections_taken}
+use Rattle.server.specs.declared.connection.Connection.{Connection}
 use Rattle.server.specs.Taking.{EndsTurn, closed_connections, faults_in}
 use Rattle.server.specs.View.{state, frames_in}
 use Rattle.server.specs.ServerState.{ServerState, are_ascending}
@@ -22,16 +23,32 @@ use Rattle.server.proofs.Images.{engine_holds, stays, forgotten, forget_all_stat
 use Rattle.server.proofs.CauseLemmas.{in_turn_itself}
 use Rattle.server.proofs.ConnectionsServed.{all_closed}
 use Rattle.server.proofs.Refusing.{whole}
-use Rattle.server.proofs.TurnParts.{turned}
+use Rattle.server.proofs.TurnParts.{turned, handed_out}
 use Rattle.server.proofs.turn.Core.turn.Goals as goal
 
 stopped_not : (b : Bool) → b ≡ true → b ≡ false → ⊥
 stopped_not b stopped runs = absurd cc
 
+-- a turn that was ended, a moment after which nothing was done
+ends_after : (before word : Type 0) → (word → before) → (no_room : Type 0) (world_was : World) (connections : List Connection) (given : List (ℕ × List ℕ)) (left : World) (start end later : Moment) → end ≡ later
+    → EndsTurn before (IsCaused start end) no_room world_was connections given left → EndsTurn word (IsCaused start later) no_room world_was connections given left
+ends_after before word kept no_room world_was connections given left start end later same s = record {
+  replies = s.replies;
+  one_each = s.one_each;
+  last = s.last;
+  runs = λ k. subst (λ (m : Moment). Runs (IsCaused start m) world_was (calls connections) s.replies s.last) same (s.runs (kept k));
+  ends = ⊎_elim
+      (λ done. inl done)
+      (λ refused. inr (⊎_elim (λ memory. inl memory) (λ room. inr (room.0, λ k. room.1 (kept k))) refused.0, refused.1))
+      s.ends;
+}
+
 pub returns-then-is_stopped : goal.returns-then-is_stopped
 returns-then-is_stopped g c = record {
   sound = search rules;
   turns = search rules;
+  hands_out = tt;
+  leaves = tt;
   fails = search rules;
   on = search rules;
   any_moment = search rules;
@@ -50,6 +67,8 @@ pub returns-in_err-refusals : goal.returns-in_err-refusals
 returns-in_err-refusals g c = record {
   sound = search rules;
   turns = search rules;
+  hands_out = tt;
+  leaves = tt;
   fails = search rules;
   on = search rules;
   any_moment = let engine = c.args.self.now.engine in
@@ -80,6 +99,8 @@ returns-in_default g c =
         ascending = ap are_ascending ran.connections ∙ taken_ascends core.connections.items c.requires.sound.ascending;
       };
       turns = search rules;
+      hands_out = tt;
+      leaves = tt;
       fails = let old : Moment = engine_moment history core.engine in
           let new : Moment = engine_moment history c.run_messages.new.engine in
           let after : ServerState = record { world = world c.run_messages.new.engine; connections = c.run_messages.new.connections.items } in
@@ -119,6 +140,12 @@ returns g c =
     let go_on : c.close_connections.new.connections ≡ closed_connections (connections_taken connections) (faults_in connections) = search rules in
     let long : length c.close_connections.new.connections ≡ c.run_messages.new.connections.len = search rules in
     let left = whole c.close_connections.new.connections _ c.run_messages.new.connections.len long ∙ go_on ∙ all_closed connections in
+    let old : Moment = engine_moment history core.engine in
+    let new : Moment = engine_moment history c.forget_closed.new.engine in
+    let word : Type 0 = KeepsWord (disk_history history c.forget_closed.new.engine) in
+    let frames = frames_in c.in-Some.replies.items in
+    let settles = ends_after (KeepsWord (disk_history history c.run_messages.new.engine)) word (subst KeepsWord forgot.disk) (RoomRanOut old (state core)) (world core.engine) connections frames (world c.run_messages.new.engine) old
+    (engine_moment history c.run_messages.new.engine) new (sym (same_engine_moment history c.run_messages.new.engine c.forget_closed.new.engine forgot.file)) c.in-Some.ensures.settles in
     record {
       sound = record {
         engine = forgot.sound;
@@ -127,11 +154,9 @@ returns g c =
         rests = forgot.has_changes ∙ ran.rests;
         ascending = ap are_ascending left ∙ after_ascends connections c.requires.sound.ascending;
       };
-      turns = λ k. let old : Moment = engine_moment history core.engine in
-          let settles = subst (λ (m : Moment). EndsTurn (IsCaused old m) (RoomRanOut old (state core)) (world core.engine) connections (frames_in c.in-Some.replies.items) (world c.run_messages.new.engine))
-          (sym (same_engine_moment history c.run_messages.new.engine c.forget_closed.new.engine forgot.file)) (c.in-Some.ensures.settles (subst KeepsWord forgot.disk k)) in
-          turned (IsCaused old (engine_moment history c.forget_closed.new.engine)) (RoomRanOut old (state core)) core (frames_in c.in-Some.replies.items) (world c.run_messages.new.engine) prepared.closed.items (world c.forget_closed.new.engine) _
-          settles closes forgets left;
+      turns = λ k. turned word (IsCaused old new) (RoomRanOut old (state core)) core frames (world c.run_messages.new.engine) prepared.closed.items (world c.forget_closed.new.engine) _ settles closes forgets left k;
+      hands_out = handed_out word (IsCaused old new) (RoomRanOut old (state core)) core frames (world c.run_messages.new.engine) prepared.closed.items (world c.forget_closed.new.engine) _ settles closes forgets left;
+      leaves = left;
       fails = search rules;
       on = search rules;
       any_moment = λ _. let closed = prepared.closed.items in
