@@ -46,7 +46,7 @@ fn step(file: &mut FileDisk, memory: &mut MemDisk, random: u64) -> bool {
     }
 }
 
-/// Two thousand steps. What was synced is there when the file is opened again.
+/// Two thousand steps. What was synced is there when the file is opened again, also where it would have been made.
 #[test]
 fn a_file_beside_memory(rt: HostRuntime) -> Result<(), Fail> {
     let path = "storage_tests_random_calls";
@@ -63,7 +63,7 @@ fn a_file_beside_memory(rt: HostRuntime) -> Result<(), Fail> {
     }
     assert!(rt; same_sectors(&mut file, &mut memory, 0, 128) && file.sync().is_ok());
     drop(file);
-    let Ok(mut again) = FileDisk::open(&rt, path, false) else {
+    let Ok(mut again) = FileDisk::open(&rt, path, true) else {
         panic!(&rt; "the file isn't opened again");
     };
     assert!(rt; same_sectors(&mut again, &mut memory, 0, 128));
