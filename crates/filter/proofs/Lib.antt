@@ -7,3 +7,4 @@ pub mod FrontLemmas
 pub mod SortLemmas
 pub mod TakenOutLemmas
 pub mod FirstKeyLemmas
+pub mod PathListLemmas
