@@ -7,4 +7,3 @@ pub mod FrontLemmas
 pub mod SortLemmas
 pub mod TakenOutLemmas
 pub mod FirstKeyLemmas
-pub mod PathListLemmas

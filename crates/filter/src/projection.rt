@@ -103,9 +103,9 @@ fn agrees(fields: Option<bool>, flag: bool) -> bool
 fn with_path(seen: ProjectionFields, path: Path, flag: bool) -> Result<ProjectionFields, Refusal>
     requires { list_any (meets path) seen.paths ≡ false }
     ensures { Gives Refusal.OutOfMemory seen_of result (Ok (record {
-        fields = Some flag;
-        id = seen.id;
-        paths = seen.paths ++ path ∷ [];
+      fields = Some flag;
+      id = seen.id;
+      paths = seen.paths ++ path ∷ [];
     })) }
 {
     let ProjectionFields {
