@@ -4,6 +4,7 @@ use Rattle.std.specs.Prelude.{Result, Ok, Err}
 use Rattle.page.specs.History.{History, KeepsWord}
 use Rattle.roots.specs.declared.store.CommitFault.{CommitFault}
 use Rattle.roots.specs.Image.{StandsFor}
+use Rattle.roots.specs.declared.root.Root.{Root}
 use Rattle.pager.specs.Commit.{Commits as CommitsPages, MovesTurns, Moves as MovesPages}
 use Rattle.pager.specs.State.{State as PagerState}
 use Rattle.index.specs.State.{Collection}
@@ -37,6 +38,7 @@ module _ {D : Type 0} (history : D → History) (old : State D) (pager : PagerSt
     on = commits.on;
     running = commits.running;
     version = commits.version;
+    still = tt;
     rests = rests_at old.root _ (sym commits.tree);
     memory = λ is. absurd cc;
     full = λ is. absurd cc;
@@ -61,6 +63,7 @@ module _ {D : Type 0} (history : D → History) (old : State D) (pager : PagerSt
     on = commits.on;
     running = tt;
     version = tt;
+    still = ap (λ (r : Root). r.generation) commits.still;
     rests = tt;
     memory = λ is. ap (λ (p : PagerState D). record old { pager = p }) (commits.memory is);
     full = λ is. ((commits.full is).0, ap (λ (p : PagerState D). record old { pager = p }) (commits.full is).1);

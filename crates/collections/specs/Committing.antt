@@ -1,5 +1,5 @@
 -- What the commit of a turn gives.
-use Rattle.std.specs.Prelude.{◌≡◌, ◌⊎◌, ◌+◌, ◌-◌, ◌^◌, false, true, List, Result, Err, OnOk}
+use Rattle.std.specs.Prelude.{◌≡◌, ◌⊎◌, ◌+◌, ◌-◌, ◌^◌, false, true, List, Result, Err, OnOk, OnErr}
 use Rattle.page.specs.History.{History, KeepsWord}
 use Rattle.page.specs.Crash.{GoesOn, LeavesOnly, LeavesNow}
 use Rattle.roots.specs.declared.store.CommitFault.{CommitFault}
@@ -27,6 +27,7 @@ pub record Commits {D : Type 0} (history : D → History)
   pub on : GoesOn (disk_history history old) (disk_history history new)
   pub running : OnOk result ((is_stopped old ≡ false) × (is_stopped new ≡ false))
   pub version : OnOk result (generation new ≡ generation old + 1)
+  pub still : OnErr result (generation new ≡ generation old)
   pub rests : OnOk result (is_changed new ≡ false)
   -- no page is asked for
   pub takes : (pages_of history new).full_takes ≡ (pages_of history old).full_takes

@@ -1,6 +1,6 @@
 -- How a turn ends: what it changed is durable, or not.
-use Rattle.std.proofs.Common.{◌≡◌, ◌≢◌, ◌⊎◌, inl, inr, ℕ, true, false, List, map, Result, Ok, Err, refl, sym, ap, subst, ◌∙◌, ◌-◌, ◌^◌}
-use Rattle.std.specs.Prelude.{not, All}
+use Rattle.std.proofs.Common.{◌≡◌, ◌≢◌, ◌⊎◌, inl, inr, ℕ, true, false, List, map, Result, Ok, Err, refl, sym, ap, subst, ◌∙◌, ◌+◌, ◌-◌, ◌^◌}
+use Rattle.std.specs.Prelude.{not, All, Bool, if◌then◌else◌}
 use Rattle.page.specs.History.{History}
 use Rattle.page.specs.Crash.{GoesOn, LeavesOnly, LeavesNow}
 use Rattle.page.proofs.Moments.{goes_nowhere, started}
@@ -33,6 +33,10 @@ module _ {D : Type 0} (history : D → History) (old new : Engine D) (h : IsSoun
   pub holds_start : IsRunning old → LeavesNow (disk_history history old) (λ image. Holds image (turn_start old))
   holds_start run k image is = record { lawful = h.before; file = laws.leaves_start history old.file (turn_start old) (world old).collections run h.file k image is }
 
+  -- the number of the commit, where the turn is done
+  counted : {b : Bool} → has_changes old ≡ b → (if has_changes old then generation old + 1 else generation old) ≡ (if b then generation old + 1 else generation old)
+  counted e = ap (λ (b : Bool). if b then generation old + 1 else generation old) e
+
   -- nothing was changed but cursors
   module _ (cursors : CursorTable) where
     abbrev quiet_engine : Engine D
@@ -52,6 +56,7 @@ module _ {D : Type 0} (history : D → History) (old new : Engine D) (h : IsSoun
       stops = λ e. absurd cc;
       memory = λ e. absurd cc;
       full = λ e. absurd cc;
+      version = sym (counted rests);
       ended = idle;
       takes = refl;
       running = λ e. refl;
@@ -101,6 +106,7 @@ module _ {D : Type 0} (history : D → History) (old new : Engine D) (h : IsSoun
           stops = λ e. absurd (not_device e);
           memory = λ e. back;
           full = λ e. (back, most (ap fault_of e));
+          version = undoes.untouched.version;
           ended = ended;
           takes = undoes.untouched.takes;
           running = λ e. undoes.untouched.stopped;
@@ -153,6 +159,7 @@ module _ {D : Type 0} (history : D → History) (old new : Engine D) (h : IsSoun
           stops = λ e. absurd cc;
           memory = λ e. absurd cc;
           full = λ e. absurd cc;
+          version = saved.version ∙ sym (counted moved);
           ended = ended;
           takes = saved.takes;
           running = λ e. saved.running.1 ∙ sym saved.running.0;
@@ -176,6 +183,7 @@ module _ {D : Type 0} (history : D → History) (old new : Engine D) (h : IsSoun
           stops = λ e. (forth, off);
           memory = λ e. absurd cc;
           full = λ e. absurd cc;
+          version = saved.still;
           ended = ended;
           takes = saved.takes;
           running = λ e. absurd (e refl);

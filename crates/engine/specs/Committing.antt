@@ -1,5 +1,5 @@
 -- What the commit of a turn does to an engine.
-use Rattle.std.specs.Prelude.{◌≡◌, ◌≢◌, ◌⊎◌, ◌<◌, ◌-◌, ◌^◌, true, false, Result, Ok, Err, OnOk, OnErr}
+use Rattle.std.specs.Prelude.{◌≡◌, ◌≢◌, ◌⊎◌, ◌<◌, ◌+◌, ◌-◌, ◌^◌, true, false, ◌&&◌, if◌then◌else◌, Result, Ok, Err, is_ok, OnOk, OnErr}
 use Rattle.page.specs.History.{History, KeepsWord}
 use Rattle.page.specs.Crash.{GoesOn, LeavesOnly, LeavesNow}
 use Rattle.roots.specs.declared.store.CommitFault.{CommitFault}
@@ -21,6 +21,9 @@ pub record Commits {D : Type 0} (history : D → History) (result : Result (Unit
   -- Full comes only where no greater generation is left
   pub full : result ≡ Err faults.Full → (world new ≡ after_undo (turn_start old) (world old))
       × (generation old ≡ 2 ^ 64 - 1)
+  -- a commit has the next number; where nothing was changed, or the turn is not done, there is none
+  pub version : generation new
+      ≡ (if is_ok result && has_changes old then generation old + 1 else generation old)
   pub ended : turn_start new ≡ (world new).collections
   -- no page is asked for
   pub takes : full_takes_of history new ≡ full_takes_of history old

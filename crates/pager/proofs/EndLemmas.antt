@@ -104,11 +104,13 @@ module _ {D : Type 0} (history : D → History) (store : Store D) (cache : PageC
     begun = tt;
   }
 
-  pub commits_failed : (root : ℕ) (fault : CommitFault) (new : Store D) → CommitsRoot history root (Err fault) store new → Commits history root (Err fault) p (record { store = new; made = made; retired = retired; book = book })
-  commits_failed root fault new commits = record {
+  pub commits_failed : (root : ℕ) (fault : CommitFault) (new : Store D) → CommitsRoot history root (Err fault) store new → durable_root new ≡ durable_root store
+      → Commits history root (Err fault) p (record { store = new; made = made; retired = retired; book = book })
+  commits_failed root fault new commits still = record {
     on = commits.on;
     running = tt;
     version = tt;
+    still = still;
     tree = tt;
     made = tt;
     retired = tt;

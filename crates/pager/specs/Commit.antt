@@ -1,5 +1,5 @@
 -- What the commit of a turn does.
-use Rattle.std.specs.Prelude.{◌≡◌, ◌⊎◌, ℕ, ◌+◌, ◌-◌, ◌^◌, true, List, [], Result, Err, OnOk}
+use Rattle.std.specs.Prelude.{◌≡◌, ◌⊎◌, ℕ, ◌+◌, ◌-◌, ◌^◌, true, List, [], Result, Err, OnOk, OnErr}
 use Rattle.page.specs.History.{History, KeepsWord}
 use Rattle.page.specs.Crash.{GoesOn, LeavesOnly, LeavesNow}
 use Rattle.btree.specs.Keys.{Entry, times}
@@ -20,6 +20,8 @@ pub record Commits {D : Type 0} (history : D → History) (root : ℕ)
   pub running : OnOk result (IsRunning old.store × IsRunning new.store)
   pub version : OnOk result
       ((durable_root new.store).generation ≡ (durable_root old.store).generation + 1)
+  -- what isn't committed leaves the root that is
+  pub still : OnErr result (durable_root new.store ≡ durable_root old.store)
   pub tree : OnOk result ((durable_root new.store).tree ≡ root)
   -- no turn runs
   pub made : OnOk result (new.made ≡ [])

@@ -1,45 +1,68 @@
 -- How moments follow each other, and causes of refusals grow with them.
-use Rattle.std.proofs.Common.{◌≡◌, inl, inr, ℕ, ◌≤◌, ◌<◌, List, [], ◌∷◌, subst, arith}
+use Rattle.std.proofs.Common.{◌≡◌, inl, inr, ℕ, ◌+◌, ◌≤◌, ◌<◌, List, [], ◌∷◌, ◌++◌, true, false, sym, ap, ◌∙◌, subst, arith}
 use Rattle.std.proofs.lemmas.Bool.{cases_lt}
-use Rattle.std.specs.Prelude.{◌⊎◌, Bool, IsTrue, Result}
+use Rattle.std.specs.Prelude.{◌⊎◌, Bool, IsTrue, Result, if◌then◌else◌}
 use Rattle.bson.specs.Tree.{Pairs}
 use Rattle.bson.specs.declared.fault.BsonFault.{BsonFault}
 use Rattle.path.specs.declared.refusal.Refusal.{Refusal}
 use Rattle.path.specs.declared.refusal.Refusal.TheVariants as refusals
 use Rattle.page.specs.History.{History, KeepsWord}
 use Rattle.page.specs.Crash.{GoesOn}
+use Rattle.roots.specs.declared.store.CommitFault.{CommitFault}
 use Rattle.collections.specs.Calls.{GoesFrom, HasWriteCause, IsTooLarge}
-use Rattle.engine.specs.World.{World}
+use Rattle.collections.specs.State.{State}
+use Rattle.collections.specs.View as views
+use Rattle.engine.specs.World.{World, after_commit}
 use Rattle.engine.specs.Step.{step, Answers}
+use Rattle.engine.specs.Committing.{Commits}
 use Rattle.engine.specs.Writing.{FileCause}
-use Rattle.engine.specs.Durable.{disk_history, file_of, full_takes_of, generation, IsRunning}
+use Rattle.engine.specs.Durable.{disk_history, file_of, full_takes_of, generation, has_changes, IsRunning, IsSound}
 use Rattle.engine.specs.declared.engine.Engine.{Engine}
-use Rattle.engine.specs.View.{world}
+use Rattle.engine.specs.View.{world, turn_start}
 use Rattle.server.specs.Turn.{Call, Runs, calls}
 use Rattle.server.specs.declared.connection.Connection.{Connection}
 use Rattle.server.specs.Taking.{Serves}
-use Rattle.server.specs.Moment.{Moment}
+use Rattle.server.specs.Moment.{Moment, TurnEnd, Follows, FollowsInTurn, FollowInOrder, last_moment}
 use Rattle.server.specs.Causes.{FoundNoPage, IsCaused, OfAnyCause}
 use Rattle.server.specs.Durable.{engine_moment}
 
 abbrev Beside : Type 1
 Beside = World → Refusal → Type 0
 
--- While the word is kept, nothing that is counted falls.
-pub record Follows (old new : Moment) : Type 0 where
-  pub word : IsTrue new.keeps_word → IsTrue old.keeps_word
-  pub failures : IsTrue new.keeps_word → old.failures ≤ new.failures
-  pub takes : IsTrue new.keeps_word → old.full_takes ≤ new.full_takes
-
 pub follows_itself : (m : Moment) → Follows m m
-follows_itself m = record { word = λ k. k; failures = λ k. omega arith; takes = λ k. omega arith }
+follows_itself m = record {
+  word = λ k. k;
+  clock = omega arith;
+  failures = λ k. omega arith;
+  takes = λ k. omega arith;
+  generation = omega arith;
+}
 
 pub follows_further : (a b c : Moment) → Follows a b → Follows b c → Follows a c
 follows_further a b c first second = record {
   word = λ k. first.word (second.word k);
+  clock = omega (arith, first.clock, second.clock);
   failures = λ k. omega (arith, first.failures (second.word k), second.failures k);
   takes = λ k. omega (arith, first.takes (second.word k), second.takes k);
+  generation = omega (arith, first.generation, second.generation);
 }
+
+-- ---- moments of turns' ends, in order
+
+pub in_turn_itself : (m : Moment) → FollowsInTurn m m
+in_turn_itself m = (follows_itself m, omega arith)
+
+-- a further turn's end
+pub follow_end : (first : Moment) (ends : List TurnEnd) (now : Moment) → now ≡ last_moment first ends → FollowInOrder first ends now
+    → (end : TurnEnd) → FollowsInTurn now end.at → FollowInOrder first (ends ++ end ∷ []) end.at
+follow_end first [] now is order end turn = (subst (λ (m : Moment). FollowsInTurn m end.at) is turn, in_turn_itself end.at)
+follow_end first (e ∷ later) now is order end turn = (order.0, follow_end e.at later now is order.1 end turn)
+
+-- a further moment
+pub follow_on : (first : Moment) (ends : List TurnEnd) (now last : Moment) → now ≡ last_moment first ends → FollowInOrder first ends now
+    → FollowsInTurn now last → FollowInOrder first ends last
+follow_on first [] now last is order turn = subst (λ (m : Moment). FollowsInTurn m last) is turn
+follow_on first (e ∷ later) now last is order turn = (order.0, follow_on e.at later now last is order.1 turn)
 
 -- ---- a cause between two moments is one between moments around them
 
@@ -101,29 +124,51 @@ module _ (beside other : World → Refusal → Type 0) (weaker : (planned : Worl
 
 -- ---- what the engine's calls do to the moment
 
+same_generation : {x y : ℕ} (a b : List ℕ) {s t : ℕ} → s ∷ x ∷ a ≡ t ∷ y ∷ b → x ≡ y
+same_generation a b e = cc
+
+one_more : (committed : Bool) (old new : ℕ) → new ≡ (if committed then old + 1 else old) → (old ≤ new) × (new ≤ old + 1)
+one_more true old new is = (omega (arith, is), omega (arith, is))
+one_more false old new is = (omega (arith, is), omega (arith, is))
+
 module _ {D : Type 0} (history : D → History) (old new : Engine D) where
-  pub goes_follows : GoesFrom history (file_of old) (file_of new) → Follows (engine_moment history old) (engine_moment history new)
-  goes_follows goes = record {
-    word = goes.stays.reads.on.kept;
-    failures = λ k. (goes.frame k).failures;
-    takes = λ k. (goes.frame k).full_takes;
-  }
-
-  -- a call that asks for no page
-  pub on_follows : GoesOn (disk_history history old) (disk_history history new) → (KeepsWord (disk_history history new) → full_takes_of history new ≡ full_takes_of history old)
-      → Follows (engine_moment history old) (engine_moment history new)
-  on_follows on takes = record {
-    word = on.kept;
-    failures = on.failures;
-    takes = λ k. omega (arith, takes k);
-  }
-
-  same_generation : {x y : ℕ} (a b : List ℕ) {s t : ℕ} → s ∷ x ∷ a ≡ t ∷ y ∷ b → x ≡ y
-  same_generation a b e = cc
-
   -- a command commits nothing
   pub goes_generation : GoesFrom history (file_of old) (file_of new) → generation new ≡ generation old
   goes_generation goes = same_generation _ _ goes.stays.base
+
+  pub goes_follows : GoesFrom history (file_of old) (file_of new) → Follows (engine_moment history old) (engine_moment history new)
+  goes_follows goes = record {
+    word = goes.stays.reads.on.kept;
+    clock = goes.stays.reads.on.clock;
+    failures = λ k. (goes.frame k).failures;
+    takes = λ k. (goes.frame k).full_takes;
+    generation = omega (arith, goes_generation goes);
+  }
+
+  -- the end of a turn asks for no page
+  pub commit_follows : (result : Result (Unit {0}) CommitFault) → Commits history result old new → FollowsInTurn (engine_moment history old) (engine_moment history new)
+  commit_follows result commits =
+      let once = one_more _ (generation old) (generation new) commits.version in
+      (
+        record {
+          word = commits.on.kept;
+          clock = commits.on.clock;
+          failures = commits.on.failures;
+          takes = λ k. omega (arith, commits.takes);
+          generation = once.0;
+        },
+        once.1,
+      )
+
+  pub undo_follows : GoesOn (disk_history history old) (disk_history history new) → full_takes_of history new ≡ full_takes_of history old → generation new ≡ generation old
+      → Follows (engine_moment history old) (engine_moment history new)
+  undo_follows on takes same = record {
+    word = on.kept;
+    clock = on.clock;
+    failures = on.failures;
+    takes = λ k. omega (arith, takes);
+    generation = omega (arith, same);
+  }
 
   -- a refusal of a command of an engine that runs
   module _ (running : IsRunning old) (planned : World) where
@@ -145,6 +190,29 @@ module _ {D : Type 0} (history : D → History) (old new : Engine D) where
     file_caused r (inl is, why) = inl is
     file_caused r (inr (inl is), why) = inr (inl (is, λ k. failed_so (subst (λ (e : Refusal). HasWriteCause history planned.collections (file_of old) (file_of new) e) is (why k))))
     file_caused r (inr (inr is), why) = inr (inr (is, λ k. full_so (subst (λ (e : Refusal). HasWriteCause history planned.collections (file_of old) (file_of new) e) is (why k))))
+
+-- the commands of a turn, and its end
+pub turn_follows : {D : Type 0} (history : D → History) (old mid new : Engine D) → GoesFrom history (file_of old) (file_of mid) → FollowsInTurn (engine_moment history mid) (engine_moment history new)
+    → FollowsInTurn (engine_moment history old) (engine_moment history new)
+turn_follows history old mid new goes end = (
+  follows_further (engine_moment history old) (engine_moment history mid) (engine_moment history new) (goes_follows history old mid goes) end.0,
+  omega (arith, goes_generation history old mid goes, end.1),
+)
+
+-- what the commands of a turn changed is committed
+pub commits_changes : {D : Type 0} (history : D → History) (old mid new : Engine D) (changed : Bool) → has_changes mid ≡ changed → IsSound history mid → GoesFrom history (file_of old) (file_of mid)
+    → turn_start mid ≡ (world old).collections → world new ≡ after_commit (world mid) → generation new ≡ (if has_changes mid then generation mid + 1 else generation mid)
+    → ((world new).collections ≡ (world old).collections) ⊎ (generation new ≡ generation old + 1)
+commits_changes history old mid new true moved sound goes start done version =
+    inr (version ∙ ap (λ (b : Bool). if b then generation mid + 1 else generation mid) moved ∙ ap (λ (n : ℕ). n + 1) (goes_generation history old mid goes))
+commits_changes history old mid new false rests sound goes start done version =
+    inl (ap (λ (w : World). w.collections) done ∙ sym (sound.quiet rests) ∙ start)
+
+-- a turn that took no message ends without a call of the disk
+pub idle_commit : {D : Type 0} (history : D → History) (old mid new : Engine D) (result : Result (Unit {0}) CommitFault) → has_changes old ≡ false → mid ≡ old → Commits history result mid new
+    → disk_history history new ≡ disk_history history old
+idle_commit history old mid new result rests same commits =
+    ap (λ (f : State D). views.disk_history history f) (commits.quiet (ap has_changes same ∙ rests)).1 ∙ ap (disk_history history) same
 
 -- the messages of a turn, by the causes of the whole turn
 module _ {D : Type 0} (history : D → History) (old mid new : Engine D) (goes : GoesFrom history (file_of old) (file_of mid)) (after : Follows (engine_moment history mid) (engine_moment history new)) where

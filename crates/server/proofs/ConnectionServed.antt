@@ -30,6 +30,12 @@ taken_link old new (Ok (Some x)) (takes.Call n r) h = h.2
 taken_link old new (Err e) takes.Nothing h = h
 taken_link old new (Err e) (takes.Call n r) h = absurd h
 
+-- where a message is taken, there is a call
+pub is_called : (old new : Connection) (front : Front) (n : ℕ) (r : Request) → IsTaken old front (takes.Call n r) new → call_at old front ≡ [] → ⊥
+is_called old new (Ok None) n r h none = absurd h
+is_called old new (Err e) n r h none = absurd h
+is_called old new (Ok (Some x)) n r h none = absurd cc
+
 pub nothing_served : (beside : World → Refusal → Type 0) (old new : Connection) (front : Front) (t : Taken) (w : World) (given : List (ℕ × List ℕ)) → IsTaken old front t new → ((n : ℕ) (r : Request) → t ≡ takes.Call n r → ⊥) → Serves beside (call_at old front) w w true given given
 nothing_served beside old new (Ok None) t w given h none = record { replies = []; runs = refl; frames = λ e. sym (append-nil given) }
 nothing_served beside old new (Err e) t w given h none = record { replies = []; runs = refl; frames = λ e. sym (append-nil given) }

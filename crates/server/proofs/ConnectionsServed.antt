@@ -1,6 +1,6 @@
 -- How the links are served, one after the other.
 use Rattle.std.proofs.Common.{◌≡◌, ℕ, zero, suc, ◌+◌, ◌<◌, List, [], ◌∷◌, ◌++◌, length, take, drop, get_or, set, refl, sym, ◌∙◌, ap, subst, arith, append_assoc, append-nil}
-use Rattle.std.proofs.lemmas.List.{take_more}
+use Rattle.std.proofs.lemmas.List.{take_more, take-append-drop}
 use Rattle.std.specs.Prelude.{Bool, true, false, ◌&&◌, Option, Result, Ok, Err}
 use Rattle.bson.specs.Tree.{Pairs}
 use Rattle.engine.specs.World.{World, forget}
@@ -65,6 +65,23 @@ calls_append (k ∷ ks) ls = ap (λ (cs : List Call). call_at k (front_of k) ++ 
 pub calls_more : (ls : List Connection) (i : ℕ) (d : Connection) → i < length ls → calls (take (i + 1) ls) ≡ calls (take i ls) ++ call_at (get_or ls i d) (front_of (get_or ls i d))
 calls_more ls i d within =
     ap calls (take_more ls i d within) ∙ calls_append (take i ls) (get_or ls i d ∷ []) ∙ ap (λ (cs : List Call). calls (take i ls) ++ cs) (append-nil (call_at (get_or ls i d) (front_of (get_or ls i d))))
+
+-- ---- where there are no calls
+
+none_before : (cs ds : List Call) → cs ++ ds ≡ [] → cs ≡ []
+none_before [] ds e = refl
+none_before (c ∷ cs) ds e = absurd cc
+
+pub none_next : (cs ds : List Call) → cs ++ ds ≡ [] → ds ≡ []
+none_next [] ds e = e
+none_next (c ∷ cs) ds e = absurd cc
+
+-- the first connections have none
+none_taken : (ls : List Connection) (i : ℕ) → calls ls ≡ [] → calls (take i ls) ≡ []
+none_taken ls i none = none_before (calls (take i ls)) (calls (drop i ls)) (sym (calls_append (take i ls) (drop i ls)) ∙ ap calls (take-append-drop i ls) ∙ none)
+
+pub none_more : (ls : List Connection) (i : ℕ) {cs : List Call} → calls ls ≡ [] → cs ≡ calls (take i ls) → cs ≡ []
+none_more ls i none is = is ∙ none_taken ls i none
 
 abbrev taken : Connection → Connection
 taken l = taken_at l (front_of l)

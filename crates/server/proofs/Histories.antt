@@ -11,7 +11,7 @@ use Rattle.index.specs.State.{Collection}
 use Rattle.engine.specs.Durable.{Holds}
 use Rattle.server.specs.ServerState.{ServerState, fed, ended}
 use Rattle.server.specs.Turn.{Out, Turns, TurnFails}
-use Rattle.server.specs.Moment.{Moment, TurnEnd, Instant, end_at, last_collections, last_moment, HoldsEither, LeavesInOrder}
+use Rattle.server.specs.Moment.{Moment, TurnEnd, Instant, end_at, last_collections, last_moment, FollowsInTurn, FollowInOrder, HoldsEither, LeavesInOrder}
 use Rattle.server.specs.Causes.{IsCaused}
 use Rattle.server.specs.History.{Happens, RoomRanOut, turns_in}
 use Rattle.server.specs.View.{state, frames_in}
@@ -27,6 +27,7 @@ use Rattle.server.specs.declared.connection.FeedFault.TheVariants as feeds
 use Rattle.server.specs.declared.drive.DriveFault.{DriveFault}
 use Rattle.server.specs.declared.drive.DriveFault.TheVariants as stops
 use Rattle.server.specs.declared.drive.DriveOut.{DriveOut}
+use Rattle.server.proofs.CauseLemmas.{in_turn_itself, follow_end, follow_on}
 use Rattle.server.proofs.Images.{holds_now}
 use Rattle.server.proofs.Order.{in_order_on, in_order_turned, moved_between}
 
@@ -75,7 +76,7 @@ one_at_most (steps.Bytes id chunk) = omega arith
 one_at_most (steps.Gone id) = omega arith
 one_at_most steps.Turn = omega arith
 
-pub one_turn : (first last : Instant) (out : Out) → Turns (IsCaused first.moment last.moment) (RoomRanOut first.moment) first.state out last.state
+pub one_turn : (first last : Instant) (out : Out) → Turns (IsCaused first.moment last.moment) (RoomRanOut first.moment first.state) first.state out last.state
     → Happens first.moment first.state (steps.Turn ∷ []) out.replies (end_at last ∷ []) last.state
 one_turn first last out turns = (last.state, out, [], end_at last, [], turns, refl, sym (append-nil out.replies), refl, (refl, refl, refl))
 
@@ -115,6 +116,7 @@ pub record SoFar {D : Type 0} (history : D → History) (first : Core D) (all : 
   pub runs : out.stopped ≡ None
   pub sound : IsSound history now
   pub on : GoesOn (disk_history history first) (disk_history history now)
+  pub moments : FollowInOrder (moment_of history first) ends (moment_of history now)
   pub running : is_stopped now ≡ is_stopped first
   pub in_order : IsRunning first → KeepsWord (disk_history history now)
       → LeavesInOrder (disk_history history now) (clock_of history first) (collections_of first) ends (collections_of now)
@@ -130,6 +132,7 @@ starts history first all out nothing none goes sound = record {
   runs = goes;
   sound = sound;
   on = goes_nowhere (disk_history history first);
+  moments = in_turn_itself (moment_of history first);
   running = refl;
   in_order = λ running keeps. (
     omega arith,
@@ -152,6 +155,7 @@ ends history first all i out now whole s =
       bytes = λ _. refl;
       turns = s.counted ∙ ap turns_in every ∙ sym (ap (λ (stop : Option (ℕ × DriveFault)). turns_done stop all) s.runs);
       on = s.on;
+      moments = s.moments;
       in_order = s.in_order;
       at_end = λ running goes k image is. subst (Holds image) (same k) (holds_now history now s.sound (s.running ∙ running) k image is);
       at_stop = λ running k image is. inr (holds_now history now s.sound (s.running ∙ running) k image is);
@@ -196,8 +200,21 @@ module _ {D : Type 0} (history : D → History) (first : Core D) (all : List Ste
   order_by (steps.Gone id) last new goes safe holds running keeps =
       subst (λ (es : List TurnEnd). LeavesInOrder (disk_history history last) (clock_of history first) (collections_of first) es (collections_of last)) (sym (append-nil s.ends)) (order_on last safe running keeps)
 
-  pub step_on : (new : DriveOut) (last : Core D) → Goes (instant_of history now) step old new (instant_of history last) → IsSound history last → GoesSafely history now last → is_stopped last ≡ is_stopped now → SoFar history first all (i + 1) new last
-  step_on new last goes sound safe same =
+  -- a step after which no turn has answered
+  follow_still : (last : Core D) → FollowsInTurn (moment_of history now) (moment_of history last) → FollowInOrder (moment_of history first) s.ends (moment_of history last)
+  follow_still last turn = follow_on (moment_of history first) s.ends (moment_of history now) (moment_of history last) s.moment s.moments turn
+
+  follow_turned : (last : Core D) → FollowsInTurn (moment_of history now) (moment_of history last) → FollowInOrder (moment_of history first) (s.ends ++ end_at (instant_of history last) ∷ []) (moment_of history last)
+  follow_turned last turn = follow_end (moment_of history first) s.ends (moment_of history now) s.moment s.moments (end_at (instant_of history last)) turn
+
+  follow_by : (x : Step) (last : Core D) → FollowsInTurn (moment_of history now) (moment_of history last) → FollowInOrder (moment_of history first) (s.ends ++ ends_of x (instant_of history last)) (moment_of history last)
+  follow_by steps.Turn last turn = follow_turned last turn
+  follow_by (steps.Bytes id chunk) last turn = subst (λ (es : List TurnEnd). FollowInOrder (moment_of history first) es (moment_of history last)) (sym (append-nil s.ends)) (follow_still last turn)
+  follow_by (steps.Gone id) last turn = subst (λ (es : List TurnEnd). FollowInOrder (moment_of history first) es (moment_of history last)) (sym (append-nil s.ends)) (follow_still last turn)
+
+  pub step_on : (new : DriveOut) (last : Core D) → Goes (instant_of history now) step old new (instant_of history last) → IsSound history last → GoesSafely history now last
+      → FollowsInTurn (moment_of history now) (moment_of history last) → is_stopped last ≡ is_stopped now → SoFar history first all (i + 1) new last
+  step_on new last goes sound safe turn same =
       let more : List TurnEnd = ends_of step (instant_of history last) in
       let next : KeepsWord (disk_history history last) → Happens (last_moment (moment_of history first) s.ends) (state now) (step ∷ []) goes.frames more (state last) =
       λ k. subst (λ (at : Moment). Happens at (state now) (step ∷ []) goes.frames more (state last)) s.moment (goes.happens k) in
@@ -213,6 +230,7 @@ module _ {D : Type 0} (history : D → History) (first : Core D) (all : List Ste
         runs = goes.adds.stopped ∙ s.runs;
         sound = sound;
         on = goes_further (disk_history history first) (disk_history history now) (disk_history history last) s.on safe.on;
+        moments = follow_by step last turn;
         running = same ∙ s.running;
         in_order = order_by step last new goes safe (λ running. holds_now history last sound (same ∙ s.running ∙ running));
         idle = idle_on last safe;
@@ -257,10 +275,11 @@ module _ {D : Type 0} (history : D → History) (first : Core D) (all : List Ste
       (subst (λ (b : Bool). TurnFails (KeepsWord (disk_history history last)) (IsCaused (moment_of history now) (moment_of history last)) (state now) fault b (state last)) s.running fails)
 
   pub stops_at : (fault : DriveFault) (new : DriveOut) (last : Core D) → Does (instant_of history now) step old (Err fault) (is_stopped now) new (instant_of history last) → IsSound history last → GoesSafely history now last
+      → FollowsInTurn (moment_of history now) (moment_of history last)
       → (failing fault ≢ failing (stops.Turn turns.Stopped) → is_stopped last ≡ is_stopped now)
       → (failing fault ≡ failing (stops.Turn turns.Stopped) → KeepsWord (disk_history history last) → (is_stopped now ≡ true) ⊎ ((disk_history history now).failures < (disk_history history last).failures))
       → Drives history first all (stopped_at fault new) last
-  stops_at (stops.Feed feeds.Memory) new last does sound safe runs cause = record {
+  stops_at (stops.Feed feeds.Memory) new last does sound safe turn runs cause = record {
     given = frames_in new.replies.items;
     ends = s.ends;
     happens = ((does.0.0, does.0.1, at new 0 does.1 _ does.0.2), λ k. subst (λ (x : ServerState). Happens (moment_of history first) (state first) (take i all) (frames_in new.replies.items) s.ends x) (sym does.2) (before new 0 does.1 (safe.on.kept k)));
@@ -268,6 +287,7 @@ module _ {D : Type 0} (history : D → History) (first : Core D) (all : List Ste
     bytes = λ _. refl;
     turns = omega (arith, does.1.counted, s.counted);
     on = goes_further (disk_history history first) (disk_history history now) (disk_history history last) s.on safe.on;
+    moments = follow_still last turn;
     in_order = order_on last safe;
     at_end = λ running goes. end_same last sound safe does.2 (runs (λ e. absurd cc)) running;
     at_stop = stop_now last safe;
@@ -275,8 +295,8 @@ module _ {D : Type 0} (history : D → History) (first : Core D) (all : List Ste
     running = λ _. runs (λ e. absurd cc) ∙ s.running;
     device = λ stop. absurd stop;
   }
-  stops_at (stops.Feed feeds.Closed) new last does sound safe runs cause = absurd does
-  stops_at (stops.Turn turns.Memory) new last does sound safe runs cause = record {
+  stops_at (stops.Feed feeds.Closed) new last does sound safe turn runs cause = absurd does
+  stops_at (stops.Turn turns.Memory) new last does sound safe turn runs cause = record {
     given = frames_in new.replies.items;
     ends = s.ends;
     happens = (at new 0 does.1 _ does.0, record { before = state now; happens = λ k. before new 0 does.1 (safe.on.kept k); turn = failed_turn turns.Memory last does.2 });
@@ -284,6 +304,7 @@ module _ {D : Type 0} (history : D → History) (first : Core D) (all : List Ste
     bytes = λ _. refl;
     turns = omega (arith, does.1.counted, s.counted);
     on = goes_further (disk_history history first) (disk_history history now) (disk_history history last) s.on safe.on;
+    moments = follow_still last turn;
     in_order = order_on last safe;
     at_end = λ running goes. end_same last sound safe (subst (λ (b : Bool). TurnFails (KeepsWord (disk_history history last)) (IsCaused (moment_of history now) (moment_of history last)) (state now) turns.Memory b (state last)) (s.running ∙ running) does.2) (runs (λ e. absurd cc)) running;
     at_stop = stop_now last safe;
@@ -291,7 +312,7 @@ module _ {D : Type 0} (history : D → History) (first : Core D) (all : List Ste
     running = λ _. runs (λ e. absurd cc) ∙ s.running;
     device = λ stop. absurd stop;
   }
-  stops_at (stops.Turn turns.Stopped) new last does sound safe runs cause = record {
+  stops_at (stops.Turn turns.Stopped) new last does sound safe turn runs cause = record {
     given = frames_in new.replies.items;
     ends = s.ends;
     happens = (at new 0 does.1 _ does.0, record { before = state now; happens = λ k. before new 0 does.1 (safe.on.kept k); turn = failed_turn turns.Stopped last does.2 });
@@ -299,6 +320,7 @@ module _ {D : Type 0} (history : D → History) (first : Core D) (all : List Ste
     bytes = λ _. refl;
     turns = omega (arith, does.1.counted, s.counted);
     on = goes_further (disk_history history first) (disk_history history now) (disk_history history last) s.on safe.on;
+    moments = follow_still last turn;
     in_order = order_on last safe;
     at_end = λ running goes. absurd (goes tt);
     at_stop = stop_now last safe;
@@ -309,7 +331,7 @@ module _ {D : Type 0} (history : D → History) (first : Core D) (all : List Ste
         (λ failed. inr (omega (arith, s.on.failures (safe.on.kept k), failed)))
         (cause refl k);
   }
-  stops_at stops.Gather new last does sound safe runs cause =
+  stops_at stops.Gather new last does sound safe turn runs cause =
       let end : TurnEnd = end_at (instant_of history last) in
       let whole : collections_of last ≡ last_collections (collections_of first) (s.ends ++ end ∷ []) = sym (last_collections-append (collections_of first) s.ends (end ∷ [])) in
       let now_holds : IsRunning first → LeavesNow (disk_history history last) (λ image. Holds image (collections_of last)) = λ running. holds_now history last sound (runs (λ e. absurd cc) ∙ s.running ∙ running) in
@@ -323,7 +345,7 @@ module _ {D : Type 0} (history : D → History) (first : Core D) (all : List Ste
             earlier = s.ends;
             lost = does.lost;
             happens = λ k. before new 1 does.adds (safe.on.kept k);
-            turn = λ k. subst (λ (m : Moment). Turns (IsCaused m (moment_of history last)) (RoomRanOut m) (state now) does.lost (state last)) s.moment (does.turn k);
+            turn = λ k. subst (λ (m : Moment). Turns (IsCaused m (moment_of history last)) (RoomRanOut m (state now)) (state now) does.lost (state last)) s.moment (does.turn k);
             counted = refl;
           },
         );
@@ -331,6 +353,7 @@ module _ {D : Type 0} (history : D → History) (first : Core D) (all : List Ste
         bytes = λ _. refl;
         turns = omega (arith, does.adds.counted, s.counted);
         on = goes_further (disk_history history first) (disk_history history now) (disk_history history last) s.on safe.on;
+        moments = follow_turned last turn;
         in_order = order_turned last safe now_holds;
         at_end = λ running goes. subst (λ (x : List Collection). LeavesNow (disk_history history last) (λ image. Holds image x)) whole (now_holds running);
         at_stop = λ running k image is. inr (now_holds running k image is);

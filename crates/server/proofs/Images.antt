@@ -97,7 +97,7 @@ module _ {D : Type 0} (history : D → History) (old mid new : Engine D) (sound 
 pub on_same : (old new : History) → new ≡ old → GoesOn old new
 on_same old new same = subst (λ (h : History). GoesOn old h) (sym same) (goes_nowhere old)
 
-forget_all_state : (w : World) (closed : List (ℕ × FrameFault)) → (forget_all w closed).collections ≡ w.collections
+pub forget_all_state : (w : World) (closed : List (ℕ × FrameFault)) → (forget_all w closed).collections ≡ w.collections
 forget_all_state w [] = refl
 forget_all_state w (f ∷ fs) = forget_all_state (forget w f.0) fs
 

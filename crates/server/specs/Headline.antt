@@ -14,11 +14,11 @@ use Rattle.page.specs.Crash.{GoesOn, LeavesNow}
 use Rattle.engine.specs.Durable.{Holds}
 use Rattle.server.specs.ServerState.{ServerState}
 use Rattle.server.specs.Turn.{Out, Turns, TurnFails}
-use Rattle.server.specs.Moment.{TurnEnd, Instant, HasKeptWord, end_at, last_collections, last_moment, HoldsEither, LeavesInOrder}
+use Rattle.server.specs.Moment.{TurnEnd, Instant, HasKeptWord, end_at, last_collections, last_moment, HoldsEither, FollowInOrder, LeavesInOrder}
 use Rattle.server.specs.Causes.{IsCaused}
 use Rattle.server.specs.History.{Happens, RoomRanOut, bytes_to, turns_in}
 use Rattle.server.specs.View.{frames_in}
-use Rattle.server.specs.Durable.{disk_history, is_stopped, IsRunning, collections_of, clock_of, instant_of}
+use Rattle.server.specs.Durable.{disk_history, is_stopped, IsRunning, collections_of, clock_of, moment_of, instant_of}
 use Rattle.server.specs.declared.turn.Core.{Core}
 use Rattle.server.specs.declared.turn.TurnFault.{TurnFault}
 use Rattle.server.specs.declared.turn.TurnFault.TheVariants as turns
@@ -48,7 +48,7 @@ pub record LosesTurn (first : Instant) (done : List Step) (given : List (ℕ × 
   pub lost : Out
   pub happens : HasKeptWord last → Happens first.moment first.state done given earlier before
   pub turn : HasKeptWord last → Turns (IsCaused (last_moment first.moment earlier) last.moment)
-      (RoomRanOut (last_moment first.moment earlier)) before lost last.state
+      (RoomRanOut (last_moment first.moment earlier) before) before lost last.state
   pub counted : ends ≡ earlier ++ end_at last ∷ []
 
 -- A history of these steps, and then one turn that handed out nothing, by its fault and whether the server had stopped at the start.
@@ -100,6 +100,8 @@ pub record Drives {D : Type 0} (history : D → History) (first : Core D) (all :
   pub bytes : (id : ℕ) → bytes_for id out ≡ bytes_to id given
   pub turns : out.turns ≡ turns_done out.stopped all
   pub on : GoesOn (disk_history history first) (disk_history history last)
+  -- the moments of its turns' ends lie between the first one and now, in order, and what is counted never falls
+  pub moments : FollowInOrder (moment_of history first) ends (moment_of history last)
   -- from each turn's end to the next one's, a crash leaves the collections of the one or of the other
   pub in_order : IsRunning first → KeepsWord (disk_history history last)
       → LeavesInOrder (disk_history history last) (clock_of history first)

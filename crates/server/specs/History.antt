@@ -3,15 +3,21 @@
 -- collections then, in order.
 use Rattle.std.specs.Prelude.{◌≡◌, ◌-◌, ◌^◌, ℕ, suc, ◌==◌, if◌then◌else◌, List, [], ◌∷◌, ◌++◌}
 use Rattle.server.specs.ServerState.{ServerState, fed, ended}
-use Rattle.server.specs.Turn.{Out, Turns}
+use Rattle.engine.specs.World.{World}
+use Rattle.server.specs.Turn.{Out, Turns, ChangeNothing, calls}
 use Rattle.server.specs.Moment.{Moment, TurnEnd}
-use Rattle.server.specs.Causes.{IsCaused}
+use Rattle.server.specs.Causes.{IsCaused, OfAnyCause}
+use Rattle.server.specs.declared.connection.Connection.{Connection}
 use Rattle.server.specs.declared.step.Step.{Step}
 use Rattle.server.specs.declared.step.Step.TheVariants as steps
 
--- A commit from this moment on finds no greater generation.
-abbrev pub RoomRanOut : Moment → Type 0
-RoomRanOut old = old.generation ≡ 2 ^ 64 - 1
+-- The messages of these connections change something, and a commit from this moment on finds no greater generation.
+abbrev pub NoCommitIsLeft : Moment → World → List Connection → Type 0
+NoCommitIsLeft old world connections = (old.generation ≡ 2 ^ 64 - 1)
+    × (ChangeNothing OfAnyCause world (calls connections) → ⊥)
+
+abbrev pub RoomRanOut : Moment → ServerState → Type 0
+RoomRanOut old state = NoCommitIsLeft old state.world state.connections
 
 -- From this moment and state on, after these steps the server may be this one, the frames that were handed out these, each with
 -- its connection, in order, and the turns' ends these.
@@ -25,7 +31,7 @@ Happens at state (steps.Gone id ∷ later) given ends new =
 Happens at state (steps.Turn ∷ later) given ends new =
     (mid : ServerState) × (out : Out) × (others : List (ℕ × List ℕ)) × (end : TurnEnd)
     × (more : List TurnEnd)
-    × Turns (IsCaused at end.at) (RoomRanOut at) state out mid
+    × Turns (IsCaused at end.at) (RoomRanOut at state) state out mid
     × (end.collections ≡ mid.world.collections)
     × (given ≡ out.replies ++ others) × (ends ≡ end ∷ more)
     × Happens end.at mid later others more new

@@ -1,6 +1,6 @@
 -- A moment of a server: whether its disk had kept its word, the disk's clock, how often the device had failed and a page was asked
 -- for and none was free, and the number of the last commit.
-use Rattle.std.specs.Prelude.{◌⊎◌, ℕ, Bool, IsTrue, ◌≤◌, List, [], ◌∷◌}
+use Rattle.std.specs.Prelude.{◌⊎◌, ℕ, ◌+◌, Bool, IsTrue, ◌≤◌, List, [], ◌∷◌}
 use Rattle.page.specs.History.{History, IsImage}
 use Rattle.index.specs.State.{Collection}
 use Rattle.engine.specs.Durable.{Holds}
@@ -12,6 +12,19 @@ pub record Moment : Type 0 where
   pub failures : ℕ
   pub generation : ℕ
   pub full_takes : ℕ
+
+-- A later moment of the same server: the disk had kept its word before, its clock and the number of the last commit have not
+-- fallen, nor, while it keeps its word, how often it had failed and no page was free.
+pub record Follows (old new : Moment) : Type 0 where
+  pub word : IsTrue new.keeps_word → IsTrue old.keeps_word
+  pub clock : old.clock ≤ new.clock
+  pub failures : IsTrue new.keeps_word → old.failures ≤ new.failures
+  pub takes : IsTrue new.keeps_word → old.full_takes ≤ new.full_takes
+  pub generation : old.generation ≤ new.generation
+
+-- with the end of one turn between them at most, which commits once or not at all
+abbrev pub FollowsInTurn : Moment → Moment → Type 0
+FollowsInTurn old new = Follows old new × (new.generation ≤ old.generation + 1)
 
 -- where a server stands: the moment, and its state
 pub record Instant : Type 0 where
@@ -38,6 +51,11 @@ last_collections first (e ∷ later) = last_collections e.collections later
 abbrev pub last_moment : Moment → List TurnEnd → Moment
 last_moment first [] = first
 last_moment first (e ∷ later) = last_moment e.at later
+
+-- Each turn's end follows the one before, the first one the first moment, and the last moment the last one.
+abbrev pub FollowInOrder : Moment → List TurnEnd → Moment → Type 0
+FollowInOrder first [] last = FollowsInTurn first last
+FollowInOrder first (e ∷ later) last = FollowsInTurn first e.at × FollowInOrder e.at later last
 
 -- ---- what a crash may leave, in order of time
 

@@ -15,7 +15,7 @@ pub record TurnGives {D : Type 0} (history : D → History) (old : Core D)
   pub out : Out
   pub turns : KeepsWord (disk_history history new)
       → Turns (IsCaused (moment_of history old) (moment_of history new))
-      (RoomRanOut (moment_of history old)) (state old) out (state new)
+      (RoomRanOut (moment_of history old) (state old)) (state old) out (state new)
   pub replies_are : replies ≡ out.replies
   pub closed_are : closed ≡ map (λ c. c.0) out.closed
 

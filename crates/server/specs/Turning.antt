@@ -1,11 +1,11 @@
 -- What the call of a turn gives, by its result.
-use Rattle.std.specs.Prelude.{◌≡◌, ◌≢◌, ◌⊎◌, ◌<◌, true, Result, Err, IfOk, IfErr, OnOk}
+use Rattle.std.specs.Prelude.{◌≡◌, ◌≢◌, ◌⊎◌, ◌+◌, ◌<◌, true, [], Result, Err, IfOk, IfErr, OnOk}
 use Rattle.page.specs.History.{History, KeepsWord}
 use Rattle.page.specs.Crash.{GoesOn, LeavesOnly, LeavesNow}
 use Rattle.collections.specs.Calls.{GoesFrom}
 use Rattle.engine.specs.Durable.{Holds}
-use Rattle.server.specs.Turn.{Turns, TurnFails, ChangesNothing}
-use Rattle.server.specs.Moment.{HoldsEither}
+use Rattle.server.specs.Turn.{calls, Turns, TurnFails, ChangesNothing}
+use Rattle.server.specs.Moment.{HoldsEither, FollowsInTurn}
 use Rattle.server.specs.Causes.{IsCaused, OfAnyCause}
 use Rattle.server.specs.History.{RoomRanOut}
 use Rattle.server.specs.View.{state, out_of}
@@ -21,7 +21,7 @@ pub record TakesTurn {D : Type 0} (history : D → History) (old : Core D)
   -- while the disk keeps its word, it is done, or undone; or it answers no message
   pub turns : IfOk result (λ out. KeepsWord (disk_history history new)
       → Turns (IsCaused (moment_of history old) (moment_of history new))
-      (RoomRanOut (moment_of history old)) (state old) (out_of out) (state new))
+      (RoomRanOut (moment_of history old) (state old)) (state old) (out_of out) (state new))
   pub fails : IfErr result (λ fault.
       TurnFails (KeepsWord (disk_history history new))
       (IsCaused (moment_of history old) (moment_of history new)) (state old) fault
@@ -42,6 +42,13 @@ pub record TakesTurn {D : Type 0} (history : D → History) (old : Core D)
   pub device : result ≡ Err turn_faults.Stopped → KeepsWord (disk_history history new)
       → (is_stopped old ≡ true)
       ⊎ ((disk_history history old).failures < (disk_history history new).failures)
+  -- what is counted has not fallen, and it has committed once at most: once, where it answers and changed the collections
+  pub moment : FollowsInTurn (moment_of history old) (moment_of history new)
+  pub commits : OnOk result ((collections_of new ≡ collections_of old)
+      ⊎ ((moment_of history new).generation ≡ (moment_of history old).generation + 1))
+  -- where it takes no message, it makes no call of the disk
+  pub void : calls (state old).connections ≡ []
+      → disk_history history new ≡ disk_history history old
   -- where its messages change nothing, it only reads the disk, and takes no page into its tree or out of it
   pub quiet : KeepsWord (disk_history history new) → ChangesNothing OfAnyCause (state old)
       → GoesFrom history (file_of old) (file_of new)

@@ -2,7 +2,8 @@
 
 ghost use Rattle.std.specs.Prelude.{◌≡◌, ◌≢◌, ◌⊎◌, ◌+◌, ◌<◌, ◌^◌, Err, true};
 ghost use Rattle.page.specs.History.{KeepsWord};
-ghost use Rattle.server.specs.Durable.{IsSound, GoesSafely, disk_history, is_stopped, instant_of};
+ghost use Rattle.server.specs.Durable.{IsSound, GoesSafely, disk_history, is_stopped, instant_of, moment_of};
+ghost use Rattle.server.specs.Moment.{FollowsInTurn};
 ghost use Rattle.server.specs.Headline.{Drives};
 ghost use Rattle.server.specs.OneStep.{Does};
 
@@ -42,6 +43,7 @@ impl<D: Disk> Core<D> {
         ensures does { Does (instant_of D.history self.old) step.now out.old result
             (is_stopped self.old) out.new (instant_of D.history self.new) }
         ensures disk { GoesSafely D.history self.old self.new }
+        ensures moment { FollowsInTurn (moment_of D.history self.old) (moment_of D.history self.new) }
         ensures device { result ≡ Err (DriveFault.Turn TurnFault.Stopped)
             → KeepsWord (disk_history D.history self.new)
             → (is_stopped self.old ≡ true) ⊎ ((disk_history D.history self.old).failures

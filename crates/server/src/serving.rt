@@ -1,13 +1,13 @@
 //! The messages of a turn, answered one after the other.
 
-ghost use Rattle.std.specs.Prelude.{◌≡◌, ◌≢◌, ◌⊎◌, ◌<◌, IfOk, IfSome, IsSome, None, Some, true, false};
+ghost use Rattle.std.specs.Prelude.{◌≡◌, ◌≢◌, ◌⊎◌, ◌+◌, ◌<◌, [], IfOk, IfSome, IsSome, None, Some, true, false};
 ghost use Rattle.page.specs.History.{KeepsWord};
 ghost use Rattle.page.specs.Crash.{GoesOn, LeavesOnly, LeavesNow};
 ghost use Rattle.op_msg.specs.Request.{reply_bytes};
 ghost use Rattle.engine.specs.World.{are_untouched};
 ghost use Rattle.engine.specs.View.{world, turn_start, reply_of, answer_of, IsSendable};
 ghost use Rattle.collections.specs.Calls.{GoesFrom};
-ghost use Rattle.engine.specs.Durable.{Holds, disk_history, file_of, has_changes, is_stopped, IsRunning, IsSound};
+ghost use Rattle.engine.specs.Durable.{Holds, disk_history, file_of, generation, has_changes, is_stopped, IsRunning, IsSound};
 ghost use Rattle.path.specs.declared.refusal.Refusal.TheVariants.{OutOfMemory};
 ghost use Rattle.std.specs.Prelude.{Result};
 ghost use Rattle.bson.specs.Tree.{Pairs};
@@ -19,7 +19,8 @@ ghost use Rattle.server.specs.Turn.{front_of, connections_taken, taken_at, call_
 ghost use Rattle.server.specs.Taking.{Serves, IsAnswer, EndsTurn, BreaksTurn};
 ghost use Rattle.server.specs.View.{frames_in};
 ghost use Rattle.server.specs.Causes.{IsCaused, OfAnyCause};
-ghost use Rattle.server.specs.History.{RoomRanOut};
+ghost use Rattle.server.specs.History.{NoCommitIsLeft};
+ghost use Rattle.server.specs.Moment.{FollowsInTurn};
 ghost use Rattle.server.specs.Durable.{engine_moment};
 
 use crate::connection::{Connection, Taken, take_call};
@@ -114,6 +115,8 @@ fn serve_connection<D: Disk>(
         → ChangeNothing OfAnyCause (world engine.old)
         (call_at connection.old (front_of connection.old))
         → has_changes engine.new ≡ has_changes engine.old }
+    ensures idle { call_at connection.old (front_of connection.old) ≡ []
+        → engine.new ≡ engine.old }
 {
     let id = connection.id;
     let Taken::Call(number, request) = take_call(connection) else {
@@ -149,6 +152,7 @@ fn serve_connections<D: Disk>(
     ensures quiet { KeepsWord (disk_history D.history engine.new)
         → ChangeNothing OfAnyCause (world engine.old) (calls connections.old)
         → has_changes engine.new ≡ has_changes engine.old }
+    ensures idle { calls connections.old ≡ [] → engine.new ≡ engine.old }
 {
     let mut all = true;
     'connections: for connection in connections.iter_mut() {
@@ -176,7 +180,7 @@ pub(crate) fn run_messages<D: Disk>(
     ensures settles { IfSome result (λ given. KeepsWord (disk_history D.history engine.new)
         → EndsTurn
         (IsCaused (engine_moment D.history engine.old) (engine_moment D.history engine.new))
-        (RoomRanOut (engine_moment D.history engine.old))
+        (NoCommitIsLeft (engine_moment D.history engine.old) (world engine.old) connections.old.items)
         (world engine.old) connections.old.items (frames_in given.items) (world engine.new)) }
     ensures breaks { result ≡ None → KeepsWord (disk_history D.history engine.new)
         → BreaksTurn
@@ -195,9 +199,16 @@ pub(crate) fn run_messages<D: Disk>(
     ensures device { result ≡ None → KeepsWord (disk_history D.history engine.new)
         → (disk_history D.history engine.old).failures
         < (disk_history D.history engine.new).failures }
+    ensures moment { FollowsInTurn (engine_moment D.history engine.old)
+        (engine_moment D.history engine.new) }
+    ensures commits { IfSome result (λ _.
+        ((world engine.new).collections ≡ (world engine.old).collections)
+        ⊎ (generation engine.new ≡ generation engine.old + 1)) }
     ensures quiet { KeepsWord (disk_history D.history engine.new)
         → ChangeNothing OfAnyCause (world engine.old) (calls connections.old.items)
         → GoesFrom D.history (file_of engine.old) (file_of engine.new) }
+    ensures void { calls connections.old.items ≡ []
+        → disk_history D.history engine.new ≡ disk_history D.history engine.old }
 {
     let mut replies = Vec::new(*connections.allocator());
     if !serve_connections(engine, connections, &mut replies) {

@@ -1,26 +1,31 @@
-use Rattle.std.proofs.Common.{◌≡◌, ◌<◌, ℕ, List, [], ◌++◌, length, inl, inr, sym, subst, ap, ◌∙◌, rules}
+use Rattle.std.proofs.Common.{◌≡◌, ◌<◌, ℕ, List, [], ◌++◌, length, inl, inr, refl, sym, subst, ap, ◌∙◌, arith, rules}
 use Rattle.std.proofs.lemmas.List.{length-map}
-use Rattle.std.specs.Prelude.{Result, Err, Vec}
+use Rattle.std.specs.Prelude.{Result, Ok, Err, Vec}
 use Rattle.std.specs.Global.{Global}
 use Rattle.roots.specs.declared.store.CommitFault.{CommitFault}
 use Rattle.engine.specs.View.{world, turn_start}
-use Rattle.engine.specs.World.{after_undo}
+use Rattle.engine.specs.World.{World, after_undo}
+use Rattle.engine.specs.Committing.{Commits}
+use Rattle.engine.specs.declared.engine.Engine.{Engine}
 use Rattle.index.specs.State.{Collection}
 use Rattle.op_msg.specs.Request.{respelled}
 use Rattle.page.specs.History.{KeepsWord}
 use Rattle.collections.specs.Calls.{GoesFrom}
 use Rattle.collections.specs.State.{State}
-use Rattle.engine.specs.Durable.{disk_history, file_of}
+use Rattle.engine.specs.Durable.{disk_history, file_of, has_changes}
 use Rattle.server.specs.declared.connection.Connection.{Connection}
 use Rattle.server.specs.Causes.{OfAnyCause}
 use Rattle.server.specs.Turn.{ChangeNothing, calls, frames_of, refused_frames}
 use Rattle.server.specs.Taking.{HaveRoom, full_body, respelled_frames}
 use Rattle.server.specs.View.{frames_in}
 use Rattle.path.specs.declared.refusal.Refusal.TheVariants.{OutOfMemory, Full}
-use Rattle.server.proofs.CauseLemmas.{goes_generation, on_follows, runs_over}
+use Rattle.server.proofs.CauseLemmas.{goes_generation, commit_follows, undo_follows, turn_follows, commits_changes, idle_commit, runs_over}
 use Rattle.server.proofs.Images.{unwritten, unwritten_on, then_on, moved, moved_back, failed_further, on_same}
 use Rattle.server.proofs.Refusing.{refused_room, refused_respelled, whole}
 use Rattle.server.proofs.serving.run_messages.Goals as goal
+
+not_ok : (result : Result (Unit {0}) CommitFault) (fault : CommitFault) → result ≡ Ok tt → result ≡ Err fault → ⊥
+not_ok result fault done refused = absurd cc
 
 abbrev failed : CommitFault → Result (Unit {0}) CommitFault
 failed fault = Err fault
@@ -39,7 +44,7 @@ returns-then-not-serve_connections-clause-settles g c = λ k.
     let serve = c.serve_connections.ensures in
     let serves = serve.serves (subst KeepsWord c.undo_turn.ensures.disk k) in
     let taken : c.deref_mut.result.now ≡ c.args.connections.now.items = search rules in
-    let after = on_follows history e1 e2 (on_same (disk_history history e1) (disk_history history e2) c.undo_turn.ensures.disk) (λ _. c.undo_turn.ensures.takes) in
+    let after = undo_follows history e1 e2 (on_same (disk_history history e1) (disk_history history e2) c.undo_turn.ensures.disk) c.undo_turn.ensures.takes c.undo_turn.ensures.generation in
     let ran = runs_over history e0 e1 e2 serve.goes after c.deref_mut.result.now c.args.connections.now.items taken serves.replies serves.runs in
     let before : turn_start e1 ≡ (world e0).collections = serve.turn_start ∙ c.requires.idle in
     record {
@@ -84,7 +89,7 @@ returns-in-Ok-clause-settles g c = λ k.
     let serve = c.serve_connections.ensures in
     let serves = serve.serves (c.commit_turn.ensures.on.kept k) in
     let taken : c.deref_mut.result.now ≡ c.args.connections.now.items = search rules in
-    let after = on_follows history e1 e2 c.commit_turn.ensures.on (λ _. c.commit_turn.ensures.takes) in
+    let after = (commit_follows history e1 e2 c.commit_turn.result c.commit_turn.ensures).0 in
     let ran = runs_over history e0 e1 e2 serve.goes after c.deref_mut.result.now c.args.connections.now.items taken serves.replies serves.runs in
     let same = ap (λ (ls : List Connection). frames_of (calls ls) serves.replies) taken in
     let none : c.new-replies.result.items ≡ [] = search rules in
@@ -105,7 +110,7 @@ returns-in-Err-Memory-clause-settles g c = λ k.
     let serve = c.serve_connections.ensures in
     let serves = serve.serves (c.commit_turn.ensures.on.kept k) in
     let taken : c.deref_mut.result.now ≡ c.args.connections.now.items = search rules in
-    let after = on_follows history e1 e2 c.commit_turn.ensures.on (λ _. c.commit_turn.ensures.takes) in
+    let after = (commit_follows history e1 e2 c.commit_turn.result c.commit_turn.ensures).0 in
     let ran = runs_over history e0 e1 e2 serve.goes after c.deref_mut.result.now c.args.connections.now.items taken serves.replies serves.runs in
     let before : turn_start e1 ≡ (world e0).collections = serve.turn_start ∙ c.requires.idle in
     record {
@@ -124,7 +129,7 @@ returns-in-Err-Full-clause-settles g c = λ k.
     let serve = c.serve_connections.ensures in
     let serves = serve.serves (c.commit_turn.ensures.on.kept k) in
     let taken : c.deref_mut.result.now ≡ c.args.connections.now.items = search rules in
-    let after = on_follows history e1 e2 c.commit_turn.ensures.on (λ _. c.commit_turn.ensures.takes) in
+    let after = (commit_follows history e1 e2 c.commit_turn.result c.commit_turn.ensures).0 in
     let ran = runs_over history e0 e1 e2 serve.goes after c.deref_mut.result.now c.args.connections.now.items taken serves.replies serves.runs in
     let before : turn_start e1 ≡ (world e0).collections = serve.turn_start ∙ c.requires.idle in
     let connections = c.args.connections.now.items in
@@ -136,11 +141,15 @@ returns-in-Err-Full-clause-settles g c = λ k.
     ∙ length-map (frames_in first) (λ f. (f.0, respelled f.1 full_body)) ∙ length-map first (λ f. (f.0, f.1.items)) in
     let long : length new ≡ c.args.refusals.len = search rules in
     let full = c.in-Err-Full.ensures.full (ap failed c.in-Err-Full.field-0-is) in
+    let generation_was = sym (goes_generation history e0 e1 serve.goes) ∙ full.1 in
+    let changing = λ nothing.
+        let same = serve.quiet (c.commit_turn.ensures.on.kept k) (subst (λ (ls : List Connection). ChangeNothing OfAnyCause (world e0) (calls ls)) (sym taken) nothing) in
+        not_ok c.commit_turn.result c.in-Err-Full.field-0 (c.commit_turn.ensures.quiet (same ∙ c.requires.rests)).0 c.in-Err-Full.is in
     record {
       replies = serves.replies;
       last = world e1;
       runs = ran;
-      ends = inr (inr (ap frames_in (whole new _ c.args.refusals.len long) ∙ given, sym (goes_generation history e0 e1 serve.goes) ∙ full.1), full.0 ∙ ap (λ (cs : List Collection). after_undo cs (world e1)) before);
+      ends = inr (inr (ap frames_in (whole new _ c.args.refusals.len long) ∙ given, (generation_was, changing)), full.0 ∙ ap (λ (cs : List Collection). after_undo cs (world e1)) before);
     }
 
 pub returns-in-Err-Device-clause-breaks : goal.returns-in-Err-Device-clause-breaks
@@ -152,7 +161,7 @@ returns-in-Err-Device-clause-breaks g c _ k =
     let serve = c.serve_connections.ensures in
     let serves = serve.serves (c.commit_turn.ensures.on.kept k) in
     let taken : c.deref_mut.result.now ≡ c.args.connections.now.items = search rules in
-    let after = on_follows history e1 e2 c.commit_turn.ensures.on (λ _. c.commit_turn.ensures.takes) in
+    let after = (commit_follows history e1 e2 c.commit_turn.result c.commit_turn.ensures).0 in
     let ran = runs_over history e0 e1 e2 serve.goes after c.deref_mut.result.now c.args.connections.now.items taken serves.replies serves.runs in
     record {
       replies = serves.replies;
@@ -289,3 +298,88 @@ returns-in-Err-Device-clause-device g c _ k =
     let e2 = c.commit_turn.new.self in
     let serve = c.serve_connections.ensures in
     failed_further history e0 e1 e2 c.requires.sound c.requires.running c.requires.idle serve.goes c.commit_turn.ensures.on k serve.running (c.in-Err-Device.ensures.device (ap failed c.in-Err-Device.field-0-is) k)
+
+pub returns-then-not-serve_connections-clause-moment : goal.returns-then-not-serve_connections-clause-moment
+returns-then-not-serve_connections-clause-moment g c =
+    let history = g.D.Disk.history in
+    let e0 = c.args.engine.now in
+    let e1 = c.serve_connections.new.engine in
+    let e2 = c.undo_turn.new.self in
+    let undone = undo_follows history e1 e2 (on_same (disk_history history e1) (disk_history history e2) c.undo_turn.ensures.disk) c.undo_turn.ensures.takes c.undo_turn.ensures.generation in
+    turn_follows history e0 e1 e2 c.serve_connections.ensures.goes (undone, omega (arith, c.undo_turn.ensures.generation))
+
+pub returns-then-not-serve_connections-clause-commits : goal.returns-then-not-serve_connections-clause-commits
+returns-then-not-serve_connections-clause-commits g c =
+    inl (ap (λ (w : World). w.collections) c.undo_turn.ensures.world ∙ c.serve_connections.ensures.turn_start ∙ c.requires.idle)
+
+pub returns-in-Ok-clause-moment : goal.returns-in-Ok-clause-moment
+returns-in-Ok-clause-moment g c =
+    let history = g.D.Disk.history in
+    let e0 = c.args.engine.now in
+    let e1 = c.serve_connections.new.engine in
+    let e2 = c.commit_turn.new.self in
+    turn_follows history e0 e1 e2 c.serve_connections.ensures.goes (commit_follows history e1 e2 c.commit_turn.result c.commit_turn.ensures)
+
+pub returns-in-Ok-clause-commits : goal.returns-in-Ok-clause-commits
+returns-in-Ok-clause-commits g c =
+    let serve = c.serve_connections.ensures in
+    commits_changes g.D.Disk.history c.args.engine.now c.serve_connections.new.engine c.commit_turn.new.self (has_changes c.serve_connections.new.engine) refl
+    serve.sound serve.goes (serve.turn_start ∙ c.requires.idle) c.in-Ok.ensures.done
+    (subst (λ (r : Result (Unit {0}) CommitFault). Commits g.D.Disk.history r c.serve_connections.new.engine c.commit_turn.new.self) c.in-Ok.is c.commit_turn.ensures).version
+
+pub returns-in-Err-Memory-clause-moment : goal.returns-in-Err-Memory-clause-moment
+returns-in-Err-Memory-clause-moment g c =
+    let history = g.D.Disk.history in
+    let e0 = c.args.engine.now in
+    let e1 = c.serve_connections.new.engine in
+    let e2 = c.commit_turn.new.self in
+    turn_follows history e0 e1 e2 c.serve_connections.ensures.goes (commit_follows history e1 e2 c.commit_turn.result c.commit_turn.ensures)
+
+pub returns-in-Err-Memory-clause-commits : goal.returns-in-Err-Memory-clause-commits
+returns-in-Err-Memory-clause-commits g c =
+    inl (ap (λ (w : World). w.collections) (c.in-Err-Memory.ensures.memory (ap failed c.in-Err-Memory.field-0-is)) ∙ c.serve_connections.ensures.turn_start ∙ c.requires.idle)
+
+pub returns-in-Err-Full-clause-moment : goal.returns-in-Err-Full-clause-moment
+returns-in-Err-Full-clause-moment g c =
+    let history = g.D.Disk.history in
+    let e0 = c.args.engine.now in
+    let e1 = c.serve_connections.new.engine in
+    let e2 = c.commit_turn.new.self in
+    turn_follows history e0 e1 e2 c.serve_connections.ensures.goes (commit_follows history e1 e2 c.commit_turn.result c.commit_turn.ensures)
+
+pub returns-in-Err-Full-clause-commits : goal.returns-in-Err-Full-clause-commits
+returns-in-Err-Full-clause-commits g c =
+    inl (ap (λ (w : World). w.collections) (c.in-Err-Full.ensures.full (ap failed c.in-Err-Full.field-0-is)).0 ∙ c.serve_connections.ensures.turn_start ∙ c.requires.idle)
+
+pub returns-in-Err-Device-clause-moment : goal.returns-in-Err-Device-clause-moment
+returns-in-Err-Device-clause-moment g c =
+    let history = g.D.Disk.history in
+    let e0 = c.args.engine.now in
+    let e1 = c.serve_connections.new.engine in
+    let e2 = c.commit_turn.new.self in
+    turn_follows history e0 e1 e2 c.serve_connections.ensures.goes (commit_follows history e1 e2 c.commit_turn.result c.commit_turn.ensures)
+
+pub returns-then-not-serve_connections-clause-void : goal.returns-then-not-serve_connections-clause-void
+returns-then-not-serve_connections-clause-void g c none =
+    let taken : c.deref_mut.result.now ≡ c.args.connections.now.items = search rules in
+    c.undo_turn.ensures.disk ∙ ap (λ (e : Engine g.row.D.Denot). disk_history g.D.Disk.history e) (c.serve_connections.ensures.idle (ap calls taken ∙ none))
+
+pub returns-in-Ok-clause-void : goal.returns-in-Ok-clause-void
+returns-in-Ok-clause-void g c none =
+    let taken : c.deref_mut.result.now ≡ c.args.connections.now.items = search rules in
+    idle_commit g.D.Disk.history c.args.engine.now c.serve_connections.new.engine c.commit_turn.new.self c.commit_turn.result c.requires.rests (c.serve_connections.ensures.idle (ap calls taken ∙ none)) c.commit_turn.ensures
+
+pub returns-in-Err-Memory-clause-void : goal.returns-in-Err-Memory-clause-void
+returns-in-Err-Memory-clause-void g c none =
+    let taken : c.deref_mut.result.now ≡ c.args.connections.now.items = search rules in
+    idle_commit g.D.Disk.history c.args.engine.now c.serve_connections.new.engine c.commit_turn.new.self c.commit_turn.result c.requires.rests (c.serve_connections.ensures.idle (ap calls taken ∙ none)) c.commit_turn.ensures
+
+pub returns-in-Err-Full-clause-void : goal.returns-in-Err-Full-clause-void
+returns-in-Err-Full-clause-void g c none =
+    let taken : c.deref_mut.result.now ≡ c.args.connections.now.items = search rules in
+    idle_commit g.D.Disk.history c.args.engine.now c.serve_connections.new.engine c.commit_turn.new.self c.commit_turn.result c.requires.rests (c.serve_connections.ensures.idle (ap calls taken ∙ none)) c.commit_turn.ensures
+
+pub returns-in-Err-Device-clause-void : goal.returns-in-Err-Device-clause-void
+returns-in-Err-Device-clause-void g c none =
+    let taken : c.deref_mut.result.now ≡ c.args.connections.now.items = search rules in
+    idle_commit g.D.Disk.history c.args.engine.now c.serve_connections.new.engine c.commit_turn.new.self c.commit_turn.result c.requires.rests (c.serve_connections.ensures.idle (ap calls taken ∙ none)) c.commit_turn.ensures

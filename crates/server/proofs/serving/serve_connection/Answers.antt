@@ -9,7 +9,7 @@ use Rattle.server.proofs.CauseLemmas.{any_cause}
 use Rattle.server.specs.Turn.{front_of, frame_unless}
 use Rattle.server.specs.View.{frames_in}
 use Rattle.server.proofs.Histories.{frames_append}
-use Rattle.server.proofs.ConnectionServed.{one_served, one_quiet, nothing_served, taken_link}
+use Rattle.server.proofs.ConnectionServed.{one_served, one_quiet, nothing_served, is_called, taken_link}
 use Rattle.server.proofs.serving.serve_connection.Goals as goal
 
 pub returns-then-request-clause-serves : goal.returns-then-request-clause-serves
@@ -82,3 +82,12 @@ returns-in-Ok-clause-quiet g c = λ k.
 
 pub returns-in_default-clause-goes : goal.returns-in_default-clause-goes
 returns-in_default-clause-goes g c = goes_from_itself g.D.Disk.history (file_of c.args.engine.now)
+
+pub returns-then-request-clause-idle : goal.returns-then-request-clause-idle
+returns-then-request-clause-idle g c none = absurd (is_called c.args.connection.now c.take_call.new.connection (front_of c.args.connection.now) c.in-Call.number c.in-Call.request c.in-Call.ensures.taken none)
+
+pub returns-in-Ok-clause-idle : goal.returns-in-Ok-clause-idle
+returns-in-Ok-clause-idle g c none = absurd (is_called c.args.connection.now c.take_call.new.connection (front_of c.args.connection.now) c.in-Call.number c.in-Call.request c.in-Call.ensures.taken none)
+
+pub returns-clause-idle : goal.returns-clause-idle
+returns-clause-idle g c none = absurd (is_called c.args.connection.now c.take_call.new.connection (front_of c.args.connection.now) c.in-Call.number c.in-Call.request c.in-Call.ensures.taken none)

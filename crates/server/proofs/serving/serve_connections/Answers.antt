@@ -4,13 +4,13 @@ use Rattle.engine.specs.Durable.{file_of}
 use Rattle.collections.proofs.LawLemmas.{goes_further}
 use Rattle.server.specs.Causes.{IsCaused, OfAnyCause}
 use Rattle.server.specs.Durable.{engine_moment}
-use Rattle.server.specs.Moment.{Moment}
-use Rattle.server.proofs.CauseLemmas.{Follows, follows_itself, goes_follows, caused_wider, any_cause, runs_weaker, serves_weaker}
+use Rattle.server.specs.Moment.{Moment, Follows}
+use Rattle.server.proofs.CauseLemmas.{follows_itself, goes_follows, caused_wider, any_cause, runs_weaker, serves_weaker}
 use Rattle.server.specs.Turn.{Call, calls, call_at, front_of, connections_taken, ChangeNothing}
 use Rattle.server.specs.Taking.{Serves}
 use Rattle.server.specs.View.{frames_in}
 use Rattle.server.specs.declared.connection.Connection.{Connection}
-use Rattle.server.proofs.ConnectionsServed.{serves_on, calls_more, links_step, quiet_front, quiet_runs}
+use Rattle.server.proofs.ConnectionsServed.{serves_on, calls_more, none_next, none_more, links_step, quiet_front, quiet_runs}
 use Rattle.server.proofs.serving.serve_connections.Goals as goal
 
 pub connections-preserved : goal.connections-preserved
@@ -42,6 +42,7 @@ connections-preserved g c =
       done = ap (λ (m : ℕ). take m (set c.connections.connections i call.new.connection)) next ∙ s.done ∙ ap (λ (m : ℕ). connections_taken (take m first)) (sym next);
       left = ap (λ (m : ℕ). drop m (set c.connections.connections i call.new.connection)) next ∙ s.left ∙ ap (λ (m : ℕ). drop m first) (sym next);
       turn_start = call.ensures.turn_start ∙ inv.turn_start;
+      idle = λ none. call.ensures.idle (none_next (calls (take i first)) (call_at x (front_of x)) (none_more first (i + 1) none more)) ∙ inv.idle none;
       quiet = λ k h.
           let so_far = inv.quiet (call.ensures.goes.stays.reads.on.kept k) h in
           let served = call.ensures.serves k in

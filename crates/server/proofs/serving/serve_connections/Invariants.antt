@@ -1,4 +1,4 @@
-use Rattle.std.proofs.Common.{◌≡◌, take, drop}
+use Rattle.std.proofs.Common.{◌≡◌, [], take, drop}
 use Rattle.engine.specs.View.{world, turn_start}
 use Rattle.page.specs.History.{KeepsWord}
 use Rattle.engine.specs.Durable.{disk_history, file_of, has_changes, is_stopped, IsSound}
@@ -19,5 +19,6 @@ invariant-connections g l = record {
   done : take l.connection-index l.connections ≡ connections_taken (take l.connection-index l.initial.connections);
   left : drop l.connection-index l.connections ≡ drop l.connection-index l.initial.connections;
   turn_start : turn_start l.engine ≡ turn_start l.initial.engine;
+  idle : calls l.initial.connections ≡ [] → l.engine ≡ l.initial.engine;
   quiet : KeepsWord (disk_history g.D.Disk.history l.engine) → ChangeNothing OfAnyCause (world l.initial.engine) (calls l.initial.connections) → (has_changes l.engine ≡ has_changes l.initial.engine) × ChangeNothing OfAnyCause (world l.engine) (calls (drop l.connection-index l.initial.connections));
 }

@@ -59,7 +59,7 @@ returns-in-Err-clause-commits g c =
     let last : Book → State D = λ b. record { store = c.commit.new.self; made = i.made.items; retired = i.retired.items; book = b } in
     subst (λ (s : State D). Commits history c.args.root (Err fault) s (last c.undo_to.new.self)) c.self.view_is
     (subst (λ (b : Book). Commits history c.args.root (Err fault) (record { store = i.store; made = i.made.items; retired = i.retired.items; book = i.book }) (last b)) (sym back)
-    (commits_failed history i.store i.cache i.made.items i.retired.items i.book c.self.invariant v c.args.root fault c.commit.new.self c.in-Err.ensures.commits))
+    (commits_failed history i.store i.cache i.made.items i.retired.items i.book c.self.invariant v c.args.root fault c.commit.new.self c.in-Err.ensures.commits leaves.still))
 
 pub returns-in-Err-clause-moves : goal.returns-in-Err-clause-moves
 returns-in-Err-clause-moves g c =

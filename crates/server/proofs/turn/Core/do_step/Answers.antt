@@ -6,13 +6,14 @@ use Rattle.server.specs.declared.turn.TurnFault.{TurnFault}
 use Rattle.server.specs.declared.turn.TurnFault.TheVariants as turns
 use Rattle.server.specs.declared.drive.DriveFault.{DriveFault}
 use Rattle.server.specs.declared.drive.DriveFault.TheVariants as stops
-use Rattle.server.specs.Moment.{Instant}
+use Rattle.server.specs.Moment.{Instant, FollowsInTurn}
 use Rattle.server.specs.OneStep.{Goes}
 use Rattle.server.specs.declared.drive.DriveOut.{DriveOut}
 use Rattle.server.specs.View.{state, frames_in, out_of}
-use Rattle.server.specs.Durable.{instant_of}
+use Rattle.server.specs.Durable.{instant_of, moment_of}
 use Rattle.server.specs.declared.step.Step.{Step}
 use Rattle.server.proofs.Histories.{one_turn, bytes_on, gone_on, frames_append}
+use Rattle.server.proofs.CauseLemmas.{in_turn_itself}
 use Rattle.server.proofs.Images.{unmoved, same_moment}
 use Rattle.server.proofs.turn.Core.do_step.Goals as goal
 
@@ -100,3 +101,15 @@ returns-in-Err-clause-device g c is = c.in-Err.ensures.device (inner c.in-Err.fa
 
 pub returns-in-Err-clause-running : goal.returns-in-Err-clause-running
 returns-in-Err-clause-running g c other = c.in-Err.ensures.running (λ is. other (outer c.in-Err.fault is))
+
+pub returns-in-Err-Memory-clause-moment : goal.returns-in-Err-Memory-clause-moment
+returns-in-Err-Memory-clause-moment g c = subst (FollowsInTurn (moment_of g.D.Disk.history c.args.self.now)) (sym (same_moment g.D.Disk.history c.args.self.now c.feed.new.self c.feed.ensures.file)) (in_turn_itself (moment_of g.D.Disk.history c.args.self.now))
+
+pub returns-in-Err-Closed-clause-moment : goal.returns-in-Err-Closed-clause-moment
+returns-in-Err-Closed-clause-moment g c = subst (FollowsInTurn (moment_of g.D.Disk.history c.args.self.now)) (sym (same_moment g.D.Disk.history c.args.self.now c.feed.new.self c.feed.ensures.file)) (in_turn_itself (moment_of g.D.Disk.history c.args.self.now))
+
+pub returns-in-Ok-clause-moment : goal.returns-in-Ok-clause-moment
+returns-in-Ok-clause-moment g c = subst (FollowsInTurn (moment_of g.D.Disk.history c.args.self.now)) (sym (same_moment g.D.Disk.history c.args.self.now c.feed.new.self c.feed.ensures.file)) (in_turn_itself (moment_of g.D.Disk.history c.args.self.now))
+
+pub returns-in-Gone-clause-moment : goal.returns-in-Gone-clause-moment
+returns-in-Gone-clause-moment g c = subst (FollowsInTurn (moment_of g.D.Disk.history c.args.self.now)) (sym (same_moment g.D.Disk.history c.args.self.now c.gone.new.self c.gone.ensures.file)) (in_turn_itself (moment_of g.D.Disk.history c.args.self.now))

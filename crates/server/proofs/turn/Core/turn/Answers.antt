@@ -1,22 +1,25 @@
-use Rattle.std.proofs.Common.{◌≡◌, ap, length, inr, false, true, refl, sym, subst, ◌∙◌, rules}
+use Rattle.std.proofs.Common.{◌≡◌, ⊎_elim, ap, length, inl, inr, false, true, refl, sym, subst, ◌∙◌, rules}
 use Rattle.std.specs.Prelude.{Bool}
 use Rattle.engine.specs.View.{world}
 use Rattle.engine.specs.Durable.{Holds, disk_history}
 use Rattle.server.specs.Causes.{IsCaused}
 use Rattle.server.specs.History.{RoomRanOut}
-use Rattle.server.specs.Moment.{Moment}
+use Rattle.server.specs.Moment.{Moment, FollowsInTurn}
 use Rattle.page.specs.History.{KeepsWord}
 use Rattle.collections.specs.Calls.{GoesFrom}
 use Rattle.collections.specs.State.{State}
+use Rattle.collections.specs.View as views
+use Rattle.engine.specs.World.{World}
 use Rattle.collections.proofs.LawLemmas.{goes_from_itself}
-use Rattle.server.specs.Durable.{engine_moment, file_of, is_stopped}
+use Rattle.server.specs.Durable.{engine_moment, moment_of, file_of, is_stopped}
 use Rattle.server.specs.declared.turn.TurnFault.TheVariants as turns
 use Rattle.server.specs.Turn.{Cut, TurnFails, faults, forget_all, connections_taken}
 use Rattle.server.specs.Taking.{EndsTurn, closed_connections, faults_in}
 use Rattle.server.specs.View.{state, frames_in}
 use Rattle.server.specs.ServerState.{ServerState, are_ascending}
 use Rattle.server.proofs.Ascending.{taken_ascends, after_ascends}
-use Rattle.server.proofs.Images.{engine_holds, stays, forgotten, same_engine_moment}
+use Rattle.server.proofs.Images.{engine_holds, stays, forgotten, forget_all_state, same_engine_moment}
+use Rattle.server.proofs.CauseLemmas.{in_turn_itself}
 use Rattle.server.proofs.ConnectionsServed.{all_closed}
 use Rattle.server.proofs.Refusing.{whole}
 use Rattle.server.proofs.TurnParts.{turned}
@@ -37,6 +40,9 @@ returns-then-is_stopped g c = record {
   stops = search rules;
   idle = search rules;
   device = search rules;
+  moment = in_turn_itself (moment_of g.D.Disk.history c.args.self.now);
+  commits = tt;
+  void = λ _. refl;
   quiet = λ _ _. goes_from_itself g.D.Disk.history (file_of c.args.self.now);
 }
 
@@ -53,6 +59,9 @@ returns-in_err-refusals g c = record {
   stops = search rules;
   idle = search rules;
   device = search rules;
+  moment = in_turn_itself (moment_of g.D.Disk.history c.args.self.now);
+  commits = tt;
+  void = λ _. refl;
   quiet = λ _ _. goes_from_itself g.D.Disk.history (file_of c.args.self.now);
 }
 
@@ -89,6 +98,9 @@ returns-in_default g c =
       stops = λ _. c.in_default.ensures.stops refl;
       idle = λ stopped. absurd (stopped_not (is_stopped core) stopped runs);
       device = λ _ k. inr (c.in_default.ensures.device refl k);
+      moment = ran.moment;
+      commits = tt;
+      void = ran.void;
       quiet = ran.quiet;
     }
 
@@ -116,9 +128,9 @@ returns g c =
         ascending = ap are_ascending left ∙ after_ascends connections c.requires.sound.ascending;
       };
       turns = λ k. let old : Moment = engine_moment history core.engine in
-          let settles = subst (λ (m : Moment). EndsTurn (IsCaused old m) (RoomRanOut old) (world core.engine) connections (frames_in c.in-Some.replies.items) (world c.run_messages.new.engine))
+          let settles = subst (λ (m : Moment). EndsTurn (IsCaused old m) (RoomRanOut old (state core)) (world core.engine) connections (frames_in c.in-Some.replies.items) (world c.run_messages.new.engine))
           (sym (same_engine_moment history c.run_messages.new.engine c.forget_closed.new.engine forgot.file)) (c.in-Some.ensures.settles (subst KeepsWord forgot.disk k)) in
-          turned (IsCaused old (engine_moment history c.forget_closed.new.engine)) (RoomRanOut old) core (frames_in c.in-Some.replies.items) (world c.run_messages.new.engine) prepared.closed.items (world c.forget_closed.new.engine) _
+          turned (IsCaused old (engine_moment history c.forget_closed.new.engine)) (RoomRanOut old (state core)) core (frames_in c.in-Some.replies.items) (world c.run_messages.new.engine) prepared.closed.items (world c.forget_closed.new.engine) _
           settles closes forgets left;
       fails = search rules;
       on = search rules;
@@ -129,5 +141,11 @@ returns g c =
       stops = search rules;
       idle = λ stopped. absurd (stopped_not (is_stopped core) stopped runs);
       device = search rules;
+      moment = subst (FollowsInTurn (engine_moment history core.engine)) (sym (same_engine_moment history c.run_messages.new.engine c.forget_closed.new.engine forgot.file)) ran.moment;
+      commits = ⊎_elim
+          (λ same. inl (ap (λ (w : World). w.collections) forgets ∙ forget_all_state (world c.run_messages.new.engine) prepared.closed.items ∙ same))
+          (λ committed. inr (ap (λ (f : State g.row.D.Denot). views.generation f) forgot.file ∙ committed))
+          c.in-Some.ensures.commits;
+      void = λ none. forgot.disk ∙ ran.void none;
       quiet = λ k nothing. subst (λ (f : State g.row.D.Denot). GoesFrom history (file_of core) f) (sym forgot.file) (ran.quiet (subst KeepsWord forgot.disk k) nothing);
     }
