@@ -1,9 +1,8 @@
 -- What a dump gives, by the batches of its walk.
 use Rattle.std.proofs.Common.{◌≡◌, List, [], ◌++◌, map, drop, length, Option, Some, None, Result, Ok, Err, ℕ, refl, sym, ap, subst, ◌∙◌, append_assoc}
-use Rattle.std.specs.Prelude.{MatchResult}
+use Rattle.std.specs.Prelude.{MatchResult, String}
 use Rattle.std.specs.Global.{Vec, Global}
 use Rattle.std.specs.Option.{option_map}
-use Rattle.std_alloc.specs.declared.string.String.{String}
 use Rattle.std.proofs.lemmas.List.{append-nil, map-append, take-append-drop}
 use Rattle.bson.specs.Tree.{Pairs}
 use Rattle.page.specs.History.{History, KeepsWord}
@@ -29,7 +28,7 @@ lines_next limit rest batch next =
 -- The lines so far, and those of what is still to come, are the lines of all.
 pub record IsListed (now : List Collection) (all : List Pairs) (lines : List (List ℕ)) (walk : Walk) : Type 0 where
   pub rest : List Pairs
-  pub walk : IsWalk now walk rest
+  pub goes : IsWalk now walk rest
   pub so : lines ++ map dump_line rest ≡ map dump_line all
 
 module _ {D : Type 0} (history : D → History) where
@@ -51,7 +50,7 @@ module _ {D : Type 0} (history : D → History) where
           → IsListed (world old).collections all lines walk
 
     pub listed_none : IsSound history old → HasListed [] begun old
-    listed_none h = record { reads = reads_none history old h; there = λ k all w. record { rest = all; walk = w; so = refl } }
+    listed_none h = record { reads = reads_none history old h; there = λ k all w. record { rest = all; goes = w; so = refl } }
 
     -- want of memory promises nothing
     pub list_memory : (new : Engine D) → OnlyReads history old new → ListsRest history begun (Err faults.Memory) old new
@@ -65,11 +64,11 @@ module _ {D : Type 0} (history : D → History) where
         there = λ k all w.
             let same : (world mid).collections ≡ (world old).collections = now_same history old mid come.reads in
             let at = come.there (word_before history (file_of mid) (file_of new) step.reads.goes k) all w in
-            let next = step.answers k at.rest (subst (λ (cs : List Collection). IsWalk cs walk at.rest) (sym same) at.walk) in
+            let next = step.answers k at.rest (subst (λ (cs : List Collection). IsWalk cs walk at.rest) (sym same) at.goes) in
             let left : List Pairs = drop (length batch.items) at.rest in
             record {
               rest = left;
-              walk = subst (λ (cs : List Collection). IsWalk cs after left) same next.1;
+              goes = subst (λ (cs : List Collection). IsWalk cs after left) same next.1;
               so = append_assoc lines (map dump_line batch.items) (map dump_line left)
                   ∙ ap (λ (xs : List (List ℕ)). lines ++ xs) (sym (lines_next 64 at.rest batch.items next.0)) ∙ at.so;
             };
@@ -83,7 +82,7 @@ module _ {D : Type 0} (history : D → History) where
         answers = λ k rest w.
             let same : (world mid).collections ≡ (world old).collections = now_same history old mid come.reads in
             let at = come.there (word_before history (file_of mid) (file_of new) step.reads.goes k) rest w in
-            let next = step.answers k at.rest (subst (λ (cs : List Collection). IsWalk cs walk at.rest) (sym same) at.walk) in
+            let next = step.answers k at.rest (subst (λ (cs : List Collection). IsWalk cs walk at.rest) (sym same) at.goes) in
             is ∙ sym (append-nil lines) ∙ ap (λ (ds : List Pairs). lines ++ map dump_line ds) (sym (next.0.none none)) ∙ at.so;
       }
 
@@ -94,7 +93,7 @@ module _ {D : Type 0} (history : D → History) where
         answers = λ k rest w.
             let same : (world mid).collections ≡ (world old).collections = now_same history old mid come.reads in
             let at = come.there (word_before history (file_of mid) (file_of new) step.reads.goes k) rest w in
-            cause_before ⊥ old mid new come.reads step.reads k e (step.answers k at.rest (subst (λ (cs : List Collection). IsWalk cs walk at.rest) (sym same) at.walk));
+            cause_before ⊥ old mid new come.reads step.reads k e (step.answers k at.rest (subst (λ (cs : List Collection). IsWalk cs walk at.rest) (sym same) at.goes));
       }
 
   -- ---- a dump

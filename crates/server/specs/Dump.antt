@@ -1,8 +1,7 @@
 -- What a dump is: the documents of a collection, each as a line of hexadecimal.
-use Rattle.std.specs.Prelude.{◌≡◌, ⊥, ℕ, List, map, string_bytes, Option, Some, None, Result, MatchResult}
+use Rattle.std.specs.Prelude.{String, ◌≡◌, ℕ, List, map, string_bytes, Option, Some, None, Result, MatchResult}
 use Rattle.std.specs.Global.{Vec, Global}
 use Rattle.std.specs.Option.{option_map}
-use Rattle.std_alloc.specs.declared.string.String.{String}
 use Rattle.hex.specs.Hex.{encode_lower}
 use Rattle.bson.specs.Spelling.{frame_of, pairs_bytes}
 use Rattle.bson.specs.Tree.{Pairs}
