@@ -12,3 +12,4 @@ pub mod StreamsTaken
 pub mod Ascending
 pub mod AnewLemmas
 pub mod Reading
+pub mod Dumping

@@ -11,6 +11,7 @@ pub mod OneStep
 pub mod Headline
 pub mod Anew
 pub mod Faults
+pub mod Dump
 pub mod Rows
 pub mod Chunks
 pub mod InOrder
