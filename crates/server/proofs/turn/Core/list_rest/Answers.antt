@@ -1,5 +1,6 @@
-use Rattle.std.proofs.Common.{◌≡◌, List, [], ◌++◌, map, Result, Ok, Err, Vec, ℕ, refl, sym, subst, ap, ◌∙◌, rules}
+use Rattle.std.proofs.Common.{◌≡◌, List, [], ◌++◌, length, map, Result, Ok, Err, Vec, ℕ, refl, sym, subst, ap, ◌∙◌, rules}
 use Rattle.std.specs.Prelude.{String}
+use Rattle.std.proofs.lemmas.List.{nil_from_length}
 use Rattle.std.specs.Global.{Global}
 use Rattle.bson.specs.Tree.{Pairs}
 use Rattle.engine.specs.declared.check_fault.CheckFault.{CheckFault}
@@ -34,9 +35,9 @@ returns-in_err-documents-clause-lists g c =
 
 pub returns-then-is_empty-clause-lists : goal.returns-then-is_empty-clause-lists
 returns-then-is_empty-clause-lists g c =
-    let none : c.in_ok-documents.documents.items ≡ [] = search rules in
+    let none : length c.in_ok-documents.documents.items ≡ 0 = search rules in
     list_ends g.D.Disk.history c.args.walk c.args.self.now.engine (lines_in c.batches.lines) c.batches.walk c.batches.self.engine c.batches.invariant.come c.next_dumped.new.walk c.next_dumped.new.self.engine
-    c.in_ok-documents.documents c.in_ok-documents.ensures.goes_on none c.batches.lines refl
+    c.in_ok-documents.documents c.in_ok-documents.ensures.goes_on (nil_from_length c.in_ok-documents.documents.items none) c.batches.lines refl
 
 pub returns-in_err-put_lines-clause-lists : goal.returns-in_err-put_lines-clause-lists
 returns-in_err-put_lines-clause-lists g c =
