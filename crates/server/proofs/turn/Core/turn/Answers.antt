@@ -60,7 +60,7 @@ returns-in_err-refusals g c = record {
   idle = search rules;
   device = search rules;
   moment = in_turn_itself (moment_of g.D.Disk.history c.args.self.now);
-  commits = tt;
+  commits = search rules;
   void = λ _. refl;
   quiet = λ _ _. goes_from_itself g.D.Disk.history (file_of c.args.self.now);
 }
