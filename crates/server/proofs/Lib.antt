@@ -5,6 +5,7 @@ pub mod TurnParts
 pub mod Images
 pub mod Order
 pub mod Histories
+pub mod Prefixes
 pub mod Places
 pub mod ConnectionServed
 pub mod ConnectionsServed

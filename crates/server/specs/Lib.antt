@@ -9,6 +9,7 @@ pub mod Opening
 pub mod Turning
 pub mod OneStep
 pub mod Headline
+pub mod Prefix
 pub mod Anew
 pub mod Faults
 pub mod Dump
