@@ -113,3 +113,27 @@ fn a_failure_stays(rt: HostRuntime) -> Result<(), Fail> {
     fs::remove_file(&rt, path)?;
     Ok(())
 }
+
+/// Once a call has failed, each later one fails. `tests/file_calls` refuses each write and each sync of this test in turn.
+#[test]
+fn a_refused_call_stays(rt: HostRuntime) -> Result<(), Fail> {
+    let path = "storage_tests_refused";
+    fs::write(&rt, path, b"")?;
+    let Ok(mut disk) = FileDisk::open(&rt, path, false) else {
+        panic!(&rt; "the file isn't opened");
+    };
+    let mut has_failed = false;
+    for i in 0..16 {
+        let mut bytes = [1; 512];
+        let call = match i % 4 {
+            0 | 1 => disk.write(8 * i + 8, &bytes),
+            2 => disk.sync(),
+            _ => disk.read(0, &mut bytes),
+        };
+        assert!(rt; call.is_err() || !has_failed, "call {i} goes on");
+        has_failed = call.is_err();
+    }
+    drop(disk);
+    fs::remove_file(&rt, path)?;
+    Ok(())
+}
