@@ -42,9 +42,9 @@ def calls_told():
 
 def word_of(call, file):
     """What a call does, or None where it has no word."""
-    refused = "!" if call.result < 0 else ""
     if call.what == "write":
-        return None if refused else {"pipe": "prints", "sock": "replies"}.get(call.name[:4])
+        return {"pipe": "prints", "sock": "replies"}.get(call.name[:4])
+    refused = "!" if call.result < 0 else ""
     if call.name == os.path.dirname(file):
         return "folder" + refused if call.what == "sync" else None
     if call.name != file or call.what == "pread":
