@@ -13,6 +13,7 @@ pub mod SortReading
 pub mod SortKeys
 pub mod SortLaws
 pub mod Projection
+pub mod PathLists
 pub mod ProjectionReading
 pub mod ProjectionLaws
 pub mod Seen

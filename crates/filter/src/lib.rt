@@ -13,6 +13,7 @@ pub mod laws;
 mod matching;
 mod operands;
 mod operator;
+mod path_list;
 mod predicate;
 mod projecting;
 mod projection;

@@ -1,6 +1,6 @@
 //! Projections and their reading.
 
-ghost use Rattle.std.specs.Prelude.{◌≡◌, Ok, IfOk, false, []};
+ghost use Rattle.std.specs.Prelude.{◌≡◌, ◌++◌, [], ◌∷◌, Ok, Some, IfOk, false};
 ghost use Rattle.std.specs.List.{list_any};
 ghost use Rattle.bson.specs.View.{tree};
 ghost use Rattle.path.specs.Parts.{meets};
@@ -12,6 +12,7 @@ ghost use Rattle.filter.specs.ProjectionReading.{with_computed, projection_of, p
 ghost use Rattle.filter.specs.Seen.{seen_of};
 
 use crate::operands::path_in;
+use crate::path_list::PathList;
 use bson::{Document, NoMemory, Value};
 use path::{Path, Refusal};
 use std::alloc::Global;
@@ -37,7 +38,7 @@ impl Model for Projection {
 pub struct ProjectionFields {
     fields: Option<bool>,
     id: Option<bool>,
-    paths: Vec<Path>,
+    paths: PathList,
 }
 
 fn flag_of(number: i64) -> Result<bool, Refusal>
@@ -88,12 +89,6 @@ fn any_begins_with_id(paths: &[Path]) -> bool
     paths.iter().any(|path| begins_with_id(path))
 }
 
-fn any_meets(paths: &[Path], path: &Path) -> bool
-    ensures { result ≡ list_any (meets path.now) paths.now }
-{
-    paths.iter().any(|other| path.meets(other))
-}
-
 fn agrees(fields: Option<bool>, flag: bool) -> bool
     ensures { result ≡ agrees fields flag }
 {
@@ -104,6 +99,27 @@ fn agrees(fields: Option<bool>, flag: bool) -> bool
     }
 }
 
+/// Takes one more path in, which meets none of those before.
+fn with_path(seen: ProjectionFields, path: Path, flag: bool) -> Result<ProjectionFields, Refusal>
+    requires { list_any (meets path) seen.paths ≡ false }
+    ensures { Gives Refusal.OutOfMemory seen_of result (Ok (record {
+      fields = Some flag;
+      id = seen.id;
+      paths = seen.paths ++ path ∷ [];
+    })) }
+{
+    let ProjectionFields {
+        fields: _,
+        id,
+        paths,
+    } = seen;
+    Ok(ProjectionFields {
+        fields: Some(flag),
+        id,
+        paths: paths.with(path)?,
+    })
+}
+
 /// Takes one more field in.
 fn with_field(seen: ProjectionFields, path: Path, flag: bool) -> Result<ProjectionFields, Refusal>
     ensures { Gives Refusal.OutOfMemory seen_of result (with_field path flag (seen_of seen)) }
@@ -112,7 +128,7 @@ fn with_field(seen: ProjectionFields, path: Path, flag: bool) -> Result<Projecti
     if seen.id.is_some() && begins_with_id(&path) {
         return Err(Refusal::BadValue);
     }
-    if any_meets(&seen.paths, &path) {
+    if seen.paths.meets(&path) {
         return Err(Refusal::BadValue);
     }
     if is_id(&path) {
@@ -122,9 +138,7 @@ fn with_field(seen: ProjectionFields, path: Path, flag: bool) -> Result<Projecti
     if !agrees(seen.fields, flag) {
         return Err(Refusal::BadValue);
     }
-    seen.fields = Some(flag);
-    seen.paths.push(path)?;
-    Ok(seen)
+    with_path(seen, path, flag)
 }
 
 fn read_fields(alloc: Global, document: &Document) -> Result<ProjectionFields, Refusal>
@@ -178,7 +192,7 @@ fn projection_of(
         id,
         paths,
     } = seen;
-    let mut paths = paths;
+    let mut paths = paths.into_paths();
     if names_id(includes, id, &paths) {
         paths.push(id_path(alloc)?)?;
     }
@@ -195,7 +209,7 @@ impl ProjectionFields {
         ProjectionFields {
             fields: None,
             id: None,
-            paths: Vec::new(alloc),
+            paths: PathList::new(alloc),
         }
     }
 

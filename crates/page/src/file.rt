@@ -19,7 +19,7 @@ const PAGE_SECTORS: u64 = 8;
 /// Why a file isn't opened.
 #[derive(Clone, Copy, Debug, PartialEq, Eq)]
 pub enum FileFault {
-    /// The file can't be opened, made or locked, or memory ran out for its buffer.
+    /// The file can't be opened, made or locked, its folder can't be opened or synced, or memory ran out for its buffer.
     Device = 1,
     /// Someone has the file open to write it, or to read it where it is to be written.
     Locked,
@@ -55,8 +55,8 @@ pub struct FileDisk {
 }
 
 impl FileDisk {
-    /// Opens a file for reading and writing, and makes a missing one where that is asked for. No one else can open it
-    /// meanwhile.
+    /// Opens a file for reading and writing. Where that is asked for, it makes a missing one, and syncs the folder whether it was
+    /// missing or not. No one else can open it meanwhile.
     pub fn open<R: Files<File = File> + AllocGlobal>(
         rt: &R,
         path: &str,
@@ -145,21 +145,12 @@ fn open_file<R: Files<File = File>>(rt: &R, path: &str) -> io::Result<File> {
     OpenOptions::new().read(true).write(true).open(rt, path)
 }
 
-/// Opens a file, or makes it and makes that durable.
+/// Opens a file, or makes it where it is missing, and makes durable that it stands in its folder. One that is there needs that
+/// too: whoever made it may have ended before.
 fn open_or_make<R: Files<File = File>>(rt: &R, path: &str) -> io::Result<File> {
-    match File::create_new(rt, path) {
-        Ok(file) => {
-            File::open(rt, folder_of(path))?.sync_all()?;
-            Ok(file)
-        }
-        Err(error) => {
-            if error.kind() == io::ErrorKind::AlreadyExists {
-                open_file(rt, path)
-            } else {
-                Err(error)
-            }
-        }
-    }
+    let file = File::create_new(rt, path).or_else(|_| open_file(rt, path))?;
+    File::open(rt, folder_of(path))?.sync_all()?;
+    Ok(file)
 }
 
 /// The folder of a file.

@@ -1,3 +1,4 @@
 pub mod NameLemmas
 pub mod IndexLemmas
 pub mod WalkLemmas
+pub mod PathSetLemmas

@@ -1,6 +1,8 @@
 pub mod Refusals
 pub mod FaultNames
 pub mod Parts
+pub mod PathOrder
+pub mod PathSets
 pub mod View
 pub mod Reach
 pub mod Place

@@ -199,8 +199,7 @@ impl Player {
     /// A check of the file counts this.
     pub fn counts(&mut self, wanted: &str) -> Result<(), Fault> {
         let counts = self.check()?;
-        let came = format!(
-            in self.alloc;
+        let came = format!(in self.alloc;
             "generation {} collections {} documents {} indexes {} pages {} free {}",
             counts.generation,
             counts.collections,

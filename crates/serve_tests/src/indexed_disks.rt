@@ -14,7 +14,8 @@ const CREATE: &str =
 const INSERT: &str = r#"{"insert": "c", "documents": [{"_id": 1, "a": 7}], "$db": "t"}"#;
 
 /// The collection `t.c` with the number 1, without indexes: `{n: 1, x: []}`.
-const PLAIN: &[u8] = b"\x0e\0\x14\0\0\0\0\0\0\0\0\0\0\0\x40t.c\0\0\x14\0\0\0\x10n\0\x01\0\0\0\x04x\0\x05\0\0\0\0\0";
+const PLAIN: &[u8] =
+    b"\x0e\0\x14\0\0\0\0\0\0\0\0\0\0\0\x40t.c\0\0\x14\0\0\0\x10n\0\x01\0\0\0\x04x\0\x05\0\0\0\0\0";
 
 /// The same with index 1 on `a`, named `a_1`, neither unique nor multikey.
 const INDEXED: &[u8] = b"\x0e\0\x53\0\0\0\0\0\0\0\0\0\0\0\x40t.c\0\0\
@@ -59,7 +60,13 @@ const MULTI: usize = 99;
 
 /// The first sector of page `number`, a leaf of these cells that commit `number` wrote; in its first cell the byte at a place
 /// is another.
-fn leaf_of(alloc: Global, number: u8, cells: &[&[u8]], at: usize, byte: u8) -> Result<Vec<u8>, Fail> {
+fn leaf_of(
+    alloc: Global,
+    number: u8,
+    cells: &[&[u8]],
+    at: usize,
+    byte: u8,
+) -> Result<Vec<u8>, Fail> {
     let count = u8::try_from(cells.len()).unwrap_or(0);
     let mut bytes = Vec::new(alloc);
     bytes.extend_from_slice(&[1, 0, count, 0, number, 0, 0, 0, number, 0, 0, 0, 0, 0, 0, 0])?;
@@ -73,11 +80,18 @@ fn leaf_of(alloc: Global, number: u8, cells: &[&[u8]], at: usize, byte: u8) -> R
 }
 
 /// Why a file whose tree is this leaf isn't opened, or None.
-fn fault_of(alloc: Global, cells: &[&[u8]], at: usize, byte: u8) -> Result<Option<OpenFault>, Fail> {
+fn fault_of(
+    alloc: Global,
+    cells: &[&[u8]],
+    at: usize,
+    byte: u8,
+) -> Result<Option<OpenFault>, Fail> {
     let leaf = leaf_of(alloc, 1, cells, at, byte)?;
     let mut disk = MemDisk::new(alloc);
-    disk.write(1, &sector_of(ROOT, 0, &[])).map_err(|_| "a root")?;
-    disk.write(8, &sector_of(&leaf, 0, &[])).map_err(|_| "a leaf")?;
+    disk.write(1, &sector_of(ROOT, 0, &[]))
+        .map_err(|_| "a root")?;
+    disk.write(8, &sector_of(&leaf, 0, &[]))
+        .map_err(|_| "a leaf")?;
     Ok(open(alloc, disk).err())
 }
 
@@ -99,24 +113,108 @@ fn an_index_and_a_document(rt: HostRuntime) -> Result<(), Fail> {
 /// Cells, a place in the first and the byte there, and whether such a file is sound.
 const FILES: [(&str, &[&[u8]], usize, u8, bool); 20] = [
     ("as they are", &[INDEXED, SEVEN, SEVEN_ENTRY], 0, 14, true),
-    ("two documents", &[INDEXED, SEVEN, SECOND_SEVEN, SEVEN_ENTRY, OTHERS_ENTRY], 0, 14, true),
-    ("multikey, and no array left", &[INDEXED, SEVEN, SEVEN_ENTRY], MULTI, 1, true),
+    (
+        "two documents",
+        &[INDEXED, SEVEN, SECOND_SEVEN, SEVEN_ENTRY, OTHERS_ENTRY],
+        0,
+        14,
+        true,
+    ),
+    (
+        "multikey, and no array left",
+        &[INDEXED, SEVEN, SEVEN_ENTRY],
+        MULTI,
+        1,
+        true,
+    ),
     ("multikey", &[INDEXED, ARRAY, SEVEN_ENTRY], MULTI, 1, true),
     ("unique", &[INDEXED, SEVEN, SEVEN_ENTRY], UNIQUE, 1, true),
-    ("a document without its entry", &[INDEXED, SEVEN], 0, 14, false),
-    ("one of two without its entry", &[INDEXED, SEVEN, SECOND_SEVEN, SEVEN_ENTRY], 0, 14, false),
-    ("an entry without its document", &[INDEXED, SEVEN_ENTRY], 0, 14, false),
-    ("one of two without its document", &[INDEXED, SEVEN, SEVEN_ENTRY, OTHERS_ENTRY], 0, 14, false),
-    ("an entry twice", &[INDEXED, SEVEN, SEVEN_ENTRY, SEVEN_ENTRY], 0, 14, false),
-    ("another key beside", &[INDEXED, SEVEN, SEVEN_ENTRY, EIGHT_ENTRY], 0, 14, false),
+    (
+        "a document without its entry",
+        &[INDEXED, SEVEN],
+        0,
+        14,
+        false,
+    ),
+    (
+        "one of two without its entry",
+        &[INDEXED, SEVEN, SECOND_SEVEN, SEVEN_ENTRY],
+        0,
+        14,
+        false,
+    ),
+    (
+        "an entry without its document",
+        &[INDEXED, SEVEN_ENTRY],
+        0,
+        14,
+        false,
+    ),
+    (
+        "one of two without its document",
+        &[INDEXED, SEVEN, SEVEN_ENTRY, OTHERS_ENTRY],
+        0,
+        14,
+        false,
+    ),
+    (
+        "an entry twice",
+        &[INDEXED, SEVEN, SEVEN_ENTRY, SEVEN_ENTRY],
+        0,
+        14,
+        false,
+    ),
+    (
+        "another key beside",
+        &[INDEXED, SEVEN, SEVEN_ENTRY, EIGHT_ENTRY],
+        0,
+        14,
+        false,
+    ),
     ("another key", &[INDEXED, SEVEN, EIGHT_ENTRY], 0, 14, false),
-    ("an entry with a value", &[INDEXED, SEVEN, ENTRY_WITH_A_VALUE], 0, 14, false),
-    ("an entry of no index", &[PLAIN, SEVEN, SEVEN_ENTRY], 0, 14, false),
-    ("an entry of index 1 of an index 2", &[INDEXED, SEVEN, SEVEN_ENTRY], NUMBER, 2, false),
+    (
+        "an entry with a value",
+        &[INDEXED, SEVEN, ENTRY_WITH_A_VALUE],
+        0,
+        14,
+        false,
+    ),
+    (
+        "an entry of no index",
+        &[PLAIN, SEVEN, SEVEN_ENTRY],
+        0,
+        14,
+        false,
+    ),
+    (
+        "an entry of index 1 of an index 2",
+        &[INDEXED, SEVEN, SEVEN_ENTRY],
+        NUMBER,
+        2,
+        false,
+    ),
     ("index 0", &[INDEXED, SEVEN, SEVEN_ENTRY], NUMBER, 0, false),
-    ("a name that doesn't end", &[INDEXED, SEVEN, SEVEN_ENTRY], NAME_END, 1, false),
-    ("the direction 2", &[INDEXED, SEVEN, SEVEN_ENTRY], DIRECTION, 2, false),
-    ("an array, and not multikey", &[INDEXED, ARRAY, SEVEN_ENTRY], 0, 14, false),
+    (
+        "a name that doesn't end",
+        &[INDEXED, SEVEN, SEVEN_ENTRY],
+        NAME_END,
+        1,
+        false,
+    ),
+    (
+        "the direction 2",
+        &[INDEXED, SEVEN, SEVEN_ENTRY],
+        DIRECTION,
+        2,
+        false,
+    ),
+    (
+        "an array, and not multikey",
+        &[INDEXED, ARRAY, SEVEN_ENTRY],
+        0,
+        14,
+        false,
+    ),
     (
         "unique, and two documents of one key",
         &[INDEXED, SEVEN, SECOND_SEVEN, SEVEN_ENTRY, OTHERS_ENTRY],
@@ -129,7 +227,11 @@ const FILES: [(&str, &[&[u8]], usize, u8, bool); 20] = [
 #[test]
 fn entries_and_documents_agree(rt: HostRuntime) -> Result<(), Fail> {
     for (what, cells, at, byte, is_sound) in FILES {
-        let wanted = if is_sound { None } else { Some(OpenFault::Damaged) };
+        let wanted = if is_sound {
+            None
+        } else {
+            Some(OpenFault::Damaged)
+        };
         assert!(rt; fault_of(rt.alloc(), cells, at, byte)? == wanted, "{what}");
     }
     Ok(())

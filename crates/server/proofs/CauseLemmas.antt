@@ -212,7 +212,7 @@ commits_changes history old mid new false rests sound goes start done version =
 -- a turn that took no message ends without a call of the disk
 pub idle_commit : {D : Type 0} (history : D → History) (old mid new : Engine D) (result : Result (Unit {0}) CommitFault) → has_changes old ≡ false → mid ≡ old → Commits history result mid new
     → disk_history history new ≡ disk_history history old
-idle_commit history old mid new result rests same commits =
+idle_commit {D = D} history old mid new result rests same commits =
     ap (λ (f : State D). views.disk_history history f) (commits.quiet (ap has_changes same ∙ rests)).1 ∙ ap (disk_history history) same
 
 -- the messages of a turn, by the causes of the whole turn

@@ -35,7 +35,7 @@ abbrev Frames : Type 0
 Frames = List (ℕ × List ℕ)
 
 -- one history and then another
-happens_on : (first : List Step) (later : List Step) (at : Moment) (a b c : ServerState) (given others : Frames) (ends more : List TurnEnd)
+pub happens_on : (first : List Step) (later : List Step) (at : Moment) (a b c : ServerState) (given others : Frames) (ends more : List TurnEnd)
     → Happens at a first given ends b → Happens (last_moment at ends) b later others more c → Happens at a (first ++ later) (given ++ others) (ends ++ more) c
 happens_on [] later at a b c given others ends more h k =
     subst (λ (fs : Frames). Happens at a later (fs ++ others) (ends ++ more) c) (sym h.0)
@@ -102,7 +102,7 @@ last_moment-append : (first : Moment) (ends more : List TurnEnd) → last_moment
 last_moment-append first [] more = refl
 last_moment-append first (e ∷ later) more = last_moment-append e.at later more
 
-last_collections-append : (first : List Collection) (ends more : List TurnEnd) → last_collections first (ends ++ more) ≡ last_collections (last_collections first ends) more
+pub last_collections-append : (first : List Collection) (ends more : List TurnEnd) → last_collections first (ends ++ more) ≡ last_collections (last_collections first ends) more
 last_collections-append first [] more = refl
 last_collections-append first (e ∷ later) more = last_collections-append e.collections later more
 

@@ -5,6 +5,7 @@ pub mod TurnParts
 pub mod Images
 pub mod Order
 pub mod Histories
+pub mod Prefixes
 pub mod Places
 pub mod ConnectionServed
 pub mod ConnectionsServed
@@ -12,3 +13,4 @@ pub mod StreamsTaken
 pub mod Ascending
 pub mod AnewLemmas
 pub mod Reading
+pub mod Dumping

@@ -1,7 +1,7 @@
 -- A history: a list of chunks of bytes, turns and ends of connections, and what comes of it. Its output for a connection is its
 -- frames in the order in which the turns handed them out. Its turns' ends are the moments at which they answered, each with the
 -- collections then, in order.
-use Rattle.std.specs.Prelude.{◌≡◌, ⊥, ◌-◌, ◌^◌, ℕ, suc, ◌==◌, if◌then◌else◌, List, [], ◌∷◌, ◌++◌}
+use Rattle.std.specs.Prelude.{◌≡◌, ◌-◌, ◌^◌, ℕ, suc, ◌==◌, if◌then◌else◌, List, [], ◌∷◌, ◌++◌}
 use Rattle.server.specs.ServerState.{ServerState, fed, ended}
 use Rattle.engine.specs.World.{World}
 use Rattle.server.specs.Turn.{Out, Turns, ChangeNothing, calls}

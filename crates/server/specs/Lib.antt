@@ -9,8 +9,10 @@ pub mod Opening
 pub mod Turning
 pub mod OneStep
 pub mod Headline
+pub mod Prefix
 pub mod Anew
 pub mod Faults
+pub mod Dump
 pub mod Rows
 pub mod Chunks
 pub mod InOrder

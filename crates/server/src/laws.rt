@@ -1,9 +1,18 @@
-//! What the definitions say of chunks, and of the first frames.
+//! Laws of runs: what a crash leaves of one, what the definitions say of chunks, and of the first frames.
 
 ghost use Rattle.server.specs.Chunks.{ChunksJoin};
 ghost use Rattle.server.specs.InOrder.{CallsAscend};
+ghost use Rattle.server.specs.Prefix.{FindsAPrefix};
 ghost use Rattle.server.specs.Rows.{FirstRows};
 ghost use Rattle.server.specs.Streams.{TakesTheStream};
+
+use page::Disk;
+
+/// However a run is cut, what the crash left holds the collections after some first turns of the run, and opening it finds
+/// these: every turn that had answered at that moment is one of them, and at most one turn more.
+pub fn finds_a_prefix<D: Disk, E: Disk>()
+    ensures { FindsAPrefix D.history E.history }
+{}
 
 /// Two chunks for a connection, one after the other, are one chunk.
 pub fn chunks_join()

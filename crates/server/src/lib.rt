@@ -16,6 +16,7 @@ mod turn;
 pub use anew::run_anew;
 pub use connection::FeedFault;
 pub use drive::{DriveFault, DriveOut};
+pub use dump::dump_line;
 pub use engine::{CheckFault, Counts};
 pub use roots::{Config, OpenFault};
 pub use service::serve_on;

@@ -46,7 +46,7 @@ fn step(file: &mut FileDisk, memory: &mut MemDisk, random: u64) -> bool {
     }
 }
 
-/// Two thousand steps. What was synced is there when the file is opened again.
+/// Two thousand steps. What was synced is there when the file is opened again, also where it would have been made.
 #[test]
 fn a_file_beside_memory(rt: HostRuntime) -> Result<(), Fail> {
     let path = "storage_tests_random_calls";
@@ -63,7 +63,7 @@ fn a_file_beside_memory(rt: HostRuntime) -> Result<(), Fail> {
     }
     assert!(rt; same_sectors(&mut file, &mut memory, 0, 128) && file.sync().is_ok());
     drop(file);
-    let Ok(mut again) = FileDisk::open(&rt, path, false) else {
+    let Ok(mut again) = FileDisk::open(&rt, path, true) else {
         panic!(&rt; "the file isn't opened again");
     };
     assert!(rt; same_sectors(&mut again, &mut memory, 0, 128));
@@ -109,6 +109,30 @@ fn a_failure_stays(rt: HostRuntime) -> Result<(), Fail> {
     assert!(rt; disk.sync() == Err(DeviceFault));
     assert!(rt; disk.read(3, &mut bytes) == Err(DeviceFault));
     assert!(rt; disk.write(0, &bytes) == Err(DeviceFault));
+    drop(disk);
+    fs::remove_file(&rt, path)?;
+    Ok(())
+}
+
+/// Once a call has failed, each later one fails. `tests/file_calls` refuses each write and each sync of this test in turn.
+#[test]
+fn a_refused_call_stays(rt: HostRuntime) -> Result<(), Fail> {
+    let path = "storage_tests_refused";
+    fs::write(&rt, path, b"")?;
+    let Ok(mut disk) = FileDisk::open(&rt, path, false) else {
+        panic!(&rt; "the file isn't opened");
+    };
+    let mut has_failed = false;
+    for i in 0..16 {
+        let mut bytes = [1; 512];
+        let call = match i % 4 {
+            0 | 1 => disk.write(8 * i + 8, &bytes),
+            2 => disk.sync(),
+            _ => disk.read(0, &mut bytes),
+        };
+        assert!(rt; call.is_err() || !has_failed, "call {i} goes on");
+        has_failed = call.is_err();
+    }
     drop(disk);
     fs::remove_file(&rt, path)?;
     Ok(())

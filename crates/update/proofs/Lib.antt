@@ -1,3 +1,4 @@
 pub mod StepLemmas
 pub mod IdLemmas
 pub mod ArrayLemmas
+pub mod EditPathLemmas

@@ -9,6 +9,7 @@ pub mod Renames
 pub mod Replacements
 pub mod Operators
 pub mod Reading
+pub mod EditPaths
 pub mod Applying
 pub mod Upserts
 pub mod Laws

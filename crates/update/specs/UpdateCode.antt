@@ -77,7 +77,7 @@ sum_action-action_sum (rename path) = refl
 abbrev coded_action : Coded Action
 coded_action = code_by ActionSum coded_action_sum action_sum sum_action sum_action-action_sum
 
-abbrev coded_edit : Coded Edit
+abbrev pub coded_edit : Coded Edit
 coded_edit = code_by (Path × Action) (coded× coded_path coded_action) (λ e. (e.path, e.action))
     (λ x. record { path = x.0; action = x.1 }) (λ _. refl)
 

@@ -10,6 +10,7 @@ mod arrays;
 mod bounds;
 mod copying;
 mod edit;
+mod edit_list;
 mod fields;
 pub mod laws;
 mod numbers;

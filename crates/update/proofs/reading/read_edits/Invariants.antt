@@ -1,10 +1,7 @@
-use Rattle.std.proofs.Common.{◌≡◌, drop, map}
+use Rattle.std.proofs.Common.{◌≡◌, drop}
 use Rattle.bson.specs.View.{pairs_of}
 use Rattle.update.specs.Reading.{read_edits}
-use Rattle.update.specs.View.{edit_of}
 use Rattle.update.proofs.reading.read_edits.Given as goal
 
 abbrev pub invariant-pairs : goal.invariant-pairs
-invariant-pairs l =
-    read_edits l.operator (pairs_of (drop l.pair-index l.pair-items)) (map edit_of l.edits.items)
-    ≡ read_edits l.operator l.document (map edit_of l.initial.edits.items)
+invariant-pairs l = read_edits l.operator (pairs_of (drop l.pair-index l.pair-items)) l.edits ≡ read_edits l.operator l.document l.initial.edits

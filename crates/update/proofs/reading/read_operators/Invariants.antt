@@ -1,9 +1,7 @@
-use Rattle.std.proofs.Common.{◌≡◌, [], drop, map}
+use Rattle.std.proofs.Common.{◌≡◌, [], drop}
 use Rattle.bson.specs.View.{pairs_of}
 use Rattle.update.specs.Reading.{read_operators}
-use Rattle.update.specs.View.{edit_of}
 use Rattle.update.proofs.reading.read_operators.Given as goal
 
 abbrev pub invariant-pairs : goal.invariant-pairs
-invariant-pairs l =
-    read_operators (pairs_of (drop l.pair-index l.pair-items)) (map edit_of l.edits.items) ≡ read_operators l.document []
+invariant-pairs l = read_operators (pairs_of (drop l.pair-index l.pair-items)) l.edits ≡ read_operators l.document []

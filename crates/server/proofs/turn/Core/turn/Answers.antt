@@ -67,8 +67,8 @@ pub returns-in_err-refusals : goal.returns-in_err-refusals
 returns-in_err-refusals g c = record {
   sound = search rules;
   turns = search rules;
-  hands_out = tt;
-  leaves = tt;
+  hands_out = search rules;
+  leaves = search rules;
   fails = search rules;
   on = search rules;
   any_moment = let engine = c.args.self.now.engine in
@@ -79,7 +79,7 @@ returns-in_err-refusals g c = record {
   idle = search rules;
   device = search rules;
   moment = in_turn_itself (moment_of g.D.Disk.history c.args.self.now);
-  commits = tt;
+  commits = search rules;
   void = λ _. refl;
   quiet = λ _ _. goes_from_itself g.D.Disk.history (file_of c.args.self.now);
 }

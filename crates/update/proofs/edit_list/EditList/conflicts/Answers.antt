@@ -1,0 +1,13 @@
+use Rattle.std.proofs.Common.{List, map, ap, ◌∙◌}
+use Rattle.update.specs.Reading.{conflicts}
+use Rattle.update.specs.Update.{Edit}
+use Rattle.update.specs.View.{edit_of}
+use Rattle.update.proofs.EditPathLemmas.{conflicts_so}
+use Rattle.update.proofs.edit_list.EditList.conflicts.Goals as goal
+
+pub returns : goal.returns
+returns c =
+    let e = edit_of c.args.edit.now in
+    c.conflicts_with.ensures
+    ∙ conflicts_so c.self.inside.paths (map edit_of c.self.inside.edits.items) e c.self.invariant
+    ∙ ap (λ (es : List Edit). conflicts es e) c.self.view_is
