@@ -45,13 +45,12 @@ returns-then-not-serve_connections-clause-settles g c =
     let serves = serve.serves in
     let taken : c.deref_mut.result.now ≡ c.args.connections.now.items = search rules in
     let after = undo_follows history e1 e2 (on_same (disk_history history e1) (disk_history history e2) c.undo_turn.ensures.disk) c.undo_turn.ensures.takes c.undo_turn.ensures.generation in
-    let ran = λ k. runs_over history e0 e1 e2 serve.goes after c.deref_mut.result.now c.args.connections.now.items taken serves.replies (serves.runs (subst KeepsWord c.undo_turn.ensures.disk k)) in
     let before : turn_start e1 ≡ (world e0).collections = serve.turn_start ∙ c.requires.idle in
     record {
       replies = serves.replies;
       one_each = serves.one_each ∙ ap (λ (ls : List Connection). length (calls ls)) taken;
       last = world e1;
-      runs = ran;
+      runs = λ k. runs_over history e0 e1 e2 serve.goes after c.deref_mut.result.now c.args.connections.now.items taken serves.replies (serves.runs (subst KeepsWord c.undo_turn.ensures.disk k));
       ends = inr (inl c.requires.refusals, c.undo_turn.ensures.world ∙ ap (λ (cs : List Collection). after_undo cs (world e1)) before);
     }
 
@@ -91,7 +90,6 @@ returns-in-Ok-clause-settles g c =
     let serves = serve.serves in
     let taken : c.deref_mut.result.now ≡ c.args.connections.now.items = search rules in
     let after = (commit_follows history e1 e2 c.commit_turn.result c.commit_turn.ensures).0 in
-    let ran = λ k. runs_over history e0 e1 e2 serve.goes after c.deref_mut.result.now c.args.connections.now.items taken serves.replies (serves.runs (c.commit_turn.ensures.on.kept k)) in
     let same = ap (λ (ls : List Connection). frames_of (calls ls) serves.replies) taken in
     let none : c.new-replies.result.items ≡ [] = search rules in
     let given : List (ℕ × Vec ℕ Global) → List (ℕ × List ℕ) = λ vs. frames_in vs ++ frames_of (calls c.deref_mut.result.now) serves.replies in
@@ -99,7 +97,7 @@ returns-in-Ok-clause-settles g c =
       replies = serves.replies;
       one_each = serves.one_each ∙ ap (λ (ls : List Connection). length (calls ls)) taken;
       last = world e1;
-      runs = ran;
+      runs = λ k. runs_over history e0 e1 e2 serve.goes after c.deref_mut.result.now c.args.connections.now.items taken serves.replies (serves.runs (c.commit_turn.ensures.on.kept k));
       ends = inl (serves.frames (search rules) ∙ ap given none ∙ same, c.in-Ok.ensures.done);
     }
 
@@ -113,13 +111,12 @@ returns-in-Err-Memory-clause-settles g c =
     let serves = serve.serves in
     let taken : c.deref_mut.result.now ≡ c.args.connections.now.items = search rules in
     let after = (commit_follows history e1 e2 c.commit_turn.result c.commit_turn.ensures).0 in
-    let ran = λ k. runs_over history e0 e1 e2 serve.goes after c.deref_mut.result.now c.args.connections.now.items taken serves.replies (serves.runs (c.commit_turn.ensures.on.kept k)) in
     let before : turn_start e1 ≡ (world e0).collections = serve.turn_start ∙ c.requires.idle in
     record {
       replies = serves.replies;
       one_each = serves.one_each ∙ ap (λ (ls : List Connection). length (calls ls)) taken;
       last = world e1;
-      runs = ran;
+      runs = λ k. runs_over history e0 e1 e2 serve.goes after c.deref_mut.result.now c.args.connections.now.items taken serves.replies (serves.runs (c.commit_turn.ensures.on.kept k));
       ends = inr (inl c.requires.refusals, c.in-Err-Memory.ensures.memory (ap failed c.in-Err-Memory.field-0-is) ∙ ap (λ (cs : List Collection). after_undo cs (world e1)) before);
     }
 
@@ -133,7 +130,6 @@ returns-in-Err-Full-clause-settles g c =
     let serves = serve.serves in
     let taken : c.deref_mut.result.now ≡ c.args.connections.now.items = search rules in
     let after = (commit_follows history e1 e2 c.commit_turn.result c.commit_turn.ensures).0 in
-    let ran = λ k. runs_over history e0 e1 e2 serve.goes after c.deref_mut.result.now c.args.connections.now.items taken serves.replies (serves.runs (c.commit_turn.ensures.on.kept k)) in
     let before : turn_start e1 ≡ (world e0).collections = serve.turn_start ∙ c.requires.idle in
     let connections = c.args.connections.now.items in
     let new = c.say_full.new.frames in
@@ -152,7 +148,7 @@ returns-in-Err-Full-clause-settles g c =
       replies = serves.replies;
       one_each = serves.one_each ∙ ap (λ (ls : List Connection). length (calls ls)) taken;
       last = world e1;
-      runs = ran;
+      runs = λ k. runs_over history e0 e1 e2 serve.goes after c.deref_mut.result.now c.args.connections.now.items taken serves.replies (serves.runs (c.commit_turn.ensures.on.kept k));
       ends = inr (inr (ap frames_in (whole new _ c.args.refusals.len long) ∙ given, λ k. (generation_was, changing k)), full.0 ∙ ap (λ (cs : List Collection). after_undo cs (world e1)) before);
     }
 
