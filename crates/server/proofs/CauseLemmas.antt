@@ -149,8 +149,7 @@ module _ {D : Type 0} (history : D → History) (old new : Engine D) where
   -- the end of a turn asks for no page
   pub commit_follows : (result : Result (Unit {0}) CommitFault) → Commits history result old new → FollowsInTurn (engine_moment history old) (engine_moment history new)
   commit_follows result commits =
-      let once = one_more _ (generation old) (generation new) commits.version in
-      (
+      let once = one_more _ (generation old) (generation new) commits.version in (
         record {
           word = commits.on.kept;
           clock = commits.on.clock;
