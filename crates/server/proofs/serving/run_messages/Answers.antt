@@ -142,8 +142,8 @@ returns-in-Err-Full-clause-settles g c =
     let full = c.in-Err-Full.ensures.full (ap failed c.in-Err-Full.field-0-is) in
     let generation_was = sym (goes_generation history e0 e1 serve.goes) ∙ full.1 in
     let changing : KeepsWord (disk_history history e2) → ChangeNothing OfAnyCause (world e0) (calls c.args.connections.now.items) → ⊥ = λ k nothing.
-        let same = serve.quiet (c.commit_turn.ensures.on.kept k) (subst (λ (ls : List Connection). ChangeNothing OfAnyCause (world e0) (calls ls)) (sym taken) nothing) in
-        not_ok c.commit_turn.result c.in-Err-Full.field-0 (c.commit_turn.ensures.quiet (same ∙ c.requires.rests)).0 c.in-Err-Full.is in
+    let same = serve.quiet (c.commit_turn.ensures.on.kept k) (subst (λ (ls : List Connection). ChangeNothing OfAnyCause (world e0) (calls ls)) (sym taken) nothing) in
+    not_ok c.commit_turn.result c.in-Err-Full.field-0 (c.commit_turn.ensures.quiet (same ∙ c.requires.rests)).0 c.in-Err-Full.is in
     record {
       replies = serves.replies;
       one_each = serves.one_each ∙ ap (λ (ls : List Connection). length (calls ls)) taken;
