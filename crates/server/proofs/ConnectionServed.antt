@@ -1,5 +1,5 @@
 -- What a link's part of a turn is.
-use Rattle.std.proofs.Common.{◌≡◌, inl, ℕ, List, [], ◌∷◌, ◌++◌, refl, sym, ◌∙◌, ap, append-nil}
+use Rattle.std.proofs.Common.{◌≡◌, ℕ, List, [], ◌∷◌, ◌++◌, refl, sym, ◌∙◌, ap, append-nil}
 use Rattle.std.specs.Prelude.{Bool, true, Result, Ok, Err, Option, Some, None}
 use Rattle.bson.specs.Tree.{Pairs}
 use Rattle.op_msg.specs.Frame.{Frame}
@@ -8,7 +8,7 @@ use Rattle.op_msg.specs.declared.fault.FrameFault.{FrameFault}
 use Rattle.op_msg.specs.declared.request.Request.{Request}
 use Rattle.engine.specs.World.{World}
 use Rattle.path.specs.declared.refusal.Refusal.{Refusal}
-use Rattle.engine.specs.Step.{step, WroteNothing}
+use Rattle.engine.specs.Step.{WroteNothing}
 use Rattle.outcome.specs.Outcome.{Gives}
 use Rattle.bson.specs.declared.fault.BsonFault.{BsonFault}
 use Rattle.bson.specs.declared.fault.BsonFault.TheVariants as bson_faults

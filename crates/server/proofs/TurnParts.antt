@@ -1,6 +1,5 @@
 -- A turn, put together from its parts.
 use Rattle.std.proofs.Common.{◌≡◌, inl, inr, ⊎_elim, ℕ, List, ◌∙◌}
-use Rattle.std.specs.Prelude.{◌⊎◌}
 use Rattle.engine.specs.World.{World}
 use Rattle.engine.specs.View.{world}
 use Rattle.path.specs.declared.refusal.Refusal.{Refusal}

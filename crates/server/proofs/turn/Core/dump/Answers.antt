@@ -1,4 +1,4 @@
-use Rattle.std.proofs.Common.{◌≡◌, Result, Ok, Err, Vec, sym, subst, ◌∙◌, rules}
+use Rattle.std.proofs.Common.{◌≡◌, Result, Err, Vec, sym, subst, rules}
 use Rattle.std.specs.Prelude.{String}
 use Rattle.std.specs.Global.{Global}
 use Rattle.engine.specs.declared.check_fault.CheckFault.{CheckFault}

@@ -1,4 +1,4 @@
-use Rattle.std.proofs.Common.{◌≡◌, List, [], ◌++◌, length, map, Result, Ok, Err, Vec, ℕ, refl, sym, subst, ap, ◌∙◌, rules}
+use Rattle.std.proofs.Common.{◌≡◌, List, [], ◌++◌, length, map, Result, Err, Vec, ℕ, refl, sym, subst, ap, ◌∙◌, rules}
 use Rattle.std.specs.Prelude.{String}
 use Rattle.std.proofs.lemmas.List.{nil_from_length}
 use Rattle.std.specs.Global.{Global}
