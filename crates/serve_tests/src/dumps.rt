@@ -23,7 +23,11 @@ fn two_documents(rt: HostRuntime) -> Result<(), Fail> {
     let Ok(lines) = core.dump("t.c") else {
         return Err(Fail::from("no lines"));
     };
-    assert!(rt; lines.iter().map(|line| line.as_str()).eq(TWO));
+    assert_eq!(rt; lines.len(), 2);
+    for (i, wanted) in TWO.iter().enumerate() {
+        let line = lines.get(i).ok_or("a line less")?;
+        assert_eq!(rt; line.as_str(), *wanted);
+    }
     assert!(rt; core.dump("t.d").err() == Some(CheckFault::NamespaceNotFound));
     Ok(())
 }
