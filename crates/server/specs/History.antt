@@ -11,7 +11,8 @@ use Rattle.server.specs.declared.connection.Connection.{Connection}
 use Rattle.server.specs.declared.step.Step.{Step}
 use Rattle.server.specs.declared.step.Step.TheVariants as steps
 
--- The messages of these connections change something, and a commit from this moment on finds no greater generation.
+-- A commit from this moment on finds no greater generation; and not all answers that the messages of these connections may get
+-- leave nothing written.
 abbrev pub NoCommitIsLeft : Moment → World → List Connection → Type 0
 NoCommitIsLeft old world connections = (old.generation ≡ 2 ^ 64 - 1)
     × (ChangeNothing OfAnyCause world (calls connections) → ⊥)
