@@ -61,82 +61,104 @@ pub enum Refusal {
     DuplicateKey,
 }
 
-/// What a reply says of a refusal.
-#[derive(Clone, Copy)]
-struct Row {
-    code: i32,
-    name: &'static str,
-    text: &'static str,
-}
-
 impl Refusal {
-    /// What is said of it, all in one table.
-    fn row(self) -> Row
-        ensures code { result.code ≡ pos (row_of self).code }
-        ensures name { result.name.now ≡ (row_of self).name }
-        ensures text { result.text.now ≡ (row_of self).text }
-    {
-        let (code, name, text) = match self {
-            Refusal::BadValue => (2, "BadValue", "bad value"),
-            Refusal::FailedToParse => (9, "FailedToParse", "command not understood"),
-            Refusal::TypeMismatch => (14, "TypeMismatch", "wrong type"),
-            Refusal::InvalidBSON => (22, "InvalidBSON", "invalid BSON"),
-            Refusal::NamespaceNotFound => (26, "NamespaceNotFound", "no such collection"),
-            Refusal::IndexNotFound => (27, "IndexNotFound", "no such index"),
-            Refusal::PathNotViable => (28, "PathNotViable", "path not viable"),
-            Refusal::ConflictingUpdateOperators => (
-                40,
-                "ConflictingUpdateOperators",
-                "conflicting paths",
-            ),
-            Refusal::CursorNotFound => (43, "CursorNotFound", "no such cursor"),
-            Refusal::NamespaceExists => (48, "NamespaceExists", "collection exists"),
-            Refusal::DollarPrefixedFieldName => (
-                52,
-                "DollarPrefixedFieldName",
-                "name begins with $",
-            ),
-            Refusal::EmptyFieldName => (56, "EmptyFieldName", "empty name"),
-            Refusal::DottedFieldName => (57, "DottedFieldName", "name contains ."),
-            Refusal::CommandNotFound => (59, "CommandNotFound", "no such command"),
-            Refusal::ImmutableField => (66, "ImmutableField", "_id can not change"),
-            Refusal::InvalidNamespace => (73, "InvalidNamespace", "bad collection name"),
-            Refusal::IndexOptionsConflict => (85, "IndexOptionsConflict", "index differs"),
-            Refusal::CannotIndexParallelArrays => (
-                171,
-                "CannotIndexParallelArrays",
-                "two arrays in one index",
-            ),
-            Refusal::KeyTooLong => (9001, "KeyTooLong", "key too long"),
-            Refusal::TooMany => (9002, "TooMany", "too many"),
-            Refusal::Full => (9003, "Full", "file is full"),
-            Refusal::OutOfMemory => (9004, "OutOfMemory", "out of memory"),
-            Refusal::StorageFailed => (9005, "StorageFailed", "storage failed"),
-            Refusal::BSONObjectTooLarge => (10334, "BSONObjectTooLarge", "document too large"),
-            Refusal::DuplicateKey => (11000, "DuplicateKey", "duplicate key"),
-        };
-        Row { code, name, text }
-    }
-
     /// The number that clients tell refusals apart by.
     pub fn code(self) -> i32
         ensures { result ≡ pos (row_of self).code }
     {
-        self.row().code
+        match self {
+            Refusal::BadValue => 2,
+            Refusal::FailedToParse => 9,
+            Refusal::TypeMismatch => 14,
+            Refusal::InvalidBSON => 22,
+            Refusal::NamespaceNotFound => 26,
+            Refusal::IndexNotFound => 27,
+            Refusal::PathNotViable => 28,
+            Refusal::ConflictingUpdateOperators => 40,
+            Refusal::CursorNotFound => 43,
+            Refusal::NamespaceExists => 48,
+            Refusal::DollarPrefixedFieldName => 52,
+            Refusal::EmptyFieldName => 56,
+            Refusal::DottedFieldName => 57,
+            Refusal::CommandNotFound => 59,
+            Refusal::ImmutableField => 66,
+            Refusal::InvalidNamespace => 73,
+            Refusal::IndexOptionsConflict => 85,
+            Refusal::CannotIndexParallelArrays => 171,
+            Refusal::KeyTooLong => 9001,
+            Refusal::TooMany => 9002,
+            Refusal::Full => 9003,
+            Refusal::OutOfMemory => 9004,
+            Refusal::StorageFailed => 9005,
+            Refusal::BSONObjectTooLarge => 10334,
+            Refusal::DuplicateKey => 11000,
+        }
     }
 
     /// The name beside the number.
     pub fn name(self) -> &'static str
         ensures { result.now ≡ (row_of self).name }
     {
-        self.row().name
+        match self {
+            Refusal::BadValue => "BadValue",
+            Refusal::FailedToParse => "FailedToParse",
+            Refusal::TypeMismatch => "TypeMismatch",
+            Refusal::InvalidBSON => "InvalidBSON",
+            Refusal::NamespaceNotFound => "NamespaceNotFound",
+            Refusal::IndexNotFound => "IndexNotFound",
+            Refusal::PathNotViable => "PathNotViable",
+            Refusal::ConflictingUpdateOperators => "ConflictingUpdateOperators",
+            Refusal::CursorNotFound => "CursorNotFound",
+            Refusal::NamespaceExists => "NamespaceExists",
+            Refusal::DollarPrefixedFieldName => "DollarPrefixedFieldName",
+            Refusal::EmptyFieldName => "EmptyFieldName",
+            Refusal::DottedFieldName => "DottedFieldName",
+            Refusal::CommandNotFound => "CommandNotFound",
+            Refusal::ImmutableField => "ImmutableField",
+            Refusal::InvalidNamespace => "InvalidNamespace",
+            Refusal::IndexOptionsConflict => "IndexOptionsConflict",
+            Refusal::CannotIndexParallelArrays => "CannotIndexParallelArrays",
+            Refusal::KeyTooLong => "KeyTooLong",
+            Refusal::TooMany => "TooMany",
+            Refusal::Full => "Full",
+            Refusal::OutOfMemory => "OutOfMemory",
+            Refusal::StorageFailed => "StorageFailed",
+            Refusal::BSONObjectTooLarge => "BSONObjectTooLarge",
+            Refusal::DuplicateKey => "DuplicateKey",
+        }
     }
 
     /// A few words for people.
     pub fn text(self) -> &'static str
         ensures { result.now ≡ (row_of self).text }
     {
-        self.row().text
+        match self {
+            Refusal::BadValue => "bad value",
+            Refusal::FailedToParse => "command not understood",
+            Refusal::TypeMismatch => "wrong type",
+            Refusal::InvalidBSON => "invalid BSON",
+            Refusal::NamespaceNotFound => "no such collection",
+            Refusal::IndexNotFound => "no such index",
+            Refusal::PathNotViable => "path not viable",
+            Refusal::ConflictingUpdateOperators => "conflicting paths",
+            Refusal::CursorNotFound => "no such cursor",
+            Refusal::NamespaceExists => "collection exists",
+            Refusal::DollarPrefixedFieldName => "name begins with $",
+            Refusal::EmptyFieldName => "empty name",
+            Refusal::DottedFieldName => "name contains .",
+            Refusal::CommandNotFound => "no such command",
+            Refusal::ImmutableField => "_id can not change",
+            Refusal::InvalidNamespace => "bad collection name",
+            Refusal::IndexOptionsConflict => "index differs",
+            Refusal::CannotIndexParallelArrays => "two arrays in one index",
+            Refusal::KeyTooLong => "key too long",
+            Refusal::TooMany => "too many",
+            Refusal::Full => "file is full",
+            Refusal::OutOfMemory => "out of memory",
+            Refusal::StorageFailed => "storage failed",
+            Refusal::BSONObjectTooLarge => "document too large",
+            Refusal::DuplicateKey => "duplicate key",
+        }
     }
 }
 
