@@ -8,6 +8,7 @@ ghost use Rattle.bson.specs.View.{tree};
 ghost use Rattle.outcome.specs.Outcome.{Gives};
 ghost use Rattle.aggregate.specs.Stages.{stage_named, read_operand, apply_stage};
 ghost use Rattle.aggregate.specs.View.{stage_of};
+ghost use Rattle.aggregate.specs.declared.stages.StageName.TheVariants as names;
 
 use crate::count::counted;
 use crate::grouping::Grouping;
@@ -54,16 +55,44 @@ pub(crate) fn stage_named(name: &str) -> Option<StageName>
     }
 }
 
+fn read_match(alloc: Global, value: &Value) -> Result<Stage, Refusal>
+    ensures { Gives Refusal.OutOfMemory stage_of result
+        (read_operand names.Match (tree value.now)) }
+{
+    Ok(Stage::Match(Filter::read(alloc, document_in(value)?)?))
+}
+
+fn read_project(alloc: Global, value: &Value) -> Result<Stage, Refusal>
+    ensures { Gives Refusal.OutOfMemory stage_of result
+        (read_operand names.Project (tree value.now)) }
+{
+    Ok(Stage::Project(Projecting::read(alloc, document_in(value)?)?))
+}
+
+fn read_group(alloc: Global, value: &Value) -> Result<Stage, Refusal>
+    ensures { Gives Refusal.OutOfMemory stage_of result
+        (read_operand names.Group (tree value.now)) }
+{
+    Ok(Stage::Group(Grouping::read(alloc, document_in(value)?)?))
+}
+
+fn read_sort(alloc: Global, value: &Value) -> Result<Stage, Refusal>
+    ensures { Gives Refusal.OutOfMemory stage_of result
+        (read_operand names.Sort (tree value.now)) }
+{
+    Ok(Stage::Sort(Sort::read(alloc, document_in(value)?)?))
+}
+
 /// What a stage does with this operand.
 pub(crate) fn read_operand(alloc: Global, stage: StageName, value: &Value) -> Result<Stage, Refusal>
     ensures { Gives Refusal.OutOfMemory stage_of result (read_operand stage (tree value.now)) }
 {
     match stage {
-        StageName::Match => Ok(Stage::Match(Filter::read(alloc, document_in(value)?)?)),
-        StageName::Project => Ok(Stage::Project(Projecting::read(alloc, document_in(value)?)?)),
+        StageName::Match => read_match(alloc, value),
+        StageName::Project => read_project(alloc, value),
         StageName::Unwind => Ok(Stage::Unwind(dollar_path_in(alloc, value)?)),
-        StageName::Group => Ok(Stage::Group(Grouping::read(alloc, document_in(value)?)?)),
-        StageName::Sort => Ok(Stage::Sort(Sort::read(alloc, document_in(value)?)?)),
+        StageName::Group => read_group(alloc, value),
+        StageName::Sort => read_sort(alloc, value),
         StageName::Skip => Ok(Stage::Skip(number_in(0, value)?)),
         StageName::Limit => Ok(Stage::Limit(number_in(1, value)?)),
         StageName::Count => Ok(Stage::Count(FieldName::read(alloc, text_in(value)?)?)),

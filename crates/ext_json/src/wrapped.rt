@@ -1,10 +1,10 @@
 //! What stands in a wrapper.
 
-ghost use Rattle.std.specs.Prelude.{◌≡◌, IfOk};
+ghost use Rattle.std.specs.Prelude.{◌≡◌, IfOk, Ok};
 ghost use Rattle.bson.specs.View.{tree};
 ghost use Rattle.bson.specs.Lawful.{levels};
 ghost use Rattle.json.specs.Reads.{token_of};
-ghost use Rattle.outcome.specs.Outcome.{Gives, GivesExactly};
+ghost use Rattle.outcome.specs.Outcome.{◌>>=◌, Gives, GivesExactly};
 ghost use Rattle.ext_json.specs.Wrapped.{two_at, date_at, binary_at, timestamp_at, one_at, content_at, wrapped_at, long_at};
 ghost use Rattle.ext_json.specs.declared.fault.ExtJsonFault.TheVariants as faults;
 
@@ -103,6 +103,16 @@ fn take_one(tokens: &mut Tokens<'_>) -> Result<(), ExtJsonFault>
     }
 }
 
+/// The least or the greatest key, which the number 1 stands for.
+#[tactic(auto, unfolding(crate::specs::Wrapped::one_at))]
+fn take_bound(tokens: &mut Tokens<'_>, bound: Value) -> Result<Value, ExtJsonFault>
+    ensures { GivesExactly (λ v. (v, tokens.new)) result
+        (one_at tokens.old >>= λ a. Ok (bound, a)) }
+{
+    take_one(tokens)?;
+    Ok(bound)
+}
+
 /// What stands in a wrapper, up to its end.
 #[tactic(auto, unfolding(crate::specs::Wrapped::content_at))]
 fn take_content(
@@ -122,14 +132,8 @@ fn take_content(
         Wrapper::Binary => Ok(Value::Binary(take_binary(alloc, tokens)?)),
         Wrapper::Uuid => Ok(Value::Binary(read_uuid(alloc, tokens.text()?)?)),
         Wrapper::Timestamp => Ok(Value::Timestamp(take_timestamp(tokens)?)),
-        Wrapper::MinKey => {
-            take_one(tokens)?;
-            Ok(Value::MinKey)
-        }
-        Wrapper::MaxKey => {
-            take_one(tokens)?;
-            Ok(Value::MaxKey)
-        }
+        Wrapper::MinKey => take_bound(tokens, Value::MinKey),
+        Wrapper::MaxKey => take_bound(tokens, Value::MaxKey),
         Wrapper::Unsupported => Err(ExtJsonFault::Unsupported),
     }
 }

@@ -1,9 +1,12 @@
 //! What operators are given.
 
-ghost use Rattle.std.specs.Prelude.{◌≡◌, IfOk};
+ghost use Rattle.std.specs.Prelude.{◌≡◌, IfOk, Ok, map};
 ghost use Rattle.bson.specs.View.{tree};
 ghost use Rattle.outcome.specs.Outcome.{Gives};
-ghost use Rattle.filter.specs.Condition.{equals, is, equal};
+ghost use Rattle.bson.specs.Kinds.{kind_byte};
+ghost use Rattle.path.specs.Edits.{if_ok};
+ghost use Rattle.filter.specs.Condition.{equals, is, equal, of_kinds, not_all};
+ghost use Rattle.filter.specs.Words.{all_kinds};
 ghost use Rattle.filter.specs.Reading.{path_in, just, has_operators, order_operand, array_in, every, exists, read_operation};
 ghost use Rattle.filter.specs.View.{condition_of};
 
@@ -80,6 +83,29 @@ fn array_in(value: &Value) -> Result<&Array, Refusal>
     }
 }
 
+/// One condition for each item of the array that a value is: to be equal to it.
+fn equals_in(alloc: Global, value: &Value) -> Result<Filter, Refusal>
+    ensures { Gives Refusal.OutOfMemory (λ f. f) result
+        (if_ok (array_in (tree value.now)) (λ ts. Ok (equals ts))) }
+{
+    Ok(equals(alloc, array_in(value)?)?)
+}
+
+/// To be of one of the kinds that a value names.
+fn of_kinds(alloc: Global, value: &Value) -> Result<Condition, Refusal>
+    ensures { Gives Refusal.OutOfMemory condition_of result
+        (if_ok (all_kinds (tree value.now)) (λ ks. Ok (is (of_kinds (map kind_byte ks))))) }
+{
+    Ok(Condition::Is(Predicate::OfKinds(all_kinds(alloc, value)?)))
+}
+
+/// Not to be equal to a copy of this.
+fn not_equal(alloc: Global, value: &Value) -> Result<Condition, NoMemory>
+    ensures { IfOk result (λ r. condition_of r ≡ not_all (just (is (equal (tree value.now))))) }
+{
+    Ok(Condition::NotAll(just(alloc, equal(value)?)?))
+}
+
 fn every(filter: Filter) -> Condition
     ensures { condition_of result ≡ every filter }
 {
@@ -115,12 +141,12 @@ pub(crate) fn read_operation(
         Operator::AtLeast => order_operand(Comparison::AtLeast, value),
         Operator::Below => order_operand(Comparison::Below, value),
         Operator::AtMost => order_operand(Comparison::AtMost, value),
-        Operator::In => Ok(Condition::Any(equals(alloc, array_in(value)?)?)),
+        Operator::In => Ok(Condition::Any(equals_in(alloc, value)?)),
         Operator::Exists => exists(alloc, value),
-        Operator::Type => Ok(Condition::Is(Predicate::OfKinds(all_kinds(alloc, value)?))),
-        Operator::All => Ok(every(equals(alloc, array_in(value)?)?)),
+        Operator::Type => of_kinds(alloc, value),
+        Operator::All => Ok(every(equals_in(alloc, value)?)),
         Operator::Size => Ok(Condition::Is(Predicate::Size(size_in(value)?))),
-        Operator::NotEqual => Ok(Condition::NotAll(just(alloc, equal(value)?)?)),
-        Operator::NotIn => Ok(Condition::NotAny(equals(alloc, array_in(value)?)?)),
+        Operator::NotEqual => Ok(not_equal(alloc, value)?),
+        Operator::NotIn => Ok(Condition::NotAny(equals_in(alloc, value)?)),
     }
 }
