@@ -49,17 +49,9 @@ no_find_fields = record {
   batch_size = None;
 }
 
-abbrev pub find_field : FindFields → List ℕ → Tree → Result FindFields Refusal
-find_field found name t =
-    if bytes_eq name (codes "filter") then (do
-      rules ← spelled_in read_filter t
-      Ok (record found { filter = Some rules })) else
-    if bytes_eq name (codes "sort") then (do
-      fields ← spelled_in read_sort t
-      Ok (record found { sort = Some fields })) else
-    if bytes_eq name (codes "projection") then (do
-      projection ← spelled_in read_projection t
-      Ok (record found { projection = Some projection })) else
+-- a field that says how many documents come, or one that every command may have
+abbrev pub window_field : FindFields → List ℕ → Tree → Result FindFields Refusal
+window_field found name t =
     if bytes_eq name (codes "skip") then (do
       n ← count_in t
       Ok (record found { skip = Some n })) else
@@ -71,6 +63,19 @@ find_field found name t =
       Ok (record found { batch_size = Some n })) else (do
         common ← common_field found.common name t
         Ok (record found { common = common }))
+
+abbrev pub find_field : FindFields → List ℕ → Tree → Result FindFields Refusal
+find_field found name t =
+    if bytes_eq name (codes "filter") then (do
+      rules ← spelled_in read_filter t
+      Ok (record found { filter = Some rules })) else
+    if bytes_eq name (codes "sort") then (do
+      fields ← spelled_in read_sort t
+      Ok (record found { sort = Some fields })) else
+    if bytes_eq name (codes "projection") then (do
+      projection ← spelled_in read_projection t
+      Ok (record found { projection = Some projection })) else
+    window_field found name t
 
 -- A missing filter is met by all, a missing sort changes no order, and a missing projection leaves all.
 abbrev pub query_of : FindFields → Query

@@ -2,7 +2,7 @@
 use Rattle.std.specs.Prelude.{Result}
 use Rattle.bson.specs.Tree.{Tree, Pairs}
 use Rattle.path.specs.declared.refusal.Refusal.{Refusal}
-use Rattle.commands.specs.Ping.{read_ping}
+use Rattle.commands.specs.Ping.{check_common}
 
 abbrev pub read_hello : Tree → Pairs → Result (Unit {0}) Refusal
-read_hello t ps = read_ping t ps
+read_hello t ps = check_common ps

@@ -7,8 +7,12 @@ use Rattle.path.specs.declared.refusal.Refusal.TheVariants as refusals
 use Rattle.commands.specs.Fields.{read_fields, common_field, no_common}
 use Rattle.commands.specs.Names.{is_bad_database}
 
-abbrev pub read_ping : Tree → Pairs → Result (Unit {0}) Refusal
-read_ping t ps = do
+-- what stands beside a command that has no fields of its own
+abbrev pub check_common : Pairs → Result (Unit {0}) Refusal
+check_common ps = do
   found ← read_fields common_field no_common ps
   database ← or_refused found.database refusals.FailedToParse
   unless (is_bad_database database) refusals.InvalidNamespace (Ok tt)
+
+abbrev pub read_ping : Tree → Pairs → Result (Unit {0}) Refusal
+read_ping t ps = check_common ps

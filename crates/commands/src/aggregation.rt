@@ -5,8 +5,10 @@ ghost use Rattle.bson.specs.View.{tree, pairs_of};
 ghost use Rattle.outcome.specs.Outcome.{Gives, Does};
 ghost use Rattle.aggregate.specs.View.{pipeline_of};
 ghost use Rattle.commands.specs.Aggregate.{no_cursor_fields, cursor_field, read_cursor, stages_in, no_aggregate_fields, aggregate_field, read_aggregate};
-ghost use Rattle.commands.specs.View.{aggregate_read};
+ghost use Rattle.commands.specs.Command.{as_command, aggregate};
+ghost use Rattle.commands.specs.View.{command_read};
 
+use crate::command::Command;
 use crate::fields::{CommonFields, Fields, read_fields};
 use crate::names::namespace_of;
 use crate::values::{count_in, document_in, text_in};
@@ -110,13 +112,13 @@ impl<'a> Fields<'a> for AggregateFields<'a> {
 }
 
 /// Reads an `aggregate` from the value of its name, which is the collection's, and its further fields.
-pub(crate) fn read_aggregate(
+pub(crate) fn read_aggregate<'a>(
     alloc: Global,
     collection: &Value,
-    pairs: &[Pair],
-) -> Result<Aggregate, Refusal>
-    ensures { Gives Refusal.OutOfMemory aggregate_read result
-        (read_aggregate (tree collection.now) (pairs_of pairs.now)) }
+    pairs: &'a [Pair],
+) -> Result<Command<'a>, Refusal>
+    ensures { Gives Refusal.OutOfMemory command_read result
+        (as_command aggregate (read_aggregate (tree collection.now) (pairs_of pairs.now))) }
 {
     let name = text_in(collection)?;
     let none = AggregateFields {
@@ -132,9 +134,9 @@ pub(crate) fn read_aggregate(
     let database = common.database()?;
     let pipeline = pipeline.ok_or(Refusal::FailedToParse)?;
     let cursor = cursor.ok_or(Refusal::FailedToParse)?;
-    Ok(Aggregate {
+    Ok(Command::Aggregate(Aggregate {
         namespace: namespace_of(alloc, database, name)?,
         pipeline,
         batch_size: cursor.batch_size,
-    })
+    }))
 }

@@ -1,6 +1,8 @@
 //! The command that a body spells.
 
 ghost use Rattle.std.specs.Prelude.{IfOk};
+ghost use Rattle.bson.specs.Tree.{pair};
+ghost use Rattle.bson.specs.View.{tree, pairs_of};
 ghost use Rattle.outcome.specs.Outcome.{Gives};
 ghost use Rattle.commands.specs.Command.{command_of, IsBounded};
 ghost use Rattle.commands.specs.View.{command_read};
@@ -21,7 +23,7 @@ use crate::list_collections::{ListCollections, read_list_collections};
 use crate::list_indexes::{ListIndexes, read_list_indexes};
 use crate::ping::read_ping;
 use crate::updates::{Update, read_update};
-use bson::Document;
+use bson::{Document, Pair, Value};
 use path::Refusal;
 use std::alloc::Global;
 
@@ -46,6 +48,38 @@ pub enum Command<'a> {
     ListIndexes(ListIndexes),
 }
 
+/// The command of this name, read from the value of its name and the fields behind it.
+#[tactic(auto, unfolding(crate::specs::Command::command_of))]
+fn read_named<'a>(
+    alloc: Global,
+    name: &str,
+    value: &'a Value,
+    fields: &'a [Pair],
+) -> Result<Command<'a>, Refusal>
+    ensures { Gives Refusal.OutOfMemory command_read result
+        (command_of (pair name.now (tree value.now) (pairs_of fields.now))) }
+{
+    match name {
+        "ping" => read_ping(alloc, value, fields),
+        "hello" => read_hello(alloc, value, fields),
+        "insert" => read_insert(alloc, value, fields),
+        "find" => read_find(alloc, value, fields),
+        "getMore" => read_get_more(alloc, value, fields),
+        "killCursors" => read_kill_cursors(alloc, value, fields),
+        "count" => read_count(alloc, value, fields),
+        "delete" => read_delete(alloc, value, fields),
+        "update" => read_update(alloc, value, fields),
+        "aggregate" => read_aggregate(alloc, value, fields),
+        "create" => read_create(alloc, value, fields),
+        "drop" => read_drop(alloc, value, fields),
+        "listCollections" => read_list_collections(alloc, value, fields),
+        "createIndexes" => read_create_indexes(alloc, value, fields),
+        "dropIndexes" => read_drop_indexes(alloc, value, fields),
+        "listIndexes" => read_list_indexes(alloc, value, fields),
+        _ => Err(Refusal::CommandNotFound),
+    }
+}
+
 impl<'a> Command<'a> {
     /// The command that a body spells, which its first name says.
     ///
@@ -57,41 +91,9 @@ impl<'a> Command<'a> {
         ensures gives { Gives Refusal.OutOfMemory command_read result (command_of body.now) }
         ensures bounded { IfOk result (λ c. IsBounded (command_read c)) }
     {
-        let Some((first, rest)) = body.pairs().split_first() else {
-            return Err(Refusal::CommandNotFound);
-        };
-        let name = first.name.as_str();
-        let value = &first.value;
-        match name {
-            "ping" => {
-                read_ping(alloc, value, rest)?;
-                Ok(Command::Ping)
-            }
-            "hello" => {
-                read_hello(alloc, value, rest)?;
-                Ok(Command::Hello)
-            }
-            "insert" => Ok(Command::Insert(read_insert(alloc, value, rest)?)),
-            "find" => Ok(Command::Find(read_find(alloc, value, rest)?)),
-            "getMore" => Ok(Command::GetMore(read_get_more(alloc, value, rest)?)),
-            "killCursors" => Ok(Command::KillCursors(read_kill_cursors(alloc, value, rest)?)),
-            "count" => Ok(Command::Count(read_count(alloc, value, rest)?)),
-            "delete" => Ok(Command::Delete(read_delete(alloc, value, rest)?)),
-            "update" => Ok(Command::Update(read_update(alloc, value, rest)?)),
-            "aggregate" => Ok(Command::Aggregate(read_aggregate(alloc, value, rest)?)),
-            "create" => Ok(Command::Create(read_create(alloc, value, rest)?)),
-            "drop" => Ok(Command::Drop(read_drop(alloc, value, rest)?)),
-            "listCollections" => {
-                let read = read_list_collections(alloc, value, rest)?;
-                Ok(Command::ListCollections(read))
-            }
-            "createIndexes" => {
-                let read = read_create_indexes(alloc, value, rest)?;
-                Ok(Command::CreateIndexes(read))
-            }
-            "dropIndexes" => Ok(Command::DropIndexes(read_drop_indexes(alloc, value, rest)?)),
-            "listIndexes" => Ok(Command::ListIndexes(read_list_indexes(alloc, value, rest)?)),
-            _ => Err(Refusal::CommandNotFound),
+        match body.pairs().split_first() {
+            Some((first, rest)) => read_named(alloc, first.name.as_str(), &first.value, rest),
+            None => Err(Refusal::CommandNotFound),
         }
     }
 }

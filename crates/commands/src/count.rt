@@ -4,11 +4,13 @@ ghost use Rattle.std.specs.Prelude.{◌≡◌};
 ghost use Rattle.bson.specs.View.{tree, pairs_of};
 ghost use Rattle.outcome.specs.Outcome.{Gives, Does};
 ghost use Rattle.commands.specs.Count.{no_count_fields, count_field, read_count};
-ghost use Rattle.commands.specs.View.{count_read};
+ghost use Rattle.commands.specs.Command.{as_command, count};
+ghost use Rattle.commands.specs.View.{command_read};
 
+use crate::command::Command;
 use crate::fields::{CommonFields, Fields, read_fields};
 use crate::names::namespace_of;
-use crate::values::{count_in, document_in, text_in};
+use crate::values::{count_in, filter_in, text_in};
 use bson::{Pair, Value};
 use filter::Filter;
 use path::Refusal;
@@ -56,7 +58,7 @@ impl<'a> Fields<'a> for CountFields<'a> {
 
     fn read_field(&mut self, alloc: Global, name: &str, value: &'a Value) -> Result<(), Refusal> {
         if name == "query" {
-            self.filter = Some(Filter::read(alloc, document_in(value)?)?);
+            self.filter = Some(filter_in(alloc, value)?);
             Ok(())
         } else if name == "skip" {
             self.skip = Some(count_in(value)?);
@@ -71,13 +73,13 @@ impl<'a> Fields<'a> for CountFields<'a> {
 }
 
 /// Reads a `count` from the value of its name, which is the collection's, and its further fields.
-pub(crate) fn read_count(
+pub(crate) fn read_count<'a>(
     alloc: Global,
     collection: &Value,
-    pairs: &[Pair],
-) -> Result<Count, Refusal>
-    ensures { Gives Refusal.OutOfMemory count_read result
-        (read_count (tree collection.now) (pairs_of pairs.now)) }
+    pairs: &'a [Pair],
+) -> Result<Command<'a>, Refusal>
+    ensures { Gives Refusal.OutOfMemory command_read result
+        (as_command count (read_count (tree collection.now) (pairs_of pairs.now))) }
 {
     let name = text_in(collection)?;
     let none = CountFields {
@@ -88,10 +90,10 @@ pub(crate) fn read_count(
     };
     let found = read_fields(alloc, none, pairs)?;
     let database = found.common.database()?;
-    Ok(Count {
+    Ok(Command::Count(Count {
         namespace: namespace_of(alloc, database, name)?,
         filter: found.filter.unwrap_or(Filter::new(alloc)),
         skip: found.skip.unwrap_or(0),
         limit: found.limit.unwrap_or(0),
-    })
+    }))
 }

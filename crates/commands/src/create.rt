@@ -3,9 +3,11 @@
 ghost use Rattle.bson.specs.View.{tree, pairs_of};
 ghost use Rattle.outcome.specs.Outcome.{Gives};
 ghost use Rattle.commands.specs.Create.{read_create};
-ghost use Rattle.commands.specs.View.{create_read};
+ghost use Rattle.commands.specs.Command.{as_command, create};
+ghost use Rattle.commands.specs.View.{command_read};
 
 use crate::alone::read_alone;
+use crate::command::Command;
 use bson::{Pair, Value};
 use path::Refusal;
 use std::alloc::Global;
@@ -17,15 +19,15 @@ pub struct Create {
 }
 
 /// Reads a `create` from the value of its name, which is the collection's, and its further fields.
-pub(crate) fn read_create(
+pub(crate) fn read_create<'a>(
     alloc: Global,
     collection: &Value,
-    pairs: &[Pair],
-) -> Result<Create, Refusal>
-    ensures { Gives Refusal.OutOfMemory create_read result
-        (read_create (tree collection.now) (pairs_of pairs.now)) }
+    pairs: &'a [Pair],
+) -> Result<Command<'a>, Refusal>
+    ensures { Gives Refusal.OutOfMemory command_read result
+        (as_command create (read_create (tree collection.now) (pairs_of pairs.now))) }
 {
-    Ok(Create {
+    Ok(Command::Create(Create {
         namespace: read_alone(alloc, collection, pairs)?,
-    })
+    }))
 }

@@ -7,8 +7,10 @@ ghost use Rattle.commands.specs.CreateIndexes.{no_create_indexes_fields, new_ind
 ghost use Rattle.commands.specs.NewIndex.{read_new_index};
 ghost use Rattle.commands.specs.Statements.{each_of};
 ghost use Rattle.commands.specs.Values.{spelled_in};
-ghost use Rattle.commands.specs.View.{create_indexes_read};
+ghost use Rattle.commands.specs.Command.{as_command, create_indexes};
+ghost use Rattle.commands.specs.View.{command_read};
 
+use crate::command::Command;
 use crate::fields::{CommonFields, Fields, read_fields};
 use crate::names::namespace_of;
 use crate::new_index::{NewIndex, read_new_index};
@@ -82,13 +84,13 @@ impl<'a> Fields<'a> for CreateIndexesFields<'a> {
 }
 
 /// Reads a `createIndexes` from the value of its name, which is the collection's, and its further fields.
-pub(crate) fn read_create_indexes(
+pub(crate) fn read_create_indexes<'a>(
     alloc: Global,
     collection: &Value,
-    pairs: &[Pair],
-) -> Result<CreateIndexes, Refusal>
-    ensures { Gives Refusal.OutOfMemory create_indexes_read result
-        (read_create_indexes (tree collection.now) (pairs_of pairs.now)) }
+    pairs: &'a [Pair],
+) -> Result<Command<'a>, Refusal>
+    ensures { Gives Refusal.OutOfMemory command_read result
+        (as_command create_indexes (read_create_indexes (tree collection.now) (pairs_of pairs.now))) }
 {
     let name = text_in(collection)?;
     let none = CreateIndexesFields {
@@ -98,8 +100,8 @@ pub(crate) fn read_create_indexes(
     let CreateIndexesFields { common, indexes } = read_fields(alloc, none, pairs)?;
     let database = common.database()?;
     let indexes = indexes.ok_or(Refusal::FailedToParse)?;
-    Ok(CreateIndexes {
+    Ok(Command::CreateIndexes(CreateIndexes {
         namespace: namespace_of(alloc, database, name)?,
         indexes,
-    })
+    }))
 }

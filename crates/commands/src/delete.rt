@@ -6,12 +6,14 @@ ghost use Rattle.outcome.specs.Outcome.{Gives, Does};
 ghost use Rattle.commands.specs.Delete.{no_deletion_fields, only_first_in, deletion_field, read_deletion, no_delete_fields, deletions_in, delete_field, read_delete};
 ghost use Rattle.commands.specs.Statements.{each_of};
 ghost use Rattle.commands.specs.Values.{spelled_in};
-ghost use Rattle.commands.specs.View.{delete_read};
+ghost use Rattle.commands.specs.Command.{as_command, delete};
+ghost use Rattle.commands.specs.View.{command_read};
 
+use crate::command::Command;
 use crate::fields::{CommonFields, Fields, read_fields};
 use crate::names::namespace_of;
 use crate::statements::statements_in;
-use crate::values::{count_in, document_in, text_in};
+use crate::values::{count_in, document_in, filter_in, text_in};
 use bson::{Document, Pair, Value};
 use filter::Filter;
 use path::Refusal;
@@ -79,7 +81,7 @@ impl<'a> Fields<'a> for DeletionFields {
 
     fn read_field(&mut self, alloc: Global, name: &str, value: &'a Value) -> Result<(), Refusal> {
         if name == "q" {
-            self.filter = Some(Filter::read(alloc, document_in(value)?)?);
+            self.filter = Some(filter_in(alloc, value)?);
             Ok(())
         } else if name == "limit" {
             self.only_first = Some(only_first_in(value)?);
@@ -161,13 +163,13 @@ impl<'a> Fields<'a> for DeleteFields<'a> {
 }
 
 /// Reads a `delete` from the value of its name, which is the collection's, and its further fields.
-pub(crate) fn read_delete(
+pub(crate) fn read_delete<'a>(
     alloc: Global,
     collection: &Value,
-    pairs: &[Pair],
-) -> Result<Delete, Refusal>
-    ensures { Gives Refusal.OutOfMemory delete_read result
-        (read_delete (tree collection.now) (pairs_of pairs.now)) }
+    pairs: &'a [Pair],
+) -> Result<Command<'a>, Refusal>
+    ensures { Gives Refusal.OutOfMemory command_read result
+        (as_command delete (read_delete (tree collection.now) (pairs_of pairs.now))) }
 {
     let name = text_in(collection)?;
     let none = DeleteFields {
@@ -177,8 +179,8 @@ pub(crate) fn read_delete(
     let DeleteFields { common, deletions } = read_fields(alloc, none, pairs)?;
     let database = common.database()?;
     let deletions = deletions.ok_or(Refusal::FailedToParse)?;
-    Ok(Delete {
+    Ok(Command::Delete(Delete {
         namespace: namespace_of(alloc, database, name)?,
         deletions,
-    })
+    }))
 }

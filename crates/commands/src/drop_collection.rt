@@ -3,9 +3,11 @@
 ghost use Rattle.bson.specs.View.{tree, pairs_of};
 ghost use Rattle.outcome.specs.Outcome.{Gives};
 ghost use Rattle.commands.specs.DropCollection.{read_drop};
-ghost use Rattle.commands.specs.View.{drop_read};
+ghost use Rattle.commands.specs.Command.{as_command, drop};
+ghost use Rattle.commands.specs.View.{command_read};
 
 use crate::alone::read_alone;
+use crate::command::Command;
 use bson::{Pair, Value};
 use path::Refusal;
 use std::alloc::Global;
@@ -17,15 +19,15 @@ pub struct DropCollection {
 }
 
 /// Reads a `drop` from the value of its name, which is the collection's, and its further fields.
-pub(crate) fn read_drop(
+pub(crate) fn read_drop<'a>(
     alloc: Global,
     collection: &Value,
-    pairs: &[Pair],
-) -> Result<DropCollection, Refusal>
-    ensures { Gives Refusal.OutOfMemory drop_read result
-        (read_drop (tree collection.now) (pairs_of pairs.now)) }
+    pairs: &'a [Pair],
+) -> Result<Command<'a>, Refusal>
+    ensures { Gives Refusal.OutOfMemory command_read result
+        (as_command drop (read_drop (tree collection.now) (pairs_of pairs.now))) }
 {
-    Ok(DropCollection {
+    Ok(Command::Drop(DropCollection {
         namespace: read_alone(alloc, collection, pairs)?,
-    })
+    }))
 }

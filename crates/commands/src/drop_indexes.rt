@@ -4,8 +4,10 @@ ghost use Rattle.std.specs.Prelude.{◌≡◌};
 ghost use Rattle.bson.specs.View.{tree, pairs_of};
 ghost use Rattle.outcome.specs.Outcome.{Gives, Does};
 ghost use Rattle.commands.specs.DropIndexes.{dropped_by, no_drop_indexes_fields, drop_indexes_field, read_drop_indexes};
-ghost use Rattle.commands.specs.View.{dropped_of, drop_indexes_read};
+ghost use Rattle.commands.specs.Command.{as_command, drop_indexes};
+ghost use Rattle.commands.specs.View.{dropped_of, command_read};
 
+use crate::command::Command;
 use crate::fields::{CommonFields, Fields, read_fields};
 use crate::names::namespace_of;
 use crate::values::text_in;
@@ -78,9 +80,9 @@ pub(crate) fn read_drop_indexes<'a>(
     alloc: Global,
     collection: &Value,
     pairs: &'a [Pair],
-) -> Result<DropIndexes<'a>, Refusal>
-    ensures { Gives Refusal.OutOfMemory drop_indexes_read result
-        (read_drop_indexes (tree collection.now) (pairs_of pairs.now)) }
+) -> Result<Command<'a>, Refusal>
+    ensures { Gives Refusal.OutOfMemory command_read result
+        (as_command drop_indexes (read_drop_indexes (tree collection.now) (pairs_of pairs.now))) }
 {
     let name = text_in(collection)?;
     let none = DropIndexesFields {
@@ -90,8 +92,8 @@ pub(crate) fn read_drop_indexes<'a>(
     let DropIndexesFields { common, index } = read_fields(alloc, none, pairs)?;
     let database = common.database()?;
     let index = index.ok_or(Refusal::FailedToParse)?;
-    Ok(DropIndexes {
+    Ok(Command::DropIndexes(DropIndexes {
         namespace: namespace_of(alloc, database, name)?,
         indexes: dropped_by(index),
-    })
+    }))
 }

@@ -3,12 +3,17 @@
 ghost use Rattle.std.specs.Prelude.{◌≡◌};
 ghost use Rattle.bson.specs.View.{tree, pairs_of};
 ghost use Rattle.outcome.specs.Outcome.{Gives, Does};
-ghost use Rattle.commands.specs.Find.{no_find_fields, find_field, query_of, read_find};
-ghost use Rattle.commands.specs.View.{find_read};
+ghost use Rattle.commands.specs.Find.{no_find_fields, find_field, window_field, query_of, read_find};
+ghost use Rattle.commands.specs.Values.{spelled_in};
+ghost use Rattle.filter.specs.ProjectionReading.{read_projection};
+ghost use Rattle.filter.specs.SortReading.{read_sort};
+ghost use Rattle.commands.specs.Command.{as_command, find};
+ghost use Rattle.commands.specs.View.{command_read};
 
+use crate::command::Command;
 use crate::fields::{CommonFields, Fields, read_fields};
 use crate::names::namespace_of;
-use crate::values::{count_in, document_in, text_in};
+use crate::values::{count_in, document_in, filter_in, text_in};
 use bson::{Pair, Value};
 use filter::{Filter, Projection, Sort};
 use path::Refusal;
@@ -115,20 +120,26 @@ impl<'a> FindFields<'a> {
     }
 }
 
-impl<'a> Fields<'a> for FindFields<'a> {
-    ghost field = { find_field };
+fn sort_in(alloc: Global, value: &Value) -> Result<Sort, Refusal>
+    ensures { Gives Refusal.OutOfMemory (λ s. s) result (spelled_in read_sort (tree value.now)) }
+{
+    Sort::read(alloc, document_in(value)?)
+}
 
-    fn read_field(&mut self, alloc: Global, name: &str, value: &'a Value) -> Result<(), Refusal> {
-        if name == "filter" {
-            self.filter = Some(Filter::read(alloc, document_in(value)?)?);
-            Ok(())
-        } else if name == "sort" {
-            self.sort = Some(Sort::read(alloc, document_in(value)?)?);
-            Ok(())
-        } else if name == "projection" {
-            self.projection = Some(Projection::read(alloc, document_in(value)?)?);
-            Ok(())
-        } else if name == "skip" {
+fn projection_in(alloc: Global, value: &Value) -> Result<Projection, Refusal>
+    ensures { Gives Refusal.OutOfMemory (λ p. p) result
+        (spelled_in read_projection (tree value.now)) }
+{
+    Projection::read(alloc, document_in(value)?)
+}
+
+impl<'a> FindFields<'a> {
+    /// Reads one of the fields that say how many documents come, or one that every command may have.
+    fn read_window(&mut self, alloc: Global, name: &str, value: &'a Value) -> Result<(), Refusal>
+        ensures { Does Refusal.OutOfMemory result self.new
+            (window_field self.old name.now (tree value.now)) }
+    {
+        if name == "skip" {
             self.skip = Some(count_in(value)?);
             Ok(())
         } else if name == "limit" {
@@ -143,18 +154,41 @@ impl<'a> Fields<'a> for FindFields<'a> {
     }
 }
 
+impl<'a> Fields<'a> for FindFields<'a> {
+    ghost field = { find_field };
+
+    fn read_field(&mut self, alloc: Global, name: &str, value: &'a Value) -> Result<(), Refusal> {
+        if name == "filter" {
+            self.filter = Some(filter_in(alloc, value)?);
+            Ok(())
+        } else if name == "sort" {
+            self.sort = Some(sort_in(alloc, value)?);
+            Ok(())
+        } else if name == "projection" {
+            self.projection = Some(projection_in(alloc, value)?);
+            Ok(())
+        } else {
+            self.read_window(alloc, name, value)
+        }
+    }
+}
+
 /// Reads a `find` from the value of its name, which is the collection's, and its further fields.
-pub(crate) fn read_find(alloc: Global, collection: &Value, pairs: &[Pair]) -> Result<Find, Refusal>
-    ensures { Gives Refusal.OutOfMemory find_read result
-        (read_find (tree collection.now) (pairs_of pairs.now)) }
+pub(crate) fn read_find<'a>(
+    alloc: Global,
+    collection: &Value,
+    pairs: &'a [Pair],
+) -> Result<Command<'a>, Refusal>
+    ensures { Gives Refusal.OutOfMemory command_read result
+        (as_command find (read_find (tree collection.now) (pairs_of pairs.now))) }
 {
     let name = text_in(collection)?;
     let found = read_fields(alloc, FindFields::new(), pairs)?;
     let database = found.common.database()?;
     let batch_size = found.batch_size;
-    Ok(Find {
+    Ok(Command::Find(Find {
         namespace: namespace_of(alloc, database, name)?,
         query: found.query(alloc),
         batch_size,
-    })
+    }))
 }

@@ -4,8 +4,10 @@ ghost use Rattle.std.specs.Prelude.{◌≡◌};
 ghost use Rattle.bson.specs.View.{tree, pairs_of};
 ghost use Rattle.outcome.specs.Outcome.{Gives, Does};
 ghost use Rattle.commands.specs.GetMore.{batch_size_in, no_get_more_fields, get_more_field, read_get_more};
-ghost use Rattle.commands.specs.View.{get_more_read};
+ghost use Rattle.commands.specs.Command.{as_command, get_more};
+ghost use Rattle.commands.specs.View.{command_read};
 
+use crate::command::Command;
 use crate::fields::{CommonFields, Fields, read_fields};
 use crate::names::namespace_of;
 use crate::values::{count_in, id_in, text_in};
@@ -70,9 +72,13 @@ impl<'a> Fields<'a> for GetMoreFields<'a> {
 }
 
 /// Reads a `getMore` from the value of its name, which is the cursor's number, and its further fields.
-pub(crate) fn read_get_more(alloc: Global, id: &Value, pairs: &[Pair]) -> Result<GetMore, Refusal>
-    ensures { Gives Refusal.OutOfMemory get_more_read result
-        (read_get_more (tree id.now) (pairs_of pairs.now)) }
+pub(crate) fn read_get_more<'a>(
+    alloc: Global,
+    id: &Value,
+    pairs: &'a [Pair],
+) -> Result<Command<'a>, Refusal>
+    ensures { Gives Refusal.OutOfMemory command_read result
+        (as_command get_more (read_get_more (tree id.now) (pairs_of pairs.now))) }
 {
     let id = id_in(id)?;
     let none = GetMoreFields {
@@ -87,9 +93,9 @@ pub(crate) fn read_get_more(alloc: Global, id: &Value, pairs: &[Pair]) -> Result
     } = read_fields(alloc, none, pairs)?;
     let database = common.database()?;
     let collection = collection.ok_or(Refusal::FailedToParse)?;
-    Ok(GetMore {
+    Ok(Command::GetMore(GetMore {
         id,
         namespace: namespace_of(alloc, database, collection)?,
         batch_size,
-    })
+    }))
 }

@@ -6,8 +6,10 @@ ghost use Rattle.outcome.specs.Outcome.{Gives};
 ghost use Rattle.commands.specs.Insert.{no_insert_fields, documents_in, insert_field, read_insert};
 ghost use Rattle.commands.specs.Statements.{each_of};
 ghost use Rattle.commands.specs.Values.{document_in};
-ghost use Rattle.commands.specs.View.{documents_at, insert_read};
+ghost use Rattle.commands.specs.Command.{as_command, insert};
+ghost use Rattle.commands.specs.View.{documents_at, command_read};
 
+use crate::command::Command;
 use crate::fields::{CommonFields, Fields, read_fields};
 use crate::names::namespace_of;
 use crate::statements::statements_in;
@@ -85,9 +87,9 @@ pub(crate) fn read_insert<'a>(
     alloc: Global,
     collection: &Value,
     pairs: &'a [Pair],
-) -> Result<Insert<'a>, Refusal>
-    ensures { Gives Refusal.OutOfMemory insert_read result
-        (read_insert (tree collection.now) (pairs_of pairs.now)) }
+) -> Result<Command<'a>, Refusal>
+    ensures { Gives Refusal.OutOfMemory command_read result
+        (as_command insert (read_insert (tree collection.now) (pairs_of pairs.now))) }
 {
     let name = text_in(collection)?;
     let none = InsertFields {
@@ -97,8 +99,8 @@ pub(crate) fn read_insert<'a>(
     let InsertFields { common, documents } = read_fields(alloc, none, pairs)?;
     let database = common.database()?;
     let documents = documents.ok_or(Refusal::FailedToParse)?;
-    Ok(Insert {
+    Ok(Command::Insert(Insert {
         namespace: namespace_of(alloc, database, name)?,
         documents,
-    })
+    }))
 }

@@ -6,8 +6,10 @@ ghost use Rattle.outcome.specs.Outcome.{Gives, Does};
 ghost use Rattle.commands.specs.KillCursors.{no_kill_cursors_fields, ids_in, kill_cursors_field, read_kill_cursors};
 ghost use Rattle.commands.specs.Statements.{each_of};
 ghost use Rattle.commands.specs.Values.{id_in};
-ghost use Rattle.commands.specs.View.{kill_cursors_read};
+ghost use Rattle.commands.specs.Command.{as_command, kill_cursors};
+ghost use Rattle.commands.specs.View.{command_read};
 
+use crate::command::Command;
 use crate::fields::{CommonFields, Fields, read_fields};
 use crate::names::namespace_of;
 use crate::statements::statements_in;
@@ -76,13 +78,13 @@ impl<'a> Fields<'a> for KillCursorsFields<'a> {
 }
 
 /// Reads a `killCursors` from the value of its name, which is the collection's, and its further fields.
-pub(crate) fn read_kill_cursors(
+pub(crate) fn read_kill_cursors<'a>(
     alloc: Global,
     collection: &Value,
-    pairs: &[Pair],
-) -> Result<KillCursors, Refusal>
-    ensures { Gives Refusal.OutOfMemory kill_cursors_read result
-        (read_kill_cursors (tree collection.now) (pairs_of pairs.now)) }
+    pairs: &'a [Pair],
+) -> Result<Command<'a>, Refusal>
+    ensures { Gives Refusal.OutOfMemory command_read result
+        (as_command kill_cursors (read_kill_cursors (tree collection.now) (pairs_of pairs.now))) }
 {
     let name = text_in(collection)?;
     let none = KillCursorsFields {
@@ -92,8 +94,8 @@ pub(crate) fn read_kill_cursors(
     let KillCursorsFields { common, cursors } = read_fields(alloc, none, pairs)?;
     let database = common.database()?;
     let cursors = cursors.ok_or(Refusal::FailedToParse)?;
-    Ok(KillCursors {
+    Ok(Command::KillCursors(KillCursors {
         namespace: namespace_of(alloc, database, name)?,
         cursors,
-    })
+    }))
 }

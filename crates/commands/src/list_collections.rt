@@ -3,8 +3,10 @@
 ghost use Rattle.bson.specs.View.{tree, pairs_of};
 ghost use Rattle.outcome.specs.Outcome.{Gives};
 ghost use Rattle.commands.specs.ListCollections.{read_list_collections};
-ghost use Rattle.commands.specs.View.{list_collections_read};
+ghost use Rattle.commands.specs.Command.{as_command, list_collections};
+ghost use Rattle.commands.specs.View.{command_read};
 
+use crate::command::Command;
 use crate::fields::{CommonFields, read_fields};
 use crate::names::is_bad_database;
 use bson::{Pair, Value};
@@ -22,9 +24,9 @@ pub(crate) fn read_list_collections<'a>(
     alloc: Global,
     value: &Value,
     pairs: &'a [Pair],
-) -> Result<ListCollections<'a>, Refusal>
-    ensures { Gives Refusal.OutOfMemory list_collections_read result
-        (read_list_collections (tree value.now) (pairs_of pairs.now)) }
+) -> Result<Command<'a>, Refusal>
+    ensures { Gives Refusal.OutOfMemory command_read result
+        (as_command list_collections (read_list_collections (tree value.now) (pairs_of pairs.now))) }
 {
     let _ = value;
     let found = read_fields(alloc, CommonFields::new(), pairs)?;
@@ -32,5 +34,5 @@ pub(crate) fn read_list_collections<'a>(
     if is_bad_database(database) {
         return Err(Refusal::InvalidNamespace);
     }
-    Ok(ListCollections { database })
+    Ok(Command::ListCollections(ListCollections { database }))
 }

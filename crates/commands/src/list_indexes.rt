@@ -3,9 +3,11 @@
 ghost use Rattle.bson.specs.View.{tree, pairs_of};
 ghost use Rattle.outcome.specs.Outcome.{Gives};
 ghost use Rattle.commands.specs.ListIndexes.{read_list_indexes};
-ghost use Rattle.commands.specs.View.{list_indexes_read};
+ghost use Rattle.commands.specs.Command.{as_command, list_indexes};
+ghost use Rattle.commands.specs.View.{command_read};
 
 use crate::alone::read_alone;
+use crate::command::Command;
 use bson::{Pair, Value};
 use path::Refusal;
 use std::alloc::Global;
@@ -17,15 +19,15 @@ pub struct ListIndexes {
 }
 
 /// Reads a `listIndexes` from the value of its name, which is the collection's, and its further fields.
-pub(crate) fn read_list_indexes(
+pub(crate) fn read_list_indexes<'a>(
     alloc: Global,
     collection: &Value,
-    pairs: &[Pair],
-) -> Result<ListIndexes, Refusal>
-    ensures { Gives Refusal.OutOfMemory list_indexes_read result
-        (read_list_indexes (tree collection.now) (pairs_of pairs.now)) }
+    pairs: &'a [Pair],
+) -> Result<Command<'a>, Refusal>
+    ensures { Gives Refusal.OutOfMemory command_read result
+        (as_command list_indexes (read_list_indexes (tree collection.now) (pairs_of pairs.now))) }
 {
-    Ok(ListIndexes {
+    Ok(Command::ListIndexes(ListIndexes {
         namespace: read_alone(alloc, collection, pairs)?,
-    })
+    }))
 }

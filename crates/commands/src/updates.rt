@@ -6,12 +6,16 @@ ghost use Rattle.outcome.specs.Outcome.{Gives, Does};
 ghost use Rattle.commands.specs.Update.{no_statement_fields, statement_field, read_statement, no_update_fields, update_statements_in, update_field, read_update_command};
 ghost use Rattle.commands.specs.Statements.{each_of};
 ghost use Rattle.commands.specs.Values.{spelled_in};
-ghost use Rattle.commands.specs.View.{update_read};
+ghost use Rattle.update.specs.Reading.{read_update};
+ghost use Rattle.update.specs.View.{update_of};
+ghost use Rattle.commands.specs.Command.{as_command, update};
+ghost use Rattle.commands.specs.View.{command_read};
 
+use crate::command::Command;
 use crate::fields::{CommonFields, Fields, read_fields};
 use crate::names::namespace_of;
 use crate::statements::statements_in;
-use crate::values::{bool_in, document_in, text_in};
+use crate::values::{bool_in, document_in, filter_in, text_in};
 use bson::{Document, Pair, Value};
 use filter::Filter;
 use path::Refusal;
@@ -84,15 +88,23 @@ impl Model for UpdateStatementFields {
     } };
 }
 
+/// The change that a document spells; `TypeMismatch` where the value is none.
+fn change_in(alloc: Global, value: &Value) -> Result<Change, Refusal>
+    ensures { Gives Refusal.OutOfMemory update_of result
+        (spelled_in read_update (tree value.now)) }
+{
+    Change::read(alloc, document_in(value)?)
+}
+
 impl<'a> Fields<'a> for UpdateStatementFields {
     ghost field = { statement_field };
 
     fn read_field(&mut self, alloc: Global, name: &str, value: &'a Value) -> Result<(), Refusal> {
         if name == "q" {
-            self.filter = Some(Filter::read(alloc, document_in(value)?)?);
+            self.filter = Some(filter_in(alloc, value)?);
             Ok(())
         } else if name == "u" {
-            self.change = Some(Change::read(alloc, document_in(value)?)?);
+            self.change = Some(change_in(alloc, value)?);
             Ok(())
         } else if name == "upsert" {
             self.upsert = bool_in(value)?;
@@ -190,13 +202,13 @@ impl<'a> Fields<'a> for UpdateFields<'a> {
 }
 
 /// Reads an `update` from the value of its name, which is the collection's, and its further fields.
-pub(crate) fn read_update(
+pub(crate) fn read_update<'a>(
     alloc: Global,
     collection: &Value,
-    pairs: &[Pair],
-) -> Result<Update, Refusal>
-    ensures { Gives Refusal.OutOfMemory update_read result
-        (read_update_command (tree collection.now) (pairs_of pairs.now)) }
+    pairs: &'a [Pair],
+) -> Result<Command<'a>, Refusal>
+    ensures { Gives Refusal.OutOfMemory command_read result
+        (as_command update (read_update_command (tree collection.now) (pairs_of pairs.now))) }
 {
     let name = text_in(collection)?;
     let none = UpdateFields {
@@ -206,8 +218,8 @@ pub(crate) fn read_update(
     let UpdateFields { common, statements } = read_fields(alloc, none, pairs)?;
     let database = common.database()?;
     let statements = statements.ok_or(Refusal::FailedToParse)?;
-    Ok(Update {
+    Ok(Command::Update(Update {
         namespace: namespace_of(alloc, database, name)?,
         statements,
-    })
+    }))
 }

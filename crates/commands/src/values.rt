@@ -2,11 +2,14 @@
 
 ghost use Rattle.std.specs.Prelude.{◌≡◌};
 ghost use Rattle.bson.specs.View.{tree};
+ghost use Rattle.filter.specs.Reading.{read_filter};
 ghost use Rattle.outcome.specs.Outcome.{Gives};
-ghost use Rattle.commands.specs.Values.{text_in, bool_in, id_in, count_in, document_in};
+ghost use Rattle.commands.specs.Values.{text_in, bool_in, id_in, count_in, document_in, spelled_in};
 
 use bson::{Document, Value};
+use filter::Filter;
 use path::Refusal;
+use std::alloc::Global;
 
 /// The text that a value is; `TypeMismatch` where it is none.
 pub(crate) fn text_in(value: &Value) -> Result<&str, Refusal>
@@ -61,4 +64,12 @@ pub(crate) fn document_in(value: &Value) -> Result<&Document, Refusal>
         Value::Document(document) => Ok(document),
         _ => Err(Refusal::TypeMismatch),
     }
+}
+
+/// The filter that a document spells; `TypeMismatch` where the value is none.
+pub(crate) fn filter_in(alloc: Global, value: &Value) -> Result<Filter, Refusal>
+    ensures { Gives Refusal.OutOfMemory (λ f. f) result
+        (spelled_in read_filter (tree value.now)) }
+{
+    Filter::read(alloc, document_in(value)?)
 }
