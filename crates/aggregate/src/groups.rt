@@ -3,7 +3,7 @@
 //! A group keeps its `_id` and what its accumulators have, and no document. It is looked up by the text of its `_id`, which
 //! is equal for values that the order calls equal.
 
-ghost use Rattle.std.specs.Prelude.{◌≡◌, [], IfOk, OnOk, map};
+ghost use Rattle.std.specs.Prelude.{◌≡◌, [], false, IfOk, OnOk, map};
 ghost use Rattle.std.specs.List.{filter};
 ghost use Rattle.bson.specs.View.{tree};
 ghost use Rattle.outcome.specs.Outcome.{Gives};
@@ -13,7 +13,7 @@ ghost use Rattle.aggregate.specs.GroupView.{state_of, group_field_of, grouping_o
 ghost use Rattle.aggregate.specs.Taking.{takes};
 ghost use Rattle.aggregate.specs.View.{stage_of};
 ghost use Rattle.aggregate.specs.Groups.{entry_of, entries_of, IsIndexed, IsPlace};
-ghost use Rattle.aggregate.specs.Table.{starts, taken, put_document, with_outcomes, entry_document, entry_documents, grouped_from};
+ghost use Rattle.aggregate.specs.Table.{has, starts, taken, put_document, with_outcomes, entry_document, entry_documents, grouped_from};
 
 use crate::accumulators::State;
 use crate::fields::set_field;
@@ -176,6 +176,29 @@ impl Groups {
         search(&self.groups, id)
     }
 
+    /// Begins a group at the end with a document. Its `_id` has this text, and no group has that `_id` yet.
+    fn push_group(
+        &mut self,
+        alloc: Global,
+        fields: &[GroupField],
+        id: IdValue<'_>,
+        document: &Document,
+        text: Vec<u8>,
+    ) -> Result<(), NoMemory>
+        requires indexed { IsIndexed self.old }
+        requires text { text.items ≡ tree_text (id_value_of id) }
+        requires new { has same (entries_of self.old) (id_value_of id) ≡ false }
+        ensures indexed { OnOk result (IsIndexed self.new) }
+        ensures put { OnOk result (entries_of self.new
+            ≡ put_document (map group_field_of fields.now) (id_value_of id.entry, document.now)
+            (entries_of self.old)) }
+    {
+        let group = Group::new(alloc, fields, id, document)?;
+        self.places.insert(text, self.groups.len())?;
+        self.groups.push(group)?;
+        Ok(())
+    }
+
     /// Puts a document into its group, or into a new one at the end.
     fn put(
         &mut self,
@@ -193,12 +216,7 @@ impl Groups {
         let text = group_text(alloc, id.get())?;
         match self.place(&text, id.get()) {
             Some(at) => take_all(alloc, fields, document, &mut self.groups[at].states),
-            None => {
-                let group = Group::new(alloc, fields, id, document)?;
-                self.places.insert(text, self.groups.len())?;
-                self.groups.push(group)?;
-                Ok(())
-            }
+            None => self.push_group(alloc, fields, id, document, text),
         }
     }
 
