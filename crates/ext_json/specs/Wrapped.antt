@@ -22,12 +22,16 @@ in_order one two name t other u =
     else if bytes_eq name two && bytes_eq other one then Ok (u, t)
     else Err faults.Wrapper
 
+-- a name and the value behind it
+abbrev pub member_at : Parse (List ℕ × Token)
+member_at ts = name_at ts >>= λ name. Ok ((name.0, first name.1), rest name.1)
+
 -- the values of an object of two members with these names
 unfoldable pub two_at : List ℕ → List ℕ → Parse (Token × Token)
 two_at one two ts =
-    open_at ts >>= λ a. name_at a >>= λ name. name_at (rest name.1) >>= λ other.
-    end_at (rest other.1) >>= λ b.
-    in_order one two name.0 (first name.1) other.0 (first other.1) >>= λ x. Ok (x, b)
+    open_at ts >>= λ a. member_at a >>= λ m. member_at m.1 >>= λ other.
+    end_at other.1 >>= λ b.
+    in_order one two m.0.0 m.0.1 other.0.0 other.0.1 >>= λ x. Ok (x, b)
 
 abbrev pub long_at : Parse ℤ
 long_at ts = text_at ts >>= λ s. int64_in faults.Wrapper s.0 >>= λ z. Ok (z, s.1)

@@ -1,11 +1,12 @@
 //! What stands in a wrapper.
 
-ghost use Rattle.std.specs.Prelude.{◌≡◌, IfOk, Ok};
+ghost use Rattle.std.specs.Prelude.{◌≡◌, IfOk};
 ghost use Rattle.bson.specs.View.{tree};
 ghost use Rattle.bson.specs.Lawful.{levels};
 ghost use Rattle.json.specs.Reads.{token_of};
-ghost use Rattle.outcome.specs.Outcome.{◌>>=◌, Gives, GivesExactly};
-ghost use Rattle.ext_json.specs.Wrapped.{two_at, date_at, binary_at, timestamp_at, one_at, content_at, wrapped_at, long_at};
+ghost use Rattle.outcome.specs.Outcome.{Gives, GivesExactly};
+ghost use Rattle.ext_json.specs.Wrapped.{two_at, date_at, binary_at, timestamp_at, one_at, content_at, wrapped_at, member_at, long_at};
+ghost use Rattle.ext_json.specs.declared.wrapper.Wrapper.TheVariants as wrappers;
 ghost use Rattle.ext_json.specs.declared.fault.ExtJsonFault.TheVariants as faults;
 
 use crate::encoded::{read_binary, read_object_id, read_uuid};
@@ -18,6 +19,15 @@ use bson::{Binary, Value};
 use json::Token;
 use std::alloc::Global;
 
+/// A name and the value behind it.
+fn take_member<'a>(tokens: &mut Tokens<'a>) -> Result<(&'a str, Token<'a>), ExtJsonFault>
+    ensures { GivesExactly (λ m. ((m.0.now, token_of m.1), tokens.new)) result
+        (member_at tokens.old) }
+{
+    let name = tokens.name()?;
+    Ok((name, tokens.next()))
+}
+
 /// The values of two members of an object, in whatever order they stand.
 #[tactic(auto, unfolding(crate::specs::Wrapped::two_at))]
 fn take_two<'a>(
@@ -29,10 +39,8 @@ fn take_two<'a>(
         (two_at first.now second.now tokens.old) }
 {
     tokens.open()?;
-    let name = tokens.name()?;
-    let value = tokens.next();
-    let other_name = tokens.name()?;
-    let other_value = tokens.next();
+    let (name, value) = take_member(tokens)?;
+    let (other_name, other_value) = take_member(tokens)?;
     tokens.end()?;
     if name == first && other_name == second {
         return Ok((value, other_value));
@@ -103,14 +111,51 @@ fn take_one(tokens: &mut Tokens<'_>) -> Result<(), ExtJsonFault>
     }
 }
 
-/// The least or the greatest key, which the number 1 stands for.
-#[tactic(auto, unfolding(crate::specs::Wrapped::one_at))]
-fn take_bound(tokens: &mut Tokens<'_>, bound: Value) -> Result<Value, ExtJsonFault>
-    ensures { GivesExactly (λ v. (v, tokens.new)) result
-        (one_at tokens.old >>= λ a. Ok (bound, a)) }
+/// A whole number in four bytes, as a text.
+#[tactic(auto, unfolding(crate::specs::Wrapped::content_at))]
+fn take_int32(tokens: &mut Tokens<'_>) -> Result<Value, ExtJsonFault>
+    ensures { GivesExactly (λ v. (tree v, tokens.new)) result
+        (content_at wrappers.NumberInt tokens.old) }
+{
+    Ok(Value::Int32(read_int32(tokens.text()?)?))
+}
+
+/// An ObjectId, as a text of hexadecimal digits.
+#[tactic(auto, unfolding(crate::specs::Wrapped::content_at))]
+fn take_object_id(tokens: &mut Tokens<'_>) -> Result<Value, ExtJsonFault>
+    ensures { GivesExactly (λ v. (tree v, tokens.new)) result
+        (content_at wrappers.ObjectId tokens.old) }
+{
+    Ok(Value::ObjectId(read_object_id(tokens.text()?)?))
+}
+
+/// A UUID, as a text of hexadecimal digits in groups.
+#[tactic(auto, unfolding(crate::specs::Wrapped::content_at))]
+fn take_uuid(alloc: Global, tokens: &mut Tokens<'_>) -> Result<Value, ExtJsonFault>
+    ensures { Gives faults.Memory (λ v. (tree v, tokens.new)) result
+        (content_at wrappers.Uuid tokens.old) }
+{
+    Ok(Value::Binary(read_uuid(alloc, tokens.text()?)?))
+}
+
+/// The least key of all, which the number 1 stands for.
+#[tactic(auto, unfolding(crate::specs::Wrapped::content_at))]
+fn take_min_key(tokens: &mut Tokens<'_>) -> Result<Value, ExtJsonFault>
+    ensures { GivesExactly (λ v. (tree v, tokens.new)) result
+        (content_at wrappers.MinKey tokens.old) }
 {
     take_one(tokens)?;
-    Ok(bound)
+    Ok(Value::MinKey)
+}
+
+/// The greatest key of all, which the number 1 stands for.
+#[tactic(auto, unfolding(crate::specs::Wrapped::content_at))]
+fn take_max_key(tokens: &mut Tokens<'_>) -> Result<Value, ExtJsonFault>
+    ensures { GivesExactly (λ v. (tree v, tokens.new)) result
+        (content_at wrappers.MaxKey tokens.old) }
+{
+    take_one(tokens)?;
+    Ok(Value::MaxKey)
 }
 
 /// What stands in a wrapper, up to its end.
@@ -125,15 +170,15 @@ fn take_content(
     ensures flat { IfOk result (λ v. levels (tree v) ≡ 0) }
 {
     match wrapper {
-        Wrapper::NumberInt => Ok(Value::Int32(read_int32(tokens.text()?)?)),
+        Wrapper::NumberInt => take_int32(tokens),
         Wrapper::NumberLong => Ok(Value::Int64(take_long(tokens)?)),
-        Wrapper::ObjectId => Ok(Value::ObjectId(read_object_id(tokens.text()?)?)),
+        Wrapper::ObjectId => take_object_id(tokens),
         Wrapper::Date => Ok(Value::Date(take_date(tokens)?)),
         Wrapper::Binary => Ok(Value::Binary(take_binary(alloc, tokens)?)),
-        Wrapper::Uuid => Ok(Value::Binary(read_uuid(alloc, tokens.text()?)?)),
+        Wrapper::Uuid => take_uuid(alloc, tokens),
         Wrapper::Timestamp => Ok(Value::Timestamp(take_timestamp(tokens)?)),
-        Wrapper::MinKey => take_bound(tokens, Value::MinKey),
-        Wrapper::MaxKey => take_bound(tokens, Value::MaxKey),
+        Wrapper::MinKey => take_min_key(tokens),
+        Wrapper::MaxKey => take_max_key(tokens),
         Wrapper::Unsupported => Err(ExtJsonFault::Unsupported),
     }
 }

@@ -25,15 +25,15 @@ fn known_wrapper(name: &str) -> Option<Wrapper>
     ensures { result ≡ spec.known_wrapper name.now }
 {
     match name {
-        _ if name == "$numberInt" => Some(Wrapper::NumberInt),
-        _ if name == "$numberLong" => Some(Wrapper::NumberLong),
-        _ if name == "$oid" => Some(Wrapper::ObjectId),
-        _ if name == "$date" => Some(Wrapper::Date),
-        _ if name == "$binary" => Some(Wrapper::Binary),
-        _ if name == "$uuid" => Some(Wrapper::Uuid),
-        _ if name == "$timestamp" => Some(Wrapper::Timestamp),
-        _ if name == "$minKey" => Some(Wrapper::MinKey),
-        _ if name == "$maxKey" => Some(Wrapper::MaxKey),
+        "$numberInt" => Some(Wrapper::NumberInt),
+        "$numberLong" => Some(Wrapper::NumberLong),
+        "$oid" => Some(Wrapper::ObjectId),
+        "$date" => Some(Wrapper::Date),
+        "$binary" => Some(Wrapper::Binary),
+        "$uuid" => Some(Wrapper::Uuid),
+        "$timestamp" => Some(Wrapper::Timestamp),
+        "$minKey" => Some(Wrapper::MinKey),
+        "$maxKey" => Some(Wrapper::MaxKey),
         _ => None,
     }
 }
