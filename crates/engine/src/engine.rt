@@ -9,7 +9,9 @@ ghost use Rattle.engine.specs.Opening.{IsOpened, IsRefused};
 ghost use Rattle.engine.specs.Performing.{Performs};
 ghost use Rattle.engine.specs.World.{are_untouched, after_commit, after_undo, forget};
 ghost use Rattle.engine.specs.View.{world, turn_start, reply_of, answer_of, outcome_of, IsSendable};
-ghost use Rattle.engine.specs.Step.{Answers, WroteNothing, read_and_run};
+ghost use Rattle.commands.specs.Command.{IsBounded};
+ghost use Rattle.commands.specs.View.{command_read};
+ghost use Rattle.engine.specs.Step.{Answers, ChangesNone, WroteNothing, read_and_run, run};
 ghost use Rattle.engine.specs.Durable.{disk_history, file_of, full_takes_of, generation, has_changes, is_stopped, IsSound};
 ghost use Rattle.engine.specs.Writing.{FileCause};
 
@@ -93,7 +95,24 @@ impl<D: Disk> Engine<D> {
             → has_changes self.new ≡ has_changes self.old }
         ensures sendable { IfOk result (λ a. IsSendable (answer_of a)) }
     {
-        match Command::read(self.alloc, body)? {
+        let command = Command::read(self.alloc, body)?;
+        self.perform(connection, &command)
+    }
+
+    /// Runs a command.
+    fn perform(&mut self, connection: ConnId, command: &Command<'_>) -> Result<Answer, Refusal>
+        requires bounded { IsBounded (command_read command.now) }
+        requires sound { IsSound D.history self.old }
+        ensures performs { Performs D.history
+            (run (world self.old) connection (command_read command.now))
+            (outcome_of result) self.old self.new }
+        ensures has_changes { KeepsWord (disk_history D.history self.new)
+            → (world self.new).collections ≡ (world self.old).collections
+            → ChangesNone (world self.old) (command_read command.now)
+            → has_changes self.new ≡ has_changes self.old }
+        ensures sendable { IfOk result (λ a. IsSendable (answer_of a)) }
+    {
+        match command {
             Command::Ping => Ok(Answer::Built(ping_reply(self.alloc)?)),
             Command::Hello => built(self.hello(connection)),
             Command::Insert(c) => built(self.insert(c.namespace.as_str(), &c.documents)),
