@@ -29,10 +29,10 @@ use Rattle.update.specs.Upserts.{base_of}
 use Rattle.update.specs.UpdateLaws.{keeps_id, gives_stored}
 use Rattle.commands.specs.OutcomeLaws.{step_of, passed}
 use Rattle.commands.specs.Update.{UpdateStatement, IsRead}
-use Rattle.engine.specs.Documents.{key_of, key_checked}
-use Rattle.engine.specs.Lawful.{IsStored}
+use Rattle.database_model.specs.Documents.{key_of, key_checked}
+use Rattle.database_model.specs.Lawful.{IsStored}
 use Rattle.index.specs.LawfulState.{IsRising}
-use Rattle.engine.specs.Update.{spelled, upsert_document}
+use Rattle.database_model.specs.Update.{spelled, upsert_document}
 use Rattle.engine.specs.Updating.{IsChange, MayBePut}
 use Rattle.engine.proofs.Checked.{id_first-id_first}
 use Rattle.engine.proofs.Ordered.{flipped}

@@ -35,11 +35,11 @@ use Rattle.collections.specs.Standing.{HasState, IsTurnOf}
 use Rattle.collections.specs.State.{State}
 use Rattle.collections.specs.View.{disk_history, is_stopped}
 use Rattle.engine.specs.ById.{AsksForId, found_alone}
-use Rattle.engine.specs.Documents.{key_of}
+use Rattle.database_model.specs.Documents.{key_of}
 use Rattle.engine.specs.Durable.{IsSound}
-use Rattle.engine.specs.Lawful.{IsStored, IsWithin}
+use Rattle.database_model.specs.Lawful.{IsStored, IsWithin}
 use Rattle.engine.specs.Looking.{LooksOf, OnlyReads, is_within}
-use Rattle.engine.specs.Merging.{has_key_of, is_deleted, is_meant_by}
+use Rattle.database_model.specs.Merging.{has_key_of, is_deleted, is_meant_by}
 use Rattle.engine.specs.View.{world}
 use Rattle.engine.specs.declared.engine.Engine.{Engine}
 use Rattle.engine.proofs.LookingLemmas.{word_before}

@@ -6,7 +6,7 @@ use Rattle.std.proofs.lemmas.List.Elements.{filter-append}
 use Rattle.bson.specs.Tree.{Pairs}
 use Rattle.filter.specs.Condition.{Conditions}
 use Rattle.filter.specs.Matches.{matches}
-use Rattle.engine.specs.Find.{matching}
+use Rattle.database_model.specs.Find.{matching}
 
 -- So many were counted, as far as a number goes, of documents that are fewer than numbers go.
 pub record AreCounted (rules : Conditions) (count : ℕ) (all left : List Pairs) : Type 0 where

@@ -12,14 +12,14 @@ use Rattle.outcome.specs.Outcome.{◌>>=◌, unless}
 use Rattle.path.specs.declared.refusal.Refusal.{Refusal}
 use Rattle.path.specs.declared.refusal.Refusal.TheVariants as refusals
 use Rattle.commands.specs.OutcomeLaws.{passed}
-use Rattle.engine.specs.World.{World, with_documents}
+use Rattle.database_model.specs.World.{World, with_documents}
 use Rattle.index.specs.State.{Collection, find_collection, uses, put_collection, without_collection}
-use Rattle.engine.specs.Lawful.{IsKept, IsLawfulState}
+use Rattle.database_model.specs.Lawful.{IsKept, IsLawfulState}
 use Rattle.index.specs.LawfulState.{AreNamedApart, AreNumberedApart}
 use Rattle.engine.specs.Places.{IsThere}
-use Rattle.engine.specs.Insert.{is_full}
-use Rattle.engine.specs.Create.{created, run_create}
-use Rattle.engine.specs.DropCollection.{drop_reply, dropped, index_count, run_drop}
+use Rattle.database_model.specs.Insert.{is_full}
+use Rattle.database_model.specs.Create.{created, run_create}
+use Rattle.database_model.specs.DropCollection.{drop_reply, dropped, index_count, run_drop}
 use Rattle.engine.specs.Writing.{planned_or}
 use Rattle.engine.proofs.Growing.{put_found}
 use Rattle.engine.proofs.Ordered.{without_there}

@@ -17,18 +17,18 @@ use Rattle.index.specs.declared.catalogue_reading.Catalogued.{Catalogued}
 use Rattle.index.proofs.FoundLawLemmas.{finds_put}
 use Rattle.index.proofs.PlaceLemmas.{found_name}
 use Rattle.index.proofs.StateEditLaws.{put_same}
-use Rattle.engine.specs.CreateIndexes.{create_indexes_reply, indexed, run_create_indexes, with_new_indexes}
-use Rattle.engine.specs.DropCollection.{index_count}
+use Rattle.database_model.specs.CreateIndexes.{create_indexes_reply, indexed, run_create_indexes, with_new_indexes}
+use Rattle.database_model.specs.DropCollection.{index_count}
 use Rattle.engine.specs.Durable.{disk_history, has_changes, is_stopped, IsRunning, IsSound}
 use Rattle.engine.specs.Indexing.{ArePlanned, HasDocumentsOf}
-use Rattle.engine.specs.Insert.{is_full}
+use Rattle.database_model.specs.Insert.{is_full}
 use Rattle.engine.specs.Looking.{Looks, OnlyReads}
 use Rattle.engine.specs.Performing.{Performs}
-use Rattle.engine.specs.Refusals.{ok_reply}
+use Rattle.database_model.specs.Refusals.{ok_reply}
 use Rattle.engine.specs.Storing.{AreNoted, IsFull, Notes}
 use Rattle.engine.specs.Trying.{Tries}
 use Rattle.engine.specs.View.{world}
-use Rattle.engine.specs.World.{World, collection_of, indexes_or_none}
+use Rattle.database_model.specs.World.{World, collection_of, indexes_or_none}
 use Rattle.engine.specs.Writing.{Makes, planned_or, Writes}
 use Rattle.engine.specs.declared.create_indexes.PlannedIndexes.{PlannedIndexes}
 use Rattle.engine.specs.declared.engine.Engine.{Engine}

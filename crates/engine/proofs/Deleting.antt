@@ -16,15 +16,15 @@ use Rattle.bson.specs.Lawful.{IsDocument}
 use Rattle.value_order.specs.Order.{compare}
 use Rattle.std.specs.declared.cmp.Ordering.TheVariants as orders
 use Rattle.index.specs.State.{Collection, find_collection}
-use Rattle.engine.specs.Documents.{key_of}
-use Rattle.engine.specs.Lawful.{IsStored, IsHeld, IsKept, IsLawfulState}
+use Rattle.database_model.specs.Documents.{key_of}
+use Rattle.database_model.specs.Lawful.{IsStored, IsHeld, IsKept, IsLawfulState}
 use Rattle.index.specs.LawfulState.{AreNamedApart}
 use Rattle.engine.proofs.Ordered.{missing, found, replaced}
 use Rattle.engine.proofs.Located.{Gap, There, located}
 use Rattle.engine.proofs.NamesApart.{apart_set}
 use Rattle.engine.proofs.Numbers.{numbers_set}
 use Rattle.engine.specs.Places.{collection_at, no_collection, IsThere}
-use Rattle.engine.specs.Delete.{deleted_in, without_at, without_first, after_deletion, after_deletions}
+use Rattle.database_model.specs.Delete.{deleted_in, without_at, without_first, after_deletion, after_deletions}
 use Rattle.commands.specs.Delete.{Deletion}
 
 pub All-remove : {X : Type 0} (P : X → Type 0) (xs : List X) (i : ℕ) → All P xs → All P (remove xs i)

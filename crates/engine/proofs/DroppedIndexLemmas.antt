@@ -13,7 +13,7 @@ use Rattle.commands.specs.DropIndexes.{DroppedIndexes, all}
 use Rattle.index.specs.Definition.{Definition}
 use Rattle.index.specs.State.{Collection, find_collection, put_collection}
 use Rattle.index.proofs.IndexMakingLaws.{cut_at}
-use Rattle.engine.specs.DropIndexes.{dropped_in, index_dropped, is_dropped, left_by, remaining}
+use Rattle.database_model.specs.DropIndexes.{dropped_in, index_dropped, is_dropped, left_by, remaining}
 
 -- ---- the first that passes a test
 

@@ -26,17 +26,17 @@ use Rattle.index.proofs.LawfulLaws.{all_of}
 use Rattle.index.proofs.MemberLemmas.{Among, among_back, of_all}
 use Rattle.index.proofs.PlaceLemmas.{found_in, found_name}
 use Rattle.index.proofs.StateEditLaws.{put_same}
-use Rattle.engine.specs.DropCollection.{index_count}
-use Rattle.engine.specs.DropIndexes.{dropped_in, drop_indexes_reply, index_dropped, is_dropped, left_by, remaining, run_drop_indexes}
+use Rattle.database_model.specs.DropCollection.{index_count}
+use Rattle.database_model.specs.DropIndexes.{dropped_in, drop_indexes_reply, index_dropped, is_dropped, left_by, remaining, run_drop_indexes}
 use Rattle.engine.specs.Durable.{disk_history, has_changes, is_stopped, IsRunning, IsSound}
 use Rattle.engine.specs.Looking.{Looks, LooksOf, OnlyReads}
 use Rattle.engine.specs.Performing.{Performs}
-use Rattle.engine.specs.Refusals.{ok_reply}
+use Rattle.database_model.specs.Refusals.{ok_reply}
 use Rattle.engine.specs.Storing.{AreNoted, HasNoted, Notes}
 use Rattle.engine.specs.TakingOut.{HasHome}
 use Rattle.engine.specs.Unindexing.{HasKeysIn, HasOtherIndexes, IsIndexedBy, IsUnindexed, drop_at, drop_each}
 use Rattle.engine.specs.View.{world}
-use Rattle.engine.specs.World.{World, indexes_or_none}
+use Rattle.database_model.specs.World.{World, indexes_or_none}
 use Rattle.engine.specs.Writing.{Makes, planned_or, Writes}
 use Rattle.engine.specs.declared.engine.Engine.{Engine}
 use Rattle.engine.proofs.CataloguedLemmas.{IsCatalogueOf, has_home, not_catalogued, some_same}

@@ -25,16 +25,16 @@ use Rattle.index.proofs.FoundLawLemmas.{finds_put, put_twice, without_put}
 use Rattle.index.proofs.HomeLemmas.{kept_of}
 use Rattle.index.proofs.PlaceLemmas.{found_in, found_name}
 use Rattle.index.proofs.StateEditLaws.{put_same}
-use Rattle.engine.specs.DropCollection.{drop_reply, dropped, index_count, run_drop}
+use Rattle.database_model.specs.DropCollection.{drop_reply, dropped, index_count, run_drop}
 use Rattle.engine.specs.Dropping.{HasStepped, IsEmptying, IsFilled, IsLeft}
 use Rattle.engine.specs.Durable.{disk_history, is_stopped, IsRunning, IsSound}
 use Rattle.engine.specs.Looking.{Looks, LooksOf, OnlyReads}
 use Rattle.engine.specs.Performing.{Performs}
 use Rattle.engine.specs.Redoing.{without_each}
-use Rattle.engine.specs.Refusals.{ok_reply}
+use Rattle.database_model.specs.Refusals.{ok_reply}
 use Rattle.engine.specs.TakingOut.{AreThere, HasHome, IsHome, IsIndexable, TakesOut}
 use Rattle.engine.specs.View.{world}
-use Rattle.engine.specs.World.{World, indexes_or_none}
+use Rattle.database_model.specs.World.{World, indexes_or_none}
 use Rattle.engine.specs.Writing.{Makes, planned_or, Writes}
 use Rattle.engine.specs.declared.engine.Engine.{Engine}
 use Rattle.engine.proofs.CataloguedLemmas.{IsCatalogueOf, has_home, not_catalogued}

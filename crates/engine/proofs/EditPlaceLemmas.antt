@@ -17,8 +17,8 @@ use Rattle.update.specs.Stored.{id_name, no_array}
 use Rattle.index.specs.Documents.{put_document, without_document}
 use Rattle.index.specs.LawfulState.{IsRising, IsStorable}
 use Rattle.index.specs.State.{by_order}
-use Rattle.engine.specs.Documents.{key_of}
-use Rattle.engine.specs.Lawful.{IsStored}
+use Rattle.database_model.specs.Documents.{key_of}
+use Rattle.database_model.specs.Lawful.{IsStored}
 use Rattle.engine.specs.Places.{IsGap, by_key}
 use Rattle.engine.proofs.Ordered.{Rises, flipped, rises_tail}
 

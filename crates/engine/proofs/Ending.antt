@@ -13,12 +13,12 @@ use Rattle.collections.specs.Standing.{HasState}
 use Rattle.collections.specs.State.{State}
 use Rattle.collections.specs.View as views
 use Rattle.collections.proofs.LawLemmas as laws
-use Rattle.engine.specs.World.{World, Cursor, CursorTable, at_rest, are_untouched, after_commit, after_undo}
+use Rattle.database_model.specs.World.{World, Cursor, CursorTable, at_rest, are_untouched, after_commit, after_undo}
 use Rattle.index.specs.State.{Collection}
 use Rattle.engine.proofs.ResultLemmas.{fault_of, not_both}
-use Rattle.engine.proofs.CursorSteps.{rested_untouched, untouched_untouched}
+use Rattle.replies.proofs.CursorSteps.{rested_untouched, untouched_untouched}
 use Rattle.std.proofs.lemmas.List.Elements.{All-filter, All-map}
-use Rattle.engine.specs.Lawful.{IsWithin, IsLawfulState, AreLawfulCursors}
+use Rattle.database_model.specs.Lawful.{IsWithin, IsLawfulState, AreLawfulCursors}
 use Rattle.engine.specs.View.{world_of, world, turn_start}
 use Rattle.engine.specs.Durable.{Holds, disk_history, generation, has_changes, is_stopped, IsRunning, IsSound}
 use Rattle.engine.specs.Committing.{Commits}

@@ -13,8 +13,8 @@ use Rattle.index.specs.StateReads.{find_document}
 use Rattle.index.proofs.DocumentPlaces.{IsBetween, IsInstead, placed}
 use Rattle.index.proofs.EnteringLemmas.{has_entered, stay_with}
 use Rattle.index.proofs.EnteringSteps.{all_put, some_instead}
-use Rattle.engine.specs.Documents.{checked, insert_all, insert_one, key_of}
-use Rattle.engine.specs.Lawful.{AreShortIndexes, IsStored}
+use Rattle.database_model.specs.Documents.{checked, insert_all, insert_one, key_of}
+use Rattle.database_model.specs.Lawful.{AreShortIndexes, IsStored}
 use Rattle.engine.specs.WriteLaws.{documents_in}
 use Rattle.engine.proofs.Checked.{keeps}
 use Rattle.engine.proofs.ShortIndexes.{noted_short}

@@ -32,7 +32,7 @@ use Rattle.index.proofs.HomeLemmas.{kept_of}
 use Rattle.index.proofs.MemberLemmas.{Among, of_all}
 use Rattle.index.proofs.PlaceLemmas.{found_in}
 use Rattle.index.proofs.ReadLaws.{document_some, finds_document}
-use Rattle.engine.specs.Documents.{key_of}
+use Rattle.database_model.specs.Documents.{key_of}
 use Rattle.engine.specs.Storing.{AreNoted, HasNoted, IsReplaced, entering, write_of}
 
 some_map : {X Y : Type 0} (f : X → Y) (o : Option X) → is_some (option_map f o) ≡ is_some o

@@ -22,7 +22,7 @@ use Rattle.index.specs.StateReads.{find_document}
 use Rattle.index.specs.View.{texts_of}
 use Rattle.index.specs.declared.catalogue_reading.Catalogued.{Catalogued}
 use Rattle.index.specs.declared.entering.Keyed.{Keyed}
-use Rattle.engine.specs.Documents.{key_of}
+use Rattle.database_model.specs.Documents.{key_of}
 use Rattle.engine.specs.Durable.{disk_history, file_of, IsSound}
 use Rattle.engine.specs.Looking.{LooksOf, OnlyReads}
 use Rattle.engine.specs.Storing.{AreNoted, Beside, IsBeside, IsReplaced, MayEnter, Notes, TellsDuplicate, TellsTaken, entering, write_of}

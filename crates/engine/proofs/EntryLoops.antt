@@ -7,7 +7,7 @@ use Rattle.btree.specs.Scan.{entry_in}
 use Rattle.btree.specs.declared.scanning.Entry.{Entry as OwnEntry}
 use Rattle.roots.specs.declared.opening.OpenFault.{OpenFault}
 use Rattle.engine.specs.Judging.{IsFaultOf, Progress, Refuses, RefusesOne, Takes, TakesAll}
-use Rattle.engine.proofs.Steps.{drop_step}
+use Rattle.replies.proofs.Steps.{drop_step}
 
 module _ (all : List Entry) (entries : List OwnEntry) (i : ℕ) (x : OwnEntry) (within : i < length entries) (is : x ≡ get_or entries i x) where
   entry_step : map entry_in (drop i entries) ≡ entry_in x ∷ map entry_in (drop (i + 1) entries)

@@ -23,7 +23,7 @@ use Rattle.engine.specs.Dump.{HasFaultCause}
 use Rattle.engine.specs.Durable.{disk_history, file_of, generation, IsSound}
 use Rattle.engine.specs.FileOpening.{HasFault, LoadsFile}
 use Rattle.engine.specs.Judging.{MakesNone, bare, listed_of}
-use Rattle.engine.specs.Lawful.{IsStored}
+use Rattle.database_model.specs.Lawful.{IsStored}
 use Rattle.engine.specs.Loading.{named_as, progress_of}
 use Rattle.engine.specs.Looking.{OnlyReads}
 use Rattle.engine.specs.View.{turn_start, world}

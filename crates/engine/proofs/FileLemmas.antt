@@ -18,7 +18,7 @@ use Rattle.collections.proofs.StandingLemmas.{stopped_same}
 use Rattle.engine.specs.Durable.{Holds}
 use Rattle.engine.specs.FileOpening.{IsFileOpened, LoadsFile}
 use Rattle.engine.specs.Known.{Known}
-use Rattle.engine.specs.Lawful.{IsStored}
+use Rattle.database_model.specs.Lawful.{IsStored}
 use Rattle.engine.specs.Loading.{progress_of}
 use Rattle.engine.specs.Opening.{IsRefused}
 use Rattle.engine.specs.declared.loading.Loading.{Loading}

@@ -15,11 +15,11 @@ use Rattle.bson.specs.SizingLaws.{frame_of-length}
 use Rattle.filter.specs.Matches.{matches}
 use Rattle.filter.specs.Projection.{Projection, project}
 use Rattle.filter.specs.ProjectionLaws.{project_no_larger}
-use Rattle.engine.specs.Lawful.{IsStored, IsWithin}
+use Rattle.database_model.specs.Lawful.{IsStored, IsWithin}
 use Rattle.filter.specs.Sort.{SortField, compare_by, insert_in_order, put_before, sorted, order}
-use Rattle.engine.proofs.Steps.{drop_step}
+use Rattle.replies.proofs.Steps.{drop_step}
 use Rattle.commands.specs.Find.{Query}
-use Rattle.engine.specs.Find.{matching, limited, window, selection, query_result, given, Suffices}
+use Rattle.database_model.specs.Find.{matching, limited, window, selection, query_result, given, Suffices}
 
 module _ (P : Pairs → Type 0) (cmp : Pairs → Pairs → Ordering) where
   head_of : (x : Pairs) (xs : List Pairs) → All P (x ∷ xs) → P x

@@ -5,14 +5,15 @@ use Rattle.bson.specs.Tree.{Pairs}
 use Rattle.page.specs.History.{History, KeepsWord}
 use Rattle.path.specs.declared.refusal.Refusal.{Refusal}
 use Rattle.path.specs.declared.refusal.Refusal.TheVariants as refusals
-use Rattle.engine.specs.Cursors.{batch_of, first_batch}
+use Rattle.database_model.specs.Cursors.{batch_of, first_batch}
 use Rattle.collections.specs.View as files
 use Rattle.engine.specs.Durable.{disk_history}
-use Rattle.engine.specs.Lawful.{IsLawful, IsWithin}
+use Rattle.database_model.specs.Lawful.{IsLawful, IsWithin}
 use Rattle.engine.specs.Looking.{OnlyReads}
 use Rattle.engine.specs.Performing.{Performs}
-use Rattle.engine.specs.View.{world, with_ok, Runs}
-use Rattle.engine.specs.World.{World}
+use Rattle.replies.specs.View.{with_ok, Runs}
+use Rattle.engine.specs.View.{world}
+use Rattle.database_model.specs.World.{World}
 use Rattle.engine.specs.declared.engine.Engine.{Engine}
 use Rattle.engine.proofs.LawfulSteps.{good_batch}
 use Rattle.engine.proofs.LookingLemmas.{performs_behind, performs_memory, performs_read, world_same}

@@ -23,11 +23,11 @@ use Rattle.engine.specs.Indexing.{HasIndexed, Indexed, IsIndexed, IsIndexing, Is
 use Rattle.engine.specs.Looking.{Looks, OnlyReads}
 use Rattle.engine.specs.Trying.{TriesOf}
 use Rattle.engine.specs.View.{world}
-use Rattle.engine.specs.World.{documents_or_none}
+use Rattle.database_model.specs.World.{documents_or_none}
 use Rattle.engine.specs.declared.engine.Engine.{Engine}
 use Rattle.engine.proofs.NewCollections.{IsNumberOf, none_of, there_of}
 use Rattle.engine.proofs.OnlyReading.{cause_from, now_same, reads_file, reads_on, word_before}
-use Rattle.engine.proofs.Steps.{drop_step}
+use Rattle.replies.proofs.Steps.{drop_step}
 
 -- ---- document after document
 

@@ -16,7 +16,7 @@ use Rattle.index.specs.declared.making.NewEntries.{NewEntries}
 use Rattle.index.proofs.FoundLawLemmas.{finds_put, put_twice}
 use Rattle.index.proofs.HomeLemmas.{kept_of}
 use Rattle.index.proofs.PlaceLemmas.{found_in}
-use Rattle.engine.specs.CreateIndexes.{is_in_conflict, is_there, unused_index, with_new_index, with_new_indexes}
+use Rattle.database_model.specs.CreateIndexes.{is_in_conflict, is_there, unused_index, with_new_index, with_new_indexes}
 use Rattle.engine.specs.Durable.{disk_history, is_stopped, IsRunning, IsSound}
 use Rattle.engine.specs.Indexing.{HasDocumentsOf, Indexed, IsIndexed, IsUnbegun, IsUnindexable}
 use Rattle.engine.specs.Looking.{OnlyReads}

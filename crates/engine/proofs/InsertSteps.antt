@@ -18,22 +18,22 @@ use Rattle.index.specs.LawfulState.{IsStorable}
 use Rattle.index.specs.State.{Collection, find_collection, put_collection}
 use Rattle.index.specs.StateEntries.{Leads}
 use Rattle.index.specs.declared.catalogue_reading.Catalogued.{Catalogued}
-use Rattle.engine.specs.Documents.{checked, insert_all, insert_one, key_of}
+use Rattle.database_model.specs.Documents.{checked, insert_all, insert_one, key_of}
 use Rattle.engine.specs.Durable.{disk_history, file_of, IsRunning}
-use Rattle.engine.specs.Insert.{inserted}
+use Rattle.database_model.specs.Insert.{inserted}
 use Rattle.engine.specs.Looking.{Looks, OnlyReads}
 use Rattle.engine.specs.Numbering.{IsNewNumber, IsTooMany}
 use Rattle.engine.specs.Storing.{AreNoted, HasNoted, IsAny, IsFull, MayEnter, Notes, entering}
 use Rattle.engine.specs.Trying.{Tries}
 use Rattle.engine.specs.View.{world}
-use Rattle.engine.specs.World.{collection_of}
+use Rattle.database_model.specs.World.{collection_of}
 use Rattle.engine.specs.Writing.{Makes, planned_or, Writes}
 use Rattle.engine.specs.declared.engine.Engine.{Engine}
 use Rattle.engine.proofs.EnteringSteps.{memory_or}
 use Rattle.engine.proofs.MakingLemmas.{lawful_now, leads_planned, makes_none, makes_written, planned_is}
 use Rattle.engine.proofs.NewCollections.{IsNumberOf, new_for, not_new}
 use Rattle.engine.proofs.OnlyReading.{cause_from, now_same, reads_on, word_before}
-use Rattle.engine.proofs.Steps.{drop_step}
+use Rattle.replies.proofs.Steps.{drop_step}
 use Rattle.engine.proofs.StoringLemmas.{enters_checked, full_of, inserted_full, inserted_there, IsSoFar, noted_new, noted_there, refused_unchecked, so_far_all, so_far_none, so_far_one, so_far_refused}
 
 -- ---- the collection

@@ -7,9 +7,9 @@ use Rattle.value_order.specs.Order.{compare}
 use Rattle.value_order.specs.TotalLaws.{compare_total}
 use Rattle.index.specs.LawfulState.{IsRising}
 use Rattle.index.specs.State.{Collection, find_collection}
-use Rattle.engine.specs.Documents.{key_of, place}
-use Rattle.engine.specs.Lawful.{IsKept, IsStored}
-use Rattle.engine.specs.World.{documents_of, documents_or_none}
+use Rattle.database_model.specs.Documents.{key_of, place}
+use Rattle.database_model.specs.Lawful.{IsKept, IsStored}
+use Rattle.database_model.specs.World.{documents_of, documents_or_none}
 use Rattle.engine.proofs.Located.{Gap, There, located}
 use Rattle.engine.proofs.Ordered.{rises_insert, All-inserted, place_gap, place_there}
 

@@ -14,57 +14,57 @@ use Rattle.std.proofs.lemmas.Map.Lookups.{exact_bytes}
 use Rattle.bson.specs.Tree.{Pairs, pair, no_pairs}
 use Rattle.bson.specs.Spelling.{items_bytes}
 use Rattle.bson.specs.declared.fault.BsonFault.{BsonFault}
-use Rattle.engine.specs.World.{World, Cursor, collection_of, unused, number_or, with_documents, documents_of, documents_or_none}
+use Rattle.database_model.specs.World.{World, Cursor, collection_of, unused, number_or, with_documents, documents_of, documents_or_none}
 use Rattle.index.specs.State.{Collection, find_collection, uses, put_collection}
 use Rattle.index.proofs.PlaceLemmas.{found_name}
 use Rattle.outcome.specs.Outcome.{◌>>=◌, unless, or_refused}
-use Rattle.engine.specs.Documents.{place, insert_all}
+use Rattle.database_model.specs.Documents.{place, insert_all}
 use Rattle.commands.specs.Find.{Query}
 use Rattle.commands.specs.Count.{Count}
 use Rattle.commands.specs.Aggregate.{Aggregate}
 use Rattle.aggregate.specs.Pipeline.{run as after_pipeline}
-use Rattle.engine.specs.Aggregate.{run_aggregate}
+use Rattle.database_model.specs.Aggregate.{run_aggregate}
 use Rattle.engine.proofs.Piping.{piped_within}
-use Rattle.engine.specs.Find.{query_result as found_by, matching, window, run_find}
+use Rattle.database_model.specs.Find.{query_result as found_by, matching, window, run_find}
 use Rattle.commands.specs.Delete.{Deletion}
-use Rattle.engine.specs.Delete.{after_deletions, deleted_in, run_delete}
+use Rattle.database_model.specs.Delete.{after_deletions, deleted_in, run_delete}
 use Rattle.commands.specs.Update.{UpdateStatement, Update, IsRead}
-use Rattle.engine.specs.Update.{Updated, not_updated, run_statements, update_reply, judged, run_all, spelled}
-use Rattle.engine.specs.UpdateCommand.{entered_in, run_update, writes_in}
+use Rattle.database_model.specs.Update.{Updated, not_updated, run_statements, update_reply, judged, run_all, spelled}
+use Rattle.database_model.specs.UpdateCommand.{entered_in, run_update, writes_in}
 use Rattle.engine.specs.WriteLaws.{documents_in}
 use Rattle.index.specs.Entering.{DocumentWrite, enter_each}
 use Rattle.engine.proofs.KeptLemmas.{Kept, stored_at}
 use Rattle.engine.proofs.WriteLawLemmas.{writes_stored}
 use Rattle.commands.specs.ListCollections.{ListCollections}
-use Rattle.engine.specs.Create.{created, run_create}
+use Rattle.database_model.specs.Create.{created, run_create}
 use Rattle.commands.specs.NewIndex.{IsShortNewIndex, NewIndex}
-use Rattle.engine.specs.CreateIndexes.{create_indexes_reply, indexed, run_create_indexes, with_new_indexes}
+use Rattle.database_model.specs.CreateIndexes.{create_indexes_reply, indexed, run_create_indexes, with_new_indexes}
 use Rattle.engine.proofs.NewIndexLemmas.{with_new_indexes_more, with_new_indexes_short}
 use Rattle.commands.specs.DropIndexes.{DroppedIndexes}
-use Rattle.engine.specs.DropIndexes.{drop_indexes_reply, dropped_in, index_dropped, left_by, run_drop_indexes, without_indexes}
-use Rattle.engine.specs.DropCollection.{drop_reply, dropped, index_count, run_drop}
-use Rattle.engine.specs.ListCollections.{names_in, listed, run_list_collections}
-use Rattle.engine.specs.ListIndexes.{indexes_reply, run_list_indexes}
+use Rattle.database_model.specs.DropIndexes.{drop_indexes_reply, dropped_in, index_dropped, left_by, run_drop_indexes, without_indexes}
+use Rattle.database_model.specs.DropCollection.{drop_reply, dropped, index_count, run_drop}
+use Rattle.database_model.specs.ListCollections.{names_in, listed, run_list_collections}
+use Rattle.database_model.specs.ListIndexes.{indexes_reply, run_list_indexes}
 use Rattle.engine.proofs.Creating.{dropped_lawful}
 use Rattle.engine.proofs.Listing.{go_into_one}
 use Rattle.engine.proofs.ListingIndexes.{indexes-sendable}
 use Rattle.engine.proofs.ShortIndexes.{short_at}
-use Rattle.engine.specs.Refusals.{int, total, words, ok_reply}
+use Rattle.database_model.specs.Refusals.{int, total, words, ok_reply}
 use Rattle.commands.specs.Command.{Command, ping, insert as insert_of, find as find_of, count as count_of_all, delete, update, aggregate, create as create_of, drop as drop_of, list_collections, create_indexes, drop_indexes, list_indexes, command_of, IsBounded, get_more, kill_cursors, hello}
-use Rattle.engine.specs.Lawful.{IsStored, IsWithin, IsKept, IsLawfulState, IsLawful, AreLawfulCursors}
+use Rattle.database_model.specs.Lawful.{IsStored, IsWithin, IsKept, IsLawfulState, IsLawful, AreLawfulCursors}
 use Rattle.index.specs.LawfulState.{AreNamedApart, AreNumberedApart, IsRising}
 use Rattle.engine.specs.Places.{collection_at, no_collection}
-use Rattle.engine.specs.Insert.{is_full}
-use Rattle.engine.specs.Cursors.{items_of_documents, batch_of, cursor_reply, number_after, batch_reply, is_refused, new_cursor, open_cursor, first_batch, is_cursor, no_cursor, cursor_at}
+use Rattle.database_model.specs.Insert.{is_full}
+use Rattle.database_model.specs.Cursors.{items_of_documents, batch_of, cursor_reply, number_after, batch_reply, is_refused, new_cursor, open_cursor, first_batch, is_cursor, no_cursor, cursor_at}
 use Rattle.commands.specs.GetMore.{GetMore}
 use Rattle.commands.specs.KillCursors.{KillCursors}
-use Rattle.engine.specs.GetMore.{batch_len_of, next_batch, run_get_more}
-use Rattle.engine.specs.KillCursors.{no_ids, told_apart, has_cursor, is_asked, kill_reply, run_kill_cursors}
-use Rattle.engine.specs.Hello.{hello_reply}
-use Rattle.engine.specs.Insert.{run_insert}
-use Rattle.engine.specs.Count.{run_count}
-use Rattle.engine.specs.Step.{run, answered, step}
-use Rattle.engine.specs.View.{IsSendable}
+use Rattle.database_model.specs.GetMore.{batch_len_of, next_batch, run_get_more}
+use Rattle.database_model.specs.KillCursors.{no_ids, told_apart, has_cursor, is_asked, kill_reply, run_kill_cursors}
+use Rattle.database_model.specs.Hello.{hello_reply}
+use Rattle.database_model.specs.Insert.{run_insert}
+use Rattle.database_model.specs.Count.{run_count}
+use Rattle.database_model.specs.Step.{run, answered, step}
+use Rattle.replies.specs.View.{IsSendable}
 use Rattle.path.specs.declared.refusal.Refusal.{Refusal}
 use Rattle.path.specs.declared.refusal.Refusal.TheVariants as refusals
 use Rattle.commands.specs.OutcomeLaws.{step_of, passed}
@@ -76,7 +76,7 @@ use Rattle.engine.proofs.Finding.{found_within}
 use Rattle.engine.proofs.Ordered.{Rises, rises_insert, All-inserted, missing, found, added, replaced}
 use Rattle.engine.proofs.Numbers.{found_kept, unused_unused, number_bounds, numbers_set, numbers_insert}
 use Rattle.engine.proofs.NamesApart.{apart_set}
-use Rattle.engine.proofs.SpelledSizes.{create_indexes-sendable, drop_indexes-sendable, ping-sendable, insert-sendable, drop-sendable, refusal-sendable, batch_items, cursor-sendable, kill-sendable, told_few, hello-sendable}
+use Rattle.replies.proofs.SpelledSizes.{create_indexes-sendable, drop_indexes-sendable, ping-sendable, insert-sendable, drop-sendable, refusal-sendable, batch_items, cursor-sendable, kill-sendable, told_few, hello-sendable}
 use Rattle.engine.proofs.LawfulCollections.{index_dropped_lawful, indexed_lawful, put_kept, room}
 
 -- ---- one command

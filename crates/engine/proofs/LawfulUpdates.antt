@@ -11,10 +11,10 @@ use Rattle.outcome.specs.Outcome.{◌>>=◌}
 use Rattle.update.specs.Applying.{apply}
 use Rattle.commands.specs.OutcomeLaws.{step_of}
 use Rattle.commands.specs.Update.{UpdateStatement, IsRead}
-use Rattle.engine.specs.Documents.{key_of}
-use Rattle.engine.specs.Lawful.{IsStored}
+use Rattle.database_model.specs.Documents.{key_of}
+use Rattle.database_model.specs.Lawful.{IsStored}
 use Rattle.index.specs.LawfulState.{IsRising}
-use Rattle.engine.specs.Update.{Changed, passed_over, changed_to, update_from}
+use Rattle.database_model.specs.Update.{Changed, passed_over, changed_to, update_from}
 use Rattle.engine.proofs.Applied.{kept_key, kept_stored}
 
 -- ---- documents that are found by the same keys

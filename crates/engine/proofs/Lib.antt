@@ -1,17 +1,12 @@
-pub mod Steps
 pub mod Ordered
 pub mod EditPlaceLemmas
 pub mod NamesApart
 pub mod Checked
-pub mod BatchLoop
-pub mod CursorSpelling
 pub mod Running
 pub mod Piping
 pub mod KeptLemmas
 pub mod LawfulCollections
 pub mod LawfulSteps
-pub mod SpelledSizes
-pub mod Replying
 mod Sound
 pub mod Numbers
 pub mod Ending
@@ -34,7 +29,6 @@ pub mod Creating
 pub mod Listing
 pub mod ListingIndexes
 pub mod ShortIndexes
-pub mod CursorSteps
 mod UndoneCursors
 pub mod CursorLives
 pub mod ResultLemmas

@@ -8,10 +8,10 @@ use Rattle.path.specs.declared.refusal.Refusal.TheVariants as refusals
 use Rattle.commands.specs.Update.{UpdateStatement}
 use Rattle.index.specs.State.{Collection, find_collection, put_collection}
 use Rattle.index.proofs.FoundLawLemmas.{finds_put, put_twice}
-use Rattle.engine.specs.Documents.{key_of, place}
-use Rattle.engine.specs.Merging.{Listed, none_changed, listed_to, with_listed, upsert_listed, run_listed, run_each, makes_any, listed_in}
-use Rattle.engine.specs.Update.{counted, Changed, update_from, changed_in, Updated, not_changed, updated_to, upsert_document, upserted_entry, with_upserted, upsert, run_statement, run_statements}
-use Rattle.engine.specs.World.{documents_or_none, documents_of, or_empty, unused, with_documents}
+use Rattle.database_model.specs.Documents.{key_of, place}
+use Rattle.database_model.specs.Merging.{Listed, none_changed, listed_to, with_listed, upsert_listed, run_listed, run_each, makes_any, listed_in}
+use Rattle.database_model.specs.Update.{counted, Changed, update_from, changed_in, Updated, not_changed, updated_to, upsert_document, upserted_entry, with_upserted, upsert, run_statement, run_statements}
+use Rattle.database_model.specs.World.{documents_or_none, documents_of, or_empty, unused, with_documents}
 use Rattle.engine.proofs.MeantUpdates.{listed_with}
 
 abbrev pub each_in : Collection → List Collection → Result Listed Refusal → Result Updated Refusal

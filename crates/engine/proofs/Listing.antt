@@ -15,17 +15,17 @@ use Rattle.bson.specs.Tree.{Pairs, pair, no_pairs}
 use Rattle.bson.specs.SizingLaws.{frame_of-length, pairs_bytes-none, pairs_size-pair}
 use Rattle.bson.specs.Spelling.{frame_of, pairs_bytes}
 use Rattle.path.specs.declared.refusal.Refusal.{Refusal}
-use Rattle.engine.specs.World.{World}
+use Rattle.database_model.specs.World.{World}
 use Rattle.index.specs.State.{Collection}
-use Rattle.engine.specs.Lawful.{IsWithin, IsKept, IsLawfulState}
-use Rattle.engine.specs.View.{with_ok}
-use Rattle.engine.specs.Cursors.{item_size, batch_len, batch_of, cursor_reply, number_after, batch_reply}
+use Rattle.database_model.specs.Lawful.{IsWithin, IsKept, IsLawfulState}
+use Rattle.replies.specs.View.{with_ok}
+use Rattle.database_model.specs.Cursors.{item_size, batch_len, batch_of, cursor_reply, number_after, batch_reply}
 use Rattle.collections.specs.Reading.{name_of, name_in as name_of_collection}
 use Rattle.collections.specs.declared.reading.Name.{Name}
-use Rattle.engine.specs.ListCollections.{name_in, with_name, names_in, names_behind, listed, run_list_collections}
-use Rattle.engine.specs.Refusals.{words, ok_reply}
-use Rattle.engine.proofs.SpelledSizes.{length-words}
-use Rattle.engine.proofs.Steps.{drop_step}
+use Rattle.database_model.specs.ListCollections.{name_in, with_name, names_in, names_behind, listed, run_list_collections}
+use Rattle.database_model.specs.Refusals.{words, ok_reply}
+use Rattle.replies.proofs.SpelledSizes.{length-words}
+use Rattle.replies.proofs.Steps.{drop_step}
 
 -- ---- names
 

@@ -19,20 +19,21 @@ use Rattle.index.specs.Definition.{Definition, Field, direction_value, key_docum
 use Rattle.index.specs.State.{Collection, find_collection}
 use Rattle.index.specs.declared.catalogue_reading.Catalogued.{Catalogued}
 use Rattle.index.proofs.CatalogueLemmas.{key_levels}
-use Rattle.engine.specs.Cursors.{batch_of, batch_reply, cursor_reply, items_of_documents, number_after}
-use Rattle.engine.specs.Lawful.{AreShortIndexes, IsShortIndex, IsWithin}
-use Rattle.engine.specs.ListIndexes.{described, described_all, described_id, described_index, indexes_reply, run_list_indexes, unique_pairs}
+use Rattle.database_model.specs.Cursors.{batch_of, batch_reply, cursor_reply, items_of_documents, number_after}
+use Rattle.database_model.specs.Lawful.{AreShortIndexes, IsShortIndex, IsWithin}
+use Rattle.database_model.specs.ListIndexes.{described, described_all, described_id, described_index, indexes_reply, run_list_indexes, unique_pairs}
 use Rattle.engine.specs.Looking.{Looks}
 use Rattle.engine.specs.Performing.{Performs}
-use Rattle.engine.specs.Refusals.{int, ok_reply, words}
-use Rattle.engine.specs.View.{IsSendable, with_ok, world}
-use Rattle.engine.specs.World.{World}
+use Rattle.database_model.specs.Refusals.{int, ok_reply, words}
+use Rattle.replies.specs.View.{IsSendable, with_ok}
+use Rattle.engine.specs.View.{world}
+use Rattle.database_model.specs.World.{World}
 use Rattle.engine.specs.declared.engine.Engine.{Engine}
 use Rattle.engine.proofs.CataloguedLemmas.{IsCatalogueOf, has_home, not_catalogued}
 use Rattle.engine.proofs.Listing.{Small, all_fit}
 use Rattle.engine.proofs.LookingLemmas.{performs_read, world_same}
-use Rattle.engine.proofs.SpelledSizes.{batch_items, cursor-sendable, length-words}
-use Rattle.engine.proofs.Steps.{drop_step}
+use Rattle.replies.proofs.SpelledSizes.{batch_items, cursor-sendable, length-words}
+use Rattle.replies.proofs.Steps.{drop_step}
 
 -- ---- the documents so far
 

@@ -20,7 +20,7 @@ use Rattle.collections.specs.Entries.{HasEntries, ReadsTree}
 use Rattle.collections.specs.IndexChecks.{lacks_any}
 use Rattle.collections.specs.State.{State}
 use Rattle.collections.specs.View.{disk_history}
-use Rattle.engine.specs.Documents.{key_of}
+use Rattle.database_model.specs.Documents.{key_of}
 use Rattle.engine.specs.FileOpening.{IsRead, Judges}
 use Rattle.engine.specs.Judging.{HasItsKeys, IsDocumentAt, IsFaultOf, IsIndexable, IsLoadingAs, IsName, IsStoredAt, Progress, Refuses, RefusesOne, Takes, TakesAll, TakesDocument, TakesName, index_in, is_of_index, key_count, keys_among, listed_of, numbered, with_document_at}
 use Rattle.engine.proofs.EntryLoops.{fault_of, refuses_here, refuses_next, takes_end, takes_next}

@@ -17,12 +17,13 @@ use Rattle.collections.specs.View.{disk_history, pages_of}
 use Rattle.collections.proofs.StandingLemmas.{stopped_same}
 use Rattle.engine.specs.Durable.{file_of, has_changes, IsSound}
 use Rattle.engine.specs.Known.{Known}
-use Rattle.engine.specs.Lawful.{IsLawfulState, AreLawfulCursors}
+use Rattle.database_model.specs.Lawful.{IsLawfulState, AreLawfulCursors}
 use Rattle.engine.specs.Looking.{Looks, LooksOf, OnlyReads}
 use Rattle.engine.specs.Performing.{DoesPlanned, Performs}
-use Rattle.engine.specs.Step.{answered}
-use Rattle.engine.specs.View.{world, world_of, turn_start, with_ok}
-use Rattle.engine.specs.World.{World, CursorTable}
+use Rattle.database_model.specs.Step.{answered}
+use Rattle.replies.specs.View.{with_ok}
+use Rattle.engine.specs.View.{world, world_of, turn_start}
+use Rattle.database_model.specs.World.{World, CursorTable}
 use Rattle.engine.specs.Writing.{FileCause}
 use Rattle.engine.specs.declared.engine.Engine.{Engine}
 

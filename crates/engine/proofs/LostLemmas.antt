@@ -16,9 +16,9 @@ use Rattle.index.specs.Documents.{without_document}
 use Rattle.index.specs.LawfulState.{IsRising, IsStorable}
 use Rattle.index.specs.State.{Collection}
 use Rattle.index.specs.StateReads.{find_document}
-use Rattle.engine.specs.Delete.{without_at, after_deletion, after_deletions}
-use Rattle.engine.specs.Documents.{key_of}
-use Rattle.engine.specs.Lawful.{IsHeld}
+use Rattle.database_model.specs.Delete.{without_at, after_deletion, after_deletions}
+use Rattle.database_model.specs.Documents.{key_of}
+use Rattle.database_model.specs.Lawful.{IsHeld}
 use Rattle.engine.specs.Redoing.{without_each, taken_at, taken, all_taken}
 use Rattle.engine.specs.TakingOut.{AreThere}
 use Rattle.engine.proofs.Deleting.{left_apart, left_kept}

@@ -15,10 +15,11 @@ use Rattle.engine.specs.Durable.{disk_history, file_of, IsRunning, IsSound}
 use Rattle.engine.specs.Known.{Known}
 use Rattle.engine.specs.Looking.{OnlyReads}
 use Rattle.engine.specs.Performing.{Performs}
-use Rattle.engine.specs.Refusals.{ok_reply}
-use Rattle.engine.specs.Step.{answered}
-use Rattle.engine.specs.View.{world, with_ok}
-use Rattle.engine.specs.World.{World}
+use Rattle.database_model.specs.Refusals.{ok_reply}
+use Rattle.database_model.specs.Step.{answered}
+use Rattle.replies.specs.View.{with_ok}
+use Rattle.engine.specs.View.{world}
+use Rattle.database_model.specs.World.{World}
 use Rattle.engine.specs.Writing.{FileCause, Makes, planned_or, Writes}
 use Rattle.engine.specs.declared.engine.Engine.{Engine}
 use Rattle.engine.proofs.OnlyReading.{now_same, word_before, write_cause_from}

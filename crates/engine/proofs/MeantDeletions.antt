@@ -6,8 +6,8 @@ use Rattle.std.proofs.lemmas.Bool.Decides.{nat_tests}
 use Rattle.bson.specs.Tree.{Pairs}
 use Rattle.filter.specs.Matches.{matches}
 use Rattle.commands.specs.Delete.{Deletion}
-use Rattle.engine.specs.Delete.{without_at, after_deletion, after_deletions}
-use Rattle.engine.specs.Merging.{is_deleted}
+use Rattle.database_model.specs.Delete.{without_at, after_deletion, after_deletions}
+use Rattle.database_model.specs.Merging.{is_deleted}
 use Rattle.engine.specs.Redoing.{taken_at, taken, all_taken}
 use Rattle.engine.proofs.MergingLemmas.{Marked, meant, other, all_of, meant_of, others_of, NoneIs, Each-map, mark, mark_all, mark_meant, mark_others}
 

@@ -15,7 +15,7 @@ use Rattle.index.specs.State.{Collection, find_collection}
 use Rattle.index.proofs.PlaceLemmas.{found_name}
 use Rattle.engine.specs.Durable.{disk_history, file_of, IsSound}
 use Rattle.engine.specs.Looking.{Looks, LooksOf, OnlyReads}
-use Rattle.engine.specs.Merging.{is_meant, makes_any}
+use Rattle.database_model.specs.Merging.{is_meant, makes_any}
 use Rattle.engine.specs.Numbering.{IsNewNumber, IsTooMany}
 use Rattle.engine.specs.Putting.{IsFullFor, IsFullWithout, IsMeant, IsUpdate, MeansIn}
 use Rattle.engine.specs.Trying.{Tries}

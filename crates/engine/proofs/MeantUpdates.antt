@@ -17,10 +17,10 @@ use Rattle.update.specs.Applying.{apply}
 use Rattle.commands.specs.Update.{UpdateStatement, IsRead}
 use Rattle.index.specs.LawfulState.{IsRising}
 use Rattle.index.specs.State.{by_order}
-use Rattle.engine.specs.Documents.{key_of, place}
-use Rattle.engine.specs.Lawful.{IsStored}
-use Rattle.engine.specs.Merging.{is_updated, one_or_none, made_of, made_by, has_key_of, is_meant, put_each, Listed, none_changed, listed_to, with_listed, upsert_listed, run_listed, run_each}
-use Rattle.engine.specs.Update.{counted, modified_by, Changed, passed_over, changed_to, update_from, upsert_document, upserted_entry}
+use Rattle.database_model.specs.Documents.{key_of, place}
+use Rattle.database_model.specs.Lawful.{IsStored}
+use Rattle.database_model.specs.Merging.{is_updated, one_or_none, made_of, made_by, has_key_of, is_meant, put_each, Listed, none_changed, listed_to, with_listed, upsert_listed, run_listed, run_each}
+use Rattle.database_model.specs.Update.{counted, modified_by, Changed, passed_over, changed_to, update_from, upsert_document, upserted_entry}
 use Rattle.engine.proofs.Applied.{upserted_stored}
 use Rattle.engine.proofs.KeptLemmas.{kept_place}
 use Rattle.engine.proofs.LawfulUpdates.{SameKeys-rising, from_kept}

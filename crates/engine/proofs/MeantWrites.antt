@@ -14,10 +14,10 @@ use Rattle.update.specs.Update.{Update as Change}
 use Rattle.commands.specs.Update.{UpdateStatement, IsRead}
 use Rattle.index.specs.LawfulState.{IsRising}
 use Rattle.index.specs.StateReads.{find_document}
-use Rattle.engine.specs.Documents.{key_of}
-use Rattle.engine.specs.Lawful.{IsStored}
-use Rattle.engine.specs.Merging.{is_updated, made_of, made_by, has_key_of, is_meant, Listed, run_listed}
-use Rattle.engine.specs.Update.{spelled}
+use Rattle.database_model.specs.Documents.{key_of}
+use Rattle.database_model.specs.Lawful.{IsStored}
+use Rattle.database_model.specs.Merging.{is_updated, made_of, made_by, has_key_of, is_meant, Listed, run_listed}
+use Rattle.database_model.specs.Update.{spelled}
 use Rattle.engine.proofs.Applied.{kept_key}
 use Rattle.engine.proofs.MeantDeletions.{or_first, or_second}
 use Rattle.engine.proofs.MergingLemmas.{Marked, meant, other, all_of, meant_of, others_of, Each, NoneIs, Each-map, Ascends, ascends, Untied, mark, mark_all, mark_meant, marked_all, marked_meant, meant_untied, put_ascends, put_marked}
@@ -25,7 +25,7 @@ use Rattle.engine.proofs.WriteSteps.{updated_stored}
 use Rattle.index.specs.Entering.{DocumentWrite}
 use Rattle.engine.specs.Updating.{HaveOld, news_of, seen}
 use Rattle.engine.specs.WriteLaws.{documents_in}
-use Rattle.engine.specs.Writes.{change_writes, changes_of, made_write, statement_writes, unless_refused, updated_by, writes_from, writes_of}
+use Rattle.database_model.specs.Writes.{change_writes, changes_of, made_write, statement_writes, unless_refused, updated_by, writes_from, writes_of}
 use Rattle.engine.specs.declared.statements.Write.{Write}
 use Rattle.engine.proofs.MeantUpdates.{first_free, first_unmatched, later_free, later_unmatched, listed_with, none_made, none_updated, run_alike, RunsAlike}
 

@@ -11,8 +11,8 @@ use Rattle.value_order.specs.TotalLaws.{compare_total}
 use Rattle.index.specs.Documents.{put_document}
 use Rattle.index.specs.LawfulState.{IsRising}
 use Rattle.index.specs.State.{by_order}
-use Rattle.engine.specs.Documents.{key_of}
-use Rattle.engine.specs.Merging.{put_each}
+use Rattle.database_model.specs.Documents.{key_of}
+use Rattle.database_model.specs.Merging.{put_each}
 use Rattle.engine.proofs.Ordered.{flipped}
 
 -- ---- documents, each with whether it is meant

@@ -10,9 +10,9 @@ use Rattle.aggregate.specs.Pipeline.{run}
 use Rattle.aggregate.specs.Stage.{Stage}
 use Rattle.aggregate.specs.Taking.{takes, SufficesTaken, IsEnough}
 use Rattle.aggregate.specs.EnoughLaws.{All-append, All-filter, All-front, Pass, Within, enough_of_all, enough_by_then, fault-within, filter-passes, none_is_enough, passed-filter, within-fault}
-use Rattle.engine.specs.Aggregate.{AreEnough}
-use Rattle.engine.specs.Lawful.{IsLawfulState, IsWithin}
-use Rattle.engine.specs.World.{documents_of}
+use Rattle.database_model.specs.Aggregate.{AreEnough}
+use Rattle.database_model.specs.Lawful.{IsLawfulState, IsWithin}
+use Rattle.database_model.specs.World.{documents_of}
 use Rattle.index.specs.State.{Collection}
 use Rattle.engine.proofs.Finding.{stored_within}
 use Rattle.engine.proofs.KeptLemmas.{stored_at}

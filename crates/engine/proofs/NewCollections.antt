@@ -11,13 +11,13 @@ use Rattle.index.specs.Documents.{AddsCollection}
 use Rattle.index.specs.LawfulState.{IsLawfulState}
 use Rattle.index.specs.State.{Collection, empty_collection, find_collection, put_collection, uses}
 use Rattle.index.specs.StateEntries.{Leads}
-use Rattle.engine.specs.Create.{created}
+use Rattle.database_model.specs.Create.{created}
 use Rattle.engine.specs.Durable.{disk_history, file_of, IsRunning}
 use Rattle.engine.specs.Looking.{Looks, OnlyReads}
 use Rattle.engine.specs.Numbering.{IsNewNumber, IsTooMany}
 use Rattle.engine.specs.Trying.{Tries}
 use Rattle.engine.specs.View.{world}
-use Rattle.engine.specs.World.{indexes_or_none, number_or, unused, with_documents}
+use Rattle.database_model.specs.World.{indexes_or_none, number_or, unused, with_documents}
 use Rattle.engine.specs.Writing.{Makes, planned_or, Writes}
 use Rattle.engine.specs.declared.engine.Engine.{Engine}
 use Rattle.engine.proofs.MakingLemmas.{lawful_now, leads_planned, makes_none, makes_written, planned_is}

@@ -16,10 +16,10 @@ use Rattle.engine.specs.Durable.{disk_history, IsSound}
 use Rattle.engine.specs.Numbering.{AreMarked, IsNewNumber, IsTooMany, numbered}
 use Rattle.engine.specs.Trying.{Tries}
 use Rattle.engine.specs.View.{world}
-use Rattle.engine.specs.World.{unused, unused_from}
+use Rattle.database_model.specs.World.{unused, unused_from}
 use Rattle.engine.specs.declared.engine.Engine.{Engine}
 use Rattle.engine.proofs.OnlyReading.{reads_file}
-use Rattle.engine.proofs.Steps.{drop_step}
+use Rattle.replies.proofs.Steps.{drop_step}
 
 -- ---- marks
 

@@ -3,9 +3,9 @@ use Rattle.std.proofs.Common.{◌≡◌, ℕ, zero, suc, ◌+◌, ◌-◌, ◌<�
 use Rattle.std.specs.Prelude.{◌==◌, ◌||◌, ◌&&◌, nat_le, if◌then◌else◌, All}
 use Rattle.std.specs.Str.{bytes_eq}
 use Rattle.std.proofs.lemmas.Bool.Decides.{nat_tests}
-use Rattle.engine.specs.World.{unused_from, unused, number_or}
+use Rattle.database_model.specs.World.{unused_from, unused, number_or}
 use Rattle.index.specs.State.{Collection, find_collection, uses}
-use Rattle.engine.specs.Lawful.{IsKept}
+use Rattle.database_model.specs.Lawful.{IsKept}
 use Rattle.index.specs.LawfulState.{AreNumberedApart}
 use Rattle.engine.specs.Places.{collection_at}
 

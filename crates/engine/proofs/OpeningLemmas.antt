@@ -3,8 +3,8 @@ use Rattle.std.proofs.Common.{rules, ◌≡◌, false, List, [], sym, ap, subst}
 use Rattle.page.specs.History.{History}
 use Rattle.index.specs.State.{Collection}
 use Rattle.collections.specs.Standing.{HasState}
-use Rattle.engine.specs.World.{CursorTable}
-use Rattle.engine.specs.Lawful.{AreLawfulCursors, IsLawfulState}
+use Rattle.database_model.specs.World.{CursorTable}
+use Rattle.database_model.specs.Lawful.{AreLawfulCursors, IsLawfulState}
 use Rattle.engine.specs.View.{world}
 use Rattle.engine.specs.FileOpening.{IsFileOpened}
 use Rattle.engine.specs.Opening.{IsOpened}

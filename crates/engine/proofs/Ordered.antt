@@ -20,7 +20,7 @@ use Rattle.bson.specs.Tree.{Tree, Pairs}
 use Rattle.value_order.specs.Order.{compare}
 use Rattle.value_order.specs.TotalLaws.{compare_total}
 use Rattle.index.specs.State.{Collection, by_order, find_collection, put_collection, without_collection}
-use Rattle.engine.specs.Documents.{key_of, place}
+use Rattle.database_model.specs.Documents.{key_of, place}
 use Rattle.engine.specs.Places.{IsGap, IsPlace, by_key, by_name, no_collection, IsNamedAt}
 
 abbrev pub Rises : {X K : Type 0} → (K → K → Ordering) → (X → K) → List X → Type 0

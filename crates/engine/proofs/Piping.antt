@@ -8,7 +8,7 @@ use Rattle.std.proofs.lemmas.List.Elements.{All-cons, All-head, All-tail}
 use Rattle.bson.specs.Tree.{Pairs}
 use Rattle.filter.specs.Projection.{Projection, project}
 use Rattle.filter.specs.ProjectionLaws.{all_stays}
-use Rattle.engine.specs.View.{projected}
+use Rattle.replies.specs.View.{projected}
 use Rattle.bson.specs.Lawful.{pairs_levels}
 use Rattle.bson.specs.Spelling.{frame_of, pairs_bytes}
 use Rattle.path.specs.declared.refusal.Refusal.{Refusal}
@@ -17,7 +17,7 @@ use Rattle.aggregate.specs.Stage.{Stage}
 use Rattle.aggregate.specs.Limits.{limit_fault, else_fault, first_fault}
 use Rattle.aggregate.specs.Pipeline.{run as after_pipeline}
 use Rattle.aggregate.specs.TakingLaws.{stays_within}
-use Rattle.engine.specs.Lawful.{IsStored, IsWithin}
+use Rattle.database_model.specs.Lawful.{IsStored, IsWithin}
 use Rattle.engine.proofs.Finding.{stored_within}
 
 -- a document within the limits has no fault

@@ -7,8 +7,8 @@ use Rattle.std.proofs.lemmas.List.{take_more, take_all, drop_all}
 use Rattle.bson.specs.Tree.{Pairs}
 use Rattle.value_order.specs.Order.{compare}
 use Rattle.index.specs.State.{by_order}
-use Rattle.engine.specs.Documents.{key_of, place}
-use Rattle.engine.proofs.Steps.{drop_step}
+use Rattle.database_model.specs.Documents.{key_of, place}
+use Rattle.replies.proofs.Steps.{drop_step}
 
 -- the documents behind those that were passed over
 abbrev pub behind : List Pairs → Option (List Pairs) → Option (List Pairs)

@@ -8,15 +8,15 @@ use Rattle.path.specs.declared.refusal.Refusal.{Refusal}
 use Rattle.path.specs.declared.refusal.Refusal.TheVariants as refusals
 use Rattle.index.specs.State.{Collection, find_collection, put_collection}
 use Rattle.commands.specs.NewIndex.{IsShortNewIndex, NewIndex}
-use Rattle.engine.specs.Create.{created, run_create}
+use Rattle.database_model.specs.Create.{created, run_create}
 use Rattle.commands.specs.DropIndexes.{DroppedIndexes}
-use Rattle.engine.specs.CreateIndexes.{indexed}
-use Rattle.engine.specs.DropIndexes.{index_dropped}
-use Rattle.engine.specs.Insert.{inserted, run_insert}
-use Rattle.engine.specs.Lawful.{IsLawful, IsLawfulState}
-use Rattle.engine.specs.Refusals.{int}
+use Rattle.database_model.specs.CreateIndexes.{indexed}
+use Rattle.database_model.specs.DropIndexes.{index_dropped}
+use Rattle.database_model.specs.Insert.{inserted, run_insert}
+use Rattle.database_model.specs.Lawful.{IsLawful, IsLawfulState}
+use Rattle.database_model.specs.Refusals.{int}
 use Rattle.engine.specs.Numbering.{IsTooMany}
-use Rattle.engine.specs.World.{World, with_documents}
+use Rattle.database_model.specs.World.{World, with_documents}
 use Rattle.engine.specs.Writing.{planned_or}
 use Rattle.engine.proofs.Creating.{run_create-is}
 use Rattle.engine.proofs.LawfulCollections.{index_dropped_lawful, indexed_lawful}

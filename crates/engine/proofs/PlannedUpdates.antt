@@ -16,15 +16,15 @@ use Rattle.index.specs.LawfulState.{IsRising}
 use Rattle.index.specs.State.{Collection, find_collection}
 use Rattle.index.proofs.PlaceLemmas.{found_name}
 use Rattle.index.proofs.StateEditLaws.{put_same}
-use Rattle.engine.specs.Documents.{key_of}
-use Rattle.engine.specs.Lawful.{IsLawfulState, IsStored}
-use Rattle.engine.specs.Merging.{is_meant, Listed, listed_in, makes_any, not_listed, put_each, run_each, upsert_listed}
+use Rattle.database_model.specs.Documents.{key_of}
+use Rattle.database_model.specs.Lawful.{IsLawfulState, IsStored}
+use Rattle.database_model.specs.Merging.{is_meant, Listed, listed_in, makes_any, not_listed, put_each, run_each, upsert_listed}
 use Rattle.engine.specs.Putting.{EndsIn, IsFullFor, IsMeant, IsUpdate, MeansIn}
-use Rattle.engine.specs.Update.{counts_reply, judged, not_updated, run_all, run_statements, Updated, update_reply}
+use Rattle.database_model.specs.Update.{counts_reply, judged, not_updated, run_all, run_statements, Updated, update_reply}
 use Rattle.engine.specs.Updating.{EndsAs, HasNone, IsRan, IsRun, IsRunOf, listed_of, news_of, seen}
-use Rattle.engine.specs.World.{documents_of, documents_or_none, or_empty, unused}
+use Rattle.database_model.specs.World.{documents_of, documents_or_none, or_empty, unused}
 use Rattle.engine.specs.WriteLaws.{AreRun, AreThere}
-use Rattle.engine.specs.Writes.{writes_of}
+use Rattle.database_model.specs.Writes.{writes_of}
 use Rattle.engine.specs.declared.statements.Ran.{Ran}
 use Rattle.engine.specs.declared.statements.Run.{Run}
 use Rattle.engine.specs.declared.statements.Tally.{Tally}

@@ -10,23 +10,23 @@ use Rattle.commands.specs.Find.{Find}
 use Rattle.commands.specs.Count.{Count}
 use Rattle.commands.specs.Aggregate.{Aggregate}
 use Rattle.aggregate.specs.Pipeline.{run as after_pipeline}
-use Rattle.engine.specs.Aggregate.{run_aggregate}
+use Rattle.database_model.specs.Aggregate.{run_aggregate}
 use Rattle.commands.specs.ListCollections.{ListCollections}
 use Rattle.commands.specs.ListIndexes.{ListIndexes}
-use Rattle.engine.specs.ListIndexes.{indexes_reply, run_list_indexes}
-use Rattle.engine.specs.ListCollections.{run_list_collections}
+use Rattle.database_model.specs.ListIndexes.{indexes_reply, run_list_indexes}
+use Rattle.database_model.specs.ListCollections.{run_list_collections}
 use Rattle.commands.specs.Command.{Command, ping, insert, find, count, delete, update, aggregate, create, drop as drop_of, list_collections, create_indexes, drop_indexes, list_indexes, command_of, get_more, kill_cursors, hello}
 use Rattle.index.specs.State.{Collection, find_collection}
-use Rattle.engine.specs.World.{World, documents_of}
-use Rattle.engine.specs.Cursors.{batch_of, batch_reply, open_cursor, is_refused, new_cursor, first_batch, is_cursor}
+use Rattle.database_model.specs.World.{World, documents_of}
+use Rattle.database_model.specs.Cursors.{batch_of, batch_reply, open_cursor, is_refused, new_cursor, first_batch, is_cursor}
 use Rattle.commands.specs.GetMore.{GetMore}
 use Rattle.commands.specs.KillCursors.{KillCursors}
-use Rattle.engine.specs.GetMore.{next_batch, run_get_more}
-use Rattle.engine.specs.KillCursors.{run_kill_cursors}
+use Rattle.database_model.specs.GetMore.{next_batch, run_get_more}
+use Rattle.database_model.specs.KillCursors.{run_kill_cursors}
 use Rattle.std.specs.List.{position}
-use Rattle.engine.specs.Find.{query_result, run_find}
-use Rattle.engine.specs.Count.{run_count}
-use Rattle.engine.specs.Step.{run, answered, step, Answers}
+use Rattle.database_model.specs.Find.{query_result, run_find}
+use Rattle.database_model.specs.Count.{run_count}
+use Rattle.database_model.specs.Step.{run, answered, step, Answers}
 use Rattle.engine.specs.Laws.{OnlyReads, BodyOnlyReads}
 
 module _ (w : World) (connection : ℕ) where

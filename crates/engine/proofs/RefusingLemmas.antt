@@ -48,7 +48,7 @@ use Rattle.index.proofs.ReadLaws.{in_map, there_of}
 use Rattle.index.proofs.WindowLemmas.{under_cmp}
 use Rattle.collections.specs.IndexChecks.{has_entry, is_empty_at, lacks_any, lacks_key, lacks_one}
 use Rattle.engine.specs.Judging.{HasItsKeys, IsIndexable, MakesNone, Progress, RefusesOne, Takes, bare, is_of_index, key_count, keys_among, listed_of, nothing_read, numbered, stands_behind, with_document_at}
-use Rattle.engine.specs.Lawful.{IsStored}
+use Rattle.database_model.specs.Lawful.{IsStored}
 use Rattle.engine.proofs.EntriesSoFar.{IsPlain, Stands, catalogue_none, document_none, key_some, nothing_stands}
 use Rattle.engine.proofs.FileEntries.{all_stand, each_before, one_step, owed_seen}
 use Rattle.engine.proofs.OnceLists.{AreOnce, once_fits, once_only, only, only_told, rises_once}

@@ -18,16 +18,16 @@ use Rattle.index.specs.StateEntries.{Leads}
 use Rattle.index.proofs.HomeLemmas.{kept_of}
 use Rattle.index.proofs.PlaceLemmas.{found_in, found_name}
 use Rattle.index.proofs.StateEditLaws.{put_same}
-use Rattle.engine.specs.Delete.{after_deletion, after_deletions, deleted_in, run_delete}
+use Rattle.database_model.specs.Delete.{after_deletion, after_deletions, deleted_in, run_delete}
 use Rattle.engine.specs.Durable.{disk_history, file_of, IsSound}
 use Rattle.engine.specs.Looking.{Looks, OnlyReads}
 use Rattle.engine.specs.Performing.{Performs}
 use Rattle.engine.specs.Redoing.{without_each, taken, all_taken}
-use Rattle.engine.specs.Refusals.{total, ok_reply}
+use Rattle.database_model.specs.Refusals.{total, ok_reply}
 use Rattle.engine.specs.Removing.{IsTaken, deleted}
 use Rattle.engine.specs.TakingOut.{AreThere, IsIndexable, TakesOut}
 use Rattle.engine.specs.View.{world}
-use Rattle.engine.specs.World.{World, documents_or_none, documents_of}
+use Rattle.database_model.specs.World.{World, documents_or_none, documents_of}
 use Rattle.engine.specs.Writing.{Makes, Writes}
 use Rattle.engine.specs.declared.delete.Taken.{Taken}
 use Rattle.engine.specs.declared.engine.Engine.{Engine}

@@ -13,7 +13,7 @@ use Rattle.index.specs.Documents.{put_document}
 use Rattle.index.specs.LawfulState.{IsRising, IsStorable}
 use Rattle.index.specs.State.{by_order}
 use Rattle.index.specs.StateReads.{find_document}
-use Rattle.engine.specs.Documents.{key_of}
+use Rattle.database_model.specs.Documents.{key_of}
 use Rattle.engine.specs.Putting.{AreWritesOf, IsWriteOf}
 use Rattle.engine.specs.Storing.{IsReplacedIn}
 use Rattle.engine.specs.Updating.{HaveOld, news_of, replaced_in, seen}

@@ -9,25 +9,25 @@ use Rattle.commands.specs.Count.{Count}
 use Rattle.commands.specs.Aggregate.{Aggregate}
 use Rattle.aggregate.specs.Stage.{Stage}
 use Rattle.aggregate.specs.Pipeline.{run as after_pipeline}
-use Rattle.engine.specs.Aggregate.{run_aggregate}
-use Rattle.engine.specs.Find.{query_result, matching, window, run_find}
+use Rattle.database_model.specs.Aggregate.{run_aggregate}
+use Rattle.database_model.specs.Find.{query_result, matching, window, run_find}
 use Rattle.commands.specs.Delete.{Delete}
-use Rattle.engine.specs.View.{with_ok}
-use Rattle.engine.specs.Delete.{after_deletions, deleted_in, run_delete}
-use Rattle.engine.specs.World.{World, Cursor, collection_of, documents_of}
+use Rattle.replies.specs.View.{with_ok}
+use Rattle.database_model.specs.Delete.{after_deletions, deleted_in, run_delete}
+use Rattle.database_model.specs.World.{World, Cursor, collection_of, documents_of}
 use Rattle.index.specs.State.{Collection, find_collection, put_collection}
 use Rattle.outcome.specs.Outcome.{◌>>=◌, unless, or_refused}
 use Rattle.std.specs.List.{filter, position}
-use Rattle.engine.specs.Documents.{insert_all}
-use Rattle.engine.specs.Refusals.{int, total, ok_reply}
-use Rattle.engine.specs.Cursors.{cursor_reply, is_refused, new_cursor, open_cursor, batch_of, batch_reply, first_batch, is_cursor}
-use Rattle.engine.specs.GetMore.{next_batch, run_get_more}
-use Rattle.engine.specs.KillCursors.{ToldApart, no_ids, told_apart, has_cursor, is_asked, kill_reply, run_kill_cursors}
+use Rattle.database_model.specs.Documents.{insert_all}
+use Rattle.database_model.specs.Refusals.{int, total, ok_reply}
+use Rattle.database_model.specs.Cursors.{cursor_reply, is_refused, new_cursor, open_cursor, batch_of, batch_reply, first_batch, is_cursor}
+use Rattle.database_model.specs.GetMore.{next_batch, run_get_more}
+use Rattle.database_model.specs.KillCursors.{ToldApart, no_ids, told_apart, has_cursor, is_asked, kill_reply, run_kill_cursors}
 use Rattle.commands.specs.GetMore.{GetMore}
 use Rattle.commands.specs.KillCursors.{KillCursors}
-use Rattle.engine.specs.Insert.{run_insert}
-use Rattle.engine.specs.Count.{run_count}
-use Rattle.engine.specs.Insert.{is_full, inserted}
+use Rattle.database_model.specs.Insert.{run_insert}
+use Rattle.database_model.specs.Count.{run_count}
+use Rattle.database_model.specs.Insert.{is_full, inserted}
 use Rattle.path.specs.declared.refusal.Refusal.{Refusal}
 use Rattle.path.specs.declared.refusal.Refusal.TheVariants as refusals
 

@@ -18,9 +18,9 @@ use Rattle.index.specs.Definition.{Field, Definition, IsPath, IsDefinition}
 use Rattle.index.specs.IndexKeys.{is_multikey}
 use Rattle.index.specs.KeptLaws.{noted}
 use Rattle.index.specs.State.{Collection, find_collection}
-use Rattle.engine.specs.DropIndexes.{is_dropped, left_by, remaining}
-use Rattle.engine.specs.Lawful.{AreShortIndexes, IsKept, IsShortIndex}
-use Rattle.engine.specs.World.{indexes_or_none}
+use Rattle.database_model.specs.DropIndexes.{is_dropped, left_by, remaining}
+use Rattle.database_model.specs.Lawful.{AreShortIndexes, IsKept, IsShortIndex}
+use Rattle.database_model.specs.World.{indexes_or_none}
 use Rattle.engine.proofs.Numbers.{found_kept}
 
 -- ---- lawful definitions

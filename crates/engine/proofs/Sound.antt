@@ -7,16 +7,17 @@ use Rattle.page.specs.History.{History}
 use Rattle.collections.specs.Calls.{GoesFrom}
 use Rattle.collections.specs.Standing.{HasState}
 use Rattle.collections.specs.State.{State}
-use Rattle.engine.specs.World.{World, Cursor, forget, after_undo}
+use Rattle.database_model.specs.World.{World, Cursor, forget, after_undo}
 use Rattle.index.specs.State.{Collection}
-use Rattle.engine.specs.Lawful.{IsWithin, IsLawfulState, IsLawful}
-use Rattle.engine.specs.Step.{read_and_run, answered, RefusedBeside}
-use Rattle.engine.specs.View.{world, turn_start, with_ok, Runs}
+use Rattle.database_model.specs.Lawful.{IsWithin, IsLawfulState, IsLawful}
+use Rattle.database_model.specs.Step.{read_and_run, answered, RefusedBeside}
+use Rattle.replies.specs.View.{with_ok, Runs}
+use Rattle.engine.specs.View.{world, turn_start}
 use Rattle.engine.specs.Durable.{IsSound, file_of, has_changes}
 use Rattle.engine.specs.Writing.{FileCause}
 use Rattle.engine.specs.declared.engine.Engine.{Engine}
 use Rattle.engine.specs.declared.told.Told.{Told}
-use Rattle.engine.specs.Refusals.{refusal_reply}
+use Rattle.database_model.specs.Refusals.{refusal_reply}
 use Rattle.collections.proofs.LawLemmas as laws
 use Rattle.engine.specs.Performing.{DoesPlanned, Performs}
 use Rattle.engine.specs.Known.{Known}

@@ -9,13 +9,13 @@ use Rattle.path.specs.declared.refusal.Refusal.TheVariants as refusals
 use Rattle.commands.specs.Update.{UpdateStatement}
 use Rattle.index.specs.LawfulState.{IsRising, IsStorable}
 use Rattle.index.specs.Entering.{DocumentWrite}
-use Rattle.engine.specs.Lawful.{IsStored, IsWithin}
-use Rattle.engine.specs.Merging.{Listed, not_listed, put_each, run_each, run_listed}
+use Rattle.database_model.specs.Lawful.{IsStored, IsWithin}
+use Rattle.database_model.specs.Merging.{Listed, not_listed, put_each, run_each, run_listed}
 use Rattle.engine.specs.Updating.{AreWritten, HasWritten, HaveOld, IsRan, IsRun, IsRunOf, listed_of, MayBePut, news_of, RunsOn, seen, written, Wrote}
-use Rattle.engine.specs.Writes.{statement_writes, unless_refused, writes_from, writes_of}
+use Rattle.database_model.specs.Writes.{statement_writes, unless_refused, writes_from, writes_of}
 use Rattle.engine.specs.declared.statements.Run.{Run}
 use Rattle.engine.specs.declared.statements.Write.{Write}
-use Rattle.engine.proofs.Steps.{drop_step}
+use Rattle.replies.proofs.Steps.{drop_step}
 use Rattle.engine.proofs.UpdatingLoop.{RunsOn-refl, RunsOn-trans}
 
 -- ---- statement after statement

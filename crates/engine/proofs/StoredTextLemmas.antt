@@ -13,8 +13,8 @@ use Rattle.value_order.specs.KeyText.{tree_text}
 use Rattle.path.specs.declared.refusal.Refusal.TheVariants as refusals
 use Rattle.update.specs.Stored.{fault_if, first_pair, id_name, id_of, limits_fault, no_array, or_else, pairs_fault, without}
 use Rattle.update.proofs.IdLemmas.{id_first-at, to_front-first}
-use Rattle.engine.specs.Documents.{key_of}
-use Rattle.engine.specs.Lawful.{IsStored}
+use Rattle.database_model.specs.Documents.{key_of}
+use Rattle.database_model.specs.Lawful.{IsStored}
 
 pub not_limited : (d : Pairs) → IsStored d → limits_fault 65535 d ≡ None
 not_limited d h =

@@ -23,12 +23,12 @@ use Rattle.index.specs.StateEntries.{Leads}
 use Rattle.index.specs.declared.catalogue_reading.Catalogued.{Catalogued}
 use Rattle.index.proofs.PlaceLemmas.{found_name}
 use Rattle.index.proofs.StateEditLaws.{put_same}
-use Rattle.engine.specs.Documents.{checked, insert_all, insert_one, key_of, place}
-use Rattle.engine.specs.Insert.{inserted, is_full}
-use Rattle.engine.specs.Lawful.{IsStored}
+use Rattle.database_model.specs.Documents.{checked, insert_all, insert_one, key_of, place}
+use Rattle.database_model.specs.Insert.{inserted, is_full}
+use Rattle.database_model.specs.Lawful.{IsStored}
 use Rattle.engine.specs.Storing.{AreNoted, HasNoted, entering}
 use Rattle.engine.specs.Updating.{MayBePut}
-use Rattle.engine.specs.World.{collection_of, documents_or_none, indexes_or_none, number_or, unused}
+use Rattle.database_model.specs.World.{collection_of, documents_or_none, indexes_or_none, number_or, unused}
 use Rattle.engine.proofs.Checked.{keeps}
 use Rattle.engine.proofs.EditPlaceLemmas.{storable}
 use Rattle.engine.proofs.Numbers.{unused_unused}

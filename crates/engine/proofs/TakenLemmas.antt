@@ -12,14 +12,14 @@ use Rattle.index.specs.State.{Collection, find_collection, put_collection}
 use Rattle.index.specs.declared.catalogue_reading.Catalogued.{Catalogued}
 use Rattle.index.proofs.FoundLawLemmas.{finds_put}
 use Rattle.index.proofs.PlaceLemmas.{found_name}
-use Rattle.engine.specs.Delete.{after_deletions, deleted_in}
+use Rattle.database_model.specs.Delete.{after_deletions, deleted_in}
 use Rattle.engine.specs.Looking.{Looks, LooksOf}
-use Rattle.engine.specs.Merging.{is_deleted}
+use Rattle.database_model.specs.Merging.{is_deleted}
 use Rattle.engine.specs.Redoing.{all_taken}
 use Rattle.engine.specs.Removing.{IsTaken, deleted}
 use Rattle.engine.specs.TakingOut.{HasHome}
 use Rattle.engine.specs.View.{world}
-use Rattle.engine.specs.World.{documents_or_none, documents_of}
+use Rattle.database_model.specs.World.{documents_or_none, documents_of}
 use Rattle.engine.specs.declared.delete.Taken.{Taken}
 use Rattle.engine.specs.declared.engine.Engine.{Engine}
 use Rattle.engine.proofs.LookingLemmas.{looks_behind, looks_made}

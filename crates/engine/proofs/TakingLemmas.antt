@@ -30,9 +30,9 @@ use Rattle.index.proofs.LawfulLaws.{all_of, makes_lawful, put_in, stays_lawful}
 use Rattle.index.proofs.MemberLemmas.{Among, first_of, of_all}
 use Rattle.index.proofs.PlaceLemmas.{apart_rest, name_itself}
 use Rattle.index.proofs.StateEditLaws.{put_same}
-use Rattle.engine.specs.Documents.{key_of}
+use Rattle.database_model.specs.Documents.{key_of}
 use Rattle.engine.specs.Judging.{AreLoaded, IsIndexable, IsLoadingAs, IsName, IsStoredAt, bare, keys_among, listed_of, numbered, stands_behind, with_document_at, with_document_in}
-use Rattle.engine.specs.Lawful.{IsLawfulState, IsStored}
+use Rattle.database_model.specs.Lawful.{IsLawfulState, IsStored}
 use Rattle.engine.proofs.ShortIndexes.{definitions_short}
 
 -- ---- what is lawful

@@ -19,32 +19,32 @@ use Rattle.commands.specs.Create.{Create}
 use Rattle.commands.specs.DropCollection.{DropCollection}
 use Rattle.commands.specs.ListCollections.{ListCollections}
 use Rattle.commands.specs.ListIndexes.{ListIndexes}
-use Rattle.engine.specs.ListIndexes.{indexes_reply, run_list_indexes}
-use Rattle.engine.specs.Create.{created, run_create}
+use Rattle.database_model.specs.ListIndexes.{indexes_reply, run_list_indexes}
+use Rattle.database_model.specs.Create.{created, run_create}
 use Rattle.commands.specs.CreateIndexes.{CreateIndexes}
-use Rattle.engine.specs.CreateIndexes.{create_indexes_reply, indexed, run_create_indexes}
+use Rattle.database_model.specs.CreateIndexes.{create_indexes_reply, indexed, run_create_indexes}
 use Rattle.commands.specs.DropIndexes.{DropIndexes}
-use Rattle.engine.specs.DropIndexes.{drop_indexes_reply, index_dropped, run_drop_indexes}
-use Rattle.engine.specs.DropCollection.{drop_reply, dropped, index_count, run_drop}
-use Rattle.engine.specs.ListCollections.{run_list_collections}
+use Rattle.database_model.specs.DropIndexes.{drop_indexes_reply, index_dropped, run_drop_indexes}
+use Rattle.database_model.specs.DropCollection.{drop_reply, dropped, index_count, run_drop}
+use Rattle.database_model.specs.ListCollections.{run_list_collections}
 use Rattle.commands.specs.Command.{Command, ping, hello, insert, find, get_more, kill_cursors, count, delete, update, aggregate, create, drop as drop_of, list_collections, create_indexes, drop_indexes, list_indexes, command_of}
 use Rattle.aggregate.specs.Pipeline.{run as after_pipeline}
-use Rattle.engine.specs.World.{collection_of, World, Cursor, documents_of, with_documents, untouched, are_untouched}
+use Rattle.database_model.specs.World.{collection_of, World, Cursor, documents_of, with_documents, untouched, are_untouched}
 use Rattle.index.specs.State.{Collection, find_collection, put_collection}
-use Rattle.engine.specs.Documents.{insert_all}
-use Rattle.engine.specs.Refusals.{int}
-use Rattle.engine.specs.Insert.{is_full}
-use Rattle.engine.specs.Cursors.{batch_of, batch_reply, is_refused, new_cursor, first_batch, is_cursor, cursor_at}
-use Rattle.engine.specs.GetMore.{batch_len_of, next_batch, run_get_more}
-use Rattle.engine.specs.KillCursors.{is_asked, run_kill_cursors}
-use Rattle.engine.specs.Insert.{run_insert}
-use Rattle.engine.specs.Find.{query_result, run_find}
-use Rattle.engine.specs.Count.{run_count}
-use Rattle.engine.specs.Delete.{run_delete}
-use Rattle.engine.specs.Update.{Updated, update_reply, run_all}
-use Rattle.engine.specs.UpdateCommand.{entered_in, run_update, writes_in}
-use Rattle.engine.specs.Aggregate.{run_aggregate}
-use Rattle.engine.specs.Step.{run, answered, step}
+use Rattle.database_model.specs.Documents.{insert_all}
+use Rattle.database_model.specs.Refusals.{int}
+use Rattle.database_model.specs.Insert.{is_full}
+use Rattle.database_model.specs.Cursors.{batch_of, batch_reply, is_refused, new_cursor, first_batch, is_cursor, cursor_at}
+use Rattle.database_model.specs.GetMore.{batch_len_of, next_batch, run_get_more}
+use Rattle.database_model.specs.KillCursors.{is_asked, run_kill_cursors}
+use Rattle.database_model.specs.Insert.{run_insert}
+use Rattle.database_model.specs.Find.{query_result, run_find}
+use Rattle.database_model.specs.Count.{run_count}
+use Rattle.database_model.specs.Delete.{run_delete}
+use Rattle.database_model.specs.Update.{Updated, update_reply, run_all}
+use Rattle.database_model.specs.UpdateCommand.{entered_in, run_update, writes_in}
+use Rattle.database_model.specs.Aggregate.{run_aggregate}
+use Rattle.database_model.specs.Step.{run, answered, step}
 use Rattle.engine.specs.CursorLaws.{IsAmong, after_commands, StaysOpen}
 
 -- ---- cursors of a list

@@ -18,18 +18,18 @@ use Rattle.index.specs.State.{Collection}
 use Rattle.index.specs.StateEntries.{Leads}
 use Rattle.engine.specs.Durable.{disk_history, file_of, has_changes, IsRunning}
 use Rattle.engine.specs.Known.{Known}
-use Rattle.engine.specs.Lawful.{IsLawfulState}
+use Rattle.database_model.specs.Lawful.{IsLawfulState}
 use Rattle.engine.specs.Looking.{OnlyReads}
 use Rattle.engine.specs.Performing.{Performs}
 use Rattle.engine.specs.Putting.{ArePlanned, AreWritesOf, ComesTo, EndsIn, IsFullFor, IsUpdate, NotesWrites, RepliesTo}
-use Rattle.engine.specs.Refusals.{ok_reply}
-use Rattle.engine.specs.Step.{ChangesNone}
+use Rattle.database_model.specs.Refusals.{ok_reply}
+use Rattle.database_model.specs.Step.{ChangesNone}
 use Rattle.engine.specs.Trying.{Tries}
-use Rattle.engine.specs.Update.{judged, not_updated, run_all, run_statements, spelled, Updated, update_reply}
-use Rattle.engine.specs.UpdateCommand.{entered_in, run_update, updated, writes_in, written_in}
+use Rattle.database_model.specs.Update.{judged, not_updated, run_all, run_statements, spelled, Updated, update_reply}
+use Rattle.database_model.specs.UpdateCommand.{entered_in, run_update, updated, writes_in, written_in}
 use Rattle.engine.specs.Updating.{seen}
 use Rattle.engine.specs.View.{world}
-use Rattle.engine.specs.World.{World, documents_of}
+use Rattle.database_model.specs.World.{World, documents_of}
 use Rattle.engine.specs.Writing.{Makes, planned_or, Writes}
 use Rattle.engine.specs.declared.engine.Engine.{Engine}
 use Rattle.engine.specs.declared.statements.Ran.{Ran}

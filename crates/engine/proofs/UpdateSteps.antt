@@ -14,19 +14,19 @@ use Rattle.index.specs.State.{Collection, put_collection}
 use Rattle.index.specs.declared.catalogue_reading.Catalogued.{Catalogued}
 use Rattle.index.proofs.EnteringLemmas.{has_entered}
 use Rattle.engine.specs.Durable.{disk_history}
-use Rattle.engine.specs.Insert.{is_full}
+use Rattle.database_model.specs.Insert.{is_full}
 use Rattle.engine.specs.Looking.{OnlyReads}
 use Rattle.engine.specs.Putting.{ArePlanned, AreWritesOf, NotesWrites}
 use Rattle.engine.specs.Storing.{AreNoted, HasNoted, IsFull, MayEnter, Notes, entering, write_of}
 use Rattle.engine.specs.Trying.{Tries}
-use Rattle.engine.specs.UpdateCommand.{written_in}
+use Rattle.database_model.specs.UpdateCommand.{written_in}
 use Rattle.engine.specs.Updating.{MayBePut, news_of, seen}
 use Rattle.engine.specs.View.{world}
-use Rattle.engine.specs.World.{collection_of, documents_of}
+use Rattle.database_model.specs.World.{collection_of, documents_of}
 use Rattle.engine.specs.declared.engine.Engine.{Engine}
 use Rattle.engine.specs.declared.statements.Write.{Write}
 use Rattle.engine.proofs.OnlyReading.{cause_from, now_same, reads_on, word_before}
-use Rattle.engine.proofs.Steps.{drop_step}
+use Rattle.replies.proofs.Steps.{drop_step}
 
 -- ---- write after write
 

@@ -23,19 +23,19 @@ use Rattle.index.specs.Documents.{put_document}
 use Rattle.index.specs.LawfulState.{IsRising, IsStorable}
 use Rattle.index.specs.State.{by_order}
 use Rattle.index.specs.Entering.{DocumentWrite}
-use Rattle.engine.specs.Documents.{key_of}
-use Rattle.engine.specs.Lawful.{IsStored, IsWithin}
-use Rattle.engine.specs.Merging.{Listed, none_changed, listed_to, one_or_none, put_each, run_listed, upsert_listed}
-use Rattle.engine.specs.Update.{counted, spelled, Changed, passed_over, changed_to, update_from, upsert_document}
+use Rattle.database_model.specs.Documents.{key_of}
+use Rattle.database_model.specs.Lawful.{IsStored, IsWithin}
+use Rattle.database_model.specs.Merging.{Listed, none_changed, listed_to, one_or_none, put_each, run_listed, upsert_listed}
+use Rattle.database_model.specs.Update.{counted, spelled, Changed, passed_over, changed_to, update_from, upsert_document}
 use Rattle.engine.specs.Updating.{AreWritten, changed_of, ChangesAt, document_at, HasInserted, HasNone, HasRun, HasStopped, HasWritten, HaveOld, IsChange, IsMadeIn, IsRefused, IsRunOf, listed_of, MayBePut, news_of, replaced_in, RunsOn, seen, write_of_new, written, Wrote}
-use Rattle.engine.specs.Writes.{change_writes, changes_of, made_write, statement_writes, updated_by}
+use Rattle.database_model.specs.Writes.{change_writes, changes_of, made_write, statement_writes, updated_by}
 use Rattle.engine.specs.declared.statements.Run.{Run}
 use Rattle.engine.specs.declared.statements.Write.{Write}
 use Rattle.engine.proofs.Applied.{applied, change_kept, change_puttable, rising_set, stored_puttable}
 use Rattle.engine.proofs.EditPlaceLemmas.{storable}
 use Rattle.engine.proofs.KeptLemmas.{kept_place}
 use Rattle.engine.proofs.Ordered.{flipped}
-use Rattle.engine.proofs.Steps.{drop_step}
+use Rattle.replies.proofs.Steps.{drop_step}
 use Rattle.engine.proofs.StoringLemmas.{put_where_placed}
 use Rattle.engine.proofs.WriteSteps.{changes_on, changes_only, changes_refused, found_at, news_more, none_written, old_more, one_written, or_false, or_true, rising_rest, seen_more, updated_none, updated_other, updated_unmatched, writes_changes, writes_none, writes_upsert}
 

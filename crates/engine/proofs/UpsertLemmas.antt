@@ -7,12 +7,12 @@ use Rattle.path.specs.declared.refusal.Refusal.{Refusal}
 use Rattle.path.specs.declared.refusal.Refusal.TheVariants as refusals
 use Rattle.commands.specs.Update.{UpdateStatement}
 use Rattle.index.specs.Entering.{DocumentWrite}
-use Rattle.engine.specs.Documents.{key_of, place}
-use Rattle.engine.specs.Lawful.{IsStored}
-use Rattle.engine.specs.Merging.{Listed, one_or_none, upsert_listed, with_listed}
-use Rattle.engine.specs.Update.{counted, upsert_document, upserted_entry}
+use Rattle.database_model.specs.Documents.{key_of, place}
+use Rattle.database_model.specs.Lawful.{IsStored}
+use Rattle.database_model.specs.Merging.{Listed, one_or_none, upsert_listed, with_listed}
+use Rattle.database_model.specs.Update.{counted, upsert_document, upserted_entry}
 use Rattle.engine.specs.Updating.{HasInserted, HasStopped, HasWritten, IsThere, listed_of, written, Wrote}
-use Rattle.engine.specs.Writes.{made_write}
+use Rattle.database_model.specs.Writes.{made_write}
 use Rattle.engine.specs.declared.statements.Run.{Run}
 use Rattle.engine.specs.declared.statements.Tally.{Tally}
 use Rattle.engine.proofs.UpdatingLoop.{inserts_on, made_stops, some_upserted, wrote_made}

@@ -27,11 +27,11 @@ use Rattle.collections.specs.State.{State}
 use Rattle.collections.specs.View.{disk_history, is_changed, is_stopped}
 use Rattle.collections.specs.Walk.{AreNext, BeginsWalk, IsWalk, StepsOn}
 use Rattle.collections.specs.declared.walk.Walk.{Walk}
-use Rattle.engine.specs.Lawful.{IsWithin}
+use Rattle.database_model.specs.Lawful.{IsWithin}
 use Rattle.engine.specs.Looking.{HasReadCause, Looks, LooksOf, is_within}
 use Rattle.engine.specs.View.{world}
 use Rattle.engine.specs.declared.engine.Engine.{Engine}
-use Rattle.engine.specs.World.{documents_of}
+use Rattle.database_model.specs.World.{documents_of}
 use Rattle.engine.proofs.LookingLemmas.{goes_itself, goes_on, looks_behind, looks_made, widen_before, word_before}
 
 -- ---- the collection of a name and of a number

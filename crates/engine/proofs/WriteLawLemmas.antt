@@ -15,12 +15,12 @@ use Rattle.update.specs.Applying.{apply}
 use Rattle.commands.specs.OutcomeLaws.{step_of}
 use Rattle.commands.specs.Update.{UpdateStatement, IsRead}
 use Rattle.index.specs.Entering.{DocumentWrite}
-use Rattle.engine.specs.Documents.{key_of, place}
-use Rattle.engine.specs.Lawful.{IsStored}
-use Rattle.engine.specs.Merging.{Listed, listed_to, made_of, none_changed, not_listed, one_or_none, run_each, run_listed, upsert_listed, with_listed}
-use Rattle.engine.specs.Update.{Changed, changed_to, passed_over, spelled, update_from, upsert_document}
+use Rattle.database_model.specs.Documents.{key_of, place}
+use Rattle.database_model.specs.Lawful.{IsStored}
+use Rattle.database_model.specs.Merging.{Listed, listed_to, made_of, none_changed, not_listed, one_or_none, run_each, run_listed, upsert_listed, with_listed}
+use Rattle.database_model.specs.Update.{Changed, changed_to, passed_over, spelled, update_from, upsert_document}
 use Rattle.engine.specs.WriteLaws.{documents_in, UnchangedWriteNothing, WritesJoin, WritesOfMeant, WritesStored}
-use Rattle.engine.specs.Writes.{change_writes, changes_of, made_write, statement_writes, unless_refused, updated_by, writes_from, writes_of}
+use Rattle.database_model.specs.Writes.{change_writes, changes_of, made_write, statement_writes, unless_refused, updated_by, writes_from, writes_of}
 use Rattle.engine.proofs.Applied.{kept_stored, upserted_stored}
 use Rattle.engine.proofs.KeptLemmas.{Kept, kept_place}
 use Rattle.engine.proofs.LawfulUpdates.{SameKeys, SameKeys-rising, from_kept}

@@ -24,12 +24,12 @@ use Rattle.index.specs.LawfulState.{IsRising}
 use Rattle.index.specs.State.{by_order}
 use Rattle.index.specs.StateReads.{find_document}
 use Rattle.index.specs.Entering.{DocumentWrite}
-use Rattle.engine.specs.Documents.{key_of, place}
-use Rattle.engine.specs.Lawful.{IsStored}
-use Rattle.engine.specs.Merging.{Listed, made_of, none_changed, not_listed, one_or_none, put_each, run_each, run_listed}
-use Rattle.engine.specs.Update.{Changed, changed_to, passed_over, spelled, update_from}
+use Rattle.database_model.specs.Documents.{key_of, place}
+use Rattle.database_model.specs.Lawful.{IsStored}
+use Rattle.database_model.specs.Merging.{Listed, made_of, none_changed, not_listed, one_or_none, put_each, run_each, run_listed}
+use Rattle.database_model.specs.Update.{Changed, changed_to, passed_over, spelled, update_from}
 use Rattle.engine.specs.WriteLaws.{AreThere, documents_in, WritesLead, WritesReplace}
-use Rattle.engine.specs.Writes.{change_writes, changes_of, made_write, statement_writes, unless_refused, updated_by, writes_from, writes_of}
+use Rattle.database_model.specs.Writes.{change_writes, changes_of, made_write, statement_writes, unless_refused, updated_by, writes_from, writes_of}
 use Rattle.engine.proofs.Applied.{kept_key}
 use Rattle.engine.proofs.KeptLemmas.{Kept}
 use Rattle.engine.proofs.LawfulUpdates.{SameKeys, SameKeys-rising}

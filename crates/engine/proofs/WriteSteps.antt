@@ -21,12 +21,12 @@ use Rattle.index.specs.Documents.{put_document}
 use Rattle.index.specs.LawfulState.{IsRising}
 use Rattle.index.specs.StateReads.{find_document}
 use Rattle.index.specs.Entering.{DocumentWrite}
-use Rattle.engine.specs.Documents.{key_of}
-use Rattle.engine.specs.Lawful.{IsStored}
-use Rattle.engine.specs.Merging.{made_of, one_or_none, put_each}
-use Rattle.engine.specs.Update.{spelled, upsert_document}
+use Rattle.database_model.specs.Documents.{key_of}
+use Rattle.database_model.specs.Lawful.{IsStored}
+use Rattle.database_model.specs.Merging.{made_of, one_or_none, put_each}
+use Rattle.database_model.specs.Update.{spelled, upsert_document}
 use Rattle.engine.specs.Updating.{HaveOld, news_of, replaced_in, seen}
-use Rattle.engine.specs.Writes.{change_writes, changes_of, made_write, statement_writes, unless_refused, updated_by}
+use Rattle.database_model.specs.Writes.{change_writes, changes_of, made_write, statement_writes, unless_refused, updated_by}
 use Rattle.engine.specs.declared.statements.Write.{Write}
 use Rattle.engine.proofs.Ordered.{flipped}
 

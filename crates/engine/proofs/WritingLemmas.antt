@@ -13,7 +13,7 @@ use Rattle.collections.specs.State.{State}
 use Rattle.collections.proofs.LawLemmas as laws
 use Rattle.engine.specs.Durable.{disk_history, is_stopped, IsRunning, IsSound}
 use Rattle.engine.specs.Known.{Known}
-use Rattle.engine.specs.Lawful.{IsLawfulState}
+use Rattle.database_model.specs.Lawful.{IsLawfulState}
 use Rattle.engine.specs.View.{world}
 use Rattle.engine.specs.Writing.{Writes}
 use Rattle.engine.specs.declared.engine.Engine.{Engine}

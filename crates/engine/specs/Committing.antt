@@ -4,7 +4,7 @@ use Rattle.page.specs.History.{History, KeepsWord}
 use Rattle.page.specs.Crash.{GoesOn, LeavesOnly, LeavesNow}
 use Rattle.roots.specs.declared.store.CommitFault.{CommitFault}
 use Rattle.roots.specs.declared.store.CommitFault.TheVariants as faults
-use Rattle.engine.specs.World.{are_untouched, after_commit, after_undo}
+use Rattle.database_model.specs.World.{are_untouched, after_commit, after_undo}
 use Rattle.engine.specs.View.{world, turn_start}
 use Rattle.engine.specs.Durable.{Holds, disk_history, file_of, full_takes_of, generation, has_changes, is_stopped, IsRunning, IsSound}
 use Rattle.engine.specs.declared.engine.Engine.{Engine}

@@ -3,9 +3,9 @@
 use Rattle.std.specs.Prelude.{◌≡◌, ◌⊎◌, ℕ, true, List, [], ◌∷◌, Result}
 use Rattle.bson.specs.Tree.{Pairs}
 use Rattle.bson.specs.declared.fault.BsonFault.{BsonFault}
-use Rattle.engine.specs.World.{World, Cursor, are_untouched, after_undo}
+use Rattle.database_model.specs.World.{World, Cursor, are_untouched, after_undo}
 use Rattle.index.specs.State.{Collection}
-use Rattle.engine.specs.Step.{step}
+use Rattle.database_model.specs.Step.{step}
 
 -- a cursor is one of these, with the documents that it has
 abbrev pub IsAmong : Cursor → List Cursor → Type 0

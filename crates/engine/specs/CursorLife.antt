@@ -7,11 +7,11 @@ use Rattle.bson.specs.declared.fault.BsonFault.{BsonFault}
 use Rattle.path.specs.declared.refusal.Refusal.{Refusal}
 use Rattle.commands.specs.Command.{Command, get_more, command_of}
 use Rattle.commands.specs.GetMore.{GetMore}
-use Rattle.engine.specs.World.{World, Cursor, forget, after_commit, after_undo}
+use Rattle.database_model.specs.World.{World, Cursor, forget, after_commit, after_undo}
 use Rattle.index.specs.State.{Collection}
-use Rattle.engine.specs.Cursors.{is_cursor, cursor_at, number_after}
-use Rattle.engine.specs.GetMore.{batch_len_of}
-use Rattle.engine.specs.Step.{step}
+use Rattle.database_model.specs.Cursors.{is_cursor, cursor_at, number_after}
+use Rattle.database_model.specs.GetMore.{batch_len_of}
+use Rattle.database_model.specs.Step.{step}
 
 -- a command of a connection, the end of a turn that is done or undone, the end of a connection
 pub data Event : Type 0 where

@@ -6,7 +6,7 @@ use Rattle.collections.specs.State.{State}
 use Rattle.collections.specs.Holding as files
 use Rattle.collections.specs.Standing.{HasState}
 use Rattle.collections.specs.View as views
-use Rattle.engine.specs.Lawful.{IsLawfulState, AreLawfulCursors}
+use Rattle.database_model.specs.Lawful.{IsLawfulState, AreLawfulCursors}
 use Rattle.engine.specs.View.{world, turn_start}
 use Rattle.engine.specs.declared.engine.Engine.{Engine}
 

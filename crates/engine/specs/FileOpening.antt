@@ -17,7 +17,7 @@ use Rattle.engine.specs.Durable.{Holds}
 use Rattle.engine.specs.Judging.{IsLoadingAs, Makes, MakesNone, Progress, RefusesOne, TakesAll, nothing_read}
 use Rattle.engine.specs.Loading.{named_as, progress_of}
 use Rattle.engine.specs.declared.loading.Loading.{Loading}
-use Rattle.engine.specs.Lawful.{IsLawfulState}
+use Rattle.database_model.specs.Lawful.{IsLawfulState}
 use Rattle.engine.specs.Known.{Known}
 
 -- ---- entries of the file

@@ -12,9 +12,9 @@ use Rattle.index.specs.LawfulState as states
 use Rattle.index.specs.State.{Collection, find_collection, put_collection}
 use Rattle.index.specs.StateEntries.{Leads}
 use Rattle.index.specs.declared.making.NewEntries.{NewEntries}
-use Rattle.engine.specs.CreateIndexes.{with_new_indexes}
-use Rattle.engine.specs.Insert.{is_full}
-use Rattle.engine.specs.World.{collection_of, documents_of}
+use Rattle.database_model.specs.CreateIndexes.{with_new_indexes}
+use Rattle.database_model.specs.Insert.{is_full}
+use Rattle.database_model.specs.World.{collection_of, documents_of}
 use Rattle.engine.specs.declared.create_indexes.PlannedIndexes.{PlannedIndexes}
 
 -- ---- documents

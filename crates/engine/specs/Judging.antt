@@ -19,8 +19,8 @@ use Rattle.index.specs.LawfulState.{IsKept as IsIndexKept, IsLawfulState as IsIn
 use Rattle.index.specs.State.{Collection, put_collection}
 use Rattle.index.specs.StateEntries.{catalogue_entry, document_entry}
 use Rattle.collections.specs.IndexChecks.{lacks_any}
-use Rattle.engine.specs.Documents.{key_of}
-use Rattle.engine.specs.Lawful.{IsStored}
+use Rattle.database_model.specs.Documents.{key_of}
+use Rattle.database_model.specs.Lawful.{IsStored}
 
 -- the fault is want of memory, or the entry is none of a file's
 abbrev pub IsFaultOf : OpenFault → Type 0 → Type 0

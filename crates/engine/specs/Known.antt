@@ -2,7 +2,7 @@
 use Rattle.std.specs.Prelude.{List, refl}
 use Rattle.std.specs.Coded.{Coded, code_by, coded×, coded_list}
 use Rattle.index.specs.State.{Collection}
-use Rattle.engine.specs.Lawful.{collection_code}
+use Rattle.database_model.specs.Lawful.{collection_code}
 
 -- the collections as the turn began, and as they are now
 pub record Known : Type 0 where

@@ -2,15 +2,15 @@
 use Rattle.std.specs.Prelude.{◌≡◌, ℕ, List, [], replicate, Result, Ok, Err}
 use Rattle.bson.specs.Tree.{Pairs}
 use Rattle.bson.specs.declared.fault.BsonFault.{BsonFault}
-use Rattle.engine.specs.World.{World, new_world}
+use Rattle.database_model.specs.World.{World, new_world}
 use Rattle.index.specs.State.{Collection}
 use Rattle.collections.specs.Calls.{IsOfFile}
-use Rattle.engine.specs.Lawful.{IsLawful}
+use Rattle.database_model.specs.Lawful.{IsLawful}
 use Rattle.engine.specs.Durable.{Holds}
 use Rattle.path.specs.declared.refusal.Refusal.{Refusal}
 use Rattle.commands.specs.Command.{Command, ping, insert, find, count, delete, update, aggregate, create, drop, list_collections, create_indexes, drop_indexes, list_indexes, command_of, get_more, kill_cursors, hello}
-use Rattle.engine.specs.Step.{step, Answers}
-use Rattle.engine.specs.View.{IsSendable}
+use Rattle.database_model.specs.Step.{step, Answers}
+use Rattle.replies.specs.View.{IsSendable}
 
 -- the world that an engine begins with is lawful
 abbrev pub BeginsLawful : Type 0

@@ -4,7 +4,7 @@ use Rattle.path.specs.declared.refusal.Refusal.{Refusal}
 use Rattle.path.specs.declared.refusal.Refusal.TheVariants as refusals
 use Rattle.index.specs.State.{Collection, empty_collection, uses}
 use Rattle.collections.specs.declared.reading.Name.{Name}
-use Rattle.engine.specs.World.{unused}
+use Rattle.database_model.specs.World.{unused}
 
 -- collections that have the numbers of these names
 abbrev pub numbered : List Name → List Collection

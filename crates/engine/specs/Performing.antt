@@ -5,9 +5,10 @@ use Rattle.page.specs.History.{History, KeepsWord}
 use Rattle.path.specs.declared.refusal.Refusal.{Refusal}
 use Rattle.collections.specs.Calls.{GoesFrom}
 use Rattle.engine.specs.Durable.{disk_history, file_of, has_changes, IsSound}
-use Rattle.engine.specs.Step.{answered}
-use Rattle.engine.specs.View.{world, turn_start, with_ok}
-use Rattle.engine.specs.World.{World}
+use Rattle.database_model.specs.Step.{answered}
+use Rattle.replies.specs.View.{with_ok}
+use Rattle.engine.specs.View.{world, turn_start}
+use Rattle.database_model.specs.World.{World}
 use Rattle.engine.specs.Writing.{FileCause}
 use Rattle.engine.specs.declared.engine.Engine.{Engine}
 

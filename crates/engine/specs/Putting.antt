@@ -15,14 +15,14 @@ use Rattle.index.specs.State.{Collection, find_collection}
 use Rattle.index.specs.StateEntries.{Leads}
 use Rattle.engine.specs.Durable.{disk_history, file_of}
 use Rattle.engine.specs.Looking.{OnlyReads}
-use Rattle.engine.specs.Merging.{is_meant, makes_any}
-use Rattle.engine.specs.Refusals.{ok_reply}
+use Rattle.database_model.specs.Merging.{is_meant, makes_any}
+use Rattle.database_model.specs.Refusals.{ok_reply}
 use Rattle.engine.specs.Storing.{IsReplacedIn}
-use Rattle.engine.specs.Update.{Updated, counts_reply, not_updated, run_all, run_statements, spelled, update_reply}
-use Rattle.engine.specs.UpdateCommand.{writes_in, written_in}
+use Rattle.database_model.specs.Update.{Updated, counts_reply, not_updated, run_all, run_statements, spelled, update_reply}
+use Rattle.database_model.specs.UpdateCommand.{writes_in, written_in}
 use Rattle.engine.specs.Updating.{seen}
 use Rattle.engine.specs.View.{world}
-use Rattle.engine.specs.World.{documents_of, unused}
+use Rattle.database_model.specs.World.{documents_of, unused}
 use Rattle.engine.specs.declared.engine.Engine.{Engine}
 use Rattle.engine.specs.declared.statements.Ran.{Ran}
 use Rattle.engine.specs.declared.statements.Tally.{Tally}

@@ -5,8 +5,8 @@ use Rattle.bson.specs.Tree.{Pairs, no_pairs}
 use Rattle.filter.specs.Matches.{matches}
 use Rattle.commands.specs.Delete.{Deletion}
 use Rattle.index.specs.Documents.{without_document}
-use Rattle.engine.specs.Delete.{after_deletion}
-use Rattle.engine.specs.Documents.{key_of}
+use Rattle.database_model.specs.Delete.{after_deletion}
+use Rattle.database_model.specs.Documents.{key_of}
 
 -- the documents without those of the `_id`s of these, one after the other
 abbrev pub without_each : List Pairs → List Pairs → List Pairs

@@ -2,9 +2,9 @@
 use Rattle.std.specs.Prelude.{◌≡◌, ℕ, List, Some}
 use Rattle.commands.specs.Delete.{Deletion}
 use Rattle.index.specs.State.{Collection, find_collection}
-use Rattle.engine.specs.Delete.{deleted_in}
+use Rattle.database_model.specs.Delete.{deleted_in}
 use Rattle.engine.specs.Redoing.{all_taken}
-use Rattle.engine.specs.World.{documents_of}
+use Rattle.database_model.specs.World.{documents_of}
 use Rattle.engine.specs.declared.delete.Taken.{Taken}
 
 -- The documents are those that the statements take, and the number and the indexes are those of their collection.

@@ -9,8 +9,8 @@ use Rattle.bson.specs.Spelling.{frame_of, pairs_bytes}
 use Rattle.value_order.specs.KeyText.{tree_text}
 use Rattle.btree.specs.Keys.{Entry}
 use Rattle.index.specs.State.{Collection}
-use Rattle.engine.specs.Documents.{key_of}
-use Rattle.engine.specs.Refusals.{int, words}
+use Rattle.database_model.specs.Documents.{key_of}
+use Rattle.database_model.specs.Refusals.{int, words}
 
 abbrev pub key_under : ℕ → ℕ → List ℕ → List ℕ
 key_under collection index text = to_be_bytes w32 collection ++ to_be_bytes w32 index ++ text

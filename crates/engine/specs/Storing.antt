@@ -16,9 +16,9 @@ use Rattle.index.specs.StateEntries.{Leads}
 use Rattle.index.specs.StateReads.{find_document}
 use Rattle.index.specs.declared.catalogue_reading.Catalogued.{Catalogued}
 use Rattle.index.specs.declared.entering.Keyed.{Keyed}
-use Rattle.engine.specs.Documents.{key_of}
+use Rattle.database_model.specs.Documents.{key_of}
 use Rattle.engine.specs.Durable.{disk_history, file_of}
-use Rattle.engine.specs.Insert.{is_full}
+use Rattle.database_model.specs.Insert.{is_full}
 use Rattle.engine.specs.Looking.{OnlyReads}
 use Rattle.engine.specs.View.{world}
 use Rattle.engine.specs.declared.engine.Engine.{Engine}

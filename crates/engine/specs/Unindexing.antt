@@ -13,7 +13,7 @@ use Rattle.index.specs.IndexMaking.{without_index_at}
 use Rattle.index.specs.KeyTexts.{encoded_keys, keys_in}
 use Rattle.index.specs.LawfulState.{IsStorable}
 use Rattle.index.specs.State.{Collection, find_collection}
-use Rattle.engine.specs.DropIndexes.{remaining}
+use Rattle.database_model.specs.DropIndexes.{remaining}
 
 -- ---- documents
 

@@ -17,11 +17,11 @@ use Rattle.index.specs.Documents.{put_document}
 use Rattle.index.specs.LawfulState.{IsRising, IsStorable}
 use Rattle.index.specs.StateReads.{find_document}
 use Rattle.index.specs.Entering.{DocumentWrite}
-use Rattle.engine.specs.Documents.{key_of, place}
-use Rattle.engine.specs.Lawful.{IsStored, IsWithin}
-use Rattle.engine.specs.Merging.{Listed, none_changed, not_listed, put_each, run_each}
-use Rattle.engine.specs.Update.{counted, spelled, modified_by, Changed, update_from}
-use Rattle.engine.specs.Writes.{change_writes, changes_of, statement_writes, updated_by, writes_of}
+use Rattle.database_model.specs.Documents.{key_of, place}
+use Rattle.database_model.specs.Lawful.{IsStored, IsWithin}
+use Rattle.database_model.specs.Merging.{Listed, none_changed, not_listed, put_each, run_each}
+use Rattle.database_model.specs.Update.{counted, spelled, modified_by, Changed, update_from}
+use Rattle.database_model.specs.Writes.{change_writes, changes_of, statement_writes, updated_by, writes_of}
 use Rattle.engine.specs.declared.statements.Ran.{Ran}
 use Rattle.engine.specs.declared.statements.Run.{Run}
 use Rattle.engine.specs.declared.statements.Tally.{Tally}

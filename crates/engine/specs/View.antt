@@ -1,44 +1,18 @@
 -- What an engine and its replies stand for.
-use Rattle.std.specs.Prelude.{◌≡◌, ◌≤◌, ℕ, List, length, map, codes, Result, Ok, Err}
+use Rattle.std.specs.Prelude.{List}
 use Rattle.bson.specs.Tree.{Pairs}
-use Rattle.bson.specs.Spelling.{frame_of, pairs_bytes}
-use Rattle.filter.specs.Projection.{Projection, project}
-use Rattle.engine.specs.World.{World, CursorTable}
+use Rattle.database_model.specs.World.{World, CursorTable}
+use Rattle.database_model.specs.Refusals.{refusal_reply}
 use Rattle.index.specs.State.{Collection}
-use Rattle.engine.specs.Refusals.{refusal_reply, ok_reply}
-use Rattle.outcome.specs.Outcome.{Fails}
 use Rattle.engine.specs.Known.{Known}
-use Rattle.path.specs.declared.refusal.Refusal.{Refusal}
-use Rattle.engine.specs.declared.reply.Answer.{Answer}
-use Rattle.engine.specs.declared.reply.Answer.TheVariants as answers
+use Rattle.replies.specs.View.{answer_of}
 use Rattle.engine.specs.declared.engine.Reply.{Reply}
 use Rattle.engine.specs.declared.engine.Reply.TheVariants as replies
 use Rattle.engine.specs.declared.engine.Engine.{Engine}
-use Rattle.engine.specs.declared.batch_reply.BatchKind.{BatchKind}
-use Rattle.engine.specs.declared.batch_reply.BatchKind.TheVariants as batches
-use Rattle.path.specs.declared.refusal.Refusal.TheVariants as refusals
-
--- the reply that says that a command was done
-abbrev pub answer_of : Answer → Pairs
-answer_of (answers.Built ps) = ps
-answer_of (answers.Spelled ps) = ps
-
--- what running a command returned: the reply, or the refusal
-abbrev pub outcome_of : Result Answer Refusal → Result Pairs Refusal
-outcome_of (Ok a) = Ok (answer_of a)
-outcome_of (Err r) = Err r
 
 abbrev pub reply_of : Reply → Pairs
 reply_of (replies.Done a) = answer_of a
 reply_of (replies.Refused r) = refusal_reply r
-
--- what a projection leaves of each of these documents
-abbrev pub projected : Projection → List Pairs → List Pairs
-projected p ds = map (project p) ds
-
-abbrev pub batch_name : BatchKind → List ℕ
-batch_name batches.First = codes "firstBatch"
-batch_name batches.Next = codes "nextBatch"
 
 abbrev pub world_of : Known → CursorTable → World
 world_of known cursors =
@@ -51,17 +25,3 @@ world engine = world_of engine.told.value engine.cursors
 -- is taken back by what they know of themselves.
 abbrev pub turn_start : {D : Type 0} → Engine D → List Collection
 turn_start engine = engine.told.value.start
-
--- the reply is within the limit of replies: a message without its frame
-abbrev pub IsSendable : Pairs → Type 0
-IsSendable ps = length (frame_of (pairs_bytes ps)) ≤ 1048555
-
--- what is planned, with the end of its reply
-abbrev pub with_ok : Result (World × Pairs) Refusal → Result (World × Pairs) Refusal
-with_ok (Ok x) = Ok (x.0, ok_reply x.1)
-with_ok (Err e) = Err e
-
--- What running a command made of a world: what was planned, or a refusal, which leaves the world as it was.
-abbrev pub Runs : World → Result (World × Pairs) Refusal → World → Result Pairs Refusal → Type 0
-Runs old planned new (Ok reply) = with_ok planned ≡ Ok (new, reply)
-Runs old planned new (Err e) = (new ≡ old) × Fails refusals.OutOfMemory e planned

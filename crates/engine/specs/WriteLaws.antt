@@ -9,11 +9,11 @@ use Rattle.index.specs.Documents.{put_document}
 use Rattle.index.specs.LawfulState.{IsRising}
 use Rattle.index.specs.StateReads.{find_document}
 use Rattle.index.specs.Entering.{DocumentWrite}
-use Rattle.engine.specs.Documents.{key_of}
-use Rattle.engine.specs.Lawful.{IsStored}
-use Rattle.engine.specs.Merging.{is_meant, Listed, not_listed, put_each, run_each}
-use Rattle.engine.specs.Update.{spelled}
-use Rattle.engine.specs.Writes.{statement_writes, unless_refused, writes_of}
+use Rattle.database_model.specs.Documents.{key_of}
+use Rattle.database_model.specs.Lawful.{IsStored}
+use Rattle.database_model.specs.Merging.{is_meant, Listed, not_listed, put_each, run_each}
+use Rattle.database_model.specs.Update.{spelled}
+use Rattle.database_model.specs.Writes.{statement_writes, unless_refused, writes_of}
 
 -- such as are read, over documents such as are stored
 pub record AreRun (ss : List UpdateStatement) (ds : List Pairs) : Type 0 where

@@ -9,7 +9,7 @@ use Rattle.collections.specs.View.{disk_history}
 use Rattle.engine.specs.Durable as durable
 use Rattle.engine.specs.Durable.{file_of, has_changes, IsSound}
 use Rattle.engine.specs.View.{world, turn_start}
-use Rattle.engine.specs.World.{World}
+use Rattle.database_model.specs.World.{World}
 use Rattle.engine.specs.declared.engine.Engine.{Engine}
 
 -- Why a command was refused that leads to this world and isn't refused by its definition: memory ran out; or, while the disk

@@ -9,27 +9,26 @@ ghost use Rattle.aggregate.specs.Taking.{takes, IsEnough, SufficesTaken};
 ghost use Rattle.aggregate.specs.View.{pipeline_of};
 ghost use Rattle.collections.specs.Reading.{IsNumbered, ReadsOf};
 ghost use Rattle.commands.specs.View.{documents_at};
-ghost use Rattle.engine.specs.Aggregate.{run_aggregate, AreEnough};
-ghost use Rattle.engine.specs.Cursors.{batch_of, first_batch};
+ghost use Rattle.database_model.specs.Aggregate.{run_aggregate, AreEnough};
+ghost use Rattle.database_model.specs.Cursors.{batch_of, first_batch};
 ghost use Rattle.engine.specs.Durable.{has_changes, IsSound};
-ghost use Rattle.engine.specs.Lawful.{IsWithin};
+ghost use Rattle.database_model.specs.Lawful.{IsWithin};
 ghost use Rattle.engine.specs.Looking.{HasReadCause, Looks};
 ghost use Rattle.engine.specs.Performing.{Performs};
-ghost use Rattle.engine.specs.View.{world, IsSendable, Runs};
-ghost use Rattle.engine.specs.World.{documents_of};
+ghost use Rattle.replies.specs.View.{IsSendable, Runs};
+ghost use Rattle.engine.specs.View.{world};
+ghost use Rattle.database_model.specs.World.{documents_of};
 
 use crate::STORED_LIMIT;
-use crate::batch_reply::{BatchKind, batch_reply};
-use crate::connection::ConnId;
 use crate::engine::Engine;
 use crate::looking::{BATCH, built_within};
-use crate::shared_document::SharedDocument;
 use aggregate::Pipeline;
 use bson::{Document, NoMemory, SpelledDocument};
 use collections::Collections;
 use filter::Projection;
 use page::Disk;
 use path::Refusal;
+use replies::{BatchKind, ConnId, SharedDocument, batch_reply};
 use std::alloc::Global;
 
 /// So many documents are kept before those that aren't needed any more are let go.

@@ -3,22 +3,23 @@
 ghost use Rattle.std.specs.Prelude.{◌≡◌, IfOk, List, [], ◌∷◌, length};
 ghost use Rattle.bson.specs.Tree.{Pairs};
 ghost use Rattle.collections.specs.Reading.{IsNumbered, ReadsOf};
-ghost use Rattle.engine.specs.Count.{run_count};
+ghost use Rattle.database_model.specs.Count.{run_count};
 ghost use Rattle.engine.specs.Durable.{has_changes, IsSound};
-ghost use Rattle.engine.specs.Find.{matching, window};
+ghost use Rattle.database_model.specs.Find.{matching, window};
 ghost use Rattle.engine.specs.Looking.{Looks};
 ghost use Rattle.engine.specs.Performing.{Performs};
-ghost use Rattle.engine.specs.View.{world, IsSendable};
-ghost use Rattle.engine.specs.World.{documents_of};
+ghost use Rattle.replies.specs.View.{IsSendable};
+ghost use Rattle.engine.specs.View.{world};
+ghost use Rattle.database_model.specs.World.{documents_of};
 
 use crate::engine::Engine;
 use crate::looking::BATCH;
-use crate::reply::total_reply;
 use bson::{Document, NoMemory, SpelledDocument};
 use collections::Collections;
 use filter::Filter;
 use page::Disk;
 use path::Refusal;
+use replies::total_reply;
 use std::alloc::Global;
 
 /// One where a document matches a filter, and none where it doesn't. No more of it is read than the filter asks for.

@@ -1,19 +1,20 @@
 //! `create`: a collection is made.
 
 ghost use Rattle.std.specs.Prelude.{◌≡◌, ◌≤◌, IfErr, IfOk, length};
-ghost use Rattle.engine.specs.Create.{created, run_create};
+ghost use Rattle.database_model.specs.Create.{created, run_create};
 ghost use Rattle.page.specs.History.{KeepsWord};
 ghost use Rattle.engine.specs.Durable.{disk_history, has_changes, IsSound};
 ghost use Rattle.engine.specs.Performing.{Performs};
-ghost use Rattle.engine.specs.View.{world, IsSendable};
+ghost use Rattle.replies.specs.View.{IsSendable};
+ghost use Rattle.engine.specs.View.{world};
 ghost use Rattle.engine.specs.Writing.{Makes};
 
 use crate::engine::Engine;
-use crate::reply::ping_reply;
 use bson::Document;
 use index::Edits;
 use page::Disk;
 use path::Refusal;
+use replies::ping_reply;
 
 impl<D: Disk> Engine<D> {
     /// Makes an empty collection; `NamespaceExists` where there is one of its name, `TooMany` where it would be one too

@@ -3,21 +3,22 @@
 ghost use Rattle.std.specs.Prelude.{◌≡◌, ◌≤◌, All, Err, IfOk, false, length};
 ghost use Rattle.page.specs.History.{KeepsWord};
 ghost use Rattle.commands.specs.NewIndex.{IsShortNewIndex};
-ghost use Rattle.engine.specs.CreateIndexes.{indexed, run_create_indexes};
+ghost use Rattle.database_model.specs.CreateIndexes.{indexed, run_create_indexes};
 ghost use Rattle.engine.specs.Durable.{disk_history, has_changes, IsSound};
 ghost use Rattle.engine.specs.Indexing.{ArePlanned};
 ghost use Rattle.engine.specs.Performing.{Performs};
 ghost use Rattle.engine.specs.Trying.{Tries};
-ghost use Rattle.engine.specs.View.{world, IsSendable};
+ghost use Rattle.replies.specs.View.{IsSendable};
+ghost use Rattle.engine.specs.View.{world};
 ghost use Rattle.engine.specs.Writing.{Makes};
 
 use crate::engine::Engine;
-use crate::reply::create_indexes_reply;
 use bson::Document;
 use commands::NewIndex;
 use index::Edits;
 use page::Disk;
 use path::Refusal;
+use replies::create_indexes_reply;
 
 /// What a `createIndexes` makes: the edits, how many indexes its collection had beside that on `_id` and has, and whether it is new.
 #[derive(Drop)]

@@ -3,30 +3,30 @@
 ghost use Rattle.std.specs.Prelude.{◌≡◌, [], ◌++◌, IfErr, IfOk, Ok, OnOk};
 ghost use Rattle.std.specs.List.{filter as list_filter, position};
 ghost use Rattle.filter.specs.Matches.{matches};
-ghost use Rattle.engine.specs.Delete.{without_first, after_deletion, after_deletions, run_delete};
+ghost use Rattle.database_model.specs.Delete.{without_first, after_deletion, after_deletions, run_delete};
 ghost use Rattle.engine.specs.Looking.{Looks};
-ghost use Rattle.engine.specs.Merging.{is_deleted};
+ghost use Rattle.database_model.specs.Merging.{is_deleted};
 ghost use Rattle.engine.specs.Redoing.{first_taken, taken, all_taken};
 ghost use Rattle.page.specs.History.{KeepsWord};
 ghost use Rattle.engine.specs.Durable.{disk_history, has_changes, IsSound};
 ghost use Rattle.engine.specs.Performing.{Performs};
 ghost use Rattle.engine.specs.Removing.{IsTaken, deleted};
 ghost use Rattle.engine.specs.Writing.{Makes};
-ghost use Rattle.engine.specs.View.{world, IsSendable};
+ghost use Rattle.replies.specs.View.{IsSendable};
+ghost use Rattle.engine.specs.View.{world};
 
 use crate::by_id::asked_id;
 use crate::engine::Engine;
 use crate::find::matches;
 use crate::looking::Selects;
 use crate::removing::note_removed;
-use crate::reply::total_reply;
-use crate::shared_document::SharedDocument;
 use bson::{Document, NoMemory, RawDoc, Value};
 use commands::Deletion;
 use filter::Filter;
 use index::{Catalogued, Edits};
 use page::Disk;
 use path::Refusal;
+use replies::{SharedDocument, total_reply};
 use std::alloc::Global;
 
 /// Where the first document stands that matches a filter.

@@ -5,7 +5,7 @@ ghost use Rattle.bson.specs.Lawful.{IsDocument};
 ghost use Rattle.bson.specs.Tree.{scalar, null};
 ghost use Rattle.bson.specs.View.{tree};
 ghost use Rattle.index.specs.LawfulState.{IsStorable};
-ghost use Rattle.engine.specs.Documents.{key_of, checked};
+ghost use Rattle.database_model.specs.Documents.{key_of, checked};
 ghost use Rattle.update.specs.Stored.{id_first};
 ghost use Rattle.value_order.specs.Order.{compare};
 ghost use Rattle.value_order.specs.KeyText.{tree_text};

@@ -1,25 +1,26 @@
 //! `drop`: a collection is taken away.
 
 ghost use Rattle.std.specs.Prelude.{◌≡◌, ◌<◌, ◌≤◌, [], IfOk, length, true};
-ghost use Rattle.engine.specs.DropCollection.{dropped, run_drop};
+ghost use Rattle.database_model.specs.DropCollection.{dropped, run_drop};
 ghost use Rattle.engine.specs.Dropping.{HasStepped, IsEmptying, IsFilled, IsLeft};
 ghost use Rattle.engine.specs.Looking.{LooksOf};
 ghost use Rattle.page.specs.History.{KeepsWord};
 ghost use Rattle.engine.specs.Durable.{disk_history, has_changes, IsRunning, IsSound};
 ghost use Rattle.engine.specs.Performing.{Performs};
 ghost use Rattle.engine.specs.TakingOut.{HasHome};
-ghost use Rattle.engine.specs.View.{world, IsSendable};
+ghost use Rattle.replies.specs.View.{IsSendable};
+ghost use Rattle.engine.specs.View.{world};
 ghost use Rattle.engine.specs.Writing.{Makes};
 
 use crate::engine::Engine;
 use crate::looking::BATCH;
 use crate::removing::note_removed;
-use crate::reply::drop_reply;
 use bson::Document;
 use collections::Walk;
 use index::{Catalogued, Edits};
 use page::Disk;
 use path::Refusal;
+use replies::drop_reply;
 use std::alloc::Global;
 
 impl<D: Disk> Engine<D> {

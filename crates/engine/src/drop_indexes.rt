@@ -5,22 +5,23 @@ ghost use Rattle.std.specs.List.{list_any, position};
 ghost use Rattle.commands.specs.DropIndexes.{named};
 ghost use Rattle.commands.specs.View.{dropped_of};
 ghost use Rattle.page.specs.History.{KeepsWord};
-ghost use Rattle.engine.specs.DropIndexes.{index_dropped, is_dropped, left_by, remaining, run_drop_indexes};
+ghost use Rattle.database_model.specs.DropIndexes.{index_dropped, is_dropped, left_by, remaining, run_drop_indexes};
 ghost use Rattle.engine.specs.Durable.{disk_history, has_changes, IsSound};
 ghost use Rattle.engine.specs.Performing.{Performs};
 ghost use Rattle.engine.specs.TakingOut.{HasHome};
-ghost use Rattle.engine.specs.View.{world, IsSendable};
+ghost use Rattle.replies.specs.View.{IsSendable};
+ghost use Rattle.engine.specs.View.{world};
 ghost use Rattle.engine.specs.Writing.{Makes};
 ghost use Rattle.collections.specs.Reading.{IsWithinLimits};
 
 use crate::engine::Engine;
 use crate::new_indexes::ID_INDEX;
-use crate::reply::drop_indexes_reply;
 use bson::Document;
 use commands::DroppedIndexes;
 use index::{Catalogued, Edits, IndexSpec};
 use page::Disk;
 use path::Refusal;
+use replies::drop_indexes_reply;
 
 /// Whether an index is one of those that are dropped.
 fn is_dropped(index: &IndexSpec, dropped: &DroppedIndexes<'_>) -> bool

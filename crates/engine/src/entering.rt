@@ -9,7 +9,7 @@ ghost use Rattle.engine.specs.Storing.{AreNoted, IsBeside, IsFull, MayEnter, Not
 ghost use Rattle.engine.specs.Trying.{Tries};
 ghost use Rattle.engine.specs.Updating.{MayBePut};
 ghost use Rattle.engine.specs.View.{world};
-ghost use Rattle.engine.specs.World.{collection_of};
+ghost use Rattle.database_model.specs.World.{collection_of};
 
 use crate::documents::id_text;
 use crate::engine::Engine;

@@ -5,22 +5,21 @@ ghost use Rattle.filter.specs.Matches.{matches};
 ghost use Rattle.filter.specs.Projection.{project};
 ghost use Rattle.filter.specs.Sort.{order};
 ghost use Rattle.commands.specs.View.{documents_at};
-ghost use Rattle.engine.specs.Cursors.{batch_of, first_batch};
+ghost use Rattle.database_model.specs.Cursors.{batch_of, first_batch};
 ghost use Rattle.engine.specs.Durable.{has_changes, IsSound};
-ghost use Rattle.engine.specs.Find.{window, given, run_find, Suffices};
-ghost use Rattle.engine.specs.Lawful.{IsWithin};
+ghost use Rattle.database_model.specs.Find.{window, given, run_find, Suffices};
+ghost use Rattle.database_model.specs.Lawful.{IsWithin};
 ghost use Rattle.engine.specs.Performing.{Performs};
-ghost use Rattle.engine.specs.View.{world, IsSendable, Runs};
+ghost use Rattle.replies.specs.View.{IsSendable, Runs};
+ghost use Rattle.engine.specs.View.{world};
 
-use crate::batch_reply::{BatchKind, batch_reply};
-use crate::connection::ConnId;
 use crate::engine::Engine;
-use crate::shared_document::SharedDocument;
 use bson::{Document, NoMemory, SpelledDocument};
 use commands::Query;
 use filter::Filter;
 use page::Disk;
 use path::Refusal;
+use replies::{BatchKind, ConnId, SharedDocument, batch_reply};
 use std::alloc::Global;
 
 /// Whether a document matches a filter. It takes no memory.

@@ -1,14 +1,15 @@
 //! `getMore`: the next batch of a cursor.
 
 ghost use Rattle.std.specs.Prelude.{◌≡◌, ◌≤◌, IfOk, length};
-ghost use Rattle.engine.specs.GetMore.{run_get_more};
-ghost use Rattle.engine.specs.View.{world, IsSendable, Runs};
+ghost use Rattle.database_model.specs.GetMore.{run_get_more};
+ghost use Rattle.replies.specs.View.{IsSendable, Runs};
+ghost use Rattle.engine.specs.View.{world};
 
-use crate::connection::ConnId;
 use crate::engine::Engine;
 use bson::SpelledDocument;
 use page::Disk;
 use path::Refusal;
+use replies::ConnId;
 
 impl<D: Disk> Engine<D> {
     /// Gives the next documents of a cursor; `CursorNotFound` where the connection has none of this id and namespace.

@@ -1,18 +1,18 @@
 //! `hello`: what does a client have to know of the server?
 
 ghost use Rattle.std.specs.Prelude.{◌≡◌, IfOk};
-ghost use Rattle.engine.specs.Hello.{hello_reply, run_hello};
-ghost use Rattle.engine.specs.Refusals.{ok_reply};
-ghost use Rattle.engine.specs.View.{world, IsSendable, Runs};
+ghost use Rattle.database_model.specs.Hello.{hello_reply, run_hello};
+ghost use Rattle.database_model.specs.Refusals.{ok_reply};
+ghost use Rattle.replies.specs.View.{IsSendable, Runs};
+ghost use Rattle.engine.specs.View.{world};
 
 use crate::STORED_LIMIT;
-use crate::connection::ConnId;
 use crate::engine::Engine;
-use crate::reply::{done, put};
 use bson::{Document, MESSAGE_LIMIT, NoMemory, Value};
 use commands::MOST_STATEMENTS;
 use page::Disk;
 use path::Refusal;
+use replies::{ConnId, done, put};
 use std::alloc::Global;
 
 /// The reply of a `hello` on a connection.

@@ -2,7 +2,7 @@
 
 ghost use Rattle.std.specs.Prelude.{◌≡◌, ◌<◌, ◌≤◌, IfErr, IfOk, OnOk, length, true};
 ghost use Rattle.collections.specs.Reading.{IsWithinLimits};
-ghost use Rattle.engine.specs.CreateIndexes.{with_new_index, with_new_indexes};
+ghost use Rattle.database_model.specs.CreateIndexes.{with_new_index, with_new_indexes};
 ghost use Rattle.engine.specs.Durable.{IsRunning, IsSound};
 ghost use Rattle.engine.specs.Indexing.{HasDocumentsOf, HasIndexed, IsIndexed, IsIndexing, IsUnbegun, IsUnindexable, RefusesOne, TakesEach};
 ghost use Rattle.engine.specs.Storing.{Notes};

@@ -2,23 +2,24 @@
 
 ghost use Rattle.std.specs.Prelude.{◌≡◌, ◌≤◌, IfOk, length};
 ghost use Rattle.commands.specs.View.{documents_at};
-ghost use Rattle.engine.specs.Documents.{insert_all, insert_one};
-ghost use Rattle.engine.specs.Insert.{inserted, run_insert};
+ghost use Rattle.database_model.specs.Documents.{insert_all, insert_one};
+ghost use Rattle.database_model.specs.Insert.{inserted, run_insert};
 ghost use Rattle.page.specs.History.{KeepsWord};
 ghost use Rattle.engine.specs.Durable.{disk_history, has_changes, IsSound};
 ghost use Rattle.engine.specs.Performing.{Performs};
 ghost use Rattle.collections.specs.Reading.{IsWithinLimits};
 ghost use Rattle.engine.specs.Storing.{IsAny, Notes};
-ghost use Rattle.engine.specs.View.{world, IsSendable};
+ghost use Rattle.replies.specs.View.{IsSendable};
+ghost use Rattle.engine.specs.View.{world};
 ghost use Rattle.engine.specs.Writing.{Makes};
 
 use crate::documents::stored;
 use crate::engine::Engine;
-use crate::reply::insert_reply;
 use bson::Document;
 use index::{Catalogued, Edits};
 use page::Disk;
 use path::Refusal;
+use replies::insert_reply;
 
 impl<D: Disk> Engine<D> {
     /// Stores documents, all or none.

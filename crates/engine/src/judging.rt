@@ -10,7 +10,7 @@ ghost use Rattle.index.specs.Entering.{becomes_multikey};
 ghost use Rattle.index.specs.State.{Collection};
 ghost use Rattle.index.specs.StateEntries.{key_under};
 ghost use Rattle.index.specs.View.{texts_of};
-ghost use Rattle.engine.specs.Documents.{key_of};
+ghost use Rattle.database_model.specs.Documents.{key_of};
 ghost use Rattle.engine.specs.Judging.{IsDocumentAt, IsFaultOf, IsIndexable, IsName, JudgesText, are_apart, has_number, index_in, key_count, keys_among, numbered, stands_behind};
 ghost use Rattle.engine.specs.Loading.{named_as};
 

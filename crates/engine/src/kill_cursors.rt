@@ -4,17 +4,16 @@ ghost use Rattle.std.specs.Prelude.{◌≡◌, ◌≤◌, ◌&&◌, not, IfOk, O
 ghost use Rattle.std.specs.List.{list_any};
 ghost use Rattle.std.specs.Ordering.{int_eq};
 ghost use Rattle.bson.specs.Tree.{scalar, int64, item, no_items, append_items};
-ghost use Rattle.engine.specs.KillCursors.{no_ids, with_id, told_apart, has_cursor, id_items, kill_reply, run_kill_cursors};
-ghost use Rattle.engine.specs.Refusals.{ok_reply};
-ghost use Rattle.engine.specs.View.{world, IsSendable, Runs};
+ghost use Rattle.database_model.specs.KillCursors.{no_ids, with_id, told_apart, has_cursor, id_items, kill_reply, run_kill_cursors};
+ghost use Rattle.database_model.specs.Refusals.{ok_reply};
+ghost use Rattle.replies.specs.View.{IsSendable, Runs};
+ghost use Rattle.engine.specs.View.{world};
 
-use crate::connection::ConnId;
-use crate::cursors::Cursors;
 use crate::engine::Engine;
-use crate::reply::{add, done, put};
 use bson::{Array, Document, NoMemory, Value};
 use page::Disk;
 use path::Refusal;
+use replies::{ConnId, Cursors, add, done, put};
 use std::alloc::Global;
 use std::marker::Model;
 
@@ -26,7 +25,7 @@ struct ToldApart {
 }
 
 impl Model for ToldApart {
-    ghost use Rattle.engine.specs.KillCursors as kills;
+    ghost use Rattle.database_model.specs.KillCursors as kills;
 
     ghost Value = { kills.ToldApart };
 

@@ -2,16 +2,12 @@
 #![tactic(auto)]
 
 mod aggregation;
-mod batch;
-mod batch_reply;
 mod by_id;
 mod check_fault;
 mod checking;
-mod connection;
 mod count;
 mod create;
 mod create_indexes;
-mod cursors;
 mod delete;
 mod documents;
 mod drop_collection;
@@ -35,8 +31,6 @@ mod new_indexes;
 mod numbering;
 mod refusal;
 mod removing;
-mod reply;
-mod shared_document;
 mod statements;
 mod told;
 mod unindexing;
@@ -45,22 +39,15 @@ mod writing;
 
 pub use check_fault::CheckFault;
 pub use checking::Counts;
-pub use connection::{CONNECTIONS, ConnId};
 pub use engine::{Engine, Reply};
 pub use path::Refusal;
 pub use refusal::body_refusal;
-pub use reply::{Answer, full_bytes, out_of_memory_bytes, refusal_document};
+pub use replies::{
+    Answer, CONNECTIONS, ConnId, full_bytes, out_of_memory_bytes, refusal_document,
+};
 
 /// The most bytes of a stored document.
 pub const STORED_LIMIT: u32 = 65_535;
-/// The most bytes of the array of a batch.
-pub const BATCH_LIMIT: usize = 900_000;
-/// The most bytes of a reply: those of a message without its frame.
-pub const REPLY_LIMIT: usize = 1_048_555;
-/// The documents of a first batch where the command names no number.
-pub const FIRST_BATCH: usize = 101;
-/// The most cursors of one connection.
-pub const MOST_CURSORS: usize = 16;
 /// The most collections.
 pub const MOST_COLLECTIONS: usize = 1_000;
 /// The most indexes of a collection beside that on `_id`.

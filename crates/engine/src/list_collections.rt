@@ -2,20 +2,20 @@
 
 ghost use Rattle.std.specs.Prelude.{◌≡◌, ◌++◌, ◌≤◌, IfOk, length, map, option_map, string_bytes};
 ghost use Rattle.collections.specs.Reading.{name_of};
-ghost use Rattle.engine.specs.ListCollections.{name_in, names_behind, listed, run_list_collections};
+ghost use Rattle.database_model.specs.ListCollections.{name_in, names_behind, listed, run_list_collections};
 ghost use Rattle.engine.specs.Durable.{has_changes, IsSound};
 ghost use Rattle.engine.specs.Performing.{Performs};
-ghost use Rattle.engine.specs.View.{world, IsSendable};
+ghost use Rattle.replies.specs.View.{IsSendable};
+ghost use Rattle.engine.specs.View.{world};
 
-use crate::batch_reply::{BatchKind, batch_reply};
 use crate::engine::Engine;
 use crate::looking::are_within;
-use crate::reply::listed_document;
 use bson::{Document, NoMemory, SpelledDocument};
 use collections::Name;
 use filter::Projection;
 use page::Disk;
 use path::Refusal;
+use replies::{BatchKind, batch_reply, listed_document};
 use std::alloc::Global;
 
 /// The name of a collection without its database, where the namespace begins with this.

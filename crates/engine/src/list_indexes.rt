@@ -4,19 +4,19 @@ ghost use Rattle.std.specs.Prelude.{◌≡◌, ◌≤◌, IfOk, length};
 ghost use Rattle.std.specs.List.{AllByRecursion};
 ghost use Rattle.index.specs.Definition.{IsDefinition};
 ghost use Rattle.engine.specs.Durable.{has_changes, IsSound};
-ghost use Rattle.engine.specs.ListIndexes.{described_all, described_id, described_index, indexes_reply, run_list_indexes};
+ghost use Rattle.database_model.specs.ListIndexes.{described_all, described_id, described_index, indexes_reply, run_list_indexes};
 ghost use Rattle.engine.specs.Performing.{Performs};
-ghost use Rattle.engine.specs.Refusals.{ok_reply};
-ghost use Rattle.engine.specs.View.{world, IsSendable};
+ghost use Rattle.database_model.specs.Refusals.{ok_reply};
+ghost use Rattle.replies.specs.View.{IsSendable};
+ghost use Rattle.engine.specs.View.{world};
 
-use crate::batch_reply::{BatchKind, batch_reply};
 use crate::engine::Engine;
-use crate::reply::{described_document, put};
 use bson::{Document, NoMemory, SpelledDocument, Value};
 use filter::Projection;
 use index::IndexSpec;
 use page::Disk;
 use path::Refusal;
+use replies::{BatchKind, batch_reply, described_document, put};
 use std::alloc::Global;
 
 /// What is said of the index on `_id`, which every collection has.

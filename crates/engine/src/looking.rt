@@ -10,22 +10,22 @@ ghost use Rattle.collections.specs.Reading.{IsNumbered, IsPlaceOf, IsWithinLimit
 ghost use Rattle.index.specs.State.{find_collection};
 ghost use Rattle.engine.specs.ById.{AsksForId, found_alone};
 ghost use Rattle.engine.specs.Durable.{IsSound};
-ghost use Rattle.engine.specs.Find.{matching};
-ghost use Rattle.engine.specs.Lawful.{IsWithin};
+ghost use Rattle.database_model.specs.Find.{matching};
+ghost use Rattle.database_model.specs.Lawful.{IsWithin};
 ghost use Rattle.engine.specs.Looking.{HasReadCause, Looks, LooksOf, is_within};
-ghost use Rattle.engine.specs.World.{documents_of};
+ghost use Rattle.database_model.specs.World.{documents_of};
 
 use crate::STORED_LIMIT;
 use crate::by_id::{asked_id, id_key};
 use crate::engine::Engine;
 use crate::find::matches;
-use crate::shared_document::SharedDocument;
 use bson::{Document, NoMemory, RawDoc, SpelledDocument, Value};
 use collections::Collections;
 use filter::Filter;
 use index::Catalogued;
 use page::Disk;
 use path::Refusal;
+use replies::SharedDocument;
 use std::alloc::Global;
 use update::limits_fault;
 

@@ -5,7 +5,7 @@ ghost use Rattle.engine.specs.Durable.{IsSound};
 ghost use Rattle.engine.specs.Numbering.{AreMarked, IsNewNumber, IsTooMany, numbered};
 ghost use Rattle.engine.specs.Trying.{Tries};
 ghost use Rattle.engine.specs.View.{world};
-ghost use Rattle.engine.specs.World.{unused};
+ghost use Rattle.database_model.specs.World.{unused};
 
 use crate::MOST_COLLECTIONS;
 use crate::engine::Engine;

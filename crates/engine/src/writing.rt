@@ -6,7 +6,7 @@ ghost use Rattle.index.specs.LawfulState as states;
 ghost use Rattle.index.specs.State.{Collection};
 ghost use Rattle.index.specs.StateEntries.{Leads};
 ghost use Rattle.engine.specs.Durable.{disk_history, IsRunning, IsSound};
-ghost use Rattle.engine.specs.Lawful.{IsLawfulState};
+ghost use Rattle.database_model.specs.Lawful.{IsLawfulState};
 ghost use Rattle.engine.specs.View.{world};
 ghost use Rattle.engine.specs.Writing.{Writes};
 

@@ -5,9 +5,9 @@ use Rattle.bson.specs.Tree.{Pairs}
 use Rattle.outcome.specs.Outcome.{Fails}
 use Rattle.bson.specs.declared.fault.BsonFault.{BsonFault}
 use Rattle.bson.specs.declared.fault.BsonFault.TheVariants as faults
-use Rattle.engine.specs.World.{World}
-use Rattle.engine.specs.Refusals.{refusal_reply}
-use Rattle.engine.specs.Step.{Answers}
+use Rattle.database_model.specs.World.{World}
+use Rattle.database_model.specs.Refusals.{refusal_reply}
+use Rattle.database_model.specs.Step.{Answers}
 use Rattle.path.specs.declared.refusal.Refusal.{Refusal}
 use Rattle.path.specs.declared.refusal.Refusal.TheVariants as refusals
 

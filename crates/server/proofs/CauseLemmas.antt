@@ -12,8 +12,8 @@ use Rattle.roots.specs.declared.store.CommitFault.{CommitFault}
 use Rattle.collections.specs.Calls.{GoesFrom, HasWriteCause, IsTooLarge}
 use Rattle.collections.specs.State.{State}
 use Rattle.collections.specs.View as views
-use Rattle.engine.specs.World.{World, after_commit}
-use Rattle.engine.specs.Step.{step, Answers}
+use Rattle.database_model.specs.World.{World, after_commit}
+use Rattle.database_model.specs.Step.{step, Answers}
 use Rattle.engine.specs.Committing.{Commits}
 use Rattle.engine.specs.Writing.{FileCause}
 use Rattle.engine.specs.Durable.{disk_history, file_of, full_takes_of, generation, has_changes, IsRunning, IsSound}

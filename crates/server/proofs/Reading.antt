@@ -2,7 +2,7 @@
 use Rattle.std.proofs.Common.{◌≡◌, ap, subst, sym, true, ◌∙◌}
 use Rattle.page.specs.History.{History}
 use Rattle.engine.specs.Looking.{OnlyReads}
-use Rattle.engine.specs.World.{World, are_untouched}
+use Rattle.database_model.specs.World.{World, are_untouched}
 use Rattle.engine.specs.declared.engine.Engine.{Engine}
 use Rattle.engine.proofs.LookingLemmas.{collections_same, start_same, world_same}
 use Rattle.server.specs.Durable.{IsSound}

@@ -9,7 +9,7 @@ use lib.Utf8.{encode}
 use Rattle.bson.specs.Spelling.{tree_bytes, pairs_bytes, items_bytes, frame_of}
 use Rattle.op_msg.specs.Request.{reply_bytes, respelled}
 use Rattle.op_msg.proofs.Respelling.{respelled_frame}
-use Rattle.engine.specs.Refusals.{refusal_reply}
+use Rattle.database_model.specs.Refusals.{refusal_reply}
 use Rattle.path.specs.declared.refusal.Refusal.TheVariants.{OutOfMemory, Full}
 use Rattle.server.specs.Turn.{Call, calls, frame_unless, frame_for, frames_of, refused_calls, refused_frames, next_number}
 use Rattle.server.specs.Taking.{full_body, respelled_frames, HaveRoom}

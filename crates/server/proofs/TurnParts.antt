@@ -1,6 +1,6 @@
 -- A turn, put together from its parts.
 use Rattle.std.proofs.Common.{◌≡◌, inl, inr, ⊎_elim, ℕ, List, ◌∙◌}
-use Rattle.engine.specs.World.{World}
+use Rattle.database_model.specs.World.{World}
 use Rattle.engine.specs.View.{world}
 use Rattle.path.specs.declared.refusal.Refusal.{Refusal}
 use Rattle.op_msg.specs.declared.fault.FrameFault.{FrameFault}

@@ -4,7 +4,7 @@ use Rattle.std.specs.Prelude.{◌≡◌, [], List}
 use Rattle.page.specs.History.{KeepsWord, HasTime}
 use Rattle.page.specs.Memory.{memory_history}
 use Rattle.page.specs.declared.memory.MemDisk.{MemDisk}
-use Rattle.engine.specs.World.{new_world}
+use Rattle.database_model.specs.World.{new_world}
 use Rattle.server.specs.ServerState.{ServerState}
 use Rattle.server.specs.View.{state}
 use Rattle.server.specs.Durable.{disk_history, IsRunning}

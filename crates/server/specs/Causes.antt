@@ -3,7 +3,7 @@ use Rattle.std.specs.Prelude.{◌≡◌, ◌⊎◌, ◌<◌, ◌-◌, ◌^◌, I
 use Rattle.path.specs.declared.refusal.Refusal.{Refusal}
 use Rattle.path.specs.declared.refusal.Refusal.TheVariants as refusals
 use Rattle.collections.specs.Calls.{IsTooLarge, IsOfFile}
-use Rattle.engine.specs.World.{World}
+use Rattle.database_model.specs.World.{World}
 use Rattle.server.specs.Moment.{Moment}
 
 -- Between these moments a page was asked for and none was free, which is counted (the count stays at its greatest value).

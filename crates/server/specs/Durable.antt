@@ -4,7 +4,7 @@ use Rattle.page.specs.History.{History}
 use Rattle.page.specs.Crash.{GoesOn, LeavesOnly}
 use Rattle.collections.specs.State.{State}
 use Rattle.index.specs.State.{Collection}
-use Rattle.engine.specs.World.{are_untouched}
+use Rattle.database_model.specs.World.{are_untouched}
 use Rattle.engine.specs.View.{world, turn_start}
 use Rattle.engine.specs.Durable as engines
 use Rattle.engine.specs.declared.engine.Engine.{Engine}

@@ -3,7 +3,7 @@
 -- collections then, in order.
 use Rattle.std.specs.Prelude.{◌≡◌, ◌-◌, ◌^◌, ℕ, suc, ◌==◌, if◌then◌else◌, List, [], ◌∷◌, ◌++◌}
 use Rattle.server.specs.ServerState.{ServerState, fed, ended}
-use Rattle.engine.specs.World.{World}
+use Rattle.database_model.specs.World.{World}
 use Rattle.server.specs.Turn.{Out, Turns, ChangeNothing, calls}
 use Rattle.server.specs.Moment.{Moment, TurnEnd}
 use Rattle.server.specs.Causes.{IsCaused, OfAnyCause}

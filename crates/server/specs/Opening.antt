@@ -1,7 +1,7 @@
 -- What opening a disk gives: an engine that was opened so, and no connection.
 use Rattle.std.specs.Prelude.{◌≡◌, []}
 use Rattle.page.specs.History.{History}
-use Rattle.engine.specs.World.{new_world}
+use Rattle.database_model.specs.World.{new_world}
 use Rattle.engine.specs.Opening as engines
 use Rattle.server.specs.View.{state}
 use Rattle.server.specs.Durable.{IsSound, collections_of}

@@ -8,9 +8,9 @@ use Rattle.op_msg.specs.Request.{body_of, reply_bytes}
 use Rattle.op_msg.specs.Stream.{Splits}
 use Rattle.op_msg.specs.declared.fault.FrameFault.{FrameFault}
 use Rattle.op_msg.specs.declared.fault.FrameFault.TheVariants as faults
-use Rattle.engine.specs.World.{World, new_world}
-use Rattle.engine.specs.Refusals.{int}
-use Rattle.engine.specs.Step.{step}
+use Rattle.database_model.specs.World.{World, new_world}
+use Rattle.database_model.specs.Refusals.{int}
+use Rattle.database_model.specs.Step.{step}
 
 abbrev pub reply_to : ℕ → World → Frame → World × List ℕ
 reply_to number world frame =

@@ -9,9 +9,9 @@ use Rattle.bson.specs.Spelling.{frame_of, pairs_bytes}
 use Rattle.outcome.specs.Outcome.{Gives}
 use Rattle.bson.specs.declared.fault.BsonFault.{BsonFault}
 use Rattle.bson.specs.declared.fault.BsonFault.TheVariants as bson_faults
-use Rattle.engine.specs.World.{World, after_commit, after_undo}
-use Rattle.engine.specs.Refusals.{refusal_reply}
-use Rattle.engine.specs.Step.{Answers}
+use Rattle.database_model.specs.World.{World, after_commit, after_undo}
+use Rattle.database_model.specs.Refusals.{refusal_reply}
+use Rattle.database_model.specs.Step.{Answers}
 use Rattle.path.specs.declared.refusal.Refusal.{Refusal}
 use Rattle.path.specs.declared.refusal.Refusal.TheVariants as refusals
 use Rattle.server.specs.Turn.{Call, Runs, calls, call_at, frames_of, front_of, refused_calls, refused_frames, taken_at, next_number}

@@ -9,9 +9,9 @@ use Rattle.bson.specs.Tree.{Pairs}
 use Rattle.op_msg.specs.Frame.{Frame, front}
 use Rattle.op_msg.specs.Request.{body_of, reply_bytes, is_waiting}
 use Rattle.op_msg.specs.declared.fault.FrameFault.{FrameFault}
-use Rattle.engine.specs.World.{World, forget, after_commit, after_undo}
-use Rattle.engine.specs.Refusals.{refusal_reply}
-use Rattle.engine.specs.Step.{Answers, WroteNothing}
+use Rattle.database_model.specs.World.{World, forget, after_commit, after_undo}
+use Rattle.database_model.specs.Refusals.{refusal_reply}
+use Rattle.database_model.specs.Step.{Answers, WroteNothing}
 use Rattle.path.specs.declared.refusal.Refusal.{Refusal}
 use Rattle.path.specs.declared.refusal.Refusal.TheVariants as refusals
 use Rattle.server.specs.ServerState.{ServerState}

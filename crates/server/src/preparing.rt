@@ -1,7 +1,7 @@
 //! What a turn makes ready before it takes a message, so that it can be undone without memory.
 
 ghost use Rattle.std.specs.Prelude.{◌≡◌, ◌++◌, [], ◌∷◌, IfOk, OnOk};
-ghost use Rattle.engine.specs.Refusals.{refusal_reply};
+ghost use Rattle.database_model.specs.Refusals.{refusal_reply};
 ghost use Rattle.path.specs.declared.refusal.Refusal.TheVariants.{OutOfMemory};
 ghost use Rattle.op_msg.specs.Request.{head_of, reply_bytes};
 ghost use Rattle.server.specs.Turn.{front_of, faults, fault_at, frame_unless, next_number, refused_frames};

@@ -5,7 +5,7 @@ use Rattle.aggregate.specs.Taking.{SufficesTaken}
 use Rattle.aggregate.specs.View.{pipeline_of}
 use Rattle.collections.specs.Reading.{IsNumbered}
 use Rattle.collections.specs.Walk.{StepsOn}
-use Rattle.engine.specs.Aggregate.{AreEnough}
+use Rattle.database_model.specs.Aggregate.{AreEnough}
 use Rattle.engine.proofs.NeededLemmas.{AreOfWithin, AreTaken, all_taken, are_within, batch_of_within, batch_taken, enough_taken, none_of_within, none_taken}
 use Rattle.engine.proofs.WalkingLemmas.{HasCome, answered, asks_memory, asks_stopped, begins, ends, fails, forgets, none_there, read_refused, steps}
 use Rattle.engine.proofs.aggregation.needed_in.Goals as goal

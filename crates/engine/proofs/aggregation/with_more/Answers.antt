@@ -5,7 +5,7 @@ use Rattle.std.proofs.lemmas.Result.{err_from_is_err_and}
 use Rattle.bson.specs.Tree.{Pairs}
 use Rattle.aggregate.specs.Taking.{takes}
 use Rattle.aggregate.specs.View.{pipeline_of}
-use Rattle.engine.specs.Lawful.{IsWithin}
+use Rattle.database_model.specs.Lawful.{IsWithin}
 use Rattle.engine.specs.Looking.{is_within}
 use Rattle.engine.proofs.NeededLemmas.{IsTaking, takes_all, takes_next, takes_none, within_next, within_none}
 use Rattle.engine.proofs.SelectLemmas.{cause_of_all, over_later}

@@ -3,7 +3,7 @@ use Rattle.std.specs.Prelude.{All}
 use Rattle.std.specs.List.{filter, list_all}
 use Rattle.aggregate.specs.Taking.{takes}
 use Rattle.aggregate.specs.View.{pipeline_of}
-use Rattle.engine.specs.Lawful.{IsWithin}
+use Rattle.database_model.specs.Lawful.{IsWithin}
 use Rattle.engine.specs.Looking.{is_within}
 use Rattle.engine.proofs.NeededLemmas.{IsTaking}
 use Rattle.engine.proofs.aggregation.with_more.Given as goal

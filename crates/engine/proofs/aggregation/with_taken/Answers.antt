@@ -1,7 +1,7 @@
 use Rattle.std.proofs.Common.{◌≡◌, true, false, sym, ap, subst, ◌∙◌}
 use Rattle.aggregate.specs.Taking.{takes}
 use Rattle.aggregate.specs.View.{pipeline_of}
-use Rattle.engine.specs.Lawful.{IsWithin}
+use Rattle.database_model.specs.Lawful.{IsWithin}
 use Rattle.engine.proofs.NeededLemmas.{passed_enough, passed_within, taken_enough, taken_within}
 use Rattle.engine.proofs.aggregation.with_taken.Goals as goal
 

@@ -3,7 +3,7 @@ use Rattle.std.proofs.lemmas.Result.{err_from_is_err_and}
 use Rattle.bson.specs.Tree.{Pairs}
 use Rattle.collections.specs.Reading.{IsNumbered}
 use Rattle.collections.specs.Walk.{StepsOn}
-use Rattle.engine.specs.Find.{matching}
+use Rattle.database_model.specs.Find.{matching}
 use Rattle.engine.proofs.CountLemmas.{AreCounted, all_counted, batch_counted, none_counted}
 use Rattle.engine.proofs.WalkingLemmas.{HasCome, asks_memory, asks_stopped, begins, ends, fails, forgets, none_there, steps}
 use Rattle.engine.proofs.count.count_in.Goals as goal

@@ -1,5 +1,5 @@
 use Rattle.std.proofs.Common.{◌≡◌, drop}
-use Rattle.engine.specs.Merging.{is_deleted}
+use Rattle.database_model.specs.Merging.{is_deleted}
 use Rattle.engine.proofs.delete.is_deleted.Given as goal
 
 abbrev pub invariant-deletions : goal.invariant-deletions

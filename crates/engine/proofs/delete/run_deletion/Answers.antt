@@ -4,7 +4,7 @@ use Rattle.std.specs.List.{filter}
 use Rattle.std.proofs.lemmas.Fn.{filter_same}
 use Rattle.filter.specs.Matches.{matches}
 use Rattle.commands.specs.Delete.{Deletion}
-use Rattle.engine.specs.Delete.{after_deletion}
+use Rattle.database_model.specs.Delete.{after_deletion}
 use Rattle.engine.proofs.delete.run_deletion.Goals as goal
 
 pub returns-clause-left : goal.returns-clause-left

@@ -1,5 +1,5 @@
 use Rattle.std.proofs.Common.{◌≡◌, ◌++◌, drop}
-use Rattle.engine.specs.Delete.{after_deletions}
+use Rattle.database_model.specs.Delete.{after_deletions}
 use Rattle.engine.specs.Redoing.{all_taken}
 use Rattle.engine.proofs.delete.run_deletions.Given as goal
 

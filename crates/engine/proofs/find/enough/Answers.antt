@@ -1,6 +1,6 @@
 use Rattle.std.proofs.Common.{subst, sym}
 use Rattle.commands.specs.Find.{Query}
-use Rattle.engine.specs.Find.{Suffices}
+use Rattle.database_model.specs.Find.{Suffices}
 use Rattle.engine.proofs.Finding.{all_suffice, front_suffices}
 use Rattle.engine.proofs.find.enough.Goals as goal
 

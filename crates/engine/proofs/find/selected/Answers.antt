@@ -1,7 +1,7 @@
 use Rattle.std.proofs.Common.{ap, ◌∙◌}
 use Rattle.commands.specs.Find.{Query}
 use Rattle.commands.specs.View.{documents_at}
-use Rattle.engine.specs.Find.{window}
+use Rattle.database_model.specs.Find.{window}
 use Rattle.engine.proofs.Finding.{window-map}
 use Rattle.engine.proofs.find.selected.Goals as goal
 

@@ -1,6 +1,6 @@
 use Rattle.std.proofs.Common.{◌≡◌, drop}
 use Rattle.bson.specs.Tree.{append_items}
-use Rattle.engine.specs.KillCursors.{id_items}
+use Rattle.database_model.specs.KillCursors.{id_items}
 use Rattle.engine.proofs.kill_cursors.id_array.Given as goal
 
 abbrev pub invariant-ids : goal.invariant-ids

@@ -1,5 +1,5 @@
 use Rattle.std.proofs.Common.{◌≡◌, drop}
-use Rattle.engine.specs.KillCursors.{no_ids, told_apart, has_cursor}
+use Rattle.database_model.specs.KillCursors.{no_ids, told_apart, has_cursor}
 use Rattle.engine.proofs.kill_cursors.tell_apart.Given as goal
 
 abbrev pub invariant-ids : goal.invariant-ids

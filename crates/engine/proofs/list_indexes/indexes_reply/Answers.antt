@@ -2,11 +2,11 @@ use Rattle.std.proofs.Common.{◌≡◌, ℕ, List, length, map, sym, ap, subst,
 use Rattle.std.specs.Prelude.{All}
 use Rattle.std.proofs.lemmas.List.{map-id}
 use Rattle.bson.specs.Tree.{Pairs}
-use Rattle.engine.specs.Cursors.{batch_of}
-use Rattle.engine.specs.Lawful.{IsWithin}
-use Rattle.engine.specs.ListIndexes.{described_all}
-use Rattle.engine.specs.Refusals.{ok_reply}
-use Rattle.engine.specs.View.{projected}
+use Rattle.database_model.specs.Cursors.{batch_of}
+use Rattle.database_model.specs.Lawful.{IsWithin}
+use Rattle.database_model.specs.ListIndexes.{described_all}
+use Rattle.database_model.specs.Refusals.{ok_reply}
+use Rattle.replies.specs.View.{projected}
 use Rattle.engine.proofs.ListingIndexes.{all_within, reply_is}
 use Rattle.engine.proofs.Piping.{all_stay}
 use Rattle.engine.proofs.ShortIndexes.{definitions_short}

@@ -1,7 +1,7 @@
 use Rattle.std.proofs.Common.{◌≡◌, false}
 use Rattle.std.specs.Prelude.{All}
 use Rattle.std.specs.List.{list_all}
-use Rattle.engine.specs.Lawful.{IsWithin}
+use Rattle.database_model.specs.Lawful.{IsWithin}
 use Rattle.engine.specs.Looking.{is_within}
 use Rattle.engine.proofs.SelectLemmas.{IsSelecting}
 use Rattle.engine.proofs.looking.select.Given as goal

@@ -2,7 +2,7 @@ use Rattle.std.proofs.Common.{◌++◌, [], ◌∷◌, sym, ◌∙◌, ap, subst
 use Rattle.std.specs.Prelude.{All}
 use Rattle.std.proofs.lemmas.List.Elements.{All-append, All-cons, All-nil}
 use Rattle.bson.specs.Tree.{Pairs}
-use Rattle.engine.specs.Lawful.{IsWithin}
+use Rattle.database_model.specs.Lawful.{IsWithin}
 use Rattle.engine.proofs.SelectLemmas.{one_full, one_over, one_taken}
 use Rattle.engine.proofs.looking.select_one.Goals as goal
 

@@ -1,5 +1,5 @@
 use Rattle.std.specs.Prelude.{All}
-use Rattle.engine.specs.Lawful.{IsWithin}
+use Rattle.database_model.specs.Lawful.{IsWithin}
 use Rattle.engine.proofs.SelectLemmas.{AreSelected}
 use Rattle.engine.proofs.WalkingLemmas.{HasCome}
 use Rattle.engine.proofs.looking.selected_in.Given as goal

@@ -1,5 +1,5 @@
 use Rattle.std.proofs.Common.{◌≡◌, drop}
-use Rattle.engine.specs.CreateIndexes.{are_same_fields}
+use Rattle.database_model.specs.CreateIndexes.{are_same_fields}
 use Rattle.engine.proofs.new_indexes.are_same_fields.Given as goal
 
 abbrev pub invariant-fields : goal.invariant-fields

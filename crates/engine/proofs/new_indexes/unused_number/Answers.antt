@@ -2,7 +2,7 @@ use Rattle.std.proofs.Common.{[], length, sym, ◌∙◌, arith}
 use Rattle.std.proofs.lemmas.List.{length-map}
 use Rattle.index.specs.Definition.{Definition}
 use Rattle.index.specs.State.{empty_collection}
-use Rattle.engine.specs.CreateIndexes.{numbered}
+use Rattle.database_model.specs.CreateIndexes.{numbered}
 use Rattle.engine.proofs.NewIndexLemmas.{has_number_is}
 use Rattle.engine.proofs.Numbers.{searched_all, searched_found, searched_none, searched_one}
 use Rattle.engine.proofs.new_indexes.unused_number.Goals as goal

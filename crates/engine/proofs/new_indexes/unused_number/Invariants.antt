@@ -1,4 +1,4 @@
-use Rattle.engine.specs.CreateIndexes.{numbered}
+use Rattle.database_model.specs.CreateIndexes.{numbered}
 use Rattle.engine.proofs.Numbers.{Searched}
 use Rattle.engine.proofs.new_indexes.unused_number.Given as goal
 

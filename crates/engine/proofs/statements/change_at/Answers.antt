@@ -7,7 +7,7 @@ use Rattle.update.specs.View.{update_of}
 use Rattle.outcome.specs.Outcome.{Fails}
 use Rattle.path.specs.declared.refusal.Refusal.TheVariants as refusals
 use Rattle.std.proofs.lemmas.Result.{err_from_is_err_and}
-use Rattle.engine.specs.Lawful.{IsWithin}
+use Rattle.database_model.specs.Lawful.{IsWithin}
 use Rattle.engine.specs.Updating.{IsChange, document_at}
 use Rattle.engine.specs.declared.statements.Run.{Run}
 use Rattle.engine.proofs.UpdatingLoop.{changes_none, changes_some}

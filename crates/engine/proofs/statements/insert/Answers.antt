@@ -3,8 +3,8 @@ use Rattle.std.specs.Prelude.{All}
 use Rattle.bson.specs.Tree.{Pairs}
 use Rattle.path.specs.declared.refusal.Refusal.TheVariants as refusals
 use Rattle.outcome.specs.Outcome.{or_refused}
-use Rattle.engine.specs.Documents.{key_of, place}
-use Rattle.engine.specs.Lawful.{IsWithin}
+use Rattle.database_model.specs.Documents.{key_of, place}
+use Rattle.database_model.specs.Lawful.{IsWithin}
 use Rattle.engine.specs.Updating.{IsPlaceOf, write_of_new}
 use Rattle.engine.proofs.Ordered.{All-inserted}
 use Rattle.engine.proofs.statements.insert.Goals as goal

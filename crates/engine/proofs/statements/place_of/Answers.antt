@@ -2,7 +2,7 @@ use Rattle.std.proofs.Common.{◌≡◌, length, refl, sym, ap, ◌∙◌, arith
 use Rattle.std.specs.declared.cmp.Ordering.TheVariants as orders
 use Rattle.bson.specs.Tree.{Pairs}
 use Rattle.value_order.specs.Order.{compare}
-use Rattle.engine.specs.Documents.{key_of}
+use Rattle.database_model.specs.Documents.{key_of}
 use Rattle.engine.proofs.PlacingLemmas.{goes_before, goes_behind, goes_last, goes_nowhere, placed_from_none}
 use Rattle.engine.proofs.statements.place_of.Goals as goal
 

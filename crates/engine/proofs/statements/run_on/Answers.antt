@@ -1,6 +1,6 @@
 use Rattle.std.proofs.Common.{◌≡◌, Err, refl, sym, subst}
 use Rattle.path.specs.declared.refusal.Refusal.{Refusal}
-use Rattle.engine.specs.Merging.{not_listed}
+use Rattle.database_model.specs.Merging.{not_listed}
 use Rattle.engine.specs.Updating.{IsRan, listed_of}
 use Rattle.engine.specs.declared.statements.Run.{Run}
 use Rattle.engine.proofs.StatementLoop.{ran_to_end, ran_to_refusal}

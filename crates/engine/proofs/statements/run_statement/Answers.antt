@@ -5,7 +5,7 @@ use Rattle.outcome.specs.Outcome.{Gives}
 use Rattle.path.specs.declared.refusal.Refusal.{Refusal}
 use Rattle.path.specs.declared.refusal.Refusal.TheVariants as refusals
 use Rattle.commands.specs.Update.{UpdateStatement}
-use Rattle.engine.specs.Merging.{Listed}
+use Rattle.database_model.specs.Merging.{Listed}
 use Rattle.engine.specs.Updating.{listed_of}
 use Rattle.engine.proofs.UpdatingLoop.{done, found_wrote, makes, none_wrote, refused_statement, upsert_wrote}
 use Rattle.engine.proofs.statements.run_statement.Goals as goal

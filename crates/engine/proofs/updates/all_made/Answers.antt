@@ -2,8 +2,8 @@ use Rattle.std.proofs.Common.{◌+◌, ◌++◌, List, drop, sym, ap, ◌∙◌,
 use Rattle.std.proofs.lemmas.List.{append-nil, drop_all}
 use Rattle.bson.specs.Tree.{Pairs}
 use Rattle.commands.specs.Update.{UpdateStatement}
-use Rattle.engine.specs.Merging.{made_by, made_of}
-use Rattle.engine.proofs.Steps.{drop_step}
+use Rattle.database_model.specs.Merging.{made_by, made_of}
+use Rattle.replies.proofs.Steps.{drop_step}
 use Rattle.engine.proofs.updates.all_made.Goals as goal
 
 pub statements-preserved : goal.statements-preserved

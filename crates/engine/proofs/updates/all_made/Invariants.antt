@@ -1,5 +1,5 @@
 use Rattle.std.proofs.Common.{◌≡◌, ◌++◌, drop}
-use Rattle.engine.specs.Merging.{made_by}
+use Rattle.database_model.specs.Merging.{made_by}
 use Rattle.engine.proofs.updates.all_made.Given as goal
 
 abbrev pub invariant-statements : goal.invariant-statements

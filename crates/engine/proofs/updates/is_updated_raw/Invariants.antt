@@ -1,5 +1,5 @@
 use Rattle.std.proofs.Common.{◌≡◌, drop}
-use Rattle.engine.specs.Merging.{is_updated}
+use Rattle.database_model.specs.Merging.{is_updated}
 use Rattle.engine.proofs.updates.is_updated_raw.Given as goal
 
 abbrev pub invariant-statements : goal.invariant-statements

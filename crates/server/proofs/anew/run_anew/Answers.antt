@@ -2,7 +2,7 @@ use Rattle.std.proofs.Common.{◌≡◌, ℕ, List, [], ap, ◌∙◌}
 use Rattle.page.specs.History.{Sector, KeepsWord, HasTime, now, reads}
 use Rattle.page.specs.Memory.{memory_history}
 use Rattle.page.proofs.Moments.{goes_further}
-use Rattle.engine.specs.World.{new_world}
+use Rattle.database_model.specs.World.{new_world}
 use Rattle.index.specs.State.{Collection}
 use Rattle.engine.specs.Durable.{Holds}
 use Rattle.server.specs.ServerState.{ServerState}

@@ -6,10 +6,10 @@ use Rattle.bson.specs.Spelling.{tree_bytes, pairs_bytes, items_bytes}
 use Rattle.bson.specs.Reading.{fixed_at, count_at, ended_at, text_at, content_at, string_at, int32_at, int64_at, scalar_at, kind_of, name_at, element_by, item_by, pairs_by, items_by, value_at, length_at, document_at}
 use Rattle.op_msg.specs.Frame.{part_at, each_by, section_at, frame_of, front}
 use Rattle.op_msg.specs.Request.{reply_bytes}
-use Rattle.engine.specs.Documents.{checked, insert_one}
+use Rattle.database_model.specs.Documents.{checked, insert_one}
 use Rattle.commands.specs.Command.{command_of}
-use Rattle.engine.specs.Insert.{run_insert}
-use Rattle.engine.specs.Find.{run_find}
+use Rattle.database_model.specs.Insert.{run_insert}
+use Rattle.database_model.specs.Find.{run_find}
 use Rattle.server.specs.Rows.{insert_frame, find_frame}
 use Rattle.server.proofs.laws.first_rows.Goals as goal
 

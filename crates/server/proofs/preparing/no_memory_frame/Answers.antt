@@ -2,7 +2,7 @@ use Rattle.std.proofs.Common.{◌≡◌, ℕ, List, length, ap, subst, arith}
 use Rattle.std.specs.Prelude.{IfOk}
 use Rattle.op_msg.specs.Request.{frame_bytes, reply_bytes}
 use Rattle.path.specs.declared.refusal.Refusal.TheVariants as refusals
-use Rattle.engine.proofs.SpelledSizes.{refusal-sendable}
+use Rattle.replies.proofs.SpelledSizes.{refusal-sendable}
 use Rattle.server.proofs.preparing.no_memory_frame.Goals as goal
 
 pub spelled_reply-requires : goal.spelled_reply-requires

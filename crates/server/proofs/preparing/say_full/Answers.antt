@@ -1,6 +1,6 @@
 use Rattle.std.proofs.Common.{◌≡◌, ℕ, suc, ◌+◌, length, take, drop, set, get_or, refl, ap, sym, ◌∙◌, arith}
 use Rattle.path.specs.declared.refusal.Refusal.TheVariants.{Full}
-use Rattle.engine.proofs.SpelledSizes.{refusal-sendable}
+use Rattle.replies.proofs.SpelledSizes.{refusal-sendable}
 use Rattle.op_msg.specs.Request.{respelled}
 use Rattle.server.specs.Taking.{full_body, respelled_frames}
 use Rattle.server.specs.View.{frames_in}

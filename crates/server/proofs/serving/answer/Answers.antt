@@ -4,10 +4,10 @@ use Rattle.bson.specs.Tree.{Pairs}
 use Rattle.outcome.specs.Outcome.{Gives}
 use Rattle.bson.specs.declared.fault.BsonFault.{BsonFault}
 use Rattle.bson.specs.declared.fault.BsonFault.TheVariants as bson_faults
-use Rattle.engine.proofs.SpelledSizes.{refusal-sendable}
+use Rattle.replies.proofs.SpelledSizes.{refusal-sendable}
 use Rattle.engine.specs.View.{world, reply_of}
 use Rattle.engine.specs.Durable.{file_of}
-use Rattle.engine.specs.Step.{Answers, WroteNothing}
+use Rattle.database_model.specs.Step.{Answers, WroteNothing}
 use Rattle.engine.specs.Writing.{FileCause}
 use Rattle.collections.proofs.LawLemmas.{goes_from_itself}
 use Rattle.server.specs.Causes.{IsCaused}

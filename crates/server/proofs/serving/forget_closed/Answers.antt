@@ -1,6 +1,6 @@
 use Rattle.std.proofs.Common.{sym, ap, ◌∙◌}
 use Rattle.engine.specs.View.{world}
-use Rattle.engine.specs.World.{World, forget}
+use Rattle.database_model.specs.World.{World, forget}
 use Rattle.server.proofs.ConnectionsServed.{forget_all_more}
 use Rattle.server.proofs.serving.forget_closed.Goals as goal
 

@@ -1,6 +1,6 @@
 use Rattle.std.proofs.Common.{◌≡◌, take}
 use Rattle.std.proofs.Common.{true}
-use Rattle.engine.specs.World.{are_untouched}
+use Rattle.database_model.specs.World.{are_untouched}
 use Rattle.engine.specs.View.{world, turn_start}
 use Rattle.engine.specs.Durable.{disk_history, has_changes, file_of, is_stopped, IsSound}
 use Rattle.server.specs.Turn.{forget_all}

@@ -3,7 +3,7 @@ use Rattle.std.specs.Prelude.{IfOk}
 use Rattle.bson.specs.Tree.{Pairs}
 use Rattle.bson.specs.Spelling.{frame_of, pairs_bytes}
 use Rattle.op_msg.specs.Request.{frame_bytes, reply_bytes}
-use Rattle.engine.specs.View.{answer_of}
+use Rattle.replies.specs.View.{answer_of}
 use Rattle.server.proofs.serving.frame_of_answer.Goals as goal
 
 pub returns-in-Spelled : goal.returns-in-Spelled

@@ -4,7 +4,7 @@ use Rattle.std.specs.Prelude.{Result, Ok, Err, Vec}
 use Rattle.std.specs.Global.{Global}
 use Rattle.roots.specs.declared.store.CommitFault.{CommitFault}
 use Rattle.engine.specs.View.{world, turn_start}
-use Rattle.engine.specs.World.{World, after_undo}
+use Rattle.database_model.specs.World.{World, after_undo}
 use Rattle.engine.specs.Committing.{Commits}
 use Rattle.engine.specs.declared.engine.Engine.{Engine}
 use Rattle.index.specs.State.{Collection}

@@ -1,7 +1,7 @@
 use Rattle.std.proofs.Common.{ap, sym, ◌∙◌}
 use Rattle.std.proofs.lemmas.Result.{err_from_is_err_and}
 use Rattle.aggregate.specs.View.{pipeline_of}
-use Rattle.engine.specs.Aggregate.{run_aggregate}
+use Rattle.database_model.specs.Aggregate.{run_aggregate}
 use Rattle.engine.specs.View.{world}
 use Rattle.engine.proofs.GivingLemmas.{gives_behind, refuses_planned}
 use Rattle.engine.proofs.LookingLemmas.{performs_refused}

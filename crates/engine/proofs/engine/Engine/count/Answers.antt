@@ -1,13 +1,14 @@
 use Rattle.std.proofs.Common.{Ok, ap, sym, subst, ◌∙◌, min, ◌^◌, ◌-◌}
 use Rattle.std.proofs.lemmas.Result.{err_from_is_err_and}
 use Rattle.commands.specs.Count.{Count}
-use Rattle.engine.specs.Count.{run_count}
-use Rattle.engine.specs.Find.{matching}
-use Rattle.engine.specs.View.{world, with_ok, IsSendable}
-use Rattle.engine.specs.World.{documents_of}
+use Rattle.database_model.specs.Count.{run_count}
+use Rattle.database_model.specs.Find.{matching}
+use Rattle.replies.specs.View.{with_ok, IsSendable}
+use Rattle.engine.specs.View.{world}
+use Rattle.database_model.specs.World.{documents_of}
 use Rattle.engine.proofs.LookingLemmas.{performs_memory, performs_read, performs_refused, world_same}
 use Rattle.engine.proofs.Running.{run_count-is}
-use Rattle.engine.proofs.SpelledSizes.{insert-sendable}
+use Rattle.replies.proofs.SpelledSizes.{insert-sendable}
 use Rattle.engine.proofs.engine.Engine.count.Goals as goal
 
 pub returns-in_err-count-clause-performs : goal.returns-in_err-count-clause-performs

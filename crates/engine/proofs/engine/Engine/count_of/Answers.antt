@@ -1,8 +1,8 @@
 use Rattle.std.proofs.Common.{◌≡◌, ℕ, length, refl}
 use Rattle.std.proofs.lemmas.Result.{err_from_is_err_and}
 use Rattle.collections.specs.Reading.{IsNumbered}
-use Rattle.engine.specs.Find.{matching}
-use Rattle.engine.specs.World.{documents_of}
+use Rattle.database_model.specs.Find.{matching}
+use Rattle.database_model.specs.World.{documents_of}
 use Rattle.engine.proofs.LookingLemmas.{looks_refused, looks_so_of}
 use Rattle.engine.proofs.WalkingLemmas.{IsNumberOf, of_name, of_none}
 use Rattle.engine.proofs.engine.Engine.count_of.Goals as goal

@@ -1,12 +1,13 @@
 use Rattle.std.proofs.Common.{sym, subst}
 use Rattle.std.proofs.lemmas.Result.{err_from_is_err_and}
 use Rattle.bson.specs.Tree.{no_pairs}
-use Rattle.engine.specs.Create.{created, run_create}
-use Rattle.engine.specs.View.{world, IsSendable}
+use Rattle.database_model.specs.Create.{created, run_create}
+use Rattle.replies.specs.View.{IsSendable}
+use Rattle.engine.specs.View.{world}
 use Rattle.engine.proofs.Creating.{created_differs}
 use Rattle.engine.proofs.MakingLemmas.{performs_done, performs_none, performs_refused}
 use Rattle.engine.proofs.PlannedLemmas.{run_creates}
-use Rattle.engine.proofs.SpelledSizes.{ping-sendable}
+use Rattle.replies.proofs.SpelledSizes.{ping-sendable}
 use Rattle.engine.proofs.engine.Engine.create.Goals as goal
 
 pub returns-in_err-reply-clause-performs : goal.returns-in_err-reply-clause-performs

@@ -1,8 +1,8 @@
 use Rattle.std.proofs.Common.{◌+◌, refl, sym, subst, ◌∙◌}
 use Rattle.std.proofs.lemmas.Result.{err_from_is_err_and}
-use Rattle.engine.specs.View.{IsSendable}
+use Rattle.replies.specs.View.{IsSendable}
 use Rattle.engine.proofs.CreatingIndexes.{create_changes, create_done, create_undone, create_unplanned, create_without_memory, planned_mid}
-use Rattle.engine.proofs.SpelledSizes.{create_indexes-sendable}
+use Rattle.replies.proofs.SpelledSizes.{create_indexes-sendable}
 use Rattle.engine.proofs.engine.Engine.create_indexes.Goals as goal
 
 pub returns-in_err-planned-clause-performs : goal.returns-in_err-planned-clause-performs

@@ -2,15 +2,16 @@ use Rattle.std.proofs.Common.{◌-◌, ◌^◌, min, List, Ok, Err, ap, sym, sub
 use Rattle.std.proofs.lemmas.Result.{err_from_is_err_and}
 use Rattle.commands.specs.Delete.{Delete}
 use Rattle.index.specs.State.{Collection}
-use Rattle.engine.specs.Delete.{run_delete}
+use Rattle.database_model.specs.Delete.{run_delete}
 use Rattle.engine.specs.Durable.{file_of}
 use Rattle.engine.specs.Removing.{IsTaken, deleted}
-use Rattle.engine.specs.View.{world, IsSendable}
+use Rattle.replies.specs.View.{IsSendable}
+use Rattle.engine.specs.View.{world}
 use Rattle.engine.specs.Writing.{planned_or}
 use Rattle.engine.proofs.LookingLemmas.{collections_same, performs_memory, performs_refused, word_before}
 use Rattle.engine.proofs.MakingLemmas.{makes_behind}
 use Rattle.engine.proofs.RemovingLemmas.{count_taken, delete_done, delete_refused}
-use Rattle.engine.proofs.SpelledSizes.{insert-sendable}
+use Rattle.replies.proofs.SpelledSizes.{insert-sendable}
 use Rattle.engine.proofs.TakenLemmas.{nothing_taken}
 use Rattle.engine.proofs.engine.Engine.delete.Goals as goal
 

@@ -1,11 +1,12 @@
 use Rattle.std.proofs.Common.{ℕ, ◌+◌, Ok, sym, subst, ap, ◌∙◌}
 use Rattle.std.proofs.lemmas.Result.{err_from_is_err_and}
-use Rattle.engine.specs.DropCollection.{run_drop}
-use Rattle.engine.specs.View.{world, IsSendable}
+use Rattle.database_model.specs.DropCollection.{run_drop}
+use Rattle.replies.specs.View.{IsSendable}
+use Rattle.engine.specs.View.{world}
 use Rattle.engine.proofs.Creating.{dropped_differs}
 use Rattle.engine.proofs.DroppingLemmas.{drop_behind, drop_done, drop_home, drop_missing, drop_undone}
 use Rattle.engine.proofs.LookingLemmas.{performs_memory, performs_refused}
-use Rattle.engine.proofs.SpelledSizes.{drop-sendable}
+use Rattle.replies.proofs.SpelledSizes.{drop-sendable}
 use Rattle.engine.proofs.engine.Engine.drop_collection.Goals as goal
 
 pub returns-in_err-home-clause-performs : goal.returns-in_err-home-clause-performs

@@ -1,11 +1,12 @@
 use Rattle.std.proofs.Common.{ℕ, ◌+◌, sym, subst, ap, ◌∙◌}
 use Rattle.std.proofs.lemmas.Result.{err_from_is_err_and}
 use Rattle.commands.specs.View.{dropped_of}
-use Rattle.engine.specs.DropIndexes.{left_by, run_drop_indexes}
-use Rattle.engine.specs.View.{world, IsSendable}
+use Rattle.database_model.specs.DropIndexes.{left_by, run_drop_indexes}
+use Rattle.replies.specs.View.{IsSendable}
+use Rattle.engine.specs.View.{world}
 use Rattle.engine.proofs.DroppingIndexes.{may_be_left, unlisted_changes, unlisted_done, unlisted_home, unlisted_missing, unlisted_refused, unlisted_undone, unlisted_without_memory}
 use Rattle.engine.proofs.LookingLemmas.{performs_refused}
-use Rattle.engine.proofs.SpelledSizes.{drop_indexes-sendable}
+use Rattle.replies.proofs.SpelledSizes.{drop_indexes-sendable}
 use Rattle.engine.proofs.engine.Engine.drop_indexes.Goals as goal
 
 pub returns-in_err-home-clause-performs : goal.returns-in_err-home-clause-performs

@@ -1,7 +1,8 @@
 use Rattle.std.proofs.Common.{inl}
-use Rattle.engine.specs.Step.{read_and_run}
-use Rattle.engine.specs.View.{world, answer_of}
-use Rattle.engine.proofs.SpelledSizes.{refusal-sendable}
+use Rattle.database_model.specs.Step.{read_and_run}
+use Rattle.replies.specs.View.{answer_of}
+use Rattle.engine.specs.View.{world}
+use Rattle.replies.proofs.SpelledSizes.{refusal-sendable}
 use Rattle.engine.proofs.Sound.{answers_done, answers_refused}
 use Rattle.engine.proofs.engine.Engine.execute.Goals as goal
 

@@ -3,10 +3,10 @@ use Rattle.std.specs.Prelude.{All, Some}
 use Rattle.std.proofs.lemmas.Result.{err_from_is_err_and}
 use Rattle.bson.specs.Tree.{Pairs}
 use Rattle.commands.specs.Find.{Query}
-use Rattle.engine.specs.Find.{given, query_result, run_find, Suffices}
-use Rattle.engine.specs.Lawful.{IsWithin}
+use Rattle.database_model.specs.Find.{given, query_result, run_find, Suffices}
+use Rattle.database_model.specs.Lawful.{IsWithin}
 use Rattle.engine.specs.View.{world}
-use Rattle.engine.specs.World.{documents_of}
+use Rattle.database_model.specs.World.{documents_of}
 use Rattle.engine.proofs.Finding.{given_enough, given_within_limits}
 use Rattle.engine.proofs.GivingLemmas.{gives_behind}
 use Rattle.engine.proofs.LookingLemmas.{performs_refused}

@@ -1,11 +1,12 @@
 use Rattle.std.proofs.Common.{◌≡◌, ℕ, Ok, refl, sym, ap, ◌∙◌}
 use Rattle.std.specs.Prelude.{codes}
-use Rattle.engine.specs.World.{CursorTable}
-use Rattle.engine.specs.Refusals.{ok_reply}
-use Rattle.engine.specs.Cursors.{batch_reply, cursor_at, advanced}
-use Rattle.engine.specs.GetMore.{batch_len_of}
+use Rattle.database_model.specs.World.{CursorTable}
+use Rattle.database_model.specs.Refusals.{ok_reply}
+use Rattle.database_model.specs.Cursors.{batch_reply, cursor_at, advanced}
+use Rattle.database_model.specs.GetMore.{batch_len_of}
 use Rattle.commands.specs.GetMore.{GetMore}
-use Rattle.engine.specs.View.{world_of, world, with_ok}
+use Rattle.replies.specs.View.{with_ok}
+use Rattle.engine.specs.View.{world_of, world}
 use Rattle.engine.proofs.Running.{run_get_more-none, run_get_more-is}
 use Rattle.engine.proofs.engine.Engine.get_more.Goals as goal
 

@@ -4,11 +4,12 @@ use Rattle.std.proofs.lemmas.List.{map-id}
 use Rattle.std.proofs.lemmas.List.Elements.{All-drop}
 use Rattle.bson.specs.Tree.{Pairs}
 use Rattle.filter.specs.Projection.{project}
-use Rattle.engine.specs.World.{World}
-use Rattle.engine.specs.Cursors.{is_refused, new_cursor}
-use Rattle.engine.specs.Lawful.{IsWithin}
-use Rattle.engine.specs.View.{world_of, world, projected, with_ok}
-use Rattle.engine.proofs.CursorSteps.{there_is, there_is_none}
+use Rattle.database_model.specs.World.{World}
+use Rattle.database_model.specs.Cursors.{is_refused, new_cursor}
+use Rattle.database_model.specs.Lawful.{IsWithin}
+use Rattle.replies.specs.View.{projected, with_ok}
+use Rattle.engine.specs.View.{world_of, world}
+use Rattle.replies.proofs.CursorSteps.{there_is, there_is_none}
 use Rattle.engine.proofs.Piping.{all_stay}
 use Rattle.engine.proofs.Running.{batch_is, whole_batch, opened_batch, refused_batch, with_cursor}
 use Rattle.engine.proofs.engine.Engine.give_all.Goals as goal

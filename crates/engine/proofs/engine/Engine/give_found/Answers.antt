@@ -7,14 +7,15 @@ use Rattle.filter.specs.Projection.{project}
 use Rattle.filter.specs.Sort.{order}
 use Rattle.commands.specs.View.{documents_at}
 use Rattle.commands.specs.Find.{Query}
-use Rattle.engine.specs.World.{World}
-use Rattle.engine.specs.Cursors.{is_refused, new_cursor}
-use Rattle.engine.specs.Find.{given, window}
-use Rattle.engine.specs.Lawful.{IsWithin}
-use Rattle.engine.specs.View.{world_of, world, projected, with_ok}
+use Rattle.database_model.specs.World.{World}
+use Rattle.database_model.specs.Cursors.{is_refused, new_cursor}
+use Rattle.database_model.specs.Find.{given, window}
+use Rattle.database_model.specs.Lawful.{IsWithin}
+use Rattle.replies.specs.View.{projected, with_ok}
+use Rattle.engine.specs.View.{world_of, world}
 use Rattle.engine.proofs.Finding.{given_within_limits}
-use Rattle.engine.proofs.CursorSpelling.{projected_len}
-use Rattle.engine.proofs.CursorSteps.{there_is, there_is_none}
+use Rattle.replies.proofs.CursorSpelling.{projected_len}
+use Rattle.replies.proofs.CursorSteps.{there_is, there_is_none}
 use Rattle.engine.proofs.Running.{batch_is, whole_batch, opened_batch, refused_batch, with_cursor}
 use Rattle.engine.proofs.engine.Engine.give_found.Goals as goal
 

@@ -1,8 +1,8 @@
 use Rattle.std.proofs.Common.{◌≡◌, true, refl, subst, sym}
 use Rattle.std.specs.Prelude.{◌==◌, not}
-use Rattle.engine.specs.World.{Cursor, CursorTable, are_untouched}
-use Rattle.engine.proofs.CursorSteps.{filter_untouched}
-use Rattle.engine.specs.Lawful.{IsLawful}
+use Rattle.database_model.specs.World.{Cursor, CursorTable, are_untouched}
+use Rattle.replies.proofs.CursorSteps.{filter_untouched}
+use Rattle.database_model.specs.Lawful.{IsLawful}
 use Rattle.engine.specs.View.{world_of}
 use Rattle.engine.specs.declared.engine.Engine.{Engine}
 use Rattle.engine.proofs.Sound.{keeps_sound, forgotten_lawful}

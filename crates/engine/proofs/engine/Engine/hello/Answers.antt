@@ -1,6 +1,6 @@
 use Rattle.std.proofs.Common.{sym, subst}
-use Rattle.engine.specs.View.{IsSendable}
-use Rattle.engine.proofs.SpelledSizes.{hello-sendable}
+use Rattle.replies.specs.View.{IsSendable}
+use Rattle.replies.proofs.SpelledSizes.{hello-sendable}
 use Rattle.engine.proofs.engine.Engine.hello.Goals as goal
 
 pub returns-clause-sendable : goal.returns-clause-sendable

@@ -4,14 +4,15 @@ use Rattle.std.proofs.lemmas.List.{length-map}
 use Rattle.std.proofs.lemmas.Result.{err_from_is_err_and}
 use Rattle.bson.specs.Tree.{pair, no_pairs}
 use Rattle.commands.specs.View.{documents_at}
-use Rattle.engine.specs.Insert.{inserted, run_insert}
-use Rattle.engine.specs.Refusals.{int, ok_reply}
-use Rattle.engine.specs.View.{world, IsSendable}
+use Rattle.database_model.specs.Insert.{inserted, run_insert}
+use Rattle.database_model.specs.Refusals.{int, ok_reply}
+use Rattle.replies.specs.View.{IsSendable}
+use Rattle.engine.specs.View.{world}
 use Rattle.engine.proofs.Growing.{inserted_differs}
 use Rattle.engine.proofs.KeptLemmas.{stored_at}
 use Rattle.engine.proofs.MakingLemmas.{performs_done, performs_none, performs_refused}
 use Rattle.engine.proofs.PlannedLemmas.{run_inserts}
-use Rattle.engine.proofs.SpelledSizes.{insert-sendable}
+use Rattle.replies.proofs.SpelledSizes.{insert-sendable}
 use Rattle.engine.proofs.engine.Engine.insert.Goals as goal
 
 pub returns-in_err-reply-clause-performs : goal.returns-in_err-reply-clause-performs

@@ -2,11 +2,12 @@ use Rattle.std.proofs.Common.{◌≤◌, length, Ok, refl, sym, ap, subst, ◌�
 use Rattle.std.specs.Prelude.{not}
 use Rattle.std.specs.List.{filter}
 use Rattle.commands.specs.KillCursors.{KillCursors}
-use Rattle.engine.specs.World.{Cursor}
-use Rattle.engine.specs.KillCursors.{ToldApart, no_ids, has_cursor, is_asked}
-use Rattle.engine.specs.View.{world_of, world, with_ok, IsSendable}
+use Rattle.database_model.specs.World.{Cursor}
+use Rattle.database_model.specs.KillCursors.{ToldApart, no_ids, has_cursor, is_asked}
+use Rattle.replies.specs.View.{with_ok, IsSendable}
+use Rattle.engine.specs.View.{world_of, world}
 use Rattle.engine.proofs.Running.{run_kill_cursors-is}
-use Rattle.engine.proofs.SpelledSizes.{kill-sendable, told_few}
+use Rattle.replies.proofs.SpelledSizes.{kill-sendable, told_few}
 use Rattle.engine.proofs.engine.Engine.kill_cursors.Goals as goal
 
 pub returns-clause-runs : goal.returns-clause-runs

@@ -5,10 +5,11 @@ use Rattle.std.proofs.lemmas.Result.{err_from_is_err_and}
 use Rattle.bson.specs.Tree.{Pairs}
 use Rattle.collections.specs.Reading.{name_of}
 use Rattle.collections.specs.declared.reading.Name.{Name}
-use Rattle.engine.specs.Cursors.{batch_of}
-use Rattle.engine.specs.Lawful.{IsWithin}
-use Rattle.engine.specs.ListCollections.{names_behind, names_in, listed, run_list_collections}
-use Rattle.engine.specs.View.{world, projected}
+use Rattle.database_model.specs.Cursors.{batch_of}
+use Rattle.database_model.specs.Lawful.{IsWithin}
+use Rattle.database_model.specs.ListCollections.{names_behind, names_in, listed, run_list_collections}
+use Rattle.replies.specs.View.{projected}
+use Rattle.engine.specs.View.{world}
 use Rattle.engine.proofs.Listing.{go_into_one, listed_same, run_list-is}
 use Rattle.engine.proofs.LookingLemmas.{performs_memory, performs_read, performs_refused, reads_nothing, reads_so}
 use Rattle.engine.proofs.Piping.{all_stay}

@@ -1,7 +1,7 @@
 use Rattle.std.proofs.Common.{List, ap, ◌∙◌}
 use Rattle.index.specs.Definition.{Definition}
-use Rattle.engine.specs.ListIndexes.{indexes_reply}
-use Rattle.engine.specs.Refusals.{ok_reply}
+use Rattle.database_model.specs.ListIndexes.{indexes_reply}
+use Rattle.database_model.specs.Refusals.{ok_reply}
 use Rattle.engine.proofs.ListingIndexes.{list_done, list_missing}
 use Rattle.engine.proofs.engine.Engine.list_indexes.Goals as goal
 

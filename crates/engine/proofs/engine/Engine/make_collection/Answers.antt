@@ -3,7 +3,7 @@ use Rattle.std.proofs.lemmas.Result.{err_from_is_err_and}
 use Rattle.btree.specs.Keys.{Edit}
 use Rattle.index.specs.Documents.{AddsCollection}
 use Rattle.path.specs.declared.refusal.Refusal.TheVariants as refusals
-use Rattle.engine.specs.Create.{created}
+use Rattle.database_model.specs.Create.{created}
 use Rattle.engine.specs.View.{world}
 use Rattle.engine.proofs.MakingLemmas.{makes_none}
 use Rattle.engine.proofs.NewCollections.{created_refused, created_unread, exists_some, made_leads, made_written, no_number}

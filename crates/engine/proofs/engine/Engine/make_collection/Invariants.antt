@@ -1,4 +1,4 @@
-use Rattle.engine.specs.Create.{created}
+use Rattle.database_model.specs.Create.{created}
 use Rattle.engine.specs.Writing.{planned_or}
 use Rattle.engine.proofs.engine.Engine.make_collection.Given as goal
 

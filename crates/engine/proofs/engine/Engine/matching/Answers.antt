@@ -2,8 +2,8 @@ use Rattle.std.proofs.Common.{◌≡◌, Vec, Global, [], take, sym, ◌∙◌, 
 use Rattle.std.proofs.lemmas.List.{take_all}
 use Rattle.std.proofs.lemmas.Result.{err_from_is_err_and}
 use Rattle.bson.specs.Tree.{Pairs}
-use Rattle.engine.specs.Find.{matching}
-use Rattle.engine.specs.World.{documents_of}
+use Rattle.database_model.specs.Find.{matching}
+use Rattle.database_model.specs.World.{documents_of}
 use Rattle.engine.proofs.LookingLemmas.{looks_refused}
 use Rattle.engine.proofs.WalkingLemmas.{IsNumberOf, of_name, of_none}
 use Rattle.engine.proofs.engine.Engine.matching.Goals as goal

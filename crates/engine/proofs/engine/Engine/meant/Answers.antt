@@ -1,7 +1,7 @@
 use Rattle.std.proofs.Common.{◌≡◌, ap, ◌∙◌, List}
 use Rattle.std.proofs.lemmas.Result.{err_from_is_err_and}
 use Rattle.bson.specs.Tree.{Pairs}
-use Rattle.engine.specs.Merging.{is_meant, is_meant_by}
+use Rattle.database_model.specs.Merging.{is_meant, is_meant_by}
 use Rattle.engine.proofs.MeantLemmas.{meant_missing, meant_there, meant_unread, meant_unselected, meant_without_memory}
 use Rattle.engine.proofs.engine.Engine.meant.Goals as goal
 

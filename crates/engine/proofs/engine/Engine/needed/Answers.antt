@@ -3,8 +3,8 @@ use Rattle.std.proofs.lemmas.Result.{err_from_is_err_and}
 use Rattle.bson.specs.Tree.{Pairs}
 use Rattle.aggregate.specs.View.{pipeline_of}
 use Rattle.collections.specs.Reading.{IsNumbered}
-use Rattle.engine.specs.Aggregate.{AreEnough}
-use Rattle.engine.specs.World.{documents_of}
+use Rattle.database_model.specs.Aggregate.{AreEnough}
+use Rattle.database_model.specs.World.{documents_of}
 use Rattle.engine.proofs.LookingLemmas.{looks_refused, looks_so_of}
 use Rattle.engine.proofs.NeededLemmas.{none_enough}
 use Rattle.engine.proofs.WalkingLemmas.{IsNumberOf, of_name, of_none}

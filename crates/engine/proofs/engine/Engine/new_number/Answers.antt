@@ -2,7 +2,7 @@ use Rattle.std.proofs.Common.{List, ap, ◌∙◌, arith}
 use Rattle.std.proofs.lemmas.Result.{err_from_is_err_and}
 use Rattle.collections.specs.declared.reading.Name.{Name}
 use Rattle.engine.specs.Numbering.{numbered}
-use Rattle.engine.specs.World.{unused}
+use Rattle.database_model.specs.World.{unused}
 use Rattle.engine.proofs.NumberingLemmas.{number_found, number_many, number_unread, number_without_memory}
 use Rattle.engine.proofs.engine.Engine.new_number.Goals as goal
 

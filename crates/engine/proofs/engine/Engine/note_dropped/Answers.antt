@@ -2,7 +2,7 @@ use Rattle.std.proofs.Common.{sym, ap, ◌∙◌}
 use Rattle.std.specs.List.{position}
 use Rattle.std.proofs.lemmas.Result.{err_from_is_err_and}
 use Rattle.commands.specs.View.{dropped_of}
-use Rattle.engine.specs.DropIndexes.{is_dropped}
+use Rattle.database_model.specs.DropIndexes.{is_dropped}
 use Rattle.engine.proofs.DroppingIndexes.{drops_all, drops_on, drops_refused}
 use Rattle.engine.proofs.engine.Engine.note_dropped.Goals as goal
 

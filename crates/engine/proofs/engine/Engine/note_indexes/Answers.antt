@@ -5,7 +5,7 @@ use Rattle.commands.specs.NewIndex.{NewIndex}
 use Rattle.engine.proofs.IndexingSteps.{each_index}
 use Rattle.engine.proofs.NotingEach.{NotesTo, noted_all, noted_none, noted_on, noted_refused}
 use Rattle.engine.proofs.OnlyReading.{reads_none}
-use Rattle.engine.proofs.Steps.{drop_step}
+use Rattle.replies.proofs.Steps.{drop_step}
 use Rattle.engine.proofs.engine.Engine.note_indexes.Goals as goal
 
 pub indexes-init : goal.indexes-init

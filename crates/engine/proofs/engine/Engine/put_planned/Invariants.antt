@@ -1,4 +1,4 @@
-use Rattle.engine.specs.CreateIndexes.{indexed}
+use Rattle.database_model.specs.CreateIndexes.{indexed}
 use Rattle.engine.specs.Writing.{planned_or}
 use Rattle.engine.proofs.engine.Engine.put_planned.Given as goal
 

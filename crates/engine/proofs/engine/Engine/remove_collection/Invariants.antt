@@ -1,4 +1,4 @@
-use Rattle.engine.specs.DropCollection.{dropped}
+use Rattle.database_model.specs.DropCollection.{dropped}
 use Rattle.engine.specs.Writing.{planned_or}
 use Rattle.engine.proofs.engine.Engine.remove_collection.Given as goal
 

@@ -3,7 +3,7 @@ use Rattle.std.specs.Prelude.{not}
 use Rattle.std.specs.List.{position}
 use Rattle.std.proofs.lemmas.Result.{err_from_is_err_and}
 use Rattle.commands.specs.View.{dropped_of}
-use Rattle.engine.specs.DropIndexes.{is_dropped}
+use Rattle.database_model.specs.DropIndexes.{is_dropped}
 use Rattle.engine.specs.View.{world}
 use Rattle.engine.proofs.DroppingIndexes.{removes_leads, removes_none, removes_refused, removes_written, no_place, some_go, some_place}
 use Rattle.engine.proofs.PlannedLemmas.{index_dropped_planned}

@@ -1,5 +1,5 @@
 use Rattle.commands.specs.View.{dropped_of}
-use Rattle.engine.specs.DropIndexes.{index_dropped}
+use Rattle.database_model.specs.DropIndexes.{index_dropped}
 use Rattle.engine.specs.Writing.{planned_or}
 use Rattle.engine.proofs.engine.Engine.remove_indexes.Given as goal
 

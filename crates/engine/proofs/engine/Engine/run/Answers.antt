@@ -1,21 +1,22 @@
 use Rattle.std.proofs.Common.{◌≡◌, Some, Result, Ok, refl, sym, ap, subst, ◌∙◌, rules}
 use Rattle.std.specs.Prelude.{unwrap_or}
 use Rattle.bson.specs.Tree.{Pairs}
-use Rattle.engine.specs.World.{World}
+use Rattle.database_model.specs.World.{World}
 use Rattle.outcome.specs.Outcome.{◌>>=◌}
 use Rattle.commands.specs.Command as commands
 use Rattle.commands.specs.Find as finds
 use Rattle.commands.specs.Aggregate as aggregates
 use Rattle.commands.specs.Update as updates
-use Rattle.engine.specs.Aggregate.{run_aggregate}
-use Rattle.engine.specs.Step.{run, read_and_run, ChangesNone}
-use Rattle.engine.specs.Find.{run_find}
+use Rattle.database_model.specs.Aggregate.{run_aggregate}
+use Rattle.database_model.specs.Step.{run, read_and_run, ChangesNone}
+use Rattle.database_model.specs.Find.{run_find}
 use Rattle.commands.specs.View.{command_read, find_read, update_read, aggregate_read}
-use Rattle.engine.specs.View.{world, IsSendable}
+use Rattle.replies.specs.View.{IsSendable}
+use Rattle.engine.specs.View.{world}
 use Rattle.commands.specs.declared.command.Command.{Command}
 use Rattle.path.specs.declared.refusal.Refusal.{Refusal}
 use Rattle.engine.proofs.Running.{run_find-default, run_aggregate-default}
-use Rattle.engine.proofs.SpelledSizes.{ping-sendable}
+use Rattle.replies.proofs.SpelledSizes.{ping-sendable}
 use Rattle.engine.proofs.Sound.{performs_as, performs_told}
 use Rattle.engine.proofs.engine.Engine.run.Goals as goal
 

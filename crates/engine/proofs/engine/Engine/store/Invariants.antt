@@ -1,5 +1,5 @@
 use Rattle.commands.specs.View.{documents_at}
-use Rattle.engine.specs.Insert.{inserted}
+use Rattle.database_model.specs.Insert.{inserted}
 use Rattle.engine.specs.Writing.{planned_or}
 use Rattle.engine.proofs.engine.Engine.store.Given as goal
 

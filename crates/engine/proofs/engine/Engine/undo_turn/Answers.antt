@@ -1,7 +1,7 @@
 use Rattle.std.proofs.Common.{ap, subst, sym, ◌∙◌}
-use Rattle.engine.specs.World.{CursorTable, are_untouched}
-use Rattle.engine.specs.Lawful.{AreLawfulCursors}
-use Rattle.engine.proofs.CursorSteps.{untouched_untouched}
+use Rattle.database_model.specs.World.{CursorTable, are_untouched}
+use Rattle.database_model.specs.Lawful.{AreLawfulCursors}
+use Rattle.replies.proofs.CursorSteps.{untouched_untouched}
 use Rattle.engine.proofs.Ending.{rested_again, sound_again}
 use Rattle.engine.proofs.Sound.{undone_lawful}
 use Rattle.engine.proofs.engine.Engine.undo_turn.Goals as goal

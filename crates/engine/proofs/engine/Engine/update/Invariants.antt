@@ -1,4 +1,4 @@
-use Rattle.engine.specs.UpdateCommand.{updated}
+use Rattle.database_model.specs.UpdateCommand.{updated}
 use Rattle.engine.specs.Writing.{planned_or}
 use Rattle.engine.proofs.engine.Engine.update.Given as goal
 

@@ -3,7 +3,7 @@ use Rattle.bson.specs.View.{tree}
 use Rattle.commands.specs.Update.{UpdateStatement}
 use Rattle.filter.specs.Matches.{matches}
 use Rattle.engine.specs.ById.{AsksForId}
-use Rattle.engine.specs.Merging.{is_meant_by}
+use Rattle.database_model.specs.Merging.{is_meant_by}
 use Rattle.engine.proofs.ByIdLemmas.{asks_meant, only_item}
 use Rattle.engine.proofs.updates.MeaningSelects.asked_id.Goals as goal
 

@@ -1,5 +1,5 @@
 use Rattle.std.proofs.Common.{ap, sym, ◌∙◌}
-use Rattle.engine.specs.World.{World}
+use Rattle.database_model.specs.World.{World}
 use Rattle.server.specs.ServerState.{are_ascending}
 use Rattle.server.proofs.Ascending.{drop_ascends}
 use Rattle.server.proofs.turn.Core.gone.Goals as goal

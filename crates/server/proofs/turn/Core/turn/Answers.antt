@@ -9,7 +9,7 @@ use Rattle.page.specs.History.{KeepsWord}
 use Rattle.collections.specs.Calls.{GoesFrom}
 use Rattle.collections.specs.State.{State}
 use Rattle.collections.specs.View as views
-use Rattle.engine.specs.World.{World}
+use Rattle.database_model.specs.World.{World}
 use Rattle.collections.proofs.LawLemmas.{goes_from_itself}
 use Rattle.server.specs.Durable.{engine_moment, moment_of, file_of, is_stopped}
 use Rattle.server.specs.declared.turn.TurnFault.TheVariants as turns

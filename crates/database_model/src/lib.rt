@@ -1,0 +1,3 @@
+//! What a database is, without a file: collections of documents and open cursors, and what each command makes of them and replies.
+//! It stands in specs/: the crate has no code.
+#![tactic(auto)]

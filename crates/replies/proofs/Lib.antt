@@ -1,0 +1,6 @@
+pub mod Steps
+pub mod BatchLoop
+pub mod CursorSpelling
+pub mod SpelledSizes
+pub mod Replying
+pub mod CursorSteps

@@ -1,0 +1,7 @@
+use Rattle.std.proofs.Common.{map}
+use Rattle.replies.specs.View.{projected}
+use Rattle.replies.proofs.BatchLoop.{IsBatchSoFar}
+use Rattle.replies.proofs.batch.put_batch.Given as goal
+
+abbrev pub invariant-documents : goal.invariant-documents
+invariant-documents g l = IsBatchSoFar (projected l.projection (map g.T.AsDocument.document l.documents)) l.most l.i l.room l.fn.out.items l.out.items

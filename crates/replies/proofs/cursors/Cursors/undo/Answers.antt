@@ -1,0 +1,13 @@
+use Rattle.std.proofs.Common.{rules, ◌≡◌, List, ap, ◌∙◌}
+use Rattle.std.specs.Prelude.{not}
+use Rattle.std.specs.List.{filter}
+use Rattle.std.proofs.lemmas.Fn.{filter_same}
+use Rattle.database_model.specs.World.{Cursor, CursorTable}
+use Rattle.replies.proofs.cursors.Cursors.undo.Goals as goal
+
+pub returns : goal.returns
+returns c =
+    let kept : c.retain.new.self.items ≡ filter (λ (x : Cursor). not x.touched) c.self.inside.list.items =
+    filter_same _ (λ (x : Cursor). not x.touched) _ (λ x b f' k. search rules) _ _ c.retain.ensures.filtered in
+    let made : List Cursor → CursorTable = λ cs. record { list = cs; next = c.self.inside.next } in
+    ap made kept ∙ ap (λ (t : CursorTable). record t { list = filter (λ (x : Cursor). not x.touched) t.list }) c.self.view_is
