@@ -43,8 +43,8 @@ use Rattle.database_model.specs.Merging.{has_key_of, is_deleted, is_meant_by}
 use Rattle.engine.specs.View.{world}
 use Rattle.engine.specs.declared.engine.Engine.{Engine}
 use Rattle.engine.proofs.LookingLemmas.{word_before}
-use Rattle.engine.proofs.Numbers.{found_kept}
-use Rattle.engine.proofs.Ordered.{flipped, rises_tail}
+use Rattle.statements.proofs.Numbers.{found_kept}
+use Rattle.statements.proofs.Ordered.{flipped, rises_tail}
 use Rattle.engine.proofs.WalkingLemmas.{by_within}
 
 -- ---- what a condition on the `_id` says of a stored document

@@ -19,11 +19,11 @@ use Rattle.index.specs.State.{Collection, find_collection}
 use Rattle.database_model.specs.Documents.{key_of}
 use Rattle.database_model.specs.Lawful.{IsStored, IsHeld, IsKept, IsLawfulState}
 use Rattle.index.specs.LawfulState.{AreNamedApart}
-use Rattle.engine.proofs.Ordered.{missing, found, replaced}
-use Rattle.engine.proofs.Located.{Gap, There, located}
-use Rattle.engine.proofs.NamesApart.{apart_set}
-use Rattle.engine.proofs.Numbers.{numbers_set}
-use Rattle.engine.specs.Places.{collection_at, no_collection, IsThere}
+use Rattle.statements.proofs.Ordered.{missing, found, replaced}
+use Rattle.statements.proofs.Located.{Gap, There, located}
+use Rattle.statements.proofs.NamesApart.{apart_set}
+use Rattle.statements.proofs.Numbers.{numbers_set}
+use Rattle.statements.specs.Places.{collection_at, no_collection, IsThere}
 use Rattle.database_model.specs.Delete.{deleted_in, without_at, without_first, after_deletion, after_deletions}
 use Rattle.commands.specs.Delete.{Deletion}
 

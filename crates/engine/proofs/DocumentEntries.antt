@@ -34,12 +34,12 @@ use Rattle.index.proofs.LawfulLaws.{put_in}
 use Rattle.index.proofs.SetLemmas.{set_sorted}
 use Rattle.collections.specs.IndexChecks.{has_entry, is_empty_at, lacks_any, lacks_key, lacks_one}
 use Rattle.engine.specs.Checking.{total_documents}
-use Rattle.engine.specs.Places.{collection_at, no_collection}
+use Rattle.statements.specs.Places.{collection_at, no_collection}
 use Rattle.engine.specs.Judging.{AreLoaded, HasItsKeys, IsStoredAt, Progress, bare, key_count, keys_among, listed_of, numbered, with_document_at, with_document_in}
 use Rattle.engine.proofs.OnceLists.{AreOnce, once_append, once_flat, once_map, sorted_once}
 use Rattle.engine.proofs.TakingLemmas.{document_loaded, find_there, is_storable, kept_with}
-use Rattle.engine.proofs.Located.{Gap, There, located}
-use Rattle.engine.proofs.Ordered.{found as found_at, missing, replaced}
+use Rattle.statements.proofs.Located.{Gap, There, located}
+use Rattle.statements.proofs.Ordered.{found as found_at, missing, replaced}
 use Rattle.engine.proofs.EntriesSoFar.{count_set, IsKeyed, IsPlain, Stands, index_fits, not_both, one_of_one, seen_same, under_none}
 
 -- ---- what a check of keys tells

@@ -30,7 +30,7 @@ use Rattle.engine.specs.Dropping.{HasStepped, IsEmptying, IsFilled, IsLeft}
 use Rattle.engine.specs.Durable.{disk_history, is_stopped, IsRunning, IsSound}
 use Rattle.engine.specs.Looking.{Looks, LooksOf, OnlyReads}
 use Rattle.engine.specs.Performing.{Performs}
-use Rattle.engine.specs.Redoing.{without_each}
+use Rattle.statements.specs.Redoing.{without_each}
 use Rattle.database_model.specs.Refusals.{ok_reply}
 use Rattle.engine.specs.TakingOut.{AreThere, HasHome, IsHome, IsIndexable, TakesOut}
 use Rattle.engine.specs.View.{world}

@@ -31,10 +31,10 @@ use Rattle.database_model.specs.Delete.{after_deletions, deleted_in, run_delete}
 use Rattle.commands.specs.Update.{UpdateStatement, Update, IsRead}
 use Rattle.database_model.specs.Update.{Updated, not_updated, run_statements, update_reply, judged, run_all, spelled}
 use Rattle.database_model.specs.UpdateCommand.{entered_in, run_update, writes_in}
-use Rattle.engine.specs.WriteLaws.{documents_in}
+use Rattle.statements.specs.WriteLaws.{documents_in}
 use Rattle.index.specs.Entering.{DocumentWrite, enter_each}
-use Rattle.engine.proofs.KeptLemmas.{Kept, stored_at}
-use Rattle.engine.proofs.WriteLawLemmas.{writes_stored}
+use Rattle.statements.proofs.KeptLemmas.{Kept, stored_at}
+use Rattle.statements.proofs.WriteLawLemmas.{writes_stored}
 use Rattle.commands.specs.ListCollections.{ListCollections}
 use Rattle.database_model.specs.Create.{created, run_create}
 use Rattle.commands.specs.NewIndex.{IsShortNewIndex, NewIndex}
@@ -48,12 +48,12 @@ use Rattle.database_model.specs.ListIndexes.{indexes_reply, run_list_indexes}
 use Rattle.engine.proofs.Creating.{dropped_lawful}
 use Rattle.engine.proofs.Listing.{go_into_one}
 use Rattle.engine.proofs.ListingIndexes.{indexes-sendable}
-use Rattle.engine.proofs.ShortIndexes.{short_at}
+use Rattle.statements.proofs.ShortIndexes.{short_at}
 use Rattle.database_model.specs.Refusals.{int, total, words, ok_reply}
 use Rattle.commands.specs.Command.{Command, ping, insert as insert_of, find as find_of, count as count_of_all, delete, update, aggregate, create as create_of, drop as drop_of, list_collections, create_indexes, drop_indexes, list_indexes, command_of, IsBounded, get_more, kill_cursors, hello}
 use Rattle.database_model.specs.Lawful.{IsStored, IsWithin, IsKept, IsLawfulState, IsLawful, AreLawfulCursors}
 use Rattle.index.specs.LawfulState.{AreNamedApart, AreNumberedApart, IsRising}
-use Rattle.engine.specs.Places.{collection_at, no_collection}
+use Rattle.statements.specs.Places.{collection_at, no_collection}
 use Rattle.database_model.specs.Insert.{is_full}
 use Rattle.database_model.specs.Cursors.{items_of_documents, batch_of, cursor_reply, number_after, batch_reply, is_refused, new_cursor, open_cursor, first_batch, is_cursor, no_cursor, cursor_at}
 use Rattle.commands.specs.GetMore.{GetMore}
@@ -69,13 +69,13 @@ use Rattle.path.specs.declared.refusal.Refusal.{Refusal}
 use Rattle.path.specs.declared.refusal.Refusal.TheVariants as refusals
 use Rattle.commands.specs.OutcomeLaws.{step_of, passed}
 use Rattle.commands.specs.CommandLaws.{bounded}
-use Rattle.engine.proofs.EnteredLemmas.{has_grown, stays_kept}
-use Rattle.engine.proofs.Located.{Gap, There, located}
+use Rattle.statements.proofs.EnteredLemmas.{has_grown, stays_kept}
+use Rattle.statements.proofs.Located.{Gap, There, located}
 use Rattle.engine.proofs.Deleting.{deleted_lawful}
 use Rattle.engine.proofs.Finding.{found_within}
-use Rattle.engine.proofs.Ordered.{Rises, rises_insert, All-inserted, missing, found, added, replaced}
-use Rattle.engine.proofs.Numbers.{found_kept, unused_unused, number_bounds, numbers_set, numbers_insert}
-use Rattle.engine.proofs.NamesApart.{apart_set}
+use Rattle.statements.proofs.Ordered.{Rises, rises_insert, All-inserted, missing, found, added, replaced}
+use Rattle.statements.proofs.Numbers.{found_kept, unused_unused, number_bounds, numbers_set, numbers_insert}
+use Rattle.statements.proofs.NamesApart.{apart_set}
 use Rattle.replies.proofs.SpelledSizes.{create_indexes-sendable, drop_indexes-sendable, ping-sendable, insert-sendable, drop-sendable, refusal-sendable, batch_items, cursor-sendable, kill-sendable, told_few, hello-sendable}
 use Rattle.engine.proofs.LawfulCollections.{index_dropped_lawful, indexed_lawful, put_kept, room}
 

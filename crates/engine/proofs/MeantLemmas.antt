@@ -19,11 +19,11 @@ use Rattle.database_model.specs.Merging.{is_meant, makes_any}
 use Rattle.engine.specs.Numbering.{IsNewNumber, IsTooMany}
 use Rattle.engine.specs.Putting.{IsFullFor, IsFullWithout, IsMeant, IsUpdate, MeansIn}
 use Rattle.engine.specs.Trying.{Tries}
-use Rattle.engine.specs.Updating.{IsRan}
+use Rattle.statements.specs.Updating.{IsRan}
 use Rattle.engine.specs.View.{world}
 use Rattle.engine.specs.declared.engine.Engine.{Engine}
 use Rattle.engine.specs.declared.updates.Meant.{Meant}
-use Rattle.engine.specs.declared.statements.Ran.{Ran}
+use Rattle.statements.specs.declared.statements.Ran.{Ran}
 use Rattle.engine.proofs.LookingLemmas.{looks_behind}
 use Rattle.engine.proofs.NewCollections.{IsNumberOf, none_of, there_of}
 use Rattle.engine.proofs.OnlyReading.{cause_from, now_same, reads_none, reads_on, word_before}

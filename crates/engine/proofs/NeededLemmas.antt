@@ -15,7 +15,7 @@ use Rattle.database_model.specs.Lawful.{IsLawfulState, IsWithin}
 use Rattle.database_model.specs.World.{documents_of}
 use Rattle.index.specs.State.{Collection}
 use Rattle.engine.proofs.Finding.{stored_within}
-use Rattle.engine.proofs.KeptLemmas.{stored_at}
+use Rattle.statements.proofs.KeptLemmas.{stored_at}
 use Rattle.engine.proofs.Piping.{all_within, none_at_fault}
 
 -- ---- more than enough

@@ -21,8 +21,8 @@ use Rattle.index.proofs.LawfulLaws.{all_of}
 use Rattle.index.proofs.MemberLemmas.{Among}
 use Rattle.database_model.specs.CreateIndexes.{are_same_fields, is_in_conflict, is_same_field, is_there, numbered, unused_index, with_new_index, with_new_indexes}
 use Rattle.database_model.specs.Lawful.{AreShortIndexes, IsShortIndex}
-use Rattle.engine.proofs.Numbers.{unused_unused}
-use Rattle.engine.proofs.ShortIndexes.{noted_short}
+use Rattle.statements.proofs.Numbers.{unused_unused}
+use Rattle.statements.proofs.ShortIndexes.{noted_short}
 use Rattle.replies.proofs.Steps.{drop_step}
 
 -- ---- fields

@@ -21,21 +21,21 @@ use Rattle.database_model.specs.Lawful.{IsLawfulState, IsStored}
 use Rattle.database_model.specs.Merging.{is_meant, Listed, listed_in, makes_any, not_listed, put_each, run_each, upsert_listed}
 use Rattle.engine.specs.Putting.{EndsIn, IsFullFor, IsMeant, IsUpdate, MeansIn}
 use Rattle.database_model.specs.Update.{counts_reply, judged, not_updated, run_all, run_statements, Updated, update_reply}
-use Rattle.engine.specs.Updating.{EndsAs, HasNone, IsRan, IsRun, IsRunOf, listed_of, news_of, seen}
+use Rattle.statements.specs.Updating.{EndsAs, HasNone, IsRan, IsRun, IsRunOf, listed_of, news_of, seen}
 use Rattle.database_model.specs.World.{documents_of, documents_or_none, or_empty, unused}
-use Rattle.engine.specs.WriteLaws.{AreRun, AreThere}
+use Rattle.statements.specs.WriteLaws.{AreRun, AreThere}
 use Rattle.database_model.specs.Writes.{writes_of}
-use Rattle.engine.specs.declared.statements.Ran.{Ran}
-use Rattle.engine.specs.declared.statements.Run.{Run}
-use Rattle.engine.specs.declared.statements.Tally.{Tally}
+use Rattle.statements.specs.declared.statements.Ran.{Ran}
+use Rattle.statements.specs.declared.statements.Run.{Run}
+use Rattle.statements.specs.declared.statements.Tally.{Tally}
 use Rattle.engine.specs.declared.updates.Meant.{Meant}
-use Rattle.engine.proofs.KeptLemmas.{stored_at}
-use Rattle.engine.proofs.ListedUpdates.{each_full, each_in, each_missing, each_there}
-use Rattle.engine.proofs.MeantDeletions.{or_first, or_second}
-use Rattle.engine.proofs.MeantUpdates.{done_alike, refused_alike}
+use Rattle.statements.proofs.KeptLemmas.{stored_at}
+use Rattle.statements.proofs.ListedUpdates.{each_full, each_in, each_missing, each_there}
+use Rattle.statements.proofs.MeantDeletions.{or_first, or_second}
+use Rattle.statements.proofs.MeantUpdates.{done_alike, refused_alike}
 use Rattle.engine.proofs.ReplacedLemmas.{IsSub, sub_filter, writes_among}
-use Rattle.engine.proofs.WriteLawLemmas.{writes_of_meant}
-use Rattle.engine.proofs.WritePlaceLemmas.{writes_replace}
+use Rattle.statements.proofs.WriteLawLemmas.{writes_of_meant}
+use Rattle.statements.proofs.WritePlaceLemmas.{writes_replace}
 
 -- statements that make none do nothing where no document is
 none_made : (i : ℕ) (ss : List UpdateStatement) → makes_any ss ≡ false → run_each i ss (not_listed []) ≡ Ok (not_listed [])

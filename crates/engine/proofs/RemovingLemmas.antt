@@ -22,7 +22,7 @@ use Rattle.database_model.specs.Delete.{after_deletion, after_deletions, deleted
 use Rattle.engine.specs.Durable.{disk_history, file_of, IsSound}
 use Rattle.engine.specs.Looking.{Looks, OnlyReads}
 use Rattle.engine.specs.Performing.{Performs}
-use Rattle.engine.specs.Redoing.{without_each, taken, all_taken}
+use Rattle.statements.specs.Redoing.{without_each, taken, all_taken}
 use Rattle.database_model.specs.Refusals.{total, ok_reply}
 use Rattle.engine.specs.Removing.{IsTaken, deleted}
 use Rattle.engine.specs.TakingOut.{AreThere, IsIndexable, TakesOut}
@@ -34,7 +34,7 @@ use Rattle.engine.specs.declared.engine.Engine.{Engine}
 use Rattle.engine.proofs.Deleting.{left_same}
 use Rattle.engine.proofs.LostLemmas.{all_lost, all_there, taken_kept}
 use Rattle.engine.proofs.MakingLemmas.{makes_none, makes_written, performs_done, performs_refused, with_reply}
-use Rattle.engine.proofs.MeantDeletions.{taken_count}
+use Rattle.statements.proofs.MeantDeletions.{taken_count}
 use Rattle.engine.proofs.OnlyReading.{cause_from, reads_none, reads_on, word_before}
 use Rattle.engine.proofs.TakingOutLemmas.{all_indexable}
 

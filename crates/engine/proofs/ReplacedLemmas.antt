@@ -16,11 +16,11 @@ use Rattle.index.specs.StateReads.{find_document}
 use Rattle.database_model.specs.Documents.{key_of}
 use Rattle.engine.specs.Putting.{AreWritesOf, IsWriteOf}
 use Rattle.engine.specs.Storing.{IsReplacedIn}
-use Rattle.engine.specs.Updating.{HaveOld, news_of, replaced_in, seen}
-use Rattle.engine.specs.WriteLaws.{AreThere}
-use Rattle.engine.specs.declared.statements.Write.{Write}
-use Rattle.engine.proofs.MergingLemmas.{Above, Ascends, ascends, Each}
-use Rattle.engine.proofs.Ordered.{flipped}
+use Rattle.statements.specs.Updating.{HaveOld, news_of, replaced_in, seen}
+use Rattle.statements.specs.WriteLaws.{AreThere}
+use Rattle.statements.specs.declared.statements.Write.{Write}
+use Rattle.statements.proofs.MergingLemmas.{Above, Ascends, ascends, Each}
+use Rattle.statements.proofs.Ordered.{flipped}
 
 -- ---- a document that is put among others is found by its `_id`, and each other as before
 

@@ -27,25 +27,11 @@ use Rattle.database_model.specs.Documents.{checked, insert_all, insert_one, key_
 use Rattle.database_model.specs.Insert.{inserted, is_full}
 use Rattle.database_model.specs.Lawful.{IsStored}
 use Rattle.engine.specs.Storing.{AreNoted, HasNoted, entering}
-use Rattle.engine.specs.Updating.{MayBePut}
+use Rattle.statements.specs.Updating.{MayBePut}
 use Rattle.database_model.specs.World.{collection_of, documents_or_none, indexes_or_none, number_or, unused}
-use Rattle.engine.proofs.Checked.{keeps}
-use Rattle.engine.proofs.EditPlaceLemmas.{storable}
-use Rattle.engine.proofs.Numbers.{unused_unused}
-
--- ---- documents in their order
-
--- a document that was placed was put
-pub put_where_placed : (new : Pairs) (ds next : List Pairs) → place (key_of new) new ds ≡ Some next → put_document new ds ≡ next
-put_where_placed new [] next e = cc
-put_where_placed new (d ∷ ds) next e = by (compare (key_of new) (key_of d)) (place (key_of new) new ds) (put_where_placed new ds) e
-  where
-    by : (o : Ordering) (later : Option (List Pairs)) → ((xs : List Pairs) → later ≡ Some xs → put_document new ds ≡ xs)
-        → by_order o (Some (new ∷ d ∷ ds)) None (option_map (λ xs. d ∷ xs) later) ≡ Some next → by_order o (new ∷ d ∷ ds) (new ∷ ds) (d ∷ put_document new ds) ≡ next
-    by orders.Less later h f = cc
-    by orders.Equal later h f = absurd cc
-    by orders.Greater None h f = absurd cc
-    by orders.Greater (Some xs) h f = let same : d ∷ xs ≡ next = cc in ap (λ (ys : List Pairs). d ∷ ys) (h xs refl) ∙ same
+use Rattle.statements.proofs.Checked.{keeps}
+use Rattle.statements.proofs.EditPlaceLemmas.{storable}
+use Rattle.statements.proofs.Numbers.{unused_unused}
 
 -- ---- a collection that documents go to
 

@@ -15,7 +15,7 @@ use Rattle.index.proofs.PlaceLemmas.{found_name}
 use Rattle.database_model.specs.Delete.{after_deletions, deleted_in}
 use Rattle.engine.specs.Looking.{Looks, LooksOf}
 use Rattle.database_model.specs.Merging.{is_deleted}
-use Rattle.engine.specs.Redoing.{all_taken}
+use Rattle.statements.specs.Redoing.{all_taken}
 use Rattle.engine.specs.Removing.{IsTaken, deleted}
 use Rattle.engine.specs.TakingOut.{HasHome}
 use Rattle.engine.specs.View.{world}
@@ -23,7 +23,7 @@ use Rattle.database_model.specs.World.{documents_or_none, documents_of}
 use Rattle.engine.specs.declared.delete.Taken.{Taken}
 use Rattle.engine.specs.declared.engine.Engine.{Engine}
 use Rattle.engine.proofs.LookingLemmas.{looks_behind, looks_made}
-use Rattle.engine.proofs.MeantDeletions.{taken_alike, taken_count}
+use Rattle.statements.proofs.MeantDeletions.{taken_alike, taken_count}
 use Rattle.engine.proofs.RemovingLemmas.{all_empty, taken_none}
 use Rattle.engine.proofs.CataloguedLemmas.{IsCatalogueOf, has_home, not_catalogued, some_same}
 use Rattle.engine.proofs.WalkingLemmas.{documents_found}

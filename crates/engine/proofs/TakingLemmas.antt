@@ -33,7 +33,7 @@ use Rattle.index.proofs.StateEditLaws.{put_same}
 use Rattle.database_model.specs.Documents.{key_of}
 use Rattle.engine.specs.Judging.{AreLoaded, IsIndexable, IsLoadingAs, IsName, IsStoredAt, bare, keys_among, listed_of, numbered, stands_behind, with_document_at, with_document_in}
 use Rattle.database_model.specs.Lawful.{IsLawfulState, IsStored}
-use Rattle.engine.proofs.ShortIndexes.{definitions_short}
+use Rattle.statements.proofs.ShortIndexes.{definitions_short}
 
 -- ---- what is lawful
 

@@ -29,9 +29,9 @@ use Rattle.index.proofs.MemberLemmas.{of_all}
 use Rattle.index.proofs.PlaceLemmas.{found_in}
 use Rattle.index.proofs.StateEditLaws.{put_same}
 use Rattle.database_model.specs.Documents.{key_of}
-use Rattle.engine.specs.Redoing.{without_each}
+use Rattle.statements.specs.Redoing.{without_each}
 use Rattle.engine.specs.TakingOut.{AreThere, IsIndexable, TakesOut}
-use Rattle.engine.proofs.EditPlaceLemmas.{goes_first}
+use Rattle.statements.proofs.EditPlaceLemmas.{goes_first}
 use Rattle.engine.proofs.EnteringLemmas.{all_keyed}
 use Rattle.engine.proofs.EnteringSteps.{memory_or}
 use Rattle.replies.proofs.Steps.{drop_step}

@@ -27,14 +27,14 @@ use Rattle.database_model.specs.Step.{ChangesNone}
 use Rattle.engine.specs.Trying.{Tries}
 use Rattle.database_model.specs.Update.{judged, not_updated, run_all, run_statements, spelled, Updated, update_reply}
 use Rattle.database_model.specs.UpdateCommand.{entered_in, run_update, updated, writes_in, written_in}
-use Rattle.engine.specs.Updating.{seen}
+use Rattle.statements.specs.Updating.{seen}
 use Rattle.engine.specs.View.{world}
 use Rattle.database_model.specs.World.{World, documents_of}
 use Rattle.engine.specs.Writing.{Makes, planned_or, Writes}
 use Rattle.engine.specs.declared.engine.Engine.{Engine}
-use Rattle.engine.specs.declared.statements.Ran.{Ran}
-use Rattle.engine.specs.declared.statements.Tally.{Tally}
-use Rattle.engine.specs.declared.statements.Write.{Write}
+use Rattle.statements.specs.declared.statements.Ran.{Ran}
+use Rattle.statements.specs.declared.statements.Tally.{Tally}
+use Rattle.statements.specs.declared.statements.Write.{Write}
 use Rattle.engine.proofs.LawfulSteps.{entered_lawful}
 use Rattle.engine.proofs.MakingLemmas.{lawful_now, leads_planned, makes_none, makes_written, performs_done, performs_refused, planned_is, with_reply}
 use Rattle.engine.proofs.OnlyReading.{cause_from, now_same, reads_on, word_before}

@@ -20,11 +20,11 @@ use Rattle.engine.specs.Putting.{ArePlanned, AreWritesOf, NotesWrites}
 use Rattle.engine.specs.Storing.{AreNoted, HasNoted, IsFull, MayEnter, Notes, entering, write_of}
 use Rattle.engine.specs.Trying.{Tries}
 use Rattle.database_model.specs.UpdateCommand.{written_in}
-use Rattle.engine.specs.Updating.{MayBePut, news_of, seen}
+use Rattle.statements.specs.Updating.{MayBePut, news_of, seen}
 use Rattle.engine.specs.View.{world}
 use Rattle.database_model.specs.World.{collection_of, documents_of}
 use Rattle.engine.specs.declared.engine.Engine.{Engine}
-use Rattle.engine.specs.declared.statements.Write.{Write}
+use Rattle.statements.specs.declared.statements.Write.{Write}
 use Rattle.engine.proofs.OnlyReading.{cause_from, now_same, reads_on, word_before}
 use Rattle.replies.proofs.Steps.{drop_step}
 

@@ -1,8 +1,4 @@
-pub mod Places
-pub mod Redoing
 pub mod Known
-pub mod WriteLaws
-pub mod Updating
 pub mod View
 pub mod Laws
 pub mod CursorLaws

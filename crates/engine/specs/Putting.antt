@@ -20,13 +20,13 @@ use Rattle.database_model.specs.Refusals.{ok_reply}
 use Rattle.engine.specs.Storing.{IsReplacedIn}
 use Rattle.database_model.specs.Update.{Updated, counts_reply, not_updated, run_all, run_statements, spelled, update_reply}
 use Rattle.database_model.specs.UpdateCommand.{writes_in, written_in}
-use Rattle.engine.specs.Updating.{seen}
+use Rattle.statements.specs.Updating.{seen}
 use Rattle.engine.specs.View.{world}
 use Rattle.database_model.specs.World.{documents_of, unused}
 use Rattle.engine.specs.declared.engine.Engine.{Engine}
-use Rattle.engine.specs.declared.statements.Ran.{Ran}
-use Rattle.engine.specs.declared.statements.Tally.{Tally}
-use Rattle.engine.specs.declared.statements.Write.{Write}
+use Rattle.statements.specs.declared.statements.Ran.{Ran}
+use Rattle.statements.specs.declared.statements.Tally.{Tally}
+use Rattle.statements.specs.declared.statements.Write.{Write}
 use Rattle.engine.specs.declared.updates.Meant.{Meant}
 
 -- the number of a collection that is made is one of a collection's

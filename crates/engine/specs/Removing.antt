@@ -3,7 +3,7 @@ use Rattle.std.specs.Prelude.{◌≡◌, ℕ, List, Some}
 use Rattle.commands.specs.Delete.{Deletion}
 use Rattle.index.specs.State.{Collection, find_collection}
 use Rattle.database_model.specs.Delete.{deleted_in}
-use Rattle.engine.specs.Redoing.{all_taken}
+use Rattle.statements.specs.Redoing.{all_taken}
 use Rattle.database_model.specs.World.{documents_of}
 use Rattle.engine.specs.declared.delete.Taken.{Taken}
 

@@ -14,7 +14,7 @@ use Rattle.index.specs.StateEntries.{Leads}
 use Rattle.index.specs.StateReads.{find_document}
 use Rattle.index.specs.declared.catalogue_reading.Catalogued.{Catalogued}
 use Rattle.database_model.specs.Documents.{key_of}
-use Rattle.engine.specs.Redoing.{without_each}
+use Rattle.statements.specs.Redoing.{without_each}
 
 -- The collection is there, and this is what the catalogue has of it.
 pub record IsHome (now : List Collection) (c : Collection) (home : Catalogued) : Type 0 where

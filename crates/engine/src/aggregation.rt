@@ -19,7 +19,6 @@ ghost use Rattle.replies.specs.View.{IsSendable, Runs};
 ghost use Rattle.engine.specs.View.{world};
 ghost use Rattle.database_model.specs.World.{documents_of};
 
-use crate::STORED_LIMIT;
 use crate::engine::Engine;
 use crate::looking::{BATCH, built_within};
 use aggregate::Pipeline;
@@ -29,6 +28,7 @@ use filter::Projection;
 use page::Disk;
 use path::Refusal;
 use replies::{BatchKind, ConnId, SharedDocument, batch_reply};
+use statements::STORED_LIMIT;
 use std::alloc::Global;
 
 /// So many documents are kept before those that aren't needed any more are let go.

@@ -6,7 +6,7 @@ ghost use Rattle.filter.specs.Matches.{matches};
 ghost use Rattle.database_model.specs.Delete.{without_first, after_deletion, after_deletions, run_delete};
 ghost use Rattle.engine.specs.Looking.{Looks};
 ghost use Rattle.database_model.specs.Merging.{is_deleted};
-ghost use Rattle.engine.specs.Redoing.{first_taken, taken, all_taken};
+ghost use Rattle.statements.specs.Redoing.{first_taken, taken, all_taken};
 ghost use Rattle.page.specs.History.{KeepsWord};
 ghost use Rattle.engine.specs.Durable.{disk_history, has_changes, IsSound};
 ghost use Rattle.engine.specs.Performing.{Performs};
@@ -17,7 +17,6 @@ ghost use Rattle.engine.specs.View.{world};
 
 use crate::by_id::asked_id;
 use crate::engine::Engine;
-use crate::find::matches;
 use crate::looking::Selects;
 use crate::removing::note_removed;
 use bson::{Document, NoMemory, RawDoc, Value};
@@ -27,6 +26,7 @@ use index::{Catalogued, Edits};
 use page::Disk;
 use path::Refusal;
 use replies::{SharedDocument, total_reply};
+use statements::matches;
 use std::alloc::Global;
 
 /// Where the first document stands that matches a filter.

@@ -7,16 +7,16 @@ ghost use Rattle.engine.specs.Durable.{IsSound};
 ghost use Rattle.engine.specs.Looking.{LooksOf};
 ghost use Rattle.engine.specs.Storing.{AreNoted, IsBeside, IsFull, MayEnter, Notes, TellsDuplicate, TellsTaken, entering};
 ghost use Rattle.engine.specs.Trying.{Tries};
-ghost use Rattle.engine.specs.Updating.{MayBePut};
+ghost use Rattle.statements.specs.Updating.{MayBePut};
 ghost use Rattle.engine.specs.View.{world};
 ghost use Rattle.database_model.specs.World.{collection_of};
 
-use crate::documents::id_text;
 use crate::engine::Engine;
 use bson::Document;
 use index::{Catalogued, Edits, Keyed};
 use page::Disk;
 use path::Refusal;
+use statements::id_text;
 
 impl<D: Disk> Engine<D> {
     /// The collection of a name, as the catalogue has it. Where it is missing, the edits make it; `TooMany` where it would be

@@ -22,13 +22,6 @@ use path::Refusal;
 use replies::{BatchKind, ConnId, SharedDocument, batch_reply};
 use std::alloc::Global;
 
-/// Whether a document matches a filter. It takes no memory.
-pub(crate) fn matches(filter: &Filter, document: &Document) -> bool
-    ensures { result ≡ matches filter.now document.now }
-{
-    filter.matches(document).unwrap()
-}
-
 /// What is left of items without those that are skipped and those past the limit; a limit of 0 is none.
 fn window<T>(items: &[T], skip: usize, limit: usize) -> &[T]
     ensures { result.now ≡ window skip limit items.now }

@@ -6,13 +6,13 @@ ghost use Rattle.database_model.specs.Refusals.{ok_reply};
 ghost use Rattle.replies.specs.View.{IsSendable, Runs};
 ghost use Rattle.engine.specs.View.{world};
 
-use crate::STORED_LIMIT;
 use crate::engine::Engine;
 use bson::{Document, MESSAGE_LIMIT, NoMemory, Value};
 use commands::MOST_STATEMENTS;
 use page::Disk;
 use path::Refusal;
 use replies::{ConnId, done, put};
+use statements::STORED_LIMIT;
 use std::alloc::Global;
 
 /// The reply of a `hello` on a connection.

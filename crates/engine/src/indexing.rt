@@ -10,7 +10,6 @@ ghost use Rattle.engine.specs.Trying.{TriesOf};
 ghost use Rattle.engine.specs.View.{world};
 
 use crate::MOST_INDEXES;
-use crate::documents::id_text;
 use crate::engine::Engine;
 use crate::looking::BATCH;
 use crate::new_indexes::{is_in_conflict, is_there, unused_number};
@@ -20,6 +19,7 @@ use commands::NewIndex;
 use index::{Catalogued, Edits, NewEntries};
 use page::Disk;
 use path::Refusal;
+use statements::id_text;
 use std::alloc::Global;
 
 /// Documents enter an index, one after the other, up to the first that it refuses.

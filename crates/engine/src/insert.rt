@@ -13,13 +13,13 @@ ghost use Rattle.replies.specs.View.{IsSendable};
 ghost use Rattle.engine.specs.View.{world};
 ghost use Rattle.engine.specs.Writing.{Makes};
 
-use crate::documents::stored;
 use crate::engine::Engine;
 use bson::Document;
 use index::{Catalogued, Edits};
 use page::Disk;
 use path::Refusal;
 use replies::insert_reply;
+use statements::stored;
 
 impl<D: Disk> Engine<D> {
     /// Stores documents, all or none.

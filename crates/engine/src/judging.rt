@@ -14,14 +14,14 @@ ghost use Rattle.database_model.specs.Documents.{key_of};
 ghost use Rattle.engine.specs.Judging.{IsDocumentAt, IsFaultOf, IsIndexable, IsName, JudgesText, are_apart, has_number, index_in, key_count, keys_among, numbered, stands_behind};
 ghost use Rattle.engine.specs.Loading.{named_as};
 
-use crate::documents::ID;
-use crate::{MOST_COLLECTIONS, STORED_LIMIT};
+use crate::MOST_COLLECTIONS;
 use bson::{Document, NoMemory};
 use btree::Entry;
 use commands::NAMESPACE_LIMIT;
 use index::{IndexSpec, catalogue_told, document_in, document_key, keys_in_all, namespace_in};
 use path::Refusal;
 use roots::OpenFault;
+use statements::{ID, STORED_LIMIT};
 use std::alloc::{AllocError, Global};
 use update::{id_of, limits_fault, names_fault};
 use value_order::{Direction, KeyFault, KeyPart, key_text};

@@ -3,7 +3,7 @@
 ghost use Rattle.engine.specs.CursorLaws.{UndoingClosesTouched};
 ghost use Rattle.engine.specs.CursorLife.{GivesItsList, LastBatchIsWhole};
 ghost use Rattle.engine.specs.Laws.{BeginsLawful, StaysLawful, ReadsChangeNothing, HoldsOne, ZerosHoldNothing, RepliesSendable};
-ghost use Rattle.engine.specs.WriteLaws.{UnchangedWriteNothing, WritesJoin, WritesLead, WritesOfMeant, WritesReplace, WritesStored};
+ghost use Rattle.statements.specs.WriteLaws.{UnchangedWriteNothing, WritesJoin, WritesLead, WritesOfMeant, WritesReplace, WritesStored};
 
 /// The world that an engine begins with is lawful.
 pub fn begins_lawful()

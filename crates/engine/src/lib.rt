@@ -9,7 +9,6 @@ mod count;
 mod create;
 mod create_indexes;
 mod delete;
-mod documents;
 mod drop_collection;
 mod drop_indexes;
 mod dump;
@@ -31,7 +30,6 @@ mod new_indexes;
 mod numbering;
 mod refusal;
 mod removing;
-mod statements;
 mod told;
 mod unindexing;
 mod updates;
@@ -42,12 +40,8 @@ pub use checking::Counts;
 pub use engine::{Engine, Reply};
 pub use path::Refusal;
 pub use refusal::body_refusal;
-pub use replies::{
-    Answer, CONNECTIONS, ConnId, full_bytes, out_of_memory_bytes, refusal_document,
-};
+pub use replies::{Answer, CONNECTIONS, ConnId, full_bytes, out_of_memory_bytes, refusal_document};
 
-/// The most bytes of a stored document.
-pub const STORED_LIMIT: u32 = 65_535;
 /// The most collections.
 pub const MOST_COLLECTIONS: usize = 1_000;
 /// The most indexes of a collection beside that on `_id`.

@@ -15,10 +15,8 @@ ghost use Rattle.database_model.specs.Lawful.{IsWithin};
 ghost use Rattle.engine.specs.Looking.{HasReadCause, Looks, LooksOf, is_within};
 ghost use Rattle.database_model.specs.World.{documents_of};
 
-use crate::STORED_LIMIT;
 use crate::by_id::{asked_id, id_key};
 use crate::engine::Engine;
-use crate::find::matches;
 use bson::{Document, NoMemory, RawDoc, SpelledDocument, Value};
 use collections::Collections;
 use filter::Filter;
@@ -26,6 +24,7 @@ use index::Catalogued;
 use page::Disk;
 use path::Refusal;
 use replies::SharedDocument;
+use statements::{STORED_LIMIT, matches};
 use std::alloc::Global;
 use update::limits_fault;
 

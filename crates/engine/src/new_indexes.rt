@@ -4,9 +4,9 @@ ghost use Rattle.std.specs.Prelude.{◌≡◌, ◌==◌, ◌+◌, ◌≤◌, len
 ghost use Rattle.std.specs.List.{list_any};
 ghost use Rattle.database_model.specs.CreateIndexes.{are_same_fields, has_definition, has_name, is_alike, is_ascending, is_id_index, is_id_key, is_in_conflict, is_like_id_index, is_same, is_same_field, is_there, unused_index};
 
-use crate::documents::ID;
 use commands::NewIndex;
 use index::{IndexField, IndexSpec};
+use statements::ID;
 use value_order::Direction;
 
 /// The name of the index on `_id`.

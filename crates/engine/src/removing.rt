@@ -3,11 +3,11 @@
 ghost use Rattle.std.specs.Prelude.{[], ◌∷◌, map};
 ghost use Rattle.engine.specs.TakingOut.{Removes};
 
-use crate::documents::id_text;
 use bson::Document;
 use filter::AsDocument;
 use index::{Catalogued, Edits, Keyed};
 use path::Refusal;
+use statements::id_text;
 use std::alloc::Global;
 
 /// Notes that a document is taken out of a collection, with its entries in the collection's indexes.

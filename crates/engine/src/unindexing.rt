@@ -12,7 +12,6 @@ ghost use Rattle.engine.specs.Storing.{Notes};
 ghost use Rattle.engine.specs.Unindexing.{HasKeysIn, HasOtherIndexes, HasUnindexed, IsIndexedBy, IsUnindexed, IsUnindexing, drop_at, drop_each};
 ghost use Rattle.engine.specs.View.{world};
 
-use crate::documents::id_text;
 use crate::drop_indexes::first_dropped;
 use crate::engine::Engine;
 use crate::looking::BATCH;
@@ -22,6 +21,7 @@ use commands::DroppedIndexes;
 use index::{Catalogued, Edits, IndexSpec};
 use page::Disk;
 use path::Refusal;
+use statements::id_text;
 use std::alloc::Global;
 
 /// Notes that a document's entries in an index are removed.

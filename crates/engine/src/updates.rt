@@ -20,22 +20,23 @@ ghost use Rattle.engine.specs.Storing.{MayEnter, Notes, entering};
 ghost use Rattle.engine.specs.Trying.{Tries};
 ghost use Rattle.index.specs.Entering.{enter_each};
 ghost use Rattle.database_model.specs.UpdateCommand.{run_update};
-ghost use Rattle.engine.specs.Updating.{MayBePut, news_of, seen};
+ghost use Rattle.statements.specs.Updating.{MayBePut, news_of, seen};
 ghost use Rattle.replies.specs.View.{IsSendable};
 ghost use Rattle.engine.specs.View.{world};
 
 use crate::by_id::asked_id;
-use crate::documents::{compare_id, compare_ids, read_id};
 use crate::engine::Engine;
-use crate::find::matches;
 use crate::looking::Selects;
-use crate::statements::{Ran, Tally, Write, run_on, unless_memory, update_reply, upsert_document};
 use bson::{Document, NoMemory, RawDoc, Value};
 use commands::UpdateStatement;
 use index::{Catalogued, Edits};
 use page::Disk;
 use path::Refusal;
 use replies::{REPLY_LIMIT, SharedDocument};
+use statements::{
+    Ran, Tally, Write, compare_id, compare_ids, matches, read_id, run_on, unless_memory,
+    update_reply, upsert_document,
+};
 use std::alloc::Global;
 
 /// The documents that the statements of an update may mean, and the collection that has them.

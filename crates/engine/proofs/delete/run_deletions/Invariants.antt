@@ -1,6 +1,6 @@
 use Rattle.std.proofs.Common.{◌≡◌, ◌++◌, drop}
 use Rattle.database_model.specs.Delete.{after_deletions}
-use Rattle.engine.specs.Redoing.{all_taken}
+use Rattle.statements.specs.Redoing.{all_taken}
 use Rattle.engine.proofs.delete.run_deletions.Given as goal
 
 abbrev pub invariant-deletions : goal.invariant-deletions

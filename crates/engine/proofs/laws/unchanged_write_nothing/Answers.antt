@@ -1,4 +1,4 @@
-use Rattle.engine.proofs.WriteLawLemmas.{unchanged_write_nothing}
+use Rattle.statements.proofs.WriteLawLemmas.{unchanged_write_nothing}
 use Rattle.engine.proofs.laws.unchanged_write_nothing.Goals as goal
 
 pub returns : goal.returns

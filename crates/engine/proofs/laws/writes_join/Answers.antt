@@ -1,4 +1,4 @@
-use Rattle.engine.proofs.WriteLawLemmas.{writes_join}
+use Rattle.statements.proofs.WriteLawLemmas.{writes_join}
 use Rattle.engine.proofs.laws.writes_join.Goals as goal
 
 pub returns : goal.returns

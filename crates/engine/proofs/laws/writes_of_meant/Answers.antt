@@ -1,4 +1,4 @@
-use Rattle.engine.proofs.WriteLawLemmas.{writes_of_meant}
+use Rattle.statements.proofs.WriteLawLemmas.{writes_of_meant}
 use Rattle.engine.proofs.laws.writes_of_meant.Goals as goal
 
 pub returns : goal.returns

@@ -1,4 +1,4 @@
-use Rattle.engine.proofs.WritePlaceLemmas.{writes_replace}
+use Rattle.statements.proofs.WritePlaceLemmas.{writes_replace}
 use Rattle.engine.proofs.laws.writes_replace.Goals as goal
 
 pub returns : goal.returns

@@ -1,4 +1,4 @@
-use Rattle.engine.proofs.WriteLawLemmas.{writes_stored}
+use Rattle.statements.proofs.WriteLawLemmas.{writes_stored}
 use Rattle.engine.proofs.laws.writes_stored.Goals as goal
 
 pub returns : goal.returns

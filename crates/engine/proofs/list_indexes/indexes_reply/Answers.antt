@@ -9,7 +9,7 @@ use Rattle.database_model.specs.Refusals.{ok_reply}
 use Rattle.replies.specs.View.{projected}
 use Rattle.engine.proofs.ListingIndexes.{all_within, reply_is}
 use Rattle.engine.proofs.Piping.{all_stay}
-use Rattle.engine.proofs.ShortIndexes.{definitions_short}
+use Rattle.statements.proofs.ShortIndexes.{definitions_short}
 use Rattle.engine.proofs.list_indexes.indexes_reply.Goals as goal
 
 pub batch_reply-requires-clause-within : goal.batch_reply-requires-clause-within

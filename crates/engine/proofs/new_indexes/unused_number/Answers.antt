@@ -4,7 +4,7 @@ use Rattle.index.specs.Definition.{Definition}
 use Rattle.index.specs.State.{empty_collection}
 use Rattle.database_model.specs.CreateIndexes.{numbered}
 use Rattle.engine.proofs.NewIndexLemmas.{has_number_is}
-use Rattle.engine.proofs.Numbers.{searched_all, searched_found, searched_none, searched_one}
+use Rattle.statements.proofs.Numbers.{searched_all, searched_found, searched_none, searched_one}
 use Rattle.engine.proofs.new_indexes.unused_number.Goals as goal
 
 pub numbers-init : goal.numbers-init

@@ -9,7 +9,7 @@ use Rattle.database_model.specs.Refusals.{int, ok_reply}
 use Rattle.replies.specs.View.{IsSendable}
 use Rattle.engine.specs.View.{world}
 use Rattle.engine.proofs.Growing.{inserted_differs}
-use Rattle.engine.proofs.KeptLemmas.{stored_at}
+use Rattle.statements.proofs.KeptLemmas.{stored_at}
 use Rattle.engine.proofs.MakingLemmas.{performs_done, performs_none, performs_refused}
 use Rattle.engine.proofs.PlannedLemmas.{run_inserts}
 use Rattle.replies.proofs.SpelledSizes.{insert-sendable}

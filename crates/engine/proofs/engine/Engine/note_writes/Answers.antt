@@ -1,6 +1,6 @@
 use Rattle.std.proofs.Common.{◌∷◌, ◌+◌, List, drop, subst}
 use Rattle.std.proofs.lemmas.Result.{err_from_is_err_and}
-use Rattle.engine.specs.declared.statements.Write.{Write}
+use Rattle.statements.specs.declared.statements.Write.{Write}
 use Rattle.engine.proofs.OnlyReading.{reads_none}
 use Rattle.engine.proofs.UpdateSteps.{left_of, none_of, puttable_at, writes_all, writes_none, writes_on, writes_refused, WritesNoted}
 use Rattle.engine.proofs.engine.Engine.note_writes.Goals as goal

@@ -1,7 +1,7 @@
 use Rattle.std.proofs.Common.{Vec, Global, refl, ap, ◌∙◌, arith}
 use Rattle.std.proofs.lemmas.Result.{err_from_is_err_and}
 use Rattle.bson.specs.Tree.{Pairs}
-use Rattle.engine.specs.Redoing.{all_taken}
+use Rattle.statements.specs.Redoing.{all_taken}
 use Rattle.engine.specs.Removing.{IsTaken}
 use Rattle.engine.proofs.CataloguedLemmas.{IsCatalogueOf}
 use Rattle.engine.proofs.LookingLemmas.{looks_memory, looks_refused}

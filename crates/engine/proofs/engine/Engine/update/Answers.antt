@@ -2,7 +2,7 @@ use Rattle.std.proofs.Common.{List, Ok, Err, rules, subst}
 use Rattle.std.proofs.lemmas.Result.{err_from_is_err_and}
 use Rattle.engine.specs.Putting.{NotesWrites}
 use Rattle.engine.specs.View.{world}
-use Rattle.engine.specs.declared.statements.Write.{Write}
+use Rattle.statements.specs.declared.statements.Write.{Write}
 use Rattle.engine.proofs.UpdateLemmas.{nothing_changed, nothing_replied, update_done, update_leads, update_unmade, update_unnoted, update_unsaid, update_unwritten, updated_lawful}
 use Rattle.engine.proofs.engine.Engine.update.Goals as goal
 

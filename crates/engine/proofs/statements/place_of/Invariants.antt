@@ -1,5 +1,0 @@
-use Rattle.engine.proofs.PlacingLemmas.{IsPlacedFrom}
-use Rattle.engine.proofs.statements.place_of.Given as goal
-
-abbrev pub invariant-documents : goal.invariant-documents
-invariant-documents l = IsPlacedFrom l.new l.documents l.place

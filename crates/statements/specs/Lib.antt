@@ -1,0 +1,4 @@
+pub mod Places
+pub mod Redoing
+pub mod WriteLaws
+pub mod Updating

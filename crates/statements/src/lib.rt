@@ -1,0 +1,11 @@
+//! The statements of an update, run over documents in memory, and what a document that is stored has to be.
+#![tactic(auto)]
+
+mod documents;
+mod statements;
+
+pub use documents::{ID, check_key, compare_id, compare_ids, id_text, matches, read_id, stored};
+pub use statements::{Ran, Tally, Write, run_on, unless_memory, update_reply, upsert_document};
+
+/// The most bytes of a stored document.
+pub const STORED_LIMIT: u32 = 65_535;
