@@ -22,3 +22,5 @@ pub mod Step
 pub mod Lawful
 pub mod Writes
 pub mod Merging
+pub mod CursorLaws
+pub mod CursorLife

@@ -15,8 +15,6 @@ pub mod EmptyImage
 pub mod Creating
 pub mod Listing
 pub mod ListingIndexes
-mod UndoneCursors
-pub mod CursorLives
 pub mod ResultLemmas
 pub mod OpeningLemmas
 pub mod OnceLists

@@ -1,8 +1,6 @@
 pub mod Known
 pub mod View
 pub mod Laws
-pub mod CursorLaws
-pub mod CursorLife
 pub mod Stored
 pub mod Durable
 pub mod Judging

@@ -2,6 +2,7 @@
 #![tactic(auto)]
 
 mod documents;
+pub mod laws;
 mod statements;
 
 pub use documents::{ID, check_key, compare_id, compare_ids, id_text, matches, read_id, stored};

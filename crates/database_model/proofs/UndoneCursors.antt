@@ -45,7 +45,7 @@ use Rattle.database_model.specs.Update.{Updated, update_reply, run_all}
 use Rattle.database_model.specs.UpdateCommand.{entered_in, run_update, writes_in}
 use Rattle.database_model.specs.Aggregate.{run_aggregate}
 use Rattle.database_model.specs.Step.{run, answered, step}
-use Rattle.engine.specs.CursorLaws.{IsAmong, after_commands, StaysOpen}
+use Rattle.database_model.specs.CursorLaws.{IsAmong, after_commands, StaysOpen}
 
 -- ---- cursors of a list
 

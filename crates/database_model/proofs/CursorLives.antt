@@ -48,7 +48,7 @@ use Rattle.database_model.specs.DropIndexes.{drop_indexes_reply, index_dropped, 
 use Rattle.database_model.specs.DropCollection.{drop_reply, dropped, index_count, run_drop}
 use Rattle.database_model.specs.ListCollections.{run_list_collections}
 use Rattle.database_model.specs.Step.{run, answered, step}
-use Rattle.engine.specs.CursorLife.{Event, command, committed, undone, ended, after_event, batch_at, batch_in, batch_of_body, given_by, given, HasLeft, GivesItsList, LastBatchIsWhole}
+use Rattle.database_model.specs.CursorLife.{Event, command, committed, undone, ended, after_event, batch_at, batch_in, batch_of_body, given_by, given, HasLeft, GivesItsList, LastBatchIsWhole}
 
 -- ---- filtered lists
 

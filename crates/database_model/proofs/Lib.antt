@@ -1,0 +1,2 @@
+mod UndoneCursors
+pub mod CursorLives

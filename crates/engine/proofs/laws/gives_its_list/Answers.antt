@@ -1,5 +1,0 @@
-use Rattle.engine.proofs.CursorLives.{gives_its_list}
-use Rattle.engine.proofs.laws.gives_its_list.Goals as goal
-
-pub returns : goal.returns
-returns c = gives_its_list
