@@ -37,6 +37,18 @@ pub record UpdateStatementFields : Type 0 where
 abbrev pub no_statement_fields : UpdateStatementFields
 no_statement_fields = record { filter = None; change = None; upsert = false; multi = false }
 
+-- whether a document is made where none matches, and whether all are changed
+abbrev pub flag_field : UpdateStatementFields → List ℕ → Tree
+    → Result UpdateStatementFields Refusal
+flag_field found name t =
+    if bytes_eq name (codes "upsert") then (do
+      upsert ← bool_in t
+      Ok (record found { upsert = upsert })) else
+    if bytes_eq name (codes "multi") then (do
+      multi ← bool_in t
+      Ok (record found { multi = multi })) else
+    Err refusals.FailedToParse
+
 abbrev pub statement_field : UpdateStatementFields → List ℕ → Tree
     → Result UpdateStatementFields Refusal
 statement_field found name t =
@@ -46,13 +58,7 @@ statement_field found name t =
     if bytes_eq name (codes "u") then (do
       change ← spelled_in read_update t
       Ok (record found { change = Some change })) else
-    if bytes_eq name (codes "upsert") then (do
-      upsert ← bool_in t
-      Ok (record found { upsert = upsert })) else
-    if bytes_eq name (codes "multi") then (do
-      multi ← bool_in t
-      Ok (record found { multi = multi })) else
-    Err refusals.FailedToParse
+    flag_field found name t
 
 -- `q` and `u` may not be missing, and a replacement is of one document
 abbrev pub read_statement : Pairs → Result UpdateStatement Refusal

@@ -3,7 +3,7 @@
 ghost use Rattle.std.specs.Prelude.{◌≡◌};
 ghost use Rattle.bson.specs.View.{tree, pairs_of, items_of};
 ghost use Rattle.outcome.specs.Outcome.{Gives, Does};
-ghost use Rattle.commands.specs.Update.{no_statement_fields, statement_field, read_statement, no_update_fields, update_statements_in, update_field, read_update_command};
+ghost use Rattle.commands.specs.Update.{flag_field, no_statement_fields, statement_field, read_statement, no_update_fields, update_statements_in, update_field, read_update_command};
 ghost use Rattle.commands.specs.Statements.{each_of};
 ghost use Rattle.commands.specs.Values.{spelled_in};
 ghost use Rattle.update.specs.Reading.{read_update};
@@ -96,6 +96,24 @@ fn change_in(alloc: Global, value: &Value) -> Result<Change, Refusal>
     Change::read(alloc, document_in(value)?)
 }
 
+impl UpdateStatementFields {
+    /// Reads one of the fields that say whether a document is made and whether all are changed.
+    fn read_flag(&mut self, name: &str, value: &Value) -> Result<(), Refusal>
+        ensures { Does Refusal.OutOfMemory result self.new
+            (flag_field self.old name.now (tree value.now)) }
+    {
+        if name == "upsert" {
+            self.upsert = bool_in(value)?;
+            Ok(())
+        } else if name == "multi" {
+            self.multi = bool_in(value)?;
+            Ok(())
+        } else {
+            Err(Refusal::FailedToParse)
+        }
+    }
+}
+
 impl<'a> Fields<'a> for UpdateStatementFields {
     ghost field = { statement_field };
 
@@ -106,14 +124,8 @@ impl<'a> Fields<'a> for UpdateStatementFields {
         } else if name == "u" {
             self.change = Some(change_in(alloc, value)?);
             Ok(())
-        } else if name == "upsert" {
-            self.upsert = bool_in(value)?;
-            Ok(())
-        } else if name == "multi" {
-            self.multi = bool_in(value)?;
-            Ok(())
         } else {
-            Err(Refusal::FailedToParse)
+            self.read_flag(name, value)
         }
     }
 }

@@ -363,7 +363,7 @@ good_update w c h b = λ x e.
 
 -- ---- any command
 
-good_run : (w : World) (connection : ℕ) (command : Command) → IsLawful w → IsBounded command → Good (run w connection command)
+pub good_run : (w : World) (connection : ℕ) (command : Command) → IsLawful w → IsBounded command → Good (run w connection command)
 good_run w connection ping h b = good_one w no_pairs h ping-sendable
 good_run w connection hello h b = good_one w (hello_reply connection) h (hello-sendable connection)
 good_run w connection (insert_of c) h b = good_insert w c.namespace c.documents h b.0

@@ -10,7 +10,8 @@ use Rattle.collections.specs.State.{State}
 use Rattle.database_model.specs.World.{World, Cursor, forget, after_undo}
 use Rattle.index.specs.State.{Collection}
 use Rattle.database_model.specs.Lawful.{IsWithin, IsLawfulState, IsLawful}
-use Rattle.database_model.specs.Step.{read_and_run, answered, RefusedBeside}
+use Rattle.commands.specs.Command.{Command, IsBounded}
+use Rattle.database_model.specs.Step.{run, answered, RefusedBeside}
 use Rattle.replies.specs.View.{with_ok, Runs}
 use Rattle.engine.specs.View.{world, turn_start}
 use Rattle.engine.specs.Durable.{IsSound, file_of, has_changes}
@@ -23,7 +24,7 @@ use Rattle.engine.specs.Performing.{DoesPlanned, Performs}
 use Rattle.engine.specs.Known.{Known}
 use Rattle.path.specs.declared.refusal.Refusal.{Refusal}
 use Rattle.path.specs.declared.refusal.Refusal.TheVariants as refusals
-use Rattle.engine.proofs.LawfulSteps.{steps}
+use Rattle.engine.proofs.LawfulSteps.{Good, good_run}
 
 -- the file has the collections as the turn began, and a tree of those of now
 pub keeps_sound : {D : Type 0} (history : D → History) (old new : Engine D) → IsSound history old → HasState history new.file (turn_start old) (world new).collections → turn_start new ≡ turn_start old → IsLawful (world new)
@@ -37,18 +38,18 @@ keeps_sound history old new h file same lawful quiet = record {
 }
 
 -- what a command makes of a lawful world is lawful
-pub runs_lawful : (w new : World) (connection : ℕ) (body : Pairs) (r : Result Pairs Refusal) → IsLawful w → Runs w (read_and_run w connection body) new r → IsLawful new
-runs_lawful w new connection body (Err e) h runs = subst IsLawful (sym runs.0) h
-runs_lawful w new connection body (Ok reply) h runs =
-    at (read_and_run w connection body) runs (steps w connection (Ok body) h).lawful
+pub runs_lawful : (w new : World) (connection : ℕ) (c : Command) (r : Result Pairs Refusal) → IsLawful w → IsBounded c → Runs w (run w connection c) new r → IsLawful new
+runs_lawful w new connection c (Err e) h b runs = subst IsLawful (sym runs.0) h
+runs_lawful w new connection c (Ok reply) h b runs =
+    at (run w connection c) runs (good_run w connection c h b)
   where
     world_in : Result (World × Pairs) Refusal → World
     world_in (Ok x) = x.0
     world_in (Err e) = w
 
-    at : (planned : Result (World × Pairs) Refusal) → with_ok planned ≡ Ok (new, reply) → IsLawful (answered w planned).0 → IsLawful new
-    at (Err e) same lawful = absurd cc
-    at (Ok x) same lawful = let there : x.0 ≡ new = ap world_in same in subst IsLawful there lawful
+    at : (planned : Result (World × Pairs) Refusal) → with_ok planned ≡ Ok (new, reply) → Good planned → IsLawful new
+    at (Err e) same good = absurd cc
+    at (Ok x) same good = let there : x.0 ≡ new = ap world_in same in subst IsLawful there (good x refl).0
 
 -- the world of a sound engine is lawful
 pub lawful_world : {D : Type 0} (history : D → History) (engine : Engine D) → IsSound history engine → IsLawful (world engine)
@@ -108,11 +109,11 @@ module _ {D : Type 0} (history : D → History) (old new : Engine D) (planned : 
       either (Err e) = changes
 
 -- the same of a command that was read
-pub performs_told : {D : Type 0} (history : D → History) (old new : Engine D) (connection : ℕ) (body : Pairs) (r : Result Pairs Refusal) → IsSound history old → new.file ≡ old.file → new.told ≡ old.told → has_changes new ≡ has_changes old
-    → Runs (world old) (read_and_run (world old) connection body) (world new) r → Performs history (read_and_run (world old) connection body) r old new
-performs_told history old new connection body r h file told changes runs =
-    performs_in_memory history old new (read_and_run (world old) connection body) r h file (ap (λ (t : Told). t.value) told) changes
-    (runs_lawful (world old) (world new) connection body r (lawful_world history old h) runs) runs
+pub performs_told : {D : Type 0} (history : D → History) (old new : Engine D) (connection : ℕ) (c : Command) (r : Result Pairs Refusal) → IsSound history old → IsBounded c → new.file ≡ old.file → new.told ≡ old.told → has_changes new ≡ has_changes old
+    → Runs (world old) (run (world old) connection c) (world new) r → Performs history (run (world old) connection c) r old new
+performs_told history old new connection c r h b file told changes runs =
+    performs_in_memory history old new (run (world old) connection c) r h file (ap (λ (t : Told). t.value) told) changes
+    (runs_lawful (world old) (world new) connection c r (lawful_world history old h) b runs) runs
 
 -- what was planned and what was returned, in other words
 pub performs_as : {D : Type 0} (history : D → History) (old new : Engine D) (planned other : Result (World × Pairs) Refusal) (r s : Result Pairs Refusal) → planned ≡ other → r ≡ s → Performs history other s old new → Performs history planned r old new

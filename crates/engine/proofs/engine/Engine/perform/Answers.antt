@@ -18,7 +18,7 @@ use Rattle.path.specs.declared.refusal.Refusal.{Refusal}
 use Rattle.engine.proofs.Running.{run_find-default, run_aggregate-default}
 use Rattle.replies.proofs.SpelledSizes.{ping-sendable}
 use Rattle.engine.proofs.Sound.{performs_as, performs_told}
-use Rattle.engine.proofs.engine.Engine.run.Goals as goal
+use Rattle.engine.proofs.engine.Engine.perform.Goals as goal
 
 pub returns-in_ok-ping_reply-in-Ping-clause-sendable : goal.returns-in_ok-ping_reply-in-Ping-clause-sendable
 returns-in_ok-ping_reply-in-Ping-clause-sendable g c = subst IsSendable (sym c.in_ok-ping_reply-in-Ping.ensures) ping-sendable
