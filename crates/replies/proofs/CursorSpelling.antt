@@ -13,8 +13,8 @@ use Rattle.bson.specs.Spelling.{Spells, element, tree_bytes, pairs_bytes, items_
 use Rattle.bson.specs.SizingLaws.{frame_of-length}
 use Rattle.database_model.specs.Refusals.{int, long, words, ok_reply}
 use Rattle.database_model.specs.Cursors.{batch_of, items_of_documents, cursor_pairs, cursor_reply, number_after}
-use Rattle.replies.specs.declared.batch_reply.BatchKind.{BatchKind}
-use Rattle.replies.specs.declared.batch_reply.BatchKind.TheVariants as batches
+use Rattle.replies.specs.declared.batch_spelling.BatchKind.{BatchKind}
+use Rattle.replies.specs.declared.batch_spelling.BatchKind.TheVariants as batches
 use Rattle.database_model.specs.Lawful.{IsWithin}
 use Rattle.filter.specs.Projection.{Projection, project}
 use Rattle.replies.specs.View.{projected, batch_name, IsSendable}

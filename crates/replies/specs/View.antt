@@ -10,8 +10,8 @@ use Rattle.path.specs.declared.refusal.Refusal.{Refusal}
 use Rattle.path.specs.declared.refusal.Refusal.TheVariants as refusals
 use Rattle.replies.specs.declared.reply.Answer.{Answer}
 use Rattle.replies.specs.declared.reply.Answer.TheVariants as answers
-use Rattle.replies.specs.declared.batch_reply.BatchKind.{BatchKind}
-use Rattle.replies.specs.declared.batch_reply.BatchKind.TheVariants as batches
+use Rattle.replies.specs.declared.batch_spelling.BatchKind.{BatchKind}
+use Rattle.replies.specs.declared.batch_spelling.BatchKind.TheVariants as batches
 
 -- the reply that says that a command was done
 abbrev pub answer_of : Answer → Pairs

@@ -15,7 +15,7 @@ ghost use Rattle.database_model.specs.KillCursors.{has_cursor, is_asked};
 ghost use Rattle.replies.specs.View.{batch_name, IsSendable};
 
 use crate::MOST_CURSORS;
-use crate::batch_reply::{BatchKind, batch_reply};
+use crate::batch_spelling::{BatchKind, batch_reply};
 use crate::connection::ConnId;
 use crate::shared_document::SharedDocument;
 use bson::{NoMemory, SpelledDocument};

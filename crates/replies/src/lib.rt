@@ -2,13 +2,13 @@
 #![tactic(auto)]
 
 mod batch;
-mod batch_reply;
+mod batch_spelling;
 mod connection;
 mod cursors;
 mod reply;
 mod shared_document;
 
-pub use batch_reply::{BatchKind, batch_reply};
+pub use batch_spelling::{BatchKind, batch_reply};
 pub use connection::{CONNECTIONS, ConnId};
 pub use cursors::Cursors;
 pub use reply::{

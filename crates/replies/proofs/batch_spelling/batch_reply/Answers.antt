@@ -8,7 +8,7 @@ use Rattle.database_model.specs.Lawful.{IsWithin}
 use Rattle.database_model.specs.Cursors.{number_after}
 use Rattle.replies.specs.View.{projected, batch_name, IsSendable}
 use Rattle.replies.proofs.CursorSpelling.{zeros, framed, int_short, content, reply, reply_bytes, reply_document, reply_sendable, reply_short, reply_spelled, are_batch_names, batch_short, below}
-use Rattle.replies.proofs.batch_reply.batch_reply.Goals as goal
+use Rattle.replies.proofs.batch_spelling.batch_reply.Goals as goal
 
 -- the reply's elements stand behind the room for its length
 replied : (name : List ℕ) (gs : List Pairs) (number : ℕ) (ns o0 o1 o2 o3 o4 : List ℕ) → o0 ≡ [] → o1 ≡ o0 ++ zeros → o2 ≡ o1 ++ 3 ∷ (codes "cursor" ++ 0 ∷ []) → o3 ≡ o2 ++ frame_of (content name gs number ns) → o4 ≡ o3 ++ element 16 (codes "ok") (tree_bytes (int 1))

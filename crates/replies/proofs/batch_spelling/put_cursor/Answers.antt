@@ -7,7 +7,7 @@ use Rattle.database_model.specs.Refusals.{long}
 use Rattle.database_model.specs.Cursors.{number_after}
 use Rattle.replies.specs.View.{projected, batch_name, IsSendable}
 use Rattle.replies.proofs.CursorSpelling.{framed, cursor_bytes, long_short, content, reply, cursor_short, said_number, are_batch_names, reply_sendable, batch_short}
-use Rattle.replies.proofs.batch_reply.put_cursor.Goals as goal
+use Rattle.replies.proofs.batch_spelling.put_cursor.Goals as goal
 
 pub put-requires : goal.put-requires
 put-requires g c =

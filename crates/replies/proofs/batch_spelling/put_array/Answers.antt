@@ -4,7 +4,7 @@ use Rattle.bson.specs.Spelling.{items_bytes}
 use Rattle.database_model.specs.Cursors.{items_of_documents}
 use Rattle.replies.specs.View.{projected}
 use Rattle.replies.proofs.CursorSpelling.{zeros, batch_short}
-use Rattle.replies.proofs.batch_reply.put_array.Goals as goal
+use Rattle.replies.proofs.batch_spelling.put_array.Goals as goal
 
 pub end-requires-clause-short : goal.end-requires-clause-short
 end-requires-clause-short g c =
