@@ -1,6 +1,6 @@
 //! The reply with a batch, spelled at once: stored documents go out without being built again.
 
-ghost use Rattle.std.specs.Prelude.{◌≡◌, ◌++◌, ◌+◌, ◌^◌, ◌<◌, ◌≤◌, All, IfOk, OnOk, length, map, take, drop, if◌then◌else◌};
+ghost use Rattle.std.specs.Prelude.{◌≡◌, ◌++◌, ◌+◌, ◌^◌, ◌<◌, ◌≤◌, All, IfOk, OnOk, length, map, take, drop, if◌then◌else◌, codes};
 ghost use Rattle.bson.specs.Lawful.{IsDocument};
 ghost use Rattle.bson.specs.View.{tree};
 ghost use Rattle.bson.specs.Spelling.{type_byte, element, frame_of, tree_bytes, pairs_bytes, items_bytes};
@@ -112,6 +112,15 @@ fn id_value(is_done: bool, number: u64) -> Value
     }
 }
 
+/// Puts the cursor's number, or 0 where it has no document left, behind what stands in `out`.
+fn put_number(out: &mut Vec<u8>, is_done: bool, number: u64) -> Result<(), NoMemory>
+    requires { number < 2 ^ 63 }
+    ensures { let id = long (if is_done then 0 else number) in OnOk result (out.new.items
+        ≡ out.old.items ++ element (type_byte id) (codes "id") (tree_bytes id)) }
+{
+    put(out, "id", &id_value(is_done, number))
+}
+
 /// Puts the document of a cursor behind what stands in `out`: a batch, the cursor's number or 0, and the namespace. It says
 /// how many documents went into the batch.
 fn put_cursor<T: AsDocument>(
@@ -140,7 +149,7 @@ fn put_cursor<T: AsDocument>(
     put_head(out, Kind::Array, kind.name())?;
     let count = put_array(out, projection, documents, most)?;
     let is_done = documents.len() <= count;
-    put(out, "id", &id_value(is_done, number))?;
+    put_number(out, is_done, number)?;
     put_text(out, "ns", namespace)?;
     end(out, start)?;
     Ok(count)
