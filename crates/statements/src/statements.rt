@@ -57,7 +57,7 @@ pub struct Write {
 
 /// What the statements of an update have made of documents so far.
 #[derive(Drop)]
-struct Run {
+pub struct Run {
     /// The documents, in ascending order of `_id`.
     documents: Vec<SharedDocument>,
     /// Those that were changed or made, one after the other.

@@ -8,7 +8,7 @@ use Rattle.commands.specs.Find as finds
 use Rattle.commands.specs.Aggregate as aggregates
 use Rattle.commands.specs.Update as updates
 use Rattle.database_model.specs.Aggregate.{run_aggregate}
-use Rattle.database_model.specs.Step.{run, read_and_run, ChangesNone}
+use Rattle.database_model.specs.Step.{run, ChangesNone}
 use Rattle.database_model.specs.Find.{run_find}
 use Rattle.commands.specs.View.{command_read, find_read, update_read, aggregate_read}
 use Rattle.replies.specs.View.{IsSendable}
@@ -23,45 +23,39 @@ use Rattle.engine.proofs.engine.Engine.perform.Goals as goal
 pub returns-in_ok-ping_reply-in-Ping-clause-sendable : goal.returns-in_ok-ping_reply-in-Ping-clause-sendable
 returns-in_ok-ping_reply-in-Ping-clause-sendable g c = subst IsSendable (sym c.in_ok-ping_reply-in-Ping.ensures) ping-sendable
 
-pub returns-in_err-read-clause-performs : goal.returns-in_err-read-clause-performs
-returns-in_err-read-clause-performs g c =
-    let old = c.args.self.now in
-    performs_told g.D.Disk.history old old c.args.connection c.args.body.now _ c.requires.sound refl refl refl (search rules)
-
 pub returns-in_err-ping_reply-in-Ping-clause-performs : goal.returns-in_err-ping_reply-in-Ping-clause-performs
 returns-in_err-ping_reply-in-Ping-clause-performs g c =
     let old = c.args.self.now in
-    performs_told g.D.Disk.history old old c.args.connection c.args.body.now _ c.requires.sound refl refl refl (search rules)
+    performs_told g.D.Disk.history old old c.args.connection (command_read c.args.command.now) _ c.requires.sound c.requires.bounded refl refl refl (search rules)
 
 pub returns-in_ok-ping_reply-in-Ping-clause-performs : goal.returns-in_ok-ping_reply-in-Ping-clause-performs
 returns-in_ok-ping_reply-in-Ping-clause-performs g c =
     let old = c.args.self.now in
-    performs_told g.D.Disk.history old old c.args.connection c.args.body.now _ c.requires.sound refl refl refl (search rules)
+    performs_told g.D.Disk.history old old c.args.connection (command_read c.args.command.now) _ c.requires.sound c.requires.bounded refl refl refl (search rules)
 
 pub returns-in-Hello-clause-performs : goal.returns-in-Hello-clause-performs
 returns-in-Hello-clause-performs g c =
     let old = c.args.self.now in
-    performs_told g.D.Disk.history old old c.args.connection c.args.body.now _ c.requires.sound refl refl refl (search rules)
+    performs_told g.D.Disk.history old old c.args.connection (command_read c.args.command.now) _ c.requires.sound c.requires.bounded refl refl refl (search rules)
 
 pub returns-in-GetMore-clause-performs : goal.returns-in-GetMore-clause-performs
 returns-in-GetMore-clause-performs g c =
     let old = c.args.self.now in
     let new = c.get_more.new.self in
-    performs_told g.D.Disk.history old new c.args.connection c.args.body.now _ c.requires.sound c.get_more.ensures.file c.get_more.ensures.told c.get_more.ensures.has_changes (search rules)
+    performs_told g.D.Disk.history old new c.args.connection (command_read c.args.command.now) _ c.requires.sound c.requires.bounded c.get_more.ensures.file c.get_more.ensures.told c.get_more.ensures.has_changes (search rules)
 
 pub returns-in-KillCursors-clause-performs : goal.returns-in-KillCursors-clause-performs
 returns-in-KillCursors-clause-performs g c =
     let old = c.args.self.now in
     let new = c.kill_cursors.new.self in
-    performs_told g.D.Disk.history old new c.args.connection c.args.body.now _ c.requires.sound c.kill_cursors.ensures.file c.kill_cursors.ensures.told c.kill_cursors.ensures.has_changes (search rules)
+    performs_told g.D.Disk.history old new c.args.connection (command_read c.args.command.now) _ c.requires.sound c.requires.bounded c.kill_cursors.ensures.file c.kill_cursors.ensures.told c.kill_cursors.ensures.has_changes (search rules)
 
 pub returns-in-Find-clause-performs : goal.returns-in-Find-clause-performs
 returns-in-Find-clause-performs g c =
     let w = world c.args.self.now in
     let asked : finds.Find = find_read c.in-Find.c in
-    let read : Result commands.Command Refusal → Result (World × Pairs) Refusal = λ r. r >>= run w c.args.connection in
-    let spelled : read_and_run w c.args.connection c.args.body.now ≡ run_find w c.args.connection asked =
-    ap read (c.in_ok-read.ensures.gives ∙ ap (λ (x : Command). Ok (command_read x)) c.in-Find.is) in
+    let spelled : run w c.args.connection (command_read c.args.command.now) ≡ run_find w c.args.connection asked =
+    ap (λ (x : Command). run w c.args.connection (command_read x)) c.in-Find.is in
     let called : run_find w c.args.connection (record { namespace = c.as_str-in-Find.result.now; query = asked.query; batch_size = Some c.unwrap_or-most.result }) ≡ run_find w c.args.connection (record asked { batch_size = Some (unwrap_or asked.batch_size 101) }) =
     λ i. run_find w c.args.connection (record { namespace = c.as_str-in-Find.ensures.value i; query = asked.query; batch_size = Some (c.unwrap_or-most.ensures i) }) in
     performs_as g.D.Disk.history c.args.self.now c.find.new.self _ _ _ _ (spelled ∙ sym (run_find-default w c.args.connection asked) ∙ sym called) c.spelled.ensures c.find.ensures.performs
@@ -70,18 +64,17 @@ pub returns-in-Aggregate-clause-performs : goal.returns-in-Aggregate-clause-perf
 returns-in-Aggregate-clause-performs g c =
     let w = world c.args.self.now in
     let asked : aggregates.Aggregate = aggregate_read c.in-Aggregate.c in
-    let read : Result commands.Command Refusal → Result (World × Pairs) Refusal = λ r. r >>= run w c.args.connection in
-    let spelled : read_and_run w c.args.connection c.args.body.now ≡ run_aggregate w c.args.connection asked =
-    ap read (c.in_ok-read.ensures.gives ∙ ap (λ (x : Command). Ok (command_read x)) c.in-Aggregate.is) in
+    let spelled : run w c.args.connection (command_read c.args.command.now) ≡ run_aggregate w c.args.connection asked =
+    ap (λ (x : Command). run w c.args.connection (command_read x)) c.in-Aggregate.is in
     let called : run_aggregate w c.args.connection (record { namespace = c.as_str-in-Aggregate.result.now; pipeline = asked.pipeline; batch_size = Some c.unwrap_or-most-in-Aggregate.result }) ≡ run_aggregate w c.args.connection (record asked { batch_size = Some (unwrap_or asked.batch_size 101) }) =
     λ i. run_aggregate w c.args.connection (record { namespace = c.as_str-in-Aggregate.ensures.value i; pipeline = asked.pipeline; batch_size = Some (c.unwrap_or-most-in-Aggregate.ensures i) }) in
     performs_as g.D.Disk.history c.args.self.now c.aggregate.new.self _ _ _ _ (spelled ∙ sym (run_aggregate-default w c.args.connection asked) ∙ sym called) c.spelled-in-Aggregate.ensures c.aggregate.ensures.performs
 
 pub returns-in-Update-clause-has_changes : goal.returns-in-Update-clause-has_changes
-returns-in-Update-clause-has_changes g c = λ k wrote.
+returns-in-Update-clause-has_changes g c = λ k unchanged none.
     let w = world c.args.self.now in
     let asked : updates.Update = update_read c.in-Update.c in
     let called : updates.Update = record { namespace = c.as_str-in-Update.result.now; statements = c.deref-in-Update.result.now } in
     let same : asked ≡ called = λ i. record { namespace = sym c.as_str-in-Update.ensures.value i; statements = sym c.deref-in-Update.ensures.value i } in
-    let spelled = c.in_ok-read.ensures.gives ∙ ap (λ (x : Command). Ok (command_read x)) c.in-Update.is in
-    c.update.ensures.has_changes k wrote.0 (subst (λ (u : updates.Update). ChangesNone w (commands.update u)) same (wrote.1 (commands.update asked) spelled))
+    c.update.ensures.has_changes k unchanged
+    (subst (λ (u : updates.Update). ChangesNone w (commands.update u)) same (subst (λ (x : Command). ChangesNone w (command_read x)) c.in-Update.is none))
