@@ -63,7 +63,7 @@ some_combination [] ps = refl
 some_combination (f ∷ fs) ps =
     any_combination (λ ks. true) (λ k. true) (λ ks. true) (λ k ks g h. refl) (field_keys f.path ps) (index_keys fs ps) (some_key f.path ps) (some_combination fs ps)
 
-abbrev IsAlone : List Key → Type 0
+abbrev pub IsAlone : List Key → Type 0
 IsAlone keys = (k : Key) × (keys ≡ k ∷ [])
 
 alone_of : (keys : List Key) → length (combined ([] ∷ []) keys) ≡ 1 → IsAlone keys
@@ -76,7 +76,7 @@ either_array true b e = absurd cc
 either_array false b e = refl
 
 -- a field that meets no array has one key
-one_of : (f : Field) (ps : Pairs) → field_meets_array ps f ≡ false → IsAlone (field_keys f.path ps)
+pub one_of : (f : Field) (ps : Pairs) → field_meets_array ps f ≡ false → IsAlone (field_keys f.path ps)
 one_of f ps e = alone_of (field_keys f.path ps) (one_key (f ∷ []) ps (ap (λ (b : Bool). b || false) e))
 
 -- ---- the ends of a range

@@ -5,3 +5,4 @@ pub mod KeyRangeLemmas
 pub mod GatherLemmas
 pub mod FieldLemmas
 pub mod KeyBytesLemmas
+pub mod SortedLemmas

@@ -1,6 +1,7 @@
 -- Lists in strict order by any total order, and a stable sort of what rises by another one.
-use Rattle.std.proofs.Common.{◌≡◌, ℕ, zero, suc, ◌<◌, List, [], ◌∷◌, length, get_or, ◌⊎◌, inl, inr, refl, sym, ap, ◌∙◌, arith}
-use Rattle.std.specs.List.{AllPairs}
+use Rattle.std.proofs.Common.{◌≡◌, ℕ, zero, suc, ◌<◌, Bool, true, false, List, [], ◌∷◌, length, get_or, ◌⊎◌, inl, inr, refl, sym, ap, ◌∙◌, arith}
+use Rattle.std.specs.Prelude.{cond}
+use Rattle.std.specs.List.{AllPairs, filter}
 use Rattle.std.specs.Cmp.{IsTotalOrder, then_total}
 use Rattle.std.specs.Ordering.{ordering_then, ordering_reverse}
 use Rattle.std.specs.declared.cmp.Ordering.{Ordering}
@@ -161,3 +162,41 @@ module _ {X : Type 0} (cmp next : X → X → Ordering) (c : IsTotalOrder cmp) (
   pub sorted_rises : (xs : List X) → Rises next xs → Rises (both cmp next) (sorted cmp xs)
   sorted_rises [] h = tt
   sorted_rises (x ∷ xs) h = insert_rises x (sorted cmp xs) (below_sorted cmp next x xs h.0) (sorted_rises xs h.1)
+
+-- ---- those that pass a test
+
+module _ {X : Type 0} (p : X → Bool) where
+  pub filter_among : (z : X) (xs : List X) → Among z (filter p xs) → Among z xs × (p z ≡ true)
+  filter_among z [] g = absurd g
+  filter_among z (x ∷ xs) g = by (p x) refl (filter_among z xs) g
+    where
+      by : (b : Bool) → p x ≡ b → (Among z (filter p xs) → Among z xs × (p z ≡ true)) → Among z (cond b (x ∷ filter p xs) (filter p xs)) → Among z (x ∷ xs) × (p z ≡ true)
+      by true so later (inl e) = (inl e, ap p e ∙ so)
+      by true so later (inr h) = (inr (later h).0, (later h).1)
+      by false so later h = (inr (later h).0, (later h).1)
+
+  pub among_filter : (z : X) (xs : List X) → Among z xs → p z ≡ true → Among z (filter p xs)
+  among_filter z [] g e = absurd g
+  among_filter z (x ∷ xs) g e = by (p x) refl g (λ h. among_filter z xs h e)
+    where
+      by : (b : Bool) → p x ≡ b → (z ≡ x) ⊎ Among z xs → (Among z xs → Among z (filter p xs)) → Among z (cond b (x ∷ filter p xs) (filter p xs))
+      by true so (inl f) later = inl f
+      by true so (inr h) later = inr (later h)
+      by false so (inl f) later = absurd (let no_more : p z ≡ false = ap p f ∙ so in cc)
+      by false so (inr h) later = later h
+
+  below_filter : (cmp : X → X → Ordering) (y : X) (xs : List X) → Below cmp y xs → Below cmp y (filter p xs)
+  below_filter cmp y [] h = tt
+  below_filter cmp y (x ∷ xs) h = by (p x) (below_filter cmp y xs h.1)
+    where
+      by : (b : Bool) → Below cmp y (filter p xs) → Below cmp y (cond b (x ∷ filter p xs) (filter p xs))
+      by true later = (h.0, later)
+      by false later = later
+
+  pub rises_filter : (cmp : X → X → Ordering) (xs : List X) → Rises cmp xs → Rises cmp (filter p xs)
+  rises_filter cmp [] h = tt
+  rises_filter cmp (x ∷ xs) h = by (p x) (rises_filter cmp xs h.1)
+    where
+      by : (b : Bool) → Rises cmp (filter p xs) → Rises cmp (cond b (x ∷ filter p xs) (filter p xs))
+      by true later = (below_filter cmp x xs h.0, later)
+      by false later = later

@@ -1,6 +1,6 @@
 //! Laws of the definitions and rows worked by hand, as contracts.
 
-ghost use Rattle.planner.specs.AnswerLaws.{OrderedOnce, SortsToAnswer};
+ghost use Rattle.planner.specs.AnswerLaws.{OrderedOnce, SortsToAnswer, KeptAreNoted, NeverChangesAnswer, WalksInOrder};
 ghost use Rattle.planner.specs.KeyRange.{HasKeyInRange, HasBytesInRange};
 ghost use Rattle.planner.specs.Rows.{PlanRows, EdgeRows, MultiRows};
 
@@ -37,4 +37,21 @@ pub fn ordered_once()
 /// Documents in ascending order of `_id`, in the order of a sort, are the one list of them that ascends so.
 pub fn sorts_to_answer()
     ensures { SortsToAnswer }
+{}
+
+/// The indexes of a collection that is kept are noted as multikey where a document of it has an array on one of their
+/// paths.
+pub fn kept_are_noted()
+    ensures { KeptAreNoted }
+{}
+
+/// Whichever index serves: what a walk over its range finds, each document once and in the order of an answer, are the
+/// documents that the filter matches, sorted.
+pub fn never_changes_answer()
+    ensures { NeverChangesAnswer }
+{}
+
+/// The entries of an index that is in the order of a sort stand in the order of an answer.
+pub fn walks_in_order()
+    ensures { WalksInOrder }
 {}
