@@ -6,3 +6,4 @@ pub mod GatherLemmas
 pub mod FieldLemmas
 pub mod KeyBytesLemmas
 pub mod SortedLemmas
+pub mod ChoiceLemmas

@@ -23,7 +23,8 @@ in_words name equals ends sorted =
     ++ (codes " range=" ++ (ends ++ (codes " sort=" ++ sorted))))))
 
 abbrev pub range_text : Range → List ℕ
-range_text r = in_words (index_name r.index) (length r.equal) (range_word r.low r.high) (sort_word r.is_sorted)
+range_text r =
+    in_words (index_name r.index) (length r.equal) (range_word r.low r.high) (sort_word r.is_sorted)
 
 abbrev pub explain_text : Plan → List ℕ
 explain_text scan = codes "SCAN"

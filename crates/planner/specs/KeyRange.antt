@@ -69,7 +69,8 @@ in_direction Ascending o = o
 in_direction Descending o = ordering_reverse o
 
 abbrev pub bytes_lie_by : Direction → Bound → List ℕ → Bool
-bytes_lie_by d b bytes = allows b.comparison (in_direction d (place_by (directed_text d (value b.operand)) bytes))
+bytes_lie_by d b bytes =
+    allows b.comparison (in_direction d (place_by (directed_text d (value b.operand)) bytes))
 
 abbrev pub bytes_within : Direction → Option Bound → List ℕ → Bool
 bytes_within d None bytes = true
@@ -77,7 +78,8 @@ bytes_within d (Some b) bytes = bytes_lie_by d b bytes
 
 abbrev pub first_bytes_lie : Option Bound → Option Bound → List Field → List ℕ → Bool
 first_bytes_lie low high [] bytes = true
-first_bytes_lie low high (f ∷ fs) bytes = bytes_within f.direction low bytes && bytes_within f.direction high bytes
+first_bytes_lie low high (f ∷ fs) bytes =
+    bytes_within f.direction low bytes && bytes_within f.direction high bytes
 
 -- the bytes go on from the front of the range, and what follows lies between its ends
 abbrev pub has_bytes : List Field → Range → List ℕ → Bool
@@ -97,5 +99,6 @@ abbrev pub HasBytesInRange : Type 0
 HasBytesInRange =
     (rs : Conditions) (sort : List SortField) (index : Option Definition) (ps : Pairs)
     → let r = range_in rs sort index in let fs = fields_of index in
-    (is_multikey fs ps ≡ true → is_multi index ≡ true) → IsKey (value (document ps)) → IsSpellable r → matches rs ps ≡ true
+    (is_multikey fs ps ≡ true → is_multi index ≡ true) → IsKey (value (document ps)) → IsSpellable r
+    → matches rs ps ≡ true
     → list_any (has_bytes fs r) (encoded_keys fs ps) ≡ true

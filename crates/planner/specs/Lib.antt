@@ -5,3 +5,4 @@ pub mod KeyRange
 pub mod View
 pub mod AnswerLaws
 pub mod Rows
+pub mod ChoiceLaws

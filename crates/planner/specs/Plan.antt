@@ -108,4 +108,5 @@ plan_of r = if rank r == 0 then scan else by_index r
 
 -- The index on `_id` comes first, then the others in the order in which they were made.
 abbrev pub choose : Conditions → List SortField → List Definition → Plan
-choose rs sort indexes = plan_of (best (range_in rs sort None) (map (λ d. range_in rs sort (Some d)) indexes))
+choose rs sort indexes =
+    plan_of (best (range_in rs sort None) (map (λ d. range_in rs sort (Some d)) indexes))

@@ -25,7 +25,8 @@ pub(crate) enum Field<'a> {
 
 /// The field at a place of an index; none is the index on `_id`.
 pub(crate) fn field_at<'a>(index: Option<&'a IndexSpec>, place: usize) -> Option<Field<'a>>
-    ensures field { option_map field_of result ≡ slice_get (fields_of (index_of index.entry)) place }
+    ensures field { option_map field_of result
+        ≡ slice_get (fields_of (index_of index.entry)) place }
     ensures few { length (fields_of (index_of index.entry)) ≤ 4 }
 {
     match index {

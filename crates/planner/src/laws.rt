@@ -1,6 +1,7 @@
 //! Laws of the definitions and rows worked by hand, as contracts.
 
 ghost use Rattle.planner.specs.AnswerLaws.{OrderedOnce, SortsToAnswer, KeptAreNoted, NeverChangesAnswer, WalksInOrder};
+ghost use Rattle.planner.specs.ChoiceLaws.{ChoosesFirstBest};
 ghost use Rattle.planner.specs.KeyRange.{HasKeyInRange, HasBytesInRange};
 ghost use Rattle.planner.specs.Rows.{PlanRows, EdgeRows, MultiRows};
 
@@ -17,6 +18,11 @@ pub fn edge_rows()
 /// Those over multikey indexes.
 pub fn multi_rows()
     ensures { MultiRows }
+{}
+
+/// The plan is the first index that none outranks, where it helps; else no index helps, and it is a scan.
+pub fn chooses_first_best()
+    ensures { ChoosesFirstBest }
 {}
 
 /// A document that a filter matches has a key in the range that the filter gives in an index.
