@@ -26,4 +26,4 @@ pub use as_document::AsDocument;
 pub use condition::{Comparison, Condition, Filter, Predicate};
 pub use operands::{has_operators, path_in};
 pub use projection::{Projection, ProjectionFields};
-pub use sort::Sort;
+pub use sort::{Field as SortField, Sort};

@@ -16,7 +16,7 @@ const MOST_FIELDS: usize = 32;
 
 /// A path, and whether the greatest value there comes first.
 #[derive(Debug, Drop)]
-pub(crate) struct Field {
+pub struct Field {
     pub path: Path,
     pub descending: bool,
 }
@@ -82,6 +82,9 @@ impl Field {
 }
 
 impl Sort {
+    ghost use Rattle.std.specs.Prelude.{map};
+    ghost use Rattle.filter.specs.SortKeys.{field_of};
+
     /// The sort without fields, which leaves documents in the order given.
     pub fn new(alloc: Global) -> Sort
         ensures { result ≡ [] }
@@ -116,6 +119,13 @@ impl Sort {
             fields.push(field.copy()?)?;
         }
         Ok(Sort { fields })
+    }
+
+    /// Its fields, the first one first.
+    pub fn fields(&self) -> &[Field]
+        ensures { map field_of result.now ≡ self.now }
+    {
+        &self.fields
     }
 
     /// Whether it has no field, so that documents stay in the order given.

@@ -1,0 +1,63 @@
+//! Laws of the definitions and rows worked by hand, as contracts.
+
+ghost use Rattle.planner.specs.AnswerLaws.{OrderedOnce, SortsToAnswer, KeptAreNoted, NeverChangesAnswer, WalksInOrder};
+ghost use Rattle.planner.specs.ChoiceLaws.{ChoosesFirstBest};
+ghost use Rattle.planner.specs.KeyRange.{HasKeyInRange, HasBytesInRange};
+ghost use Rattle.planner.specs.Rows.{PlanRows, EdgeRows, MultiRows};
+
+/// The plans of filters and sorts over three indexes.
+pub fn plan_rows()
+    ensures { PlanRows }
+{}
+
+/// Those of filters and sorts that an index can serve in part or not at all.
+pub fn edge_rows()
+    ensures { EdgeRows }
+{}
+
+/// Those over multikey indexes.
+pub fn multi_rows()
+    ensures { MultiRows }
+{}
+
+/// The plan is the first index that none outranks, where it helps; else no index helps, and it is a scan.
+pub fn chooses_first_best()
+    ensures { ChoosesFirstBest }
+{}
+
+/// A document that a filter matches has a key in the range that the filter gives in an index.
+pub fn has_key_in_range()
+    ensures { HasKeyInRange }
+{}
+
+/// So one of its encoded keys is bytes in that range, where BSON can spell it and the values of the range.
+pub fn has_bytes_in_range()
+    ensures { HasBytesInRange }
+{}
+
+/// Two lists of the same documents that both ascend in the order of an answer are one list.
+pub fn ordered_once()
+    ensures { OrderedOnce }
+{}
+
+/// Documents in ascending order of `_id`, in the order of a sort, are the one list of them that ascends so.
+pub fn sorts_to_answer()
+    ensures { SortsToAnswer }
+{}
+
+/// The indexes of a collection that is kept are noted as multikey where a document of it has an array on one of their
+/// paths.
+pub fn kept_are_noted()
+    ensures { KeptAreNoted }
+{}
+
+/// Whichever index serves: what a walk over its range finds, each document once and in the order of an answer, are the
+/// documents that the filter matches, sorted.
+pub fn never_changes_answer()
+    ensures { NeverChangesAnswer }
+{}
+
+/// The entries of an index that is in the order of a sort stand in the order of an answer.
+pub fn walks_in_order()
+    ensures { WalksInOrder }
+{}
