@@ -3,6 +3,7 @@
 
 mod fields;
 mod handshake;
+mod reason;
 mod server_info;
 
 pub use server_info::ServerInfo;
