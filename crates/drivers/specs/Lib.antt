@@ -1,3 +1,5 @@
 pub mod Fields
 pub mod Handshake
 pub mod Reasons
+pub mod Rules
+pub mod Tables

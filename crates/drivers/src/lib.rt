@@ -3,7 +3,10 @@
 
 mod fields;
 mod handshake;
+mod options;
 mod reason;
+mod rules;
 mod server_info;
+mod tables;
 
 pub use server_info::ServerInfo;
