@@ -3,3 +3,7 @@ pub mod Handshake
 pub mod Reasons
 pub mod Rules
 pub mod Tables
+pub mod Cleaning
+pub mod Commands
+pub mod ForeignTypes
+pub mod Starting

@@ -3,6 +3,8 @@
 use Rattle.std.specs.Prelude.{ℕ, ℤ, pos, List, ◌++◌, codes, Option, Some, None}
 use Rattle.bson.specs.Tree.{scalar, int64, Pairs, no_pairs, pair}
 use Rattle.drivers.specs.Handshake.{int, words}
+use Rattle.drivers.specs.ForeignTypes.{type_name}
+use Rattle.drivers.specs.declared.foreign.ForeignType.{ForeignType}
 use Rattle.drivers.specs.declared.reason.Reason.{Reason}
 use Rattle.drivers.specs.declared.reason.Reason.TheVariants as reasons
 
@@ -22,6 +24,10 @@ abbrev pub names : ℕ → List ℕ → List ℕ → List ℕ → Row
 names number word front back =
     record { code = number; name = word; before = front; behind = Some back }
 
+-- what stands before the place of a value of a type that the database doesn't have
+abbrev pub text_before : ForeignType → List ℕ
+text_before kind = codes "docpage has no BSON type " ++ type_name kind ++ codes " (at '"
+
 abbrev pub row_of : Reason → Row
 row_of reasons.TooManyServers =
     says 2 (codes "BadValue") (codes "docpage is one server: w is 0 or 1")
@@ -36,6 +42,8 @@ row_of reasons.UnknownWriteConcern =
     says 79 (codes "UnknownReplWriteConcern") (codes "docpage has no write concern of that name")
 row_of reasons.UnknownCommand =
     names 59 (codes "CommandNotFound") (codes "docpage has no command '") (codes "'")
+row_of (reasons.ForeignType kind) = names 22 (codes "InvalidBSON") (text_before kind) (codes "')")
+row_of reasons.InvalidBson = says 22 (codes "InvalidBSON") (codes "invalid BSON")
 row_of reasons.UnsupportedQuery = says 352 (codes "UnsupportedOpQueryCommand")
     (codes "docpage takes OP_QUERY for a handshake alone")
 

@@ -7,14 +7,11 @@ use Rattle.std.specs.List.{list_any}
 use Rattle.bson.specs.Tree.{Tree, scalar, document, array, text, boolean, null, int32, int64, Pairs, no_pairs, pair}
 use Rattle.bson.specs.Edits.{pairs_len, items_len}
 use Rattle.bson.specs.Lookup.{lookup}
+use Rattle.drivers.specs.Tables.{each, beside}
 use Rattle.drivers.specs.declared.rules.Rule.{Rule}
 use Rattle.drivers.specs.declared.rules.Rule.TheVariants as rules
 use Rattle.drivers.specs.declared.reason.Reason.{Reason}
 use Rattle.drivers.specs.declared.reason.Reason.TheVariants as reasons
-
--- one rule for each of these names
-abbrev pub each : Rule → List (List ℕ) → List (List ℕ × Rule)
-each rule names = map (λ name. (name, rule)) names
 
 abbrev pub rules_by_name : List (List ℕ × Rule)
 rules_by_name =
@@ -35,12 +32,8 @@ rules_by_name =
     ++ each rules.Collation (codes "collation" ∷ [])
     ++ each rules.ApiVersion (codes "apiVersion" ∷ [])
 
--- what stands beside a name
-abbrev pub beside : {X : Type 0} → List (List ℕ × X) → List ℕ → Option X
-beside [] name = None
-beside (row ∷ rows) name = if bytes_eq name row.0 then Some row.1 else beside rows name
-
-abbrev pub rule_of : List ℕ → Option Rule
+-- what is done with a field of this name; nothing where the database has to say
+unfoldable pub rule_of : List ℕ → Option Rule
 rule_of name = beside rules_by_name name
 
 -- ---- values by which a field says nothing

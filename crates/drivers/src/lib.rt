@@ -1,12 +1,21 @@
 //! What MongoDB drivers send, translated into the commands of this database, and the replies back.
 #![tactic(auto)]
 
+mod cleaning;
+mod command;
 mod fields;
+mod foreign;
 mod handshake;
+mod message;
 mod options;
 mod reason;
 mod rules;
 mod server_info;
+mod starting;
+mod step;
 mod tables;
 
+pub use foreign::{Foreign, ForeignType};
+pub use message::{BodyFault, Form, Message};
 pub use server_info::ServerInfo;
+pub use step::Step;

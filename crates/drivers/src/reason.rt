@@ -4,6 +4,7 @@ ghost use Rattle.std.specs.Prelude.{◌≡◌, IfOk, pos, option_map, string_byt
 ghost use Rattle.drivers.specs.Reasons.{row_of, text_of, refusal_document, refusal_reply};
 
 use crate::fields::{Fact, document_of};
+use crate::foreign::ForeignType;
 use bson::{Document, NoMemory};
 use std::alloc::Global;
 
@@ -24,6 +25,10 @@ pub(crate) enum Reason {
     UnknownWriteConcern,
     /// A command that the database doesn't have.
     UnknownCommand,
+    /// A value of a type that the database doesn't have.
+    ForeignType(ForeignType),
+    /// Bytes that are no document.
+    InvalidBson,
     /// A message of an older form than is taken.
     UnsupportedQuery,
 }
@@ -60,6 +65,8 @@ impl Reason {
                 "docpage has no transactions over several commands and no retryable writes",
                 None,
             ),
+            Reason::InvalidBson => (22, "InvalidBSON", "invalid BSON", None),
+            Reason::ForeignType(kind) => (22, "InvalidBSON", kind.text(), Some("')")),
             Reason::UnsupportedField => (
                 72,
                 "InvalidOptions",

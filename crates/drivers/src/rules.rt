@@ -67,6 +67,7 @@ const RULES: [(&str, Rule); 36] = [
 ];
 
 /// What is done with a field of this name; nothing where the database has to say.
+#[tactic(auto, unfolding(crate::specs::Rules::rule_of))]
 pub(crate) fn rule_of(name: &str) -> Option<Rule>
     ensures { result ≡ rule_of name.now }
 {

@@ -1,0 +1,58 @@
+//! The commands that drivers send.
+
+ghost use Rattle.std.specs.Prelude.{◌≡◌};
+ghost use Rattle.drivers.specs.Commands.{command_of};
+
+use crate::tables::named;
+
+/// A command that the database isn't asked.
+#[derive(Clone, Copy, Debug, PartialEq, Eq)]
+pub(crate) enum Own {
+    /// `hello`: it is told what to know of the server.
+    Hello,
+    /// `isMaster`, its older name.
+    IsMaster,
+    /// It is told the version.
+    BuildInfo,
+    /// It is about sessions, of which the server keeps nothing.
+    Session,
+    /// It says who the client is, and is refused.
+    Login,
+}
+
+/// What is done with a command.
+#[derive(Clone, Copy, Debug, PartialEq, Eq)]
+pub(crate) enum Command {
+    /// It is answered at once.
+    Own(Own),
+    /// The database is asked.
+    Forwarded,
+}
+
+/// The commands by their names.
+const COMMANDS: [(&str, Command); 16] = [
+    ("hello", Command::Own(Own::Hello)),
+    ("isMaster", Command::Own(Own::IsMaster)),
+    ("ismaster", Command::Own(Own::IsMaster)),
+    ("buildInfo", Command::Own(Own::BuildInfo)),
+    ("buildinfo", Command::Own(Own::BuildInfo)),
+    ("endSessions", Command::Own(Own::Session)),
+    ("killSessions", Command::Own(Own::Session)),
+    ("refreshSessions", Command::Own(Own::Session)),
+    ("saslStart", Command::Own(Own::Login)),
+    ("saslContinue", Command::Own(Own::Login)),
+    ("authenticate", Command::Own(Own::Login)),
+    ("ping", Command::Forwarded),
+    ("count", Command::Forwarded),
+    ("aggregate", Command::Forwarded),
+    ("create", Command::Forwarded),
+    ("drop", Command::Forwarded),
+];
+
+/// What is done with a command of this name; nothing where it is unknown.
+#[tactic(auto, unfolding(crate::specs::Commands::command_of))]
+pub(crate) fn command_of(name: &str) -> Option<Command>
+    ensures { result ≡ command_of name.now }
+{
+    named(&COMMANDS, name)
+}
