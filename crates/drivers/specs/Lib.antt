@@ -7,3 +7,4 @@ pub mod Cleaning
 pub mod Commands
 pub mod ForeignTypes
 pub mod Starting
+pub mod Laws

@@ -6,6 +6,7 @@ mod command;
 mod fields;
 mod foreign;
 mod handshake;
+pub mod laws;
 mod message;
 mod options;
 mod reason;
