@@ -8,3 +8,4 @@ pub mod Commands
 pub mod ForeignTypes
 pub mod Starting
 pub mod Laws
+pub mod Answering

@@ -5,6 +5,7 @@ ghost use Rattle.std.specs.List.{list_any};
 ghost use Rattle.bson.specs.Tree.{pair, no_pairs, append};
 ghost use Rattle.bson.specs.View.{tree};
 ghost use Rattle.bson.specs.Lookup.{lookup};
+ghost use Rattle.bson.specs.Edits.{put};
 ghost use Rattle.bson.specs.Lawful.{levels};
 ghost use Rattle.drivers.specs.Fields.{fact_tree, are_new, fields_of};
 
@@ -48,6 +49,21 @@ pub(crate) fn put(document: &mut Document, name: &str, value: Value) -> Result<(
         Err(BuildFault::Memory) => Err(AllocError),
         Err(BuildFault::Name) => unreachable!("it has no zero"),
         Err(BuildFault::Repeated) => unreachable!("it is new"),
+        Err(BuildFault::Deep) => unreachable!("it is flat"),
+    }
+}
+
+/// Gives a name a value that is not nested too deep, in the name's place or at the end, so only memory can be wanting.
+pub(crate) fn set(document: &mut Document, name: &str, value: Value) -> Result<(), NoMemory>
+    requires name { list_any (λ b. b == 0) name.now ≡ false }
+    requires flat { levels (tree value) ≤ 99 }
+    ensures { OnOk result (document.new ≡ put document.old name.now (tree value)) }
+{
+    match document.set(name, value) {
+        Ok(()) => Ok(()),
+        Err(BuildFault::Memory) => Err(AllocError),
+        Err(BuildFault::Name) => unreachable!("it has no zero"),
+        Err(BuildFault::Repeated) => unreachable!("it may be there"),
         Err(BuildFault::Deep) => unreachable!("it is flat"),
     }
 }

@@ -9,6 +9,7 @@ mod handshake;
 pub mod laws;
 mod message;
 mod options;
+mod plan;
 mod reason;
 mod rules;
 mod server_info;
@@ -18,5 +19,6 @@ mod tables;
 
 pub use foreign::{Foreign, ForeignType};
 pub use message::{BodyFault, Form, Message};
+pub use plan::Plan;
 pub use server_info::ServerInfo;
 pub use step::Step;

@@ -132,7 +132,7 @@ fn do_message(
 }
 
 /// What is done with a message that may want no reply.
-fn unheard(more_to_come: bool, step: Step) -> Step
+pub(crate) fn unheard(more_to_come: bool, step: Step) -> Step
     ensures { result ≡ unheard more_to_come step }
 {
     if !more_to_come {
