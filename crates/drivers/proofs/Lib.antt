@@ -1,3 +1,4 @@
 mod FieldLemmas
 mod CleaningLemmas
 mod AskingLaws
+mod SeekingLemmas

@@ -9,3 +9,5 @@ pub mod ForeignTypes
 pub mod Starting
 pub mod Laws
 pub mod Answering
+pub mod Seeking
+pub mod SeekingView
