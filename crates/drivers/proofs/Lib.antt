@@ -2,3 +2,4 @@ mod FieldLemmas
 mod CleaningLemmas
 mod AskingLaws
 mod SeekingLemmas
+mod SectionLemmas

@@ -76,3 +76,32 @@ foreign_at x = record { kind = x.0; path = dotted x.1 }
 -- in a document at this place, whose length stands in front
 abbrev pub foreign_in : Place → List ℕ → Option Foreign
 foreign_in place bytes = option_map foreign_at (seek (length bytes) place (drop 4 bytes))
+
+-- ---- in the sections of a message (MongoDB wire protocol, OP_MSG)
+
+-- in documents one behind the other, which are items of an array of this name, from this place on
+unfoldable pub in_documents : ℕ → ℕ → List ℕ → List ℕ → Option Foreign
+in_documents zero i name bytes = None
+in_documents (suc most) i name [] = None
+in_documents (suc most) i name (b ∷ bytes) =
+    option_or (foreign_in (name ∷ decimal i ∷ []) (take (number_at (b ∷ bytes)) (b ∷ bytes)))
+    (in_documents most (i + 1) name (drop (number_at (b ∷ bytes)) (b ∷ bytes)))
+
+-- behind the size of a section of kind 1
+abbrev pub in_sequence : Result (List ℕ × List ℕ) BsonFault → Option Foreign
+in_sequence (Ok x) = in_documents (length x.1) 0 x.0 x.1
+in_sequence (Err fault) = None
+
+abbrev pub in_section : ℕ → List ℕ → Option Foreign
+in_section kind bytes =
+    if kind == 0 then foreign_in [] bytes else in_sequence (name_at (drop 4 bytes))
+
+unfoldable pub in_sections : ℕ → List ℕ → Option Foreign
+in_sections zero bytes = None
+in_sections (suc most) [] = None
+in_sections (suc most) (kind ∷ bytes) =
+    option_or (in_section kind (take (number_at bytes) bytes))
+    (in_sections most (drop (number_at bytes) bytes))
+
+abbrev pub foreign_in_sections : List ℕ → Option Foreign
+foreign_in_sections bytes = in_sections (length bytes) bytes

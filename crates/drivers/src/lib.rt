@@ -13,6 +13,7 @@ mod place;
 mod plan;
 mod reason;
 mod rules;
+mod sections;
 mod seeking;
 mod server_info;
 mod starting;

@@ -24,7 +24,7 @@ enum Sought<'a> {
 }
 
 /// The number in the first four bytes; 0 where there are fewer.
-fn number_at(bytes: &[u8]) -> usize
+pub(crate) fn number_at(bytes: &[u8]) -> usize
     ensures value { result ≡ number_at bytes.now }
     ensures fits { result < 2 ^ 32 }
 {
