@@ -11,3 +11,5 @@ pub mod Laws
 pub mod Answering
 pub mod Seeking
 pub mod SeekingView
+pub mod Incoming
+pub mod WireView
