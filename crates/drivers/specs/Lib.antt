@@ -13,3 +13,4 @@ pub mod Seeking
 pub mod SeekingView
 pub mod Incoming
 pub mod WireView
+pub mod Framing

@@ -5,6 +5,7 @@ mod cleaning;
 mod command;
 mod fields;
 mod foreign;
+mod framing;
 mod handshake;
 mod incoming;
 pub mod laws;
@@ -24,6 +25,7 @@ mod tables;
 mod wire;
 
 pub use foreign::{Foreign, ForeignType};
+pub use framing::framed;
 pub use incoming::Incoming;
 pub use message::{BodyFault, Form, Message};
 pub use plan::Plan;
