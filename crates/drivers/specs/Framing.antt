@@ -33,6 +33,7 @@ frame forms.Query number request ps = query_reply 8 number request ps
 -- The frame by which a message of this form and number is answered, if it is.
 abbrev pub framed : Form → ℕ → ℕ → Step → Option (List ℕ)
 framed form number request (steps.Ask body) = None
+framed form number request (steps.AskOwner id body) = None
 framed form number request (steps.Reply reply) = Some (frame form number request reply)
 framed form number request (steps.Fail reply) = Some (query_reply 2 number request reply)
 framed form number request steps.Silent = None
@@ -40,6 +41,7 @@ framed form number request steps.Silent = None
 -- the frame of an answer is within the limit of a message
 abbrev pub IsShort : Step → Type 0
 IsShort (steps.Ask body) = Unit {0}
+IsShort (steps.AskOwner id body) = Unit {0}
 IsShort (steps.Reply reply) = length (frame_of (pairs_bytes reply)) + 36 ≤ message_limit
 IsShort (steps.Fail reply) = length (frame_of (pairs_bytes reply)) + 36 ≤ message_limit
 IsShort steps.Silent = Unit {0}

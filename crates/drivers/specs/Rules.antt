@@ -113,6 +113,10 @@ is_simple (document ps) =
     && option_map_or (is_word (codes "simple" ∷ [])) (lookup ps (codes "locale")) false
 is_simple other = false
 
+abbrev pub truth_fault : Tree → Option Reason
+truth_fault (scalar (boolean b)) = None
+truth_fault other = Some reasons.FieldType
+
 -- why a field with this rule is refused, if it is
 abbrev pub fault_of : Rule → Tree → Option Reason
 fault_of rules.ReadOver t = None
@@ -123,3 +127,4 @@ fault_of rules.WriteConcern t = options_fault write_option_fault t
 fault_of rules.ReadConcern t = options_fault read_option_fault t
 fault_of rules.Collation t = unless_said (is_simple t)
 fault_of rules.ApiVersion t = unless_said (is_word (codes "1" ∷ []) t)
+fault_of rules.Truth t = truth_fault t

@@ -1,7 +1,8 @@
 -- What is done first with a message of a driver: the database is asked, or the driver is answered at once. A message that is refused
 -- asks nothing. A message that wants no reply gets none (MongoDB wire protocol, OP_MSG, moreToCome).
-use Rattle.std.specs.Prelude.{ℕ, pos, Bool, true, false, List, [], codes, Option, Some, None, Result, Ok, Err}
-use Rattle.bson.specs.Tree.{Pairs, no_pairs, pair}
+use Rattle.std.specs.Prelude.{ℕ, ℤ, pos, Bool, true, false, List, [], codes, Option, Some, None, Result, Ok, Err}
+use Rattle.bson.specs.Tree.{Tree, scalar, int32, int64, Pairs, no_pairs, pair}
+use Rattle.bson.specs.Edits.{put}
 use Rattle.drivers.specs.Handshake.{handshake_reply, build_reply, ok, int, words}
 use Rattle.drivers.specs.Reasons.{refusal_reply, row_of}
 use Rattle.drivers.specs.Cleaning.{first_refused, kept}
@@ -13,6 +14,8 @@ use Rattle.drivers.specs.declared.message.BodyFault.TheVariants as faults
 use Rattle.drivers.specs.declared.message.Form.{Form}
 use Rattle.drivers.specs.declared.message.Form.TheVariants as forms
 use Rattle.drivers.specs.declared.message.Message.{Message}
+use Rattle.drivers.specs.declared.command.Asked.{Asked}
+use Rattle.drivers.specs.declared.command.Asked.TheVariants as askeds
 use Rattle.drivers.specs.declared.command.Command.{Command}
 use Rattle.drivers.specs.declared.command.Command.TheVariants as commands
 use Rattle.drivers.specs.declared.command.Own.{Own}
@@ -22,10 +25,29 @@ use Rattle.drivers.specs.declared.reason.Reason.TheVariants as reasons
 use Rattle.drivers.specs.declared.step.Step.{Step}
 use Rattle.drivers.specs.declared.step.Step.TheVariants as steps
 
+-- the number of a cursor beside the name of a command, as an int32 or an int64
+abbrev pub number_of : Tree → Option ℤ
+number_of (scalar (int32 z)) = Some z
+number_of (scalar (int64 z)) = Some z
+number_of other = None
+
+abbrev pub cursor_of : Pairs → Option ℤ
+cursor_of no_pairs = None
+cursor_of (pair name t ps) = number_of t
+
+-- The database has numbers of cursors as int64.
+abbrev pub ask_owner : Option ℤ → Pairs → Step
+ask_owner None body = steps.Ask body
+ask_owner (Some z) body = steps.AskOwner z (put body (codes "getMore") (scalar (int64 z)))
+
+abbrev pub ask : Asked → Pairs → Step
+ask askeds.GetMore body = ask_owner (cursor_of body) body
+ask other body = steps.Ask body
+
 -- A command for the database: without the fields that it doesn't have, unless one of them is refused.
-abbrev pub ask_unless : Option (List ℕ × Reason) → Pairs → Step
-ask_unless None body = steps.Ask (kept body)
-ask_unless (Some x) body = steps.Reply (refusal_reply x.1 x.0)
+abbrev pub ask_unless : Asked → Option (List ℕ × Reason) → Pairs → Step
+ask_unless asked None body = ask asked (kept asked body)
+ask_unless asked (Some x) body = steps.Reply (refusal_reply x.1 x.0)
 
 -- the reply to a command that the database isn't asked
 abbrev pub own_reply : Own → List ℕ → ServerInfo → Pairs
@@ -39,7 +61,8 @@ own_reply owns.Login name info = refusal_reply reasons.NoAuthentication name
 abbrev pub do_command : Option Command → List ℕ → ServerInfo → Pairs → Step
 do_command None name info body = steps.Reply (refusal_reply reasons.UnknownCommand name)
 do_command (Some (commands.Own own)) name info body = steps.Reply (own_reply own name info)
-do_command (Some commands.Forwarded) name info body = ask_unless (first_refused body) body
+do_command (Some (commands.Forwarded asked)) name info body =
+    ask_unless asked (first_refused asked body) body
 
 -- the name of a command, which is that of its first field
 abbrev pub name_of : Pairs → List ℕ

@@ -20,17 +20,30 @@ pub(crate) enum Own {
     Login,
 }
 
+/// A command that the database is asked, by what is translated of it beside the fields that any may have.
+#[derive(Clone, Copy, Debug, PartialEq, Eq)]
+pub(crate) enum Asked {
+    /// Nothing.
+    Plain,
+    /// A write, which may say whether its statements are in order.
+    Write,
+    /// A `find`, which may say that its first batch is its last.
+    Find,
+    /// A `getMore`, which goes to the connection that opened the cursor.
+    GetMore,
+}
+
 /// What is done with a command.
 #[derive(Clone, Copy, Debug, PartialEq, Eq)]
 pub(crate) enum Command {
     /// It is answered at once.
     Own(Own),
     /// The database is asked.
-    Forwarded,
+    Forwarded(Asked),
 }
 
 /// The commands by their names.
-const COMMANDS: [(&str, Command); 16] = [
+const COMMANDS: [(&str, Command); 23] = [
     ("hello", Command::Own(Own::Hello)),
     ("isMaster", Command::Own(Own::IsMaster)),
     ("ismaster", Command::Own(Own::IsMaster)),
@@ -42,11 +55,18 @@ const COMMANDS: [(&str, Command); 16] = [
     ("saslStart", Command::Own(Own::Login)),
     ("saslContinue", Command::Own(Own::Login)),
     ("authenticate", Command::Own(Own::Login)),
-    ("ping", Command::Forwarded),
-    ("count", Command::Forwarded),
-    ("aggregate", Command::Forwarded),
-    ("create", Command::Forwarded),
-    ("drop", Command::Forwarded),
+    ("ping", Command::Forwarded(Asked::Plain)),
+    ("count", Command::Forwarded(Asked::Plain)),
+    ("aggregate", Command::Forwarded(Asked::Plain)),
+    ("create", Command::Forwarded(Asked::Plain)),
+    ("drop", Command::Forwarded(Asked::Plain)),
+    ("createIndexes", Command::Forwarded(Asked::Plain)),
+    ("dropIndexes", Command::Forwarded(Asked::Plain)),
+    ("insert", Command::Forwarded(Asked::Write)),
+    ("update", Command::Forwarded(Asked::Write)),
+    ("delete", Command::Forwarded(Asked::Write)),
+    ("find", Command::Forwarded(Asked::Find)),
+    ("getMore", Command::Forwarded(Asked::GetMore)),
 ];
 
 /// What is done with a command of this name; nothing where it is unknown.

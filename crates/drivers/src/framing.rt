@@ -95,6 +95,7 @@ pub fn framed(
 {
     match step {
         Step::Ask(_) => Ok(None),
+        Step::AskOwner(_, _) => Ok(None),
         Step::Reply(document) => Ok(Some(frame(alloc, form, reply_no, request_id, document)?)),
         Step::Fail(document) => {
             let frame = query_reply(alloc, QUERY_FAILURE, reply_no, request_id, document)?;

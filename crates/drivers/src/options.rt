@@ -5,7 +5,7 @@ ghost use Rattle.std.specs.List.{list_any};
 ghost use Rattle.std.specs.Str.{bytes_eq};
 ghost use Rattle.std.specs.Prelude.{map};
 ghost use Rattle.bson.specs.View.{tree, pairs_of};
-ghost use Rattle.drivers.specs.Rules.{is_nothing, is_word, is_one_of, servers_fault, w_fault, write_option_fault, read_option_fault, first_in, options_fault, is_simple, unless_said, fault_of};
+ghost use Rattle.drivers.specs.Rules.{is_nothing, is_word, is_one_of, servers_fault, w_fault, write_option_fault, read_option_fault, first_in, options_fault, is_simple, unless_said, truth_fault, fault_of};
 
 use crate::reason::Reason;
 use crate::rules::Rule;
@@ -170,6 +170,16 @@ fn unless_said(said: bool) -> Option<Reason>
     Some(Reason::UnsupportedField)
 }
 
+/// Why a value is no truth value, if it is none.
+fn truth_fault(value: &Value) -> Option<Reason>
+    ensures { result ≡ truth_fault (tree value.now) }
+{
+    match value {
+        Value::Bool(_) => None,
+        _ => Some(Reason::FieldType),
+    }
+}
+
 /// Why a field with this rule is refused, if it is.
 pub(crate) fn fault_of(rule: Rule, value: &Value) -> Option<Reason>
     ensures { result ≡ fault_of rule (tree value.now) }
@@ -183,5 +193,6 @@ pub(crate) fn fault_of(rule: Rule, value: &Value) -> Option<Reason>
         Rule::ReadConcern => read_concern_fault(value),
         Rule::Collation => unless_said(is_simple(value)),
         Rule::ApiVersion => unless_said(is_word(&["1"], value)),
+        Rule::Truth => truth_fault(value),
     }
 }

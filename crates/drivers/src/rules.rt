@@ -24,6 +24,8 @@ pub(crate) enum Rule {
     Collation,
     /// The version of the commands.
     ApiVersion,
+    /// True or false, which the plan sees to.
+    Truth,
 }
 
 /// The fields by their names.

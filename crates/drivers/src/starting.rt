@@ -1,19 +1,20 @@
 //! What is done first with a message.
 
 ghost use Rattle.std.specs.Prelude.{◌≡◌, IfOk};
-ghost use Rattle.drivers.specs.Starting.{name_of, ask_unless, own_reply, do_command, do_query, do_fault, do_message, failure, unheard, started};
+ghost use Rattle.bson.specs.View.{tree};
+ghost use Rattle.drivers.specs.Starting.{number_of, cursor_of, ask_owner, name_of, ask_unless, own_reply, do_command, do_query, do_fault, do_message, failure, unheard, started};
 ghost use Rattle.drivers.specs.Commands.{command_of};
 ghost use Rattle.drivers.specs.Cleaning.{first_refused};
 
 use crate::cleaning::{first_refused, kept};
-use crate::command::{Command, Own, command_of};
-use crate::fields::{Fact, document_of};
+use crate::command::{Asked, Command, Own, command_of};
+use crate::fields::{Fact, document_of, set};
 use crate::handshake::{build_reply, handshake_reply, ok_reply};
 use crate::message::{BodyFault, Form, Message};
 use crate::reason::{Reason, refusal_reply};
 use crate::server_info::ServerInfo;
 use crate::step::Step;
-use bson::{Document, NoMemory};
+use bson::{Document, NoMemory, Value};
 use std::alloc::Global;
 
 /// What a failed query is answered with.
@@ -32,14 +33,50 @@ fn failure(alloc: Global) -> Result<Document, NoMemory>
     )
 }
 
-/// A command for the database, without the fields that it doesn't have, or why it is refused.
-fn ask(alloc: Global, body: Document) -> Result<Step, NoMemory>
-    ensures { IfOk result (λ s. s ≡ ask_unless (first_refused body) body) }
+/// The number of a cursor, as an int32 or an int64.
+fn number_of(value: &Value) -> Option<i64>
+    ensures { result ≡ number_of (tree value.now) }
 {
-    if let Some((name, reason)) = first_refused(body.pairs()) {
+    match value {
+        Value::Int32(number) => Some(i64::from(*number)),
+        Value::Int64(number) => Some(*number),
+        _ => None,
+    }
+}
+
+/// The number of a cursor beside the name of a command.
+fn cursor_of(body: &Document) -> Option<i64>
+    ensures { result ≡ cursor_of body.now }
+{
+    match body.pairs().first() {
+        Some(pair) => number_of(&pair.value),
+        None => None,
+    }
+}
+
+/// A command that goes to the connection that opened its cursor.
+fn ask_owner(mut body: Document) -> Result<Step, NoMemory>
+    ensures { IfOk result (λ s. s ≡ ask_owner (cursor_of body) body) }
+{
+    let Some(cursor) = cursor_of(&body) else {
+        return Ok(Step::Ask(body));
+    };
+    set(&mut body, "getMore", Value::Int64(cursor))?;
+    Ok(Step::AskOwner(cursor, body))
+}
+
+/// A command for the database, without the fields that it doesn't have, or why it is refused.
+fn ask(alloc: Global, asked: Asked, body: Document) -> Result<Step, NoMemory>
+    ensures { IfOk result (λ s. s ≡ ask_unless asked (first_refused asked body) body) }
+{
+    if let Some((name, reason)) = first_refused(asked, body.pairs()) {
         return Ok(Step::Reply(refusal_reply(alloc, reason, name)?));
     }
-    Ok(Step::Ask(kept(body)))
+    let body = kept(asked, body);
+    if asked == Asked::GetMore {
+        return ask_owner(body);
+    }
+    Ok(Step::Ask(body))
 }
 
 /// The name of a command, which is that of its first field.
@@ -77,7 +114,7 @@ fn do_command(alloc: Global, info: &ServerInfo, body: Document) -> Result<Step, 
 {
     let name = name_of(&body);
     let reply = match command_of(name) {
-        Some(Command::Forwarded) => return ask(alloc, body),
+        Some(Command::Forwarded(asked)) => return ask(alloc, asked, body),
         Some(Command::Own(command)) => own_reply(alloc, command, name, info)?,
         None => refusal_reply(alloc, Reason::UnknownCommand, name)?,
     };

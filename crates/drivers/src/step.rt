@@ -7,6 +7,8 @@ use bson::Document;
 pub enum Step {
     /// The database is asked this, and its reply comes to `Plan::answer`.
     Ask(Document),
+    /// The same, by the connection that opened the cursor of this number.
+    AskOwner(i64, Document),
     /// The driver is answered so.
     Reply(Document),
     /// The driver is answered so, by an OP_REPLY that says that the query failed.

@@ -4,4 +4,4 @@ use Rattle.drivers.specs.Cleaning.{first_refused}
 use Rattle.drivers.proofs.cleaning.first_refused.Given as goal
 
 abbrev pub invariant-pairs : goal.invariant-pairs
-invariant-pairs l = first_refused (pairs_of (drop l.pair-index l.pairs)) ≡ first_refused (pairs_of l.pairs)
+invariant-pairs l = first_refused l.asked (pairs_of (drop l.pair-index l.pairs)) ≡ first_refused l.asked (pairs_of l.pairs)

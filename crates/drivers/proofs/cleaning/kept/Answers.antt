@@ -12,13 +12,13 @@ use Rattle.drivers.proofs.cleaning.kept.Goals as goal
 
 pub from_pairs-requires : goal.from_pairs-requires
 from_pairs-requires c =
-    let left : c.retain.new.self.items ≡ filter (λ (p : Pair). is_kept p.name) c.into_pairs-pairs.result.items =
-    filter_same _ (λ (p : Pair). is_kept p.name) _ (λ x b f' k. search rules) _ _ c.retain.ensures.filtered in
+    let left : c.retain.new.self.items ≡ filter (λ (p : Pair). is_kept c.args.asked p.name) c.into_pairs-pairs.result.items =
+    filter_same _ (λ (p : Pair). is_kept c.args.asked p.name) _ (λ x b f' k. search rules) _ _ c.retain.ensures.filtered in
     let lawful : IsDocument (pairs_of c.into_pairs-pairs.result.items) = subst IsDocument (sym c.into_pairs-pairs.ensures.pairs) c.into_pairs-pairs.ensures.lawful in
-    rw left (IsDocument-filter (λ (p : Pair). is_kept p.name) c.into_pairs-pairs.result.items lawful)
+    rw left (IsDocument-filter (λ (p : Pair). is_kept c.args.asked p.name) c.into_pairs-pairs.result.items lawful)
 
 pub returns : goal.returns
 returns c =
-    let left : c.retain.new.self.items ≡ filter (λ (p : Pair). is_kept p.name) c.into_pairs-pairs.result.items =
-    filter_same _ (λ (p : Pair). is_kept p.name) _ (λ x b f' k. search rules) _ _ c.retain.ensures.filtered in
-    c.from_pairs.ensures ∙ ap pairs_of left ∙ kept_filter c.into_pairs-pairs.result.items ∙ ap kept c.into_pairs-pairs.ensures.pairs
+    let left : c.retain.new.self.items ≡ filter (λ (p : Pair). is_kept c.args.asked p.name) c.into_pairs-pairs.result.items =
+    filter_same _ (λ (p : Pair). is_kept c.args.asked p.name) _ (λ x b f' k. search rules) _ _ c.retain.ensures.filtered in
+    c.from_pairs.ensures ∙ ap pairs_of left ∙ kept_filter c.args.asked c.into_pairs-pairs.result.items ∙ ap (kept c.args.asked) c.into_pairs-pairs.ensures.pairs

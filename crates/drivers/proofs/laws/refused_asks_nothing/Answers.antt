@@ -1,5 +1,0 @@
-use Rattle.drivers.proofs.AskingLaws.{refused_asks_nothing}
-use Rattle.drivers.proofs.laws.refused_asks_nothing.Goals as goal
-
-pub returns : goal.returns
-returns c = refused_asks_nothing
