@@ -3,3 +3,4 @@ mod CleaningLemmas
 mod AskingLaws
 mod SeekingLemmas
 mod SectionLemmas
+mod LevelLemmas

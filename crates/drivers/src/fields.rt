@@ -2,14 +2,15 @@
 
 ghost use Rattle.std.specs.Prelude.{◌≡◌, ◌≤◌, ◌==◌, None, OnOk, IfOk, true, false};
 ghost use Rattle.std.specs.List.{list_any};
-ghost use Rattle.bson.specs.Tree.{pair, no_pairs, append};
+ghost use Rattle.bson.specs.Tree.{pair, no_pairs, append, append_items, item, no_items};
 ghost use Rattle.bson.specs.View.{tree};
 ghost use Rattle.bson.specs.Lookup.{lookup};
 ghost use Rattle.bson.specs.Edits.{put};
 ghost use Rattle.bson.specs.Lawful.{levels};
+ghost use Rattle.drivers.specs.Handshake.{words};
 ghost use Rattle.drivers.specs.Fields.{fact_tree, are_new, fields_of};
 
-use bson::{BuildFault, Document, NoMemory, Text, Value};
+use bson::{Array, BuildFault, Document, NoMemory, Text, Value};
 use std::alloc::{AllocError, Global};
 
 /// The value of a field: one that holds no other.
@@ -65,6 +66,25 @@ pub(crate) fn set(document: &mut Document, name: &str, value: Value) -> Result<(
         Err(BuildFault::Name) => unreachable!("it has no zero"),
         Err(BuildFault::Repeated) => unreachable!("it may be there"),
         Err(BuildFault::Deep) => unreachable!("it is flat"),
+    }
+}
+
+/// A text as a value.
+pub(crate) fn text_value(alloc: Global, text: &str) -> Result<Value, NoMemory>
+    ensures { IfOk result (λ v. tree v ≡ words text.now) }
+{
+    Ok(Value::String(Text::from_str(alloc, text)?))
+}
+
+/// Adds an item to an array that is not nested too deep, so only memory can be wanting.
+pub(crate) fn add(array: &mut Array, value: Value) -> Result<(), NoMemory>
+    requires { levels (tree value) ≤ 98 }
+    ensures { OnOk result (array.new ≡ append_items array.old (item (tree value) no_items)) }
+{
+    match array.push(value) {
+        Ok(()) => Ok(()),
+        Err(BuildFault::Deep) => unreachable!("it is flat"),
+        Err(_) => Err(AllocError),
     }
 }
 

@@ -1,6 +1,7 @@
 //! What MongoDB drivers send, translated into the commands of this database, and the replies back.
 #![tactic(auto)]
 
+mod answering;
 mod cleaning;
 mod command;
 mod fields;
@@ -28,7 +29,7 @@ pub use foreign::{Foreign, ForeignType};
 pub use framing::framed;
 pub use incoming::Incoming;
 pub use message::{BodyFault, Form, Message};
-pub use plan::Plan;
+pub use plan::{Plan, Wait};
 pub use server_info::ServerInfo;
 pub use step::Step;
 pub use stream_fault::StreamFault;

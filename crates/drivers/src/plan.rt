@@ -1,24 +1,38 @@
 //! From a message of a driver to its answer.
 
-ghost use Rattle.std.specs.Prelude.{◌≡◌, IfOk, OnOk, option_map};
+ghost use Rattle.std.specs.Prelude.{◌≡◌, IfOk, option_map};
 ghost use Rattle.bson.specs.View.{tree};
 ghost use Rattle.drivers.specs.Starting.{started};
-ghost use Rattle.drivers.specs.Answering.{text_or_none, collection_of, namespace_of, namespace_in, plan_of, widened, known_text, text_for, reworded, answered};
+ghost use Rattle.drivers.specs.Answering.{text_or_none, collection_of, is_true, wait_of, plan_for, plan_in, plan_of, final, end_cursor, cursor_left, answered_by, answered};
 
-use crate::fields::set;
-use crate::message::{BodyFault, Message};
+use crate::answering::{cursor_left, end, kill_command, reword, widen};
+use crate::message::Message;
 use crate::server_info::ServerInfo;
-use crate::starting::{start, unheard};
+use crate::starting::{name_of, start, unheard};
 use crate::step::Step;
 use bson::{Document, NoMemory, Text, Value};
 use std::alloc::Global;
+use std::mem;
 
-/// What is kept of a message until the database has answered: whether the driver wants no reply, and the namespace that the command
-/// speaks of.
+/// What the next reply of the database is to.
+#[derive(Drop)]
+pub enum Wait {
+    /// It makes the answer.
+    Plain,
+    /// It makes the answer, but a cursor that it leaves is ended first.
+    Single,
+    /// The cursor is ended, and this makes the answer.
+    Ended(Document),
+}
+
+/// What is kept of a message until the database has answered: whether the driver wants no reply, the database and the collection
+/// that the command names, and what the next reply is to.
 #[derive(Drop)]
 pub struct Plan {
     pub more_to_come: bool,
-    pub namespace: Text,
+    pub database: Text,
+    pub collection: Text,
+    pub wait: Wait,
 }
 
 /// A text, or the empty one where a value is none.
@@ -41,69 +55,45 @@ fn collection_of(body: &Document) -> &str
     }
 }
 
-/// The database that a command names, a dot and its collection.
-fn namespace_of(alloc: Global, body: &Document) -> Result<Text, NoMemory>
-    ensures { IfOk result (λ t. t ≡ namespace_of body.now) }
+fn is_true(value: Option<&Value>) -> bool
+    ensures { result ≡ is_true (option_map (λ v. tree v.now) value.entry) }
 {
-    let mut namespace = String::from_str(alloc, text_or_none(body.get("$db")))?;
-    namespace.push_str(".")?;
-    namespace.push_str(collection_of(body))?;
-    Ok(Text::from_string(namespace))
-}
-
-fn namespace_in(alloc: Global, body: &Result<Document, BodyFault>) -> Result<Text, NoMemory>
-    ensures { IfOk result (λ t. t ≡ namespace_in body.now) }
-{
-    match body {
-        Ok(body) => namespace_of(alloc, body),
-        Err(_) => Text::from_str(alloc, ""),
+    match value {
+        Some(Value::Bool(truth)) => *truth,
+        _ => false,
     }
 }
 
-/// Makes the `ok` of a reply an int64, so that no frame has under 36 bytes, which one driver takes for cut.
-fn widen(reply: &mut Document) -> Result<(), NoMemory>
-    ensures { OnOk result (reply.new ≡ widened reply.old) }
+/// What the first reply to a command is to.
+fn wait_of(body: &Document) -> Wait
+    ensures { result ≡ wait_of body.now }
 {
-    let wide = match reply.get("ok") {
-        Some(Value::Int32(number)) => i64::from(*number),
-        _ => return Ok(()),
-    };
-    set(reply, "ok", Value::Int64(wide))
+    if name_of(body) == "find" && is_true(body.get("singleBatch")) {
+        return Wait::Single;
+    }
+    Wait::Plain
 }
 
-/// The text by which a refusal with this number is known.
-fn known_text(alloc: Global, code: i32, namespace: &str) -> Result<Option<Text>, NoMemory>
-    ensures { IfOk result (λ x. x ≡ known_text code namespace.now) }
+fn plan_for(alloc: Global, more_to_come: bool, body: &Document) -> Result<Plan, NoMemory>
+    ensures { IfOk result (λ p. p ≡ plan_for more_to_come body.now) }
 {
-    if code == 26 {
-        return Ok(Some(Text::from_str(alloc, "ns not found")?));
-    }
-    if code != 11000 {
-        return Ok(None);
-    }
-    let mut text = String::from_str(alloc, "E11000 duplicate key error collection: ")?;
-    text.push_str(namespace)?;
-    Ok(Some(Text::from_string(text)))
+    let database = Text::from_str(alloc, text_or_none(body.get("$db")))?;
+    let collection = Text::from_str(alloc, collection_of(body))?;
+    Ok(Plan {
+        more_to_come,
+        database,
+        collection,
+        wait: wait_of(body),
+    })
 }
 
-fn text_for(alloc: Global, code: Option<&Value>, namespace: &str) -> Result<Option<Text>, NoMemory>
-    ensures { IfOk result
-        (λ x. x ≡ text_for (option_map (λ v. tree v.now) code.entry) namespace.now) }
+fn plan_of(alloc: Global, message: &Message) -> Result<Plan, NoMemory>
+    ensures { IfOk result (λ p. p ≡ plan_of message.now) }
 {
-    match code {
-        Some(Value::Int32(code)) => known_text(alloc, *code, namespace),
-        _ => Ok(None),
+    match &message.body {
+        Ok(body) => plan_for(alloc, message.more_to_come, body),
+        Err(_) => plan_for(alloc, message.more_to_come, &Document::new(alloc)),
     }
-}
-
-/// Puts the text by which a refusal is known in the place of its own.
-fn reword(alloc: Global, reply: &mut Document, namespace: &str) -> Result<(), NoMemory>
-    ensures { OnOk result (reply.new ≡ reworded namespace.now reply.old) }
-{
-    let Some(text) = text_for(alloc, reply.get("code"), namespace)? else {
-        return Ok(());
-    };
-    set(reply, "errmsg", Value::String(text))
 }
 
 impl Plan {
@@ -116,20 +106,43 @@ impl Plan {
         ensures { IfOk result
             (λ x. (x.0 ≡ plan_of message) × (x.1 ≡ started info.now message)) }
     {
-        let plan = Plan {
-            more_to_come: message.more_to_come,
-            namespace: namespace_in(alloc, &message.body)?,
-        };
+        let plan = plan_of(alloc, &message)?;
         let step = start(alloc, info, message)?;
         Ok((plan, step))
     }
 
-    /// What a driver is answered where the database was asked and answered so. It fails for want of memory alone.
-    pub fn answer(self, alloc: Global, mut reply: Document) -> Result<Step, NoMemory>
-        ensures { IfOk result (λ s. s ≡ answered self reply) }
+    /// The answer that a reply of the database makes.
+    fn final_step(&self, alloc: Global, mut reply: Document) -> Result<Step, NoMemory>
+        ensures { IfOk result (λ s. s ≡ final self.now reply) }
     {
-        reword(alloc, &mut reply, self.namespace.as_str())?;
+        let database = self.database.as_str();
+        reword(alloc, &mut reply, database, self.collection.as_str())?;
         widen(&mut reply)?;
         Ok(unheard(self.more_to_come, Step::Reply(reply)))
+    }
+
+    /// Ends the cursor that a reply leaves, if it leaves one.
+    fn end_cursor(&mut self, alloc: Global, mut reply: Document) -> Result<Step, NoMemory>
+        ensures { IfOk result (λ s. (self.new, s) ≡ end_cursor (cursor_left reply) self.old reply) }
+    {
+        let Some(id) = cursor_left(&reply) else {
+            self.wait = Wait::Plain;
+            return self.final_step(alloc, reply);
+        };
+        end(&mut reply)?;
+        let command = kill_command(alloc, self.database.as_str(), self.collection.as_str(), id)?;
+        self.wait = Wait::Ended(reply);
+        Ok(Step::AskOwner(id, command))
+    }
+
+    /// What is done where the database was asked and answered so. It fails for want of memory alone, and then the plan is of no use.
+    pub fn answer(&mut self, alloc: Global, reply: Document) -> Result<Step, NoMemory>
+        ensures { IfOk result (λ s. (self.new, s) ≡ answered self.old reply) }
+    {
+        match mem::replace(&mut self.wait, Wait::Plain) {
+            Wait::Plain => self.final_step(alloc, reply),
+            Wait::Single => self.end_cursor(alloc, reply),
+            Wait::Ended(kept) => self.final_step(alloc, kept),
+        }
     }
 }

@@ -80,7 +80,7 @@ fn ask(alloc: Global, asked: Asked, body: Document) -> Result<Step, NoMemory>
 }
 
 /// The name of a command, which is that of its first field.
-fn name_of(body: &Document) -> &str
+pub(crate) fn name_of(body: &Document) -> &str
     ensures { result.now ≡ name_of body.now }
 {
     match body.pairs().first() {
