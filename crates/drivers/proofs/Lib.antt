@@ -1,0 +1,6 @@
+mod FieldLemmas
+mod CleaningLemmas
+mod AskingLaws
+mod SeekingLemmas
+mod SectionLemmas
+mod LevelLemmas

@@ -1,0 +1,140 @@
+-- What a driver is answered where the database was asked. `ok` becomes an int64, so that no frame has under 36 bytes, which one driver
+-- takes for cut. Two refusals are told by drivers and programs from their texts: that a collection isn't there, and that a key is
+-- there already (MongoDB manual, error codes).
+use Rattle.std.specs.Prelude.{ℕ, ℤ, pos, negsuc, Bool, false, ◌&&◌, ◌==◌, if◌then◌else◌, List, [], ◌++◌, codes, Option, Some, None, Result, Ok, Err}
+use Rattle.bson.specs.Tree.{Tree, scalar, document, array, text, boolean, int32, int64, Pairs, no_pairs, pair, append, no_items, item}
+use Rattle.bson.specs.Lookup.{lookup}
+use Rattle.bson.specs.Edits.{put, cut}
+use Rattle.std.specs.Str.{bytes_eq}
+use Rattle.drivers.specs.Handshake.{words}
+use Rattle.drivers.specs.Rules.{is_zero}
+use Rattle.drivers.specs.Starting.{name_of, unheard}
+use Rattle.drivers.specs.declared.server_info.ServerInfo.{ServerInfo}
+use Rattle.drivers.specs.declared.message.BodyFault.{BodyFault}
+use Rattle.drivers.specs.declared.message.Message.{Message}
+use Rattle.drivers.specs.declared.plan.Plan.{Plan}
+use Rattle.drivers.specs.declared.plan.Wait.{Wait}
+use Rattle.drivers.specs.declared.plan.Wait.TheVariants as waits
+use Rattle.drivers.specs.declared.step.Step.{Step}
+use Rattle.drivers.specs.declared.step.Step.TheVariants as steps
+
+-- ---- a plan: what is kept of a message until the database has answered
+
+-- a text, or the empty one where there is none
+abbrev pub text_or_none : Option Tree → List ℕ
+text_or_none (Some (scalar (text s))) = s
+text_or_none other = []
+
+-- the text beside the name of a command, which is that of its collection
+abbrev pub collection_of : Pairs → List ℕ
+collection_of no_pairs = []
+collection_of (pair name t ps) = text_or_none (Some t)
+
+abbrev pub is_true : Option Tree → Bool
+is_true (Some (scalar (boolean b))) = b
+is_true other = false
+
+-- A find may say that its first batch is its last (mongodb/specifications, find, getMore and killCursors).
+abbrev pub wait_of : Pairs → Wait
+wait_of body =
+    if bytes_eq (name_of body) (codes "find") && is_true (lookup body (codes "singleBatch"))
+    then waits.Single else waits.Plain
+
+abbrev pub plan_for : Bool → Pairs → Plan
+plan_for more body = record {
+  more_to_come = more;
+  database = text_or_none (lookup body (codes "$db"));
+  collection = collection_of body;
+  wait = wait_of body;
+}
+
+abbrev pub plan_in : Bool → Result Pairs BodyFault → Plan
+plan_in more (Ok body) = plan_for more body
+plan_in more (Err fault) = plan_for more no_pairs
+
+abbrev pub plan_of : Message → Plan
+plan_of message = plan_in message.more_to_come message.body
+
+-- ---- the answer
+
+abbrev pub wide_ok : Option Tree → Pairs → Pairs
+wide_ok (Some (scalar (int32 z))) reply = put reply (codes "ok") (scalar (int64 z))
+wide_ok other reply = reply
+
+abbrev pub widened : Pairs → Pairs
+widened reply = wide_ok (lookup reply (codes "ok")) reply
+
+-- the text by which a refusal with this number is known
+abbrev pub known_text : ℤ → List ℕ → List ℕ → Option (List ℕ)
+known_text (pos n) database collection =
+    if n == 26 then Some (codes "ns not found") else
+    if n == 11000
+    then Some (((codes "E11000 duplicate key error collection: " ++ database) ++ codes ".") ++ collection)
+    else None
+known_text (negsuc n) database collection = None
+
+abbrev pub text_for : Option Tree → List ℕ → List ℕ → Option (List ℕ)
+text_for (Some (scalar (int32 z))) database collection = known_text z database collection
+text_for other database collection = None
+
+abbrev pub with_text : Option (List ℕ) → Pairs → Pairs
+with_text None reply = reply
+with_text (Some s) reply = put reply (codes "errmsg") (words s)
+
+abbrev pub reworded : List ℕ → List ℕ → Pairs → Pairs
+reworded database collection reply =
+    with_text (text_for (lookup reply (codes "code")) database collection) reply
+
+-- the answer that a reply of the database makes
+abbrev pub final : Plan → Pairs → Step
+final plan reply =
+    unheard plan.more_to_come
+    (steps.Reply (widened (reworded plan.database plan.collection reply)))
+
+-- ---- a cursor that is left behind a first batch
+
+abbrev pub open_id : Option Tree → Option ℤ
+open_id (Some (scalar (int64 z))) = if is_zero z then None else Some z
+open_id other = None
+
+abbrev pub id_in : Option Tree → Option ℤ
+id_in (Some (document c)) = open_id (lookup c (codes "id"))
+id_in other = None
+
+-- the number of the cursor that is left
+abbrev pub cursor_left : Pairs → Option ℤ
+cursor_left reply = id_in (lookup reply (codes "cursor"))
+
+-- the cursor without a number, behind the other fields of the reply
+abbrev pub with_cursor : Option Tree → Pairs → Pairs
+with_cursor (Some (document c)) reply =
+    append reply
+    (pair (codes "cursor") (document (put c (codes "id") (scalar (int64 (pos 0))))) no_pairs)
+with_cursor other reply = reply
+
+abbrev pub ended : Pairs → Pairs
+ended reply = with_cursor (lookup reply (codes "cursor")) (cut reply (codes "cursor"))
+
+abbrev pub kill_command : List ℕ → List ℕ → ℤ → Pairs
+kill_command database collection id =
+    pair (codes "killCursors") (words collection)
+    (pair (codes "cursors") (array (item (scalar (int64 id)) no_items))
+    (pair (codes "$db") (words database) no_pairs))
+
+-- Where a cursor is left it is ended first.
+abbrev pub end_cursor : Option ℤ → Plan → Pairs → Plan × Step
+end_cursor None plan reply = (record plan { wait = waits.Plain }, final plan reply)
+end_cursor (Some id) plan reply = (
+  record plan { wait = waits.Ended (ended reply) },
+  steps.AskOwner id (kill_command plan.database plan.collection id),
+)
+
+-- What is done where the database was asked and answered so, and what is kept then.
+abbrev pub answered_by : Wait → Plan → Pairs → Plan × Step
+answered_by waits.Plain plan reply = (record plan { wait = waits.Plain }, final plan reply)
+answered_by waits.Single plan reply = end_cursor (cursor_left reply) plan reply
+answered_by (waits.Ended kept) plan reply =
+    (record plan { wait = waits.Plain }, final plan kept)
+
+abbrev pub answered : Plan → Pairs → Plan × Step
+answered plan reply = answered_by plan.wait plan reply

@@ -1,0 +1,43 @@
+-- Laws of what is asked of the database.
+use Rattle.std.specs.Prelude.{◌≡◌, ℕ, false, List, Option, Some, None}
+use Rattle.bson.specs.Tree.{Tree, Pairs, pair, append}
+use Rattle.drivers.specs.Cleaning.{is_kept, field_fault, first_refused, kept}
+use Rattle.drivers.specs.Starting.{ask, do_command, name_of}
+use Rattle.drivers.specs.Commands.{command_of}
+use Rattle.drivers.specs.declared.server_info.ServerInfo.{ServerInfo}
+use Rattle.drivers.specs.declared.command.Asked.{Asked}
+use Rattle.drivers.specs.declared.command.Command.TheVariants as commands
+use Rattle.drivers.specs.declared.step.Step.{Step}
+use Rattle.drivers.specs.declared.step.Step.TheVariants as steps
+
+-- what is done with a command
+abbrev pub done : ServerInfo → Pairs → Step
+done info body = do_command (command_of (name_of body)) (name_of body) info body
+
+-- what a step asks of the database
+abbrev pub asked_by : Step → Option Pairs
+asked_by (steps.Ask body) = Some body
+asked_by (steps.AskOwner cursor body) = Some body
+asked_by (steps.Reply reply) = None
+asked_by (steps.Fail reply) = None
+asked_by steps.Silent = None
+
+-- Something is asked of the database only if the command is one for it and no field of it is refused. It is the command without the fields that
+-- the database doesn't have.
+pub record Asks (body question : Pairs) : Type 0 where
+  pub asked : Asked
+  pub command : command_of (name_of body) ≡ Some (commands.Forwarded asked)
+  pub taken : first_refused asked body ≡ None
+  pub own_fields : asked_by (ask asked (kept asked body)) ≡ Some question
+
+abbrev pub AsksOwnFields : Type 0
+AsksOwnFields = (info : ServerInfo) (body question : Pairs)
+    → asked_by (done info body) ≡ Some question → Asks body question
+
+-- A field behind the command's name that has a rule and isn't refused makes no difference to what is done first.
+abbrev pub IgnoredMakesNoDifference : Type 0
+IgnoredMakesNoDifference = (info : ServerInfo) (command : List ℕ) (value : Tree) (before : Pairs)
+    (name : List ℕ) (t : Tree) (behind : Pairs)
+    → ((asked : Asked) → (is_kept asked name ≡ false) × (field_fault asked name t ≡ None))
+    → done info (pair command value (append before (pair name t behind)))
+    ≡ done info (pair command value (append before behind))

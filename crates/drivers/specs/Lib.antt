@@ -1,0 +1,16 @@
+pub mod Fields
+pub mod Handshake
+pub mod Reasons
+pub mod Rules
+pub mod Tables
+pub mod Cleaning
+pub mod Commands
+pub mod ForeignTypes
+pub mod Starting
+pub mod Laws
+pub mod Answering
+pub mod Seeking
+pub mod SeekingView
+pub mod Incoming
+pub mod WireView
+pub mod Framing

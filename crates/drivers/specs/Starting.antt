@@ -1,0 +1,106 @@
+-- What is done first with a message of a driver: the database is asked, or the driver is answered at once. A message that is refused
+-- asks nothing. A message that wants no reply gets none (MongoDB wire protocol, OP_MSG, moreToCome).
+use Rattle.std.specs.Prelude.{ℕ, ℤ, pos, Bool, true, false, List, [], codes, Option, Some, None, Result, Ok, Err}
+use Rattle.bson.specs.Tree.{Tree, scalar, int32, int64, Pairs, no_pairs, pair}
+use Rattle.bson.specs.Edits.{put}
+use Rattle.drivers.specs.Handshake.{handshake_reply, build_reply, ok, int, words}
+use Rattle.drivers.specs.Reasons.{refusal_reply, row_of}
+use Rattle.drivers.specs.Cleaning.{first_refused, kept}
+use Rattle.drivers.specs.Commands.{command_of}
+use Rattle.drivers.specs.declared.server_info.ServerInfo.{ServerInfo}
+use Rattle.drivers.specs.declared.foreign.Foreign.{Foreign}
+use Rattle.drivers.specs.declared.message.BodyFault.{BodyFault}
+use Rattle.drivers.specs.declared.message.BodyFault.TheVariants as faults
+use Rattle.drivers.specs.declared.message.Form.{Form}
+use Rattle.drivers.specs.declared.message.Form.TheVariants as forms
+use Rattle.drivers.specs.declared.message.Message.{Message}
+use Rattle.drivers.specs.declared.command.Asked.{Asked}
+use Rattle.drivers.specs.declared.command.Asked.TheVariants as askeds
+use Rattle.drivers.specs.declared.command.Command.{Command}
+use Rattle.drivers.specs.declared.command.Command.TheVariants as commands
+use Rattle.drivers.specs.declared.command.Own.{Own}
+use Rattle.drivers.specs.declared.command.Own.TheVariants as owns
+use Rattle.drivers.specs.declared.reason.Reason.{Reason}
+use Rattle.drivers.specs.declared.reason.Reason.TheVariants as reasons
+use Rattle.drivers.specs.declared.step.Step.{Step}
+use Rattle.drivers.specs.declared.step.Step.TheVariants as steps
+
+-- the number of a cursor beside the name of a command, as an int32 or an int64
+abbrev pub number_of : Tree → Option ℤ
+number_of (scalar (int32 z)) = Some z
+number_of (scalar (int64 z)) = Some z
+number_of other = None
+
+abbrev pub cursor_of : Pairs → Option ℤ
+cursor_of no_pairs = None
+cursor_of (pair name t ps) = number_of t
+
+-- The database has numbers of cursors as int64.
+abbrev pub ask_owner : Option ℤ → Pairs → Step
+ask_owner None body = steps.Ask body
+ask_owner (Some z) body = steps.AskOwner z (put body (codes "getMore") (scalar (int64 z)))
+
+abbrev pub ask : Asked → Pairs → Step
+ask askeds.GetMore body = ask_owner (cursor_of body) body
+ask other body = steps.Ask body
+
+-- A command for the database: without the fields that it doesn't have, unless one of them is refused.
+abbrev pub ask_unless : Asked → Option (List ℕ × Reason) → Pairs → Step
+ask_unless asked None body = ask asked (kept asked body)
+ask_unless asked (Some x) body = steps.Reply (refusal_reply x.1 x.0)
+
+-- the reply to a command that the database isn't asked
+abbrev pub own_reply : Own → List ℕ → ServerInfo → Pairs
+own_reply owns.Hello name info = handshake_reply true info
+own_reply owns.IsMaster name info = handshake_reply false info
+own_reply owns.BuildInfo name info = build_reply
+own_reply owns.Session name info = ok
+own_reply owns.Login name info = refusal_reply reasons.NoAuthentication name
+
+-- a command of this name
+abbrev pub do_command : Option Command → List ℕ → ServerInfo → Pairs → Step
+do_command None name info body = steps.Reply (refusal_reply reasons.UnknownCommand name)
+do_command (Some (commands.Own own)) name info body = steps.Reply (own_reply own name info)
+do_command (Some (commands.Forwarded asked)) name info body =
+    ask_unless asked (first_refused asked body) body
+
+-- the name of a command, which is that of its first field
+abbrev pub name_of : Pairs → List ℕ
+name_of no_pairs = []
+name_of (pair name t ps) = name
+
+-- What a failed query is answered with (MongoDB wire protocol, OP_REPLY, QueryFailure).
+abbrev pub failure : Pairs
+failure =
+    pair (codes "$err") (words (row_of reasons.UnsupportedQuery).before)
+    (pair (codes "code") (int (pos (row_of reasons.UnsupportedQuery).code)) no_pairs)
+
+-- An OP_QUERY to `admin.$cmd`, which may be a handshake (mongodb/specifications, mongodb-handshake) and nothing else.
+abbrev pub do_query : Option Command → ServerInfo → Step
+do_query (Some (commands.Own owns.Hello)) info = steps.Reply (handshake_reply true info)
+do_query (Some (commands.Own owns.IsMaster)) info = steps.Reply (handshake_reply false info)
+do_query other info = steps.Fail failure
+
+-- a message that has no document
+abbrev pub do_fault : BodyFault → Step
+do_fault (faults.Foreign foreign) =
+    steps.Reply (refusal_reply (reasons.ForeignType foreign.kind) foreign.path)
+do_fault faults.Invalid = steps.Reply (refusal_reply reasons.InvalidBson [])
+
+abbrev pub do_message : Form → ServerInfo → Result Pairs BodyFault → Step
+do_message forms.Query info body = steps.Fail failure
+do_message forms.Command info (Ok body) = do_query (command_of (name_of body)) info
+do_message forms.Message info (Ok body) =
+    do_command (command_of (name_of body)) (name_of body) info body
+do_message forms.Command info (Err fault) = do_fault fault
+do_message forms.Message info (Err fault) = do_fault fault
+
+-- A message that wants no reply gets none.
+abbrev pub unheard : Bool → Step → Step
+unheard true (steps.Reply reply) = steps.Silent
+unheard true (steps.Fail reply) = steps.Silent
+unheard more step = step
+
+-- What is done first with a message.
+abbrev pub started : ServerInfo → Message → Step
+started info message = unheard message.more_to_come (do_message message.form info message.body)

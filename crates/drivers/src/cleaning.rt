@@ -1,0 +1,81 @@
+//! Commands without the fields that the database doesn't have.
+
+ghost use Rattle.std.specs.Prelude.{◌≡◌, option_map};
+ghost use Rattle.bson.specs.View.{tree, pairs_of};
+ghost use Rattle.drivers.specs.Cleaning.{truth, own_rule, rule_in, is_kept, field_fault, first_refused, kept};
+
+use crate::command::Asked;
+use crate::options::fault_of;
+use crate::reason::Reason;
+use crate::rules::{Rule, rule_of};
+use bson::{Document, Pair, Value};
+
+/// A field of this name is true or false, and not the database's.
+fn truth(word: &str, name: &str) -> Option<Rule>
+    ensures { result ≡ truth word.now name.now }
+{
+    if name == word {
+        return Some(Rule::Truth);
+    }
+    None
+}
+
+/// The rule of a field that this command alone has.
+fn own_rule(asked: Asked, name: &str) -> Option<Rule>
+    ensures { result ≡ own_rule asked name.now }
+{
+    match asked {
+        Asked::Plain => None,
+        Asked::Write => truth("ordered", name),
+        Asked::Find => truth("singleBatch", name),
+        Asked::GetMore => None,
+    }
+}
+
+/// What is done with a field of this command; nothing where the database has to say.
+fn rule_in(asked: Asked, name: &str) -> Option<Rule>
+    ensures { result ≡ rule_in asked name.now }
+{
+    match own_rule(asked, name) {
+        Some(rule) => Some(rule),
+        None => rule_of(name),
+    }
+}
+
+/// Whether a field is the database's own.
+fn is_kept(asked: Asked, name: &str) -> bool
+    ensures { result ≡ is_kept asked name.now }
+{
+    rule_in(asked, name).is_none()
+}
+
+/// Why a field is refused, if it is.
+fn field_fault(asked: Asked, name: &str, value: &Value) -> Option<Reason>
+    ensures { result ≡ field_fault asked name.now (tree value.now) }
+{
+    match rule_in(asked, name) {
+        Some(rule) => fault_of(rule, value),
+        None => None,
+    }
+}
+
+/// The first field that is refused, and why.
+pub(crate) fn first_refused(asked: Asked, pairs: &[Pair]) -> Option<(&str, Reason)>
+    ensures { option_map (λ x. (x.0.now, x.1)) result ≡ first_refused asked (pairs_of pairs.now) }
+{
+    'pairs: for pair in pairs {
+        if let Some(reason) = field_fault(asked, pair.name.as_str(), &pair.value) {
+            return Some((pair.name.as_str(), reason));
+        }
+    }
+    None
+}
+
+/// A command with the fields alone that are the database's own.
+pub(crate) fn kept(asked: Asked, body: Document) -> Document
+    ensures { result ≡ kept asked body }
+{
+    let mut pairs = body.into_pairs();
+    pairs.retain(|pair| is_kept(asked, pair.name.as_str()));
+    Document::from_pairs(pairs)
+}

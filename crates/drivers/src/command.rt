@@ -1,0 +1,78 @@
+//! The commands that drivers send.
+
+ghost use Rattle.std.specs.Prelude.{◌≡◌};
+ghost use Rattle.drivers.specs.Commands.{command_of};
+
+use crate::tables::named;
+
+/// A command that the database isn't asked.
+#[derive(Clone, Copy, Debug, PartialEq, Eq)]
+pub(crate) enum Own {
+    /// `hello`: it is told what to know of the server.
+    Hello,
+    /// `isMaster`, its older name.
+    IsMaster,
+    /// It is told the version.
+    BuildInfo,
+    /// It is about sessions, of which the server keeps nothing.
+    Session,
+    /// It says who the client is, and is refused.
+    Login,
+}
+
+/// A command that the database is asked, by what is translated of it beside the fields that any may have.
+#[derive(Clone, Copy, Debug, PartialEq, Eq)]
+pub(crate) enum Asked {
+    /// Nothing.
+    Plain,
+    /// A write, which may say whether its statements are in order.
+    Write,
+    /// A `find`, which may say that its first batch is its last.
+    Find,
+    /// A `getMore`, which goes to the connection that opened the cursor.
+    GetMore,
+}
+
+/// What is done with a command.
+#[derive(Clone, Copy, Debug, PartialEq, Eq)]
+pub(crate) enum Command {
+    /// It is answered at once.
+    Own(Own),
+    /// The database is asked.
+    Forwarded(Asked),
+}
+
+/// The commands by their names.
+const COMMANDS: [(&str, Command); 23] = [
+    ("hello", Command::Own(Own::Hello)),
+    ("isMaster", Command::Own(Own::IsMaster)),
+    ("ismaster", Command::Own(Own::IsMaster)),
+    ("buildInfo", Command::Own(Own::BuildInfo)),
+    ("buildinfo", Command::Own(Own::BuildInfo)),
+    ("endSessions", Command::Own(Own::Session)),
+    ("killSessions", Command::Own(Own::Session)),
+    ("refreshSessions", Command::Own(Own::Session)),
+    ("saslStart", Command::Own(Own::Login)),
+    ("saslContinue", Command::Own(Own::Login)),
+    ("authenticate", Command::Own(Own::Login)),
+    ("ping", Command::Forwarded(Asked::Plain)),
+    ("count", Command::Forwarded(Asked::Plain)),
+    ("aggregate", Command::Forwarded(Asked::Plain)),
+    ("create", Command::Forwarded(Asked::Plain)),
+    ("drop", Command::Forwarded(Asked::Plain)),
+    ("createIndexes", Command::Forwarded(Asked::Plain)),
+    ("dropIndexes", Command::Forwarded(Asked::Plain)),
+    ("insert", Command::Forwarded(Asked::Write)),
+    ("update", Command::Forwarded(Asked::Write)),
+    ("delete", Command::Forwarded(Asked::Write)),
+    ("find", Command::Forwarded(Asked::Find)),
+    ("getMore", Command::Forwarded(Asked::GetMore)),
+];
+
+/// What is done with a command of this name; nothing where it is unknown.
+#[tactic(auto, unfolding(crate::specs::Commands::command_of))]
+pub(crate) fn command_of(name: &str) -> Option<Command>
+    ensures { result ≡ command_of name.now }
+{
+    named(&COMMANDS, name)
+}

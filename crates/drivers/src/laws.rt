@@ -1,0 +1,14 @@
+//! Laws of the definitions, as contracts.
+
+ghost use Rattle.drivers.specs.Laws.{AsksOwnFields, IgnoredMakesNoDifference};
+
+/// Something is asked of the database only if the command is one for it and no field of it is refused: the command without the fields
+/// that the database doesn't have.
+pub fn asks_own_fields()
+    ensures { AsksOwnFields }
+{}
+
+/// A field that is ignored makes no difference to what is done first.
+pub fn ignored_makes_no_difference()
+    ensures { IgnoredMakesNoDifference }
+{}

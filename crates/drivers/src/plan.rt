@@ -1,0 +1,148 @@
+//! From a message of a driver to its answer.
+
+ghost use Rattle.std.specs.Prelude.{◌≡◌, IfOk, option_map};
+ghost use Rattle.bson.specs.View.{tree};
+ghost use Rattle.drivers.specs.Starting.{started};
+ghost use Rattle.drivers.specs.Answering.{text_or_none, collection_of, is_true, wait_of, plan_for, plan_in, plan_of, final, end_cursor, cursor_left, answered_by, answered};
+
+use crate::answering::{cursor_left, end, kill_command, reword, widen};
+use crate::message::Message;
+use crate::server_info::ServerInfo;
+use crate::starting::{name_of, start, unheard};
+use crate::step::Step;
+use bson::{Document, NoMemory, Text, Value};
+use std::alloc::Global;
+use std::mem;
+
+/// What the next reply of the database is to.
+#[derive(Drop)]
+pub enum Wait {
+    /// It makes the answer.
+    Plain,
+    /// It makes the answer, but a cursor that it leaves is ended first.
+    Single,
+    /// The cursor is ended, and this makes the answer.
+    Ended(Document),
+}
+
+/// What is kept of a message until the database has answered: whether the driver wants no reply, the database and the collection
+/// that the command names, and what the next reply is to.
+#[derive(Drop)]
+pub struct Plan {
+    pub more_to_come: bool,
+    pub database: Text,
+    pub collection: Text,
+    pub wait: Wait,
+}
+
+/// A text, or the empty one where a value is none.
+fn text_or_none(value: Option<&Value>) -> &str
+    ensures { result.now ≡ text_or_none (option_map (λ v. tree v.now) value.entry) }
+{
+    match value {
+        Some(Value::String(text)) => text.as_str(),
+        _ => "",
+    }
+}
+
+/// The text beside the name of a command, which is that of its collection.
+fn collection_of(body: &Document) -> &str
+    ensures { result.now ≡ collection_of body.now }
+{
+    match body.pairs().first() {
+        Some(pair) => text_or_none(Some(&pair.value)),
+        None => "",
+    }
+}
+
+fn is_true(value: Option<&Value>) -> bool
+    ensures { result ≡ is_true (option_map (λ v. tree v.now) value.entry) }
+{
+    match value {
+        Some(Value::Bool(truth)) => *truth,
+        _ => false,
+    }
+}
+
+/// What the first reply to a command is to.
+fn wait_of(body: &Document) -> Wait
+    ensures { result ≡ wait_of body.now }
+{
+    if name_of(body) == "find" && is_true(body.get("singleBatch")) {
+        return Wait::Single;
+    }
+    Wait::Plain
+}
+
+fn plan_for(alloc: Global, more_to_come: bool, body: &Document) -> Result<Plan, NoMemory>
+    ensures { IfOk result (λ p. p ≡ plan_for more_to_come body.now) }
+{
+    let database = Text::from_str(alloc, text_or_none(body.get("$db")))?;
+    let collection = Text::from_str(alloc, collection_of(body))?;
+    Ok(Plan {
+        more_to_come,
+        database,
+        collection,
+        wait: wait_of(body),
+    })
+}
+
+fn plan_of(alloc: Global, message: &Message) -> Result<Plan, NoMemory>
+    ensures { IfOk result (λ p. p ≡ plan_of message.now) }
+{
+    match &message.body {
+        Ok(body) => plan_for(alloc, message.more_to_come, body),
+        Err(_) => plan_for(alloc, message.more_to_come, &Document::new(alloc)),
+    }
+}
+
+impl Plan {
+    /// What is done first with a message, and what is kept of it until the database has answered. It fails for want of memory alone.
+    pub fn start(
+        alloc: Global,
+        info: &ServerInfo,
+        message: Message,
+    ) -> Result<(Plan, Step), NoMemory>
+        ensures { IfOk result
+            (λ x. (x.0 ≡ plan_of message) × (x.1 ≡ started info.now message)) }
+    {
+        let plan = plan_of(alloc, &message)?;
+        let step = start(alloc, info, message)?;
+        Ok((plan, step))
+    }
+
+    /// The answer that a reply of the database makes.
+    fn final_step(&self, alloc: Global, mut reply: Document) -> Result<Step, NoMemory>
+        ensures { IfOk result (λ s. s ≡ final self.now reply) }
+    {
+        let database = self.database.as_str();
+        reword(alloc, &mut reply, database, self.collection.as_str())?;
+        widen(&mut reply)?;
+        Ok(unheard(self.more_to_come, Step::Reply(reply)))
+    }
+
+    /// Ends the cursor that a reply leaves, if it leaves one.
+    fn end_cursor(&mut self, alloc: Global, mut reply: Document) -> Result<Step, NoMemory>
+        ensures { IfOk result (λ s. (self.new, s) ≡ end_cursor (cursor_left reply) self.old reply) }
+    {
+        let Some(id) = cursor_left(&reply) else {
+            self.wait = Wait::Plain;
+            return self.final_step(alloc, reply);
+        };
+        end(&mut reply)?;
+        let command = kill_command(alloc, self.database.as_str(), self.collection.as_str(), id)?;
+        self.wait = Wait::Ended(reply);
+        Ok(Step::AskOwner(id, command))
+    }
+
+    /// What is done where the database was asked and answered so. It fails for want of memory alone, and then the plan is of no use.
+    pub fn answer(&mut self, alloc: Global, reply: Document) -> Result<Step, NoMemory>
+        ensures { IfOk result (λ s. (self.new, s) ≡ answered self.old reply) }
+    {
+        match mem::replace(&mut self.wait, Wait::Plain) {
+            Wait::Plain => self.final_step(alloc, reply),
+            Wait::Single => self.end_cursor(alloc, reply),
+            Wait::Ended(kept) => self.final_step(alloc, kept),
+        }
+    }
+}

@@ -1,0 +1,191 @@
+//! What is done first with a message.
+
+ghost use Rattle.std.specs.Prelude.{◌≡◌, IfOk};
+ghost use Rattle.bson.specs.View.{tree};
+ghost use Rattle.drivers.specs.Starting.{number_of, cursor_of, ask_owner, name_of, ask_unless, own_reply, do_command, do_query, do_fault, do_message, failure, unheard, started};
+ghost use Rattle.drivers.specs.Commands.{command_of};
+ghost use Rattle.drivers.specs.Cleaning.{first_refused};
+
+use crate::cleaning::{first_refused, kept};
+use crate::command::{Asked, Command, Own, command_of};
+use crate::fields::{Fact, document_of, set};
+use crate::handshake::{build_reply, handshake_reply, ok_reply};
+use crate::message::{BodyFault, Form, Message};
+use crate::reason::{Reason, refusal_reply};
+use crate::server_info::ServerInfo;
+use crate::step::Step;
+use bson::{Document, NoMemory, Value};
+use std::alloc::Global;
+
+/// What a failed query is answered with.
+fn failure(alloc: Global) -> Result<Document, NoMemory>
+    ensures { IfOk result (λ d. d ≡ failure) }
+{
+    document_of(
+        alloc,
+        &[
+            (
+                "$err",
+                Fact::Text("docpage takes OP_QUERY for a handshake alone"),
+            ),
+            ("code", Fact::Int32(352)),
+        ],
+    )
+}
+
+/// The number of a cursor, as an int32 or an int64.
+fn number_of(value: &Value) -> Option<i64>
+    ensures { result ≡ number_of (tree value.now) }
+{
+    match value {
+        Value::Int32(number) => Some(i64::from(*number)),
+        Value::Int64(number) => Some(*number),
+        _ => None,
+    }
+}
+
+/// The number of a cursor beside the name of a command.
+fn cursor_of(body: &Document) -> Option<i64>
+    ensures { result ≡ cursor_of body.now }
+{
+    match body.pairs().first() {
+        Some(pair) => number_of(&pair.value),
+        None => None,
+    }
+}
+
+/// A command that goes to the connection that opened its cursor.
+fn ask_owner(mut body: Document) -> Result<Step, NoMemory>
+    ensures { IfOk result (λ s. s ≡ ask_owner (cursor_of body) body) }
+{
+    let Some(cursor) = cursor_of(&body) else {
+        return Ok(Step::Ask(body));
+    };
+    set(&mut body, "getMore", Value::Int64(cursor))?;
+    Ok(Step::AskOwner(cursor, body))
+}
+
+/// A command for the database, without the fields that it doesn't have, or why it is refused.
+fn ask(alloc: Global, asked: Asked, body: Document) -> Result<Step, NoMemory>
+    ensures { IfOk result (λ s. s ≡ ask_unless asked (first_refused asked body) body) }
+{
+    if let Some((name, reason)) = first_refused(asked, body.pairs()) {
+        return Ok(Step::Reply(refusal_reply(alloc, reason, name)?));
+    }
+    let body = kept(asked, body);
+    if asked == Asked::GetMore {
+        return ask_owner(body);
+    }
+    Ok(Step::Ask(body))
+}
+
+/// The name of a command, which is that of its first field.
+pub(crate) fn name_of(body: &Document) -> &str
+    ensures { result.now ≡ name_of body.now }
+{
+    match body.pairs().first() {
+        Some(pair) => pair.name.as_str(),
+        None => "",
+    }
+}
+
+/// The reply to a command that the database isn't asked.
+fn own_reply(
+    alloc: Global,
+    command: Own,
+    name: &str,
+    info: &ServerInfo,
+) -> Result<Document, NoMemory>
+    ensures { IfOk result (λ d. d ≡ own_reply command name.now info.now) }
+{
+    match command {
+        Own::Hello => handshake_reply(alloc, true, info),
+        Own::IsMaster => handshake_reply(alloc, false, info),
+        Own::BuildInfo => build_reply(alloc),
+        Own::Session => ok_reply(alloc),
+        Own::Login => refusal_reply(alloc, Reason::NoAuthentication, name),
+    }
+}
+
+/// A command.
+fn do_command(alloc: Global, info: &ServerInfo, body: Document) -> Result<Step, NoMemory>
+    ensures { IfOk result
+        (λ s. s ≡ do_command (command_of (name_of body)) (name_of body) info.now body) }
+{
+    let name = name_of(&body);
+    let reply = match command_of(name) {
+        Some(Command::Forwarded(asked)) => return ask(alloc, asked, body),
+        Some(Command::Own(command)) => own_reply(alloc, command, name, info)?,
+        None => refusal_reply(alloc, Reason::UnknownCommand, name)?,
+    };
+    Ok(Step::Reply(reply))
+}
+
+/// An OP_QUERY to `admin.$cmd`, which may be a handshake and nothing else.
+fn do_query(alloc: Global, info: &ServerInfo, name: &str) -> Result<Step, NoMemory>
+    ensures { IfOk result (λ s. s ≡ do_query (command_of name.now) info.now) }
+{
+    match command_of(name) {
+        Some(Command::Own(Own::Hello)) => Ok(Step::Reply(handshake_reply(alloc, true, info)?)),
+        Some(Command::Own(Own::IsMaster)) => Ok(Step::Reply(handshake_reply(alloc, false, info)?)),
+        _ => Ok(Step::Fail(failure(alloc)?)),
+    }
+}
+
+/// A message that has no document.
+fn do_fault(alloc: Global, fault: BodyFault) -> Result<Step, NoMemory>
+    ensures { IfOk result (λ s. s ≡ do_fault fault) }
+{
+    let reply = match fault {
+        BodyFault::Foreign(foreign) => {
+            let reason = Reason::ForeignType(foreign.kind);
+            refusal_reply(alloc, reason, foreign.path.as_str())?
+        }
+        BodyFault::Invalid => refusal_reply(alloc, Reason::InvalidBson, "")?,
+    };
+    Ok(Step::Reply(reply))
+}
+
+/// A message of this form.
+fn do_message(
+    alloc: Global,
+    form: Form,
+    info: &ServerInfo,
+    body: Result<Document, BodyFault>,
+) -> Result<Step, NoMemory>
+    ensures { IfOk result (λ s. s ≡ do_message form info.now body) }
+{
+    if form == Form::Query {
+        return Ok(Step::Fail(failure(alloc)?));
+    }
+    let body = match body {
+        Ok(body) => body,
+        Err(fault) => return do_fault(alloc, fault),
+    };
+    if form == Form::Command {
+        return do_query(alloc, info, name_of(&body));
+    }
+    do_command(alloc, info, body)
+}
+
+/// What is done with a message that may want no reply.
+pub(crate) fn unheard(more_to_come: bool, step: Step) -> Step
+    ensures { result ≡ unheard more_to_come step }
+{
+    if !more_to_come {
+        return step;
+    }
+    match step {
+        Step::Reply(_) => Step::Silent,
+        Step::Fail(_) => Step::Silent,
+        other => other,
+    }
+}
+
+/// What is done first with a message: of an answer that is no step memory ran out.
+pub(crate) fn start(alloc: Global, info: &ServerInfo, message: Message) -> Result<Step, NoMemory>
+    ensures { IfOk result (λ s. s ≡ started info.now message) }
+{
+    let step = do_message(alloc, message.form, info, message.body)?;
+    Ok(unheard(message.more_to_come, step))
+}
