@@ -17,6 +17,9 @@ use bson::{
 use filter::{AsDocument, Projection};
 use std::alloc::{AllocError, Global};
 
+/// The bytes that a reply begins with room for: a batch of a few short documents takes no more.
+const FIRST_ROOM: usize = 1_024;
+
 /// Which batch of a cursor a reply holds.
 #[derive(Clone, Copy, Debug, Drop)]
 pub enum BatchKind {
@@ -175,7 +178,7 @@ pub fn batch_reply<T: AsDocument>(
         (projected projection.now (map T.document documents.now)) number namespace.now)) }
     ensures sendable { IfOk result (λ r. IsSendable r.0) }
 {
-    let mut out = Vec::new(alloc);
+    let mut out = Vec::with_capacity(alloc, FIRST_ROOM)?;
     let start = begin_frame(&mut out)?;
     put_head(&mut out, Kind::Document, "cursor")?;
     let count = put_cursor(
