@@ -1,5 +1,5 @@
-//! Tests of the libraries of values, by rows worked by hand: what of `bson`, `value_order`, `index` and `ext_json` no command
-//! reaches. The rows of BSON and Extended JSON are scripts (crates/scripts/data).
+//! Tests of the libraries of values, by rows worked by hand: what of `bson`, `value_order`, `index`, `planner` and `ext_json` no
+//! command reaches. The rows of BSON and Extended JSON are scripts (crates/scripts/data).
 #![tactic(auto)]
 
 #[cfg(test)]
@@ -12,5 +12,7 @@ mod growths;
 mod index_keys;
 #[cfg(test)]
 mod key_texts;
+#[cfg(test)]
+mod plans;
 #[cfg(test)]
 mod rows;

@@ -1,18 +1,19 @@
 -- A key in a range of an index has its bytes there.
-use Rattle.std.proofs.Common.{◌≡◌, ℕ, Bool, true, false, List, [], ◌∷◌, ◌++◌, length, take, drop, map, Option, Some, None, refl, sym, ap, subst, ◌∙◌, append_assoc, append-nil}
-use Rattle.std.specs.Prelude.{IfSome, ◌||◌, All}
+use Rattle.std.proofs.Common.{◌≡◌, ℕ, ◌-◌, Bool, true, false, List, [], ◌∷◌, ◌++◌, length, take, drop, map, Option, Some, None, refl, sym, ap, subst, ◌∙◌, append_assoc, append-nil}
+use Rattle.std.specs.Prelude.{IfSome, ◌==◌, ◌||◌, All}
 use Rattle.std.specs.List.{AllByRecursion, list_any}
 use Rattle.std.specs.Str.{bytes_eq}
 use Rattle.std.specs.Ordering.{ordering_then, ordering_reverse, nat_cmp, is_eq, eq_by_cmp}
 use Rattle.std.specs.declared.cmp.Ordering.{Ordering}
 use Rattle.std.specs.declared.cmp.Ordering.TheVariants.{Less, Equal, Greater}
 use Rattle.std.proofs.Math.Seq.{take-append_seam, drop-append_seam}
+use Rattle.std.proofs.lemmas.Bool.{eqb-true}
 use Rattle.std.proofs.lemmas.List.Elements.{All-head, All-tail}
 use Rattle.std.proofs.lemmas.Map.Lookups.{exact_bytes, exact_unsigned}
 use Rattle.std.proofs.lemmas.Slice.Eq.{bytes_eq-Decides}
 use Rattle.bson.specs.Tree.{Tree}
 use Rattle.value_order.specs.Laws.{IsKey}
-use Rattle.value_order.specs.Order.{Key, value, bytes_cmp, key_cmp}
+use Rattle.value_order.specs.Order.{Key, empty_array, value, class, key_class, bytes_cmp, key_cmp}
 use Rattle.value_order.specs.KeyText.{directed_text, directed_cmp}
 use Rattle.value_order.specs.declared.texts.Direction.{Direction}
 use Rattle.value_order.specs.declared.texts.Direction.TheVariants.{Ascending, Descending}
@@ -27,7 +28,7 @@ use Rattle.index.proofs.SetLemmas.{set_among, same_itself}
 use Rattle.index.proofs.SpellableLaws.{keys_spellable}
 use Rattle.planner.specs.Usable.{Bound}
 use Rattle.planner.specs.Plan.{Range, fields_of, range_in}
-use Rattle.planner.specs.KeyRange.{is_equal_to, lies_by, lies_within, is_in, has_key, front_text, place_by, in_direction, bytes_lie_by, bytes_within, first_bytes_lie, has_bytes, IsSpellable, HasBytesInRange}
+use Rattle.planner.specs.KeyRange.{is_equal_to, lies_by, lies_within, is_in, has_key, front_text, place_by, in_direction, is_of_class, bytes_lie_by, bytes_within, first_bytes_lie, has_bytes, IsSpellable, HasBytesInRange}
 use Rattle.planner.proofs.UsableLemmas.{and_both, and_first, and_second, or_last}
 use Rattle.planner.proofs.KeyRangeLemmas.{has_key_in_range}
 
@@ -63,8 +64,34 @@ place_is d a b rest ka kb =
     ap (in_direction d) (apart_place (directed_text d a) (directed_text d b) (λ x y e. (none_begins d a b x y ka kb e).0) rest ∙ texts_order d a b ka kb)
     ∙ undirected d a b
 
+abbrev class_byte : Direction → ℕ → ℕ
+class_byte Ascending n = n
+class_byte Descending n = 255 - n
+
+first_byte : (d : Direction) (k : Key) (rest : List ℕ) → take 1 (directed_text d k ++ rest) ≡ class_byte d (key_class k) ∷ []
+first_byte Ascending empty_array rest = refl
+first_byte Ascending (value t) rest = refl
+first_byte Descending empty_array rest = refl
+first_byte Descending (value t) rest = refl
+
+own_byte : (d : Direction) (k : Key) → take 1 (directed_text d k) ≡ class_byte d (key_class k) ∷ []
+own_byte Ascending empty_array = refl
+own_byte Ascending (value t) = refl
+own_byte Descending empty_array = refl
+own_byte Descending (value t) = refl
+
+class_there : (d : Direction) (a b : Key) (rest : List ℕ) → (key_class a == key_class b) ≡ true → is_of_class (directed_text d b) (directed_text d a ++ rest) ≡ true
+class_there d a b rest e =
+    (bytes_eq-Decides (take 1 (directed_text d a ++ rest)) (take 1 (directed_text d b))).1
+    (first_byte d a rest ∙ ap (λ (n : ℕ). class_byte d n ∷ []) (eqb-true (key_class a) (key_class b) e) ∙ sym (own_byte d b))
+
 lies_there : (d : Direction) (b : Bound) (k : Key) (rest : List ℕ) → IsKey k → IsKey (value b.operand) → lies_by b k ≡ true → bytes_lie_by d b (directed_text d k ++ rest) ≡ true
-lies_there d b k rest kk kb h = ap (allows b.comparison) (place_is d k (value b.operand) rest kk kb) ∙ h
+lies_there d b k rest kk kb h =
+    let of_class = key_class k == class b.operand in
+    let there = allows b.comparison (key_cmp k (value b.operand)) in
+    and_both (is_of_class (directed_text d (value b.operand)) (directed_text d k ++ rest)) (allows b.comparison (in_direction d (place_by (directed_text d (value b.operand)) (directed_text d k ++ rest))))
+    (class_there d k (value b.operand) rest (and_first of_class there h))
+    (ap (allows b.comparison) (place_is d k (value b.operand) rest kk kb) ∙ and_second of_class there h)
 
 within_there : (d : Direction) (o : Option Bound) (k : Key) (rest : List ℕ) → IsKey k → IfSome o (λ b. IsKey (value b.operand)) → lies_within o k ≡ true → bytes_within d o (directed_text d k ++ rest) ≡ true
 within_there d None k rest kk s h = refl

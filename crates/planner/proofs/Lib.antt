@@ -7,3 +7,4 @@ pub mod FieldLemmas
 pub mod KeyBytesLemmas
 pub mod SortedLemmas
 pub mod ChoiceLemmas
+pub mod KeySpanLemmas

@@ -177,7 +177,7 @@ ordered_key c v t e r h = any_more (on_key (candidate_passes (ordered c v))) (li
 
     same : (k : Key) → on_key (candidate_passes (ordered c v)) k ≡ true → lies_by (record { comparison = c; operand = v }) k ≡ true
     same empty_array f = absurd cc
-    same (value x) f = and_second (class x == class v) (allows c (compare x v)) f
+    same (value x) f = f
 
 -- ---- what is asked is met
 

@@ -1,11 +1,11 @@
 -- Which keys lie in a range of an index: as lists of values, and as the bytes that the entries of the index have.
-use Rattle.std.specs.Prelude.{◌≡◌, ℕ, ◌&&◌, Bool, true, false, Option, Some, None, IfSome, List, [], ◌∷◌, ◌++◌, length, take, drop, All}
+use Rattle.std.specs.Prelude.{◌≡◌, ℕ, ◌==◌, ◌&&◌, Bool, true, false, Option, Some, None, IfSome, List, [], ◌∷◌, ◌++◌, length, take, drop, All}
 use Rattle.std.specs.List.{list_any}
 use Rattle.std.specs.Str.{bytes_eq}
 use Rattle.std.specs.declared.cmp.Ordering.{Ordering}
 use Rattle.std.specs.Ordering.{ordering_reverse}
 use Rattle.bson.specs.Tree.{Tree, document, Pairs}
-use Rattle.value_order.specs.Order.{Key, value, bytes_cmp, key_cmp}
+use Rattle.value_order.specs.Order.{Key, value, class, key_class, bytes_cmp, key_cmp}
 use Rattle.value_order.specs.KeyText.{directed_text}
 use Rattle.value_order.specs.Laws.{IsKey}
 use Rattle.value_order.specs.declared.texts.Direction.{Direction}
@@ -24,8 +24,10 @@ use Rattle.planner.specs.Plan.{Range, fields_of, is_multi, range_in}
 abbrev pub is_equal_to : Tree → Key → Bool
 is_equal_to t k = is_equal (key_cmp k (value t))
 
+-- keys of the operand's class alone
 abbrev pub lies_by : Bound → Key → Bool
-lies_by b k = allows b.comparison (key_cmp k (value b.operand))
+lies_by b k =
+    (key_class k == class b.operand) && allows b.comparison (key_cmp k (value b.operand))
 
 abbrev pub lies_within : Option Bound → Key → Bool
 lies_within None k = true
@@ -68,9 +70,14 @@ abbrev pub in_direction : Direction → Ordering → Ordering
 in_direction Ascending o = o
 in_direction Descending o = ordering_reverse o
 
+-- the first byte of a text tells its class
+abbrev pub is_of_class : List ℕ → List ℕ → Bool
+is_of_class text bytes = bytes_eq (take 1 bytes) (take 1 text)
+
 abbrev pub bytes_lie_by : Direction → Bound → List ℕ → Bool
 bytes_lie_by d b bytes =
-    allows b.comparison (in_direction d (place_by (directed_text d (value b.operand)) bytes))
+    let text = directed_text d (value b.operand) in
+    is_of_class text bytes && allows b.comparison (in_direction d (place_by text bytes))
 
 abbrev pub bytes_within : Direction → Option Bound → List ℕ → Bool
 bytes_within d None bytes = true

@@ -2,6 +2,7 @@ pub mod Usable
 pub mod Plan
 pub mod Explaining
 pub mod KeyRange
+pub mod KeySpan
 pub mod View
 pub mod AnswerLaws
 pub mod Rows

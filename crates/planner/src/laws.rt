@@ -3,6 +3,7 @@
 ghost use Rattle.planner.specs.AnswerLaws.{OrderedOnce, SortsToAnswer, KeptAreNoted, NeverChangesAnswer, WalksInOrder};
 ghost use Rattle.planner.specs.ChoiceLaws.{ChoosesFirstBest};
 ghost use Rattle.planner.specs.KeyRange.{HasKeyInRange, HasBytesInRange};
+ghost use Rattle.planner.specs.KeySpan.{SpansRange};
 ghost use Rattle.planner.specs.Rows.{PlanRows, EdgeRows, MultiRows};
 
 /// The plans of filters and sorts over three indexes.
@@ -33,6 +34,11 @@ pub fn has_key_in_range()
 /// So one of its encoded keys is bytes in that range, where BSON can spell it and the values of the range.
 pub fn has_bytes_in_range()
     ensures { HasBytesInRange }
+{}
+
+/// No key of a range is below its first bytes, and none is above its last ones but what goes on from these.
+pub fn spans_range()
+    ensures { SpansRange }
 {}
 
 /// Two lists of the same documents that both ascend in the order of an answer are one list.
