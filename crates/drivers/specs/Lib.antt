@@ -14,3 +14,4 @@ pub mod SeekingView
 pub mod Incoming
 pub mod WireView
 pub mod Framing
+pub mod Cursors

@@ -1,11 +1,17 @@
 //! From a message of a driver to its answer.
 
-ghost use Rattle.std.specs.Prelude.{◌≡◌, IfOk, option_map};
+ghost use Rattle.std.specs.Prelude.{◌≡◌, IfOk, option_map, codes};
 ghost use Rattle.bson.specs.View.{tree};
+ghost use Rattle.bson.specs.Lookup.{lookup};
+ghost use Rattle.drivers.specs.Cursors.{ids_of, first_id};
 ghost use Rattle.drivers.specs.Starting.{started};
-ghost use Rattle.drivers.specs.Answering.{text_or_none, collection_of, is_true, wait_of, plan_for, plan_in, plan_of, final, end_cursor, cursor_left, answered_by, answered};
+ghost use Rattle.drivers.specs.declared.plan.Wait.TheVariants as waits;
+ghost use Rattle.drivers.specs.Answering.{text_or_none, collection_of, is_true, is_single, kill_wait, wait_of, plan_for, plan_in, plan_of, final, end_cursor, cursor_left, kill_next, killed, answered_by, answered};
 
 use crate::answering::{cursor_left, end, kill_command, reword, widen};
+use crate::cleaning::kept;
+use crate::command::Asked;
+use crate::kills::{Kills, first_id, ids_of};
 use crate::message::Message;
 use crate::server_info::ServerInfo;
 use crate::starting::{name_of, start, unheard};
@@ -23,6 +29,8 @@ pub enum Wait {
     Single,
     /// The cursor is ended, and this makes the answer.
     Ended(Document),
+    /// It is about the first of these cursors.
+    Kill(Kills),
 }
 
 /// What is kept of a message until the database has answered: whether the driver wants no reply, the database and the collection
@@ -64,14 +72,38 @@ fn is_true(value: Option<&Value>) -> bool
     }
 }
 
-/// What the first reply to a command is to.
-fn wait_of(body: &Document) -> Wait
-    ensures { result ≡ wait_of body.now }
+/// What is kept of the cursors that a `killCursors` names.
+fn kill_wait(alloc: Global, body: &Document) -> Result<Wait, NoMemory>
+    ensures { IfOk result (λ w. w ≡ kill_wait body.now (ids_of body.now)) }
 {
-    if name_of(body) == "find" && is_true(body.get("singleBatch")) {
-        return Wait::Single;
+    let Some(ids) = ids_of(alloc, body)? else {
+        return Ok(Wait::Plain);
+    };
+    let command = kept(Asked::KillCursors, body.copy()?);
+    Ok(Wait::Kill(Kills::new(alloc, command, ids)))
+}
+
+/// Whether a command is a find whose first batch is its last.
+fn is_single(body: &Document) -> bool
+    ensures { result ≡ is_single body.now }
+{
+    if name_of(body) == "find" {
+        return is_true(body.get("singleBatch"));
     }
-    Wait::Plain
+    false
+}
+
+/// What the first reply to a command is to.
+fn wait_of(alloc: Global, body: &Document) -> Result<Wait, NoMemory>
+    ensures { IfOk result (λ w. w ≡ wait_of body.now) }
+{
+    if name_of(body) == "killCursors" {
+        return kill_wait(alloc, body);
+    }
+    if is_single(body) {
+        return Ok(Wait::Single);
+    }
+    Ok(Wait::Plain)
 }
 
 fn plan_for(alloc: Global, more_to_come: bool, body: &Document) -> Result<Plan, NoMemory>
@@ -79,11 +111,12 @@ fn plan_for(alloc: Global, more_to_come: bool, body: &Document) -> Result<Plan, 
 {
     let database = Text::from_str(alloc, text_or_none(body.get("$db")))?;
     let collection = Text::from_str(alloc, collection_of(body))?;
+    let wait = wait_of(alloc, body)?;
     Ok(Plan {
         more_to_come,
         database,
         collection,
-        wait: wait_of(body),
+        wait,
     })
 }
 
@@ -135,6 +168,34 @@ impl Plan {
         Ok(Step::AskOwner(id, command))
     }
 
+    /// Goes on with the next cursor, or gives the answer for all.
+    fn kill_next(&mut self, alloc: Global, kills: Kills) -> Result<Step, NoMemory>
+        requires { self.old.wait ≡ waits.Plain }
+        ensures { IfOk result
+            (λ s. (self.new, s) ≡ kill_next (first_id kills.left) self.old kills) }
+    {
+        let Some(id) = first_id(&kills.left) else {
+            let reply = kills.reply(alloc)?;
+            return Ok(unheard(self.more_to_come, Step::Reply(reply)));
+        };
+        let command = kills.command(alloc, id)?;
+        self.wait = Wait::Kill(kills);
+        Ok(Step::AskOwner(id, command))
+    }
+
+    /// Takes the answer for a cursor.
+    fn killed(&mut self, alloc: Global, mut kills: Kills, reply: Document) -> Result<Step, NoMemory>
+        requires { self.old.wait ≡ waits.Plain }
+        ensures { IfOk result (λ s. (self.new, s)
+            ≡ killed (lookup reply (codes "cursorsKilled")) self.old kills reply) }
+    {
+        if reply.get("cursorsKilled").is_none() {
+            return self.final_step(alloc, reply);
+        }
+        kills.take(&reply)?;
+        self.kill_next(alloc, kills)
+    }
+
     /// What is done where the database was asked and answered so. It fails for want of memory alone, and then the plan is of no use.
     pub fn answer(&mut self, alloc: Global, reply: Document) -> Result<Step, NoMemory>
         ensures { IfOk result (λ s. (self.new, s) ≡ answered self.old reply) }
@@ -142,7 +203,8 @@ impl Plan {
         match mem::replace(&mut self.wait, Wait::Plain) {
             Wait::Plain => self.final_step(alloc, reply),
             Wait::Single => self.end_cursor(alloc, reply),
-            Wait::Ended(kept) => self.final_step(alloc, kept),
+            Wait::Ended(answer) => self.final_step(alloc, answer),
+            Wait::Kill(kills) => self.killed(alloc, kills, reply),
         }
     }
 }
