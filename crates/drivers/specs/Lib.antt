@@ -15,3 +15,5 @@ pub mod Incoming
 pub mod WireView
 pub mod Framing
 pub mod Cursors
+pub mod Texts
+pub mod WriteErrors

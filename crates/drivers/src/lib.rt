@@ -24,7 +24,9 @@ mod starting;
 mod step;
 mod stream_fault;
 mod tables;
+mod texts;
 mod wire;
+mod write_errors;
 
 pub use foreign::{Foreign, ForeignType};
 pub use framing::framed;
