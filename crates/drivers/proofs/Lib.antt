@@ -4,3 +4,4 @@ mod AskingLaws
 mod SeekingLemmas
 mod SectionLemmas
 mod LevelLemmas
+mod IdLemmas

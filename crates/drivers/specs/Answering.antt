@@ -1,13 +1,19 @@
 -- What a driver is answered where the database was asked. `ok` becomes an int64, so that no frame has under 36 bytes, which one driver
 -- takes for cut. Two refusals are told by drivers and programs from their texts: that a collection isn't there, and that a key is
 -- there already (MongoDB manual, error codes).
-use Rattle.std.specs.Prelude.{ℕ, ℤ, pos, negsuc, Bool, false, ◌&&◌, ◌==◌, if◌then◌else◌, List, [], ◌++◌, codes, Option, Some, None, Result, Ok, Err}
-use Rattle.bson.specs.Tree.{Tree, scalar, document, array, text, boolean, int32, int64, Pairs, no_pairs, pair, append, no_items, item}
+use Rattle.std.specs.Prelude.{ℕ, ℤ, pos, negsuc, Bool, false, ◌==◌, if◌then◌else◌, List, [], ◌++◌, codes, Option, Some, None, Result, Ok, Err}
+use Rattle.bson.specs.Tree.{Tree, scalar, document, array, text, boolean, int32, int64, Pairs, no_pairs, pair, append, Items, no_items, item}
 use Rattle.bson.specs.Lookup.{lookup}
 use Rattle.bson.specs.Edits.{put, cut}
 use Rattle.std.specs.Str.{bytes_eq}
 use Rattle.drivers.specs.Handshake.{words}
 use Rattle.drivers.specs.Rules.{is_zero}
+use Rattle.drivers.specs.Texts.{text_or_none, collection_of}
+use Rattle.drivers.specs.WriteErrors.{has_one_statement, refused_statement, error_reply}
+use Rattle.drivers.specs.Cleaning.{kept}
+use Rattle.drivers.specs.Cursors.{ids_of, first_id, kill_one, no_kills, after, kill_reply}
+use Rattle.drivers.specs.declared.command.Asked.TheVariants as askeds
+use Rattle.drivers.specs.declared.kills.Kills.{Kills}
 use Rattle.drivers.specs.Starting.{name_of, unheard}
 use Rattle.drivers.specs.declared.server_info.ServerInfo.{ServerInfo}
 use Rattle.drivers.specs.declared.message.BodyFault.{BodyFault}
@@ -20,31 +26,34 @@ use Rattle.drivers.specs.declared.step.Step.TheVariants as steps
 
 -- ---- a plan: what is kept of a message until the database has answered
 
--- a text, or the empty one where there is none
-abbrev pub text_or_none : Option Tree → List ℕ
-text_or_none (Some (scalar (text s))) = s
-text_or_none other = []
-
--- the text beside the name of a command, which is that of its collection
-abbrev pub collection_of : Pairs → List ℕ
-collection_of no_pairs = []
-collection_of (pair name t ps) = text_or_none (Some t)
-
 abbrev pub is_true : Option Tree → Bool
 is_true (Some (scalar (boolean b))) = b
 is_true other = false
 
+-- what is kept of the cursors that a killCursors names
+abbrev pub kill_wait : Pairs → Option Items → Wait
+kill_wait body None = waits.Plain
+kill_wait body (Some ids) = waits.Kill (no_kills (kept askeds.KillCursors body) ids)
+
 -- A find may say that its first batch is its last (mongodb/specifications, find, getMore and killCursors).
+abbrev pub is_single : Pairs → Bool
+is_single body = if bytes_eq (name_of body) (codes "find")
+    then is_true (lookup body (codes "singleBatch"))
+    else false
+
 abbrev pub wait_of : Pairs → Wait
 wait_of body =
-    if bytes_eq (name_of body) (codes "find") && is_true (lookup body (codes "singleBatch"))
-    then waits.Single else waits.Plain
+    if bytes_eq (name_of body) (codes "killCursors") then kill_wait body (ids_of body) else
+    if is_single body then waits.Single else
+    if has_one_statement (name_of body) body then waits.Write else
+    waits.Plain
 
 abbrev pub plan_for : Bool → Pairs → Plan
 plan_for more body = record {
   more_to_come = more;
   database = text_or_none (lookup body (codes "$db"));
   collection = collection_of body;
+  is_update = bytes_eq (name_of body) (codes "update");
   wait = wait_of body;
 }
 
@@ -129,12 +138,45 @@ end_cursor (Some id) plan reply = (
   steps.AskOwner id (kill_command plan.database plan.collection id),
 )
 
+-- ---- cursors that are ended one after the other
+
+-- the next one, or the answer for all
+abbrev pub kill_next : Option ℤ → Plan → Kills → Plan × Step
+kill_next None plan kills = (
+  record plan { wait = waits.Plain },
+  unheard plan.more_to_come (steps.Reply (kill_reply kills)),
+)
+kill_next (Some z) plan kills =
+    (record plan { wait = waits.Kill kills }, steps.AskOwner z (kill_one kills.body z))
+
+-- A refusal ends it.
+abbrev pub killed : Option Tree → Plan → Kills → Pairs → Plan × Step
+killed None plan kills reply = (record plan { wait = waits.Plain }, final plan reply)
+killed (Some t) plan kills reply = kill_next (first_id (after kills reply).left) plan (after kills reply)
+
+-- ---- a write of one statement
+
+-- how the refusal of a statement is answered
+abbrev pub error_step : Option ℤ → Plan → Pairs → Step
+error_step None plan reply = final plan reply
+error_step (Some z) plan reply = unheard plan.more_to_come (steps.Reply (
+    error_reply plan.is_update z (
+    text_or_none (lookup (reworded plan.database plan.collection reply) (codes "errmsg"))
+    )
+    ))
+
 -- What is done where the database was asked and answered so, and what is kept then.
 abbrev pub answered_by : Wait → Plan → Pairs → Plan × Step
 answered_by waits.Plain plan reply = (record plan { wait = waits.Plain }, final plan reply)
 answered_by waits.Single plan reply = end_cursor (cursor_left reply) plan reply
-answered_by (waits.Ended kept) plan reply =
-    (record plan { wait = waits.Plain }, final plan kept)
+answered_by (waits.Ended answer) plan reply =
+    (record plan { wait = waits.Plain }, final plan answer)
+answered_by waits.Write plan reply = (
+  record plan { wait = waits.Plain },
+  error_step (refused_statement (lookup reply (codes "code"))) plan reply,
+)
+answered_by (waits.Kill kills) plan reply =
+    killed (lookup reply (codes "cursorsKilled")) plan kills reply
 
 abbrev pub answered : Plan → Pairs → Plan × Step
 answered plan reply = answered_by plan.wait plan reply

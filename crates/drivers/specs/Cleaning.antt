@@ -22,6 +22,7 @@ own_rule askeds.Plain name = None
 own_rule askeds.Write name = truth (codes "ordered") name
 own_rule askeds.Find name = truth (codes "singleBatch") name
 own_rule askeds.GetMore name = None
+own_rule askeds.KillCursors name = None
 
 abbrev pub rule_in : Asked → List ℕ → Option Rule
 rule_in asked name = option_or (own_rule asked name) (rule_of name)

@@ -20,6 +20,7 @@ commands_by_name =
     ++ each (commands.Forwarded askeds.Write) (codes "insert" ∷ codes "update" ∷ codes "delete" ∷ [])
     ++ each (commands.Forwarded askeds.Find) (codes "find" ∷ [])
     ++ each (commands.Forwarded askeds.GetMore) (codes "getMore" ∷ [])
+    ++ each (commands.Forwarded askeds.KillCursors) (codes "killCursors" ∷ [])
 
 -- what is done with a command of this name; nothing where it is unknown
 unfoldable pub command_of : List ℕ → Option Command

@@ -14,3 +14,6 @@ pub mod SeekingView
 pub mod Incoming
 pub mod WireView
 pub mod Framing
+pub mod Cursors
+pub mod Texts
+pub mod WriteErrors

@@ -1,12 +1,14 @@
 -- What is done first with a message of a driver: the database is asked, or the driver is answered at once. A message that is refused
 -- asks nothing. A message that wants no reply gets none (MongoDB wire protocol, OP_MSG, moreToCome).
 use Rattle.std.specs.Prelude.{ℕ, ℤ, pos, Bool, true, false, List, [], codes, Option, Some, None, Result, Ok, Err}
-use Rattle.bson.specs.Tree.{Tree, scalar, int32, int64, Pairs, no_pairs, pair}
+use Rattle.std.specs.Option.{option_and_then}
+use Rattle.bson.specs.Tree.{scalar, int64, Pairs, no_pairs, pair}
 use Rattle.bson.specs.Edits.{put}
 use Rattle.drivers.specs.Handshake.{handshake_reply, build_reply, ok, int, words}
 use Rattle.drivers.specs.Reasons.{refusal_reply, row_of}
 use Rattle.drivers.specs.Cleaning.{first_refused, kept}
 use Rattle.drivers.specs.Commands.{command_of}
+use Rattle.drivers.specs.Cursors.{cursor_of, ids_of, first_id, kill_one}
 use Rattle.drivers.specs.declared.server_info.ServerInfo.{ServerInfo}
 use Rattle.drivers.specs.declared.foreign.Foreign.{Foreign}
 use Rattle.drivers.specs.declared.message.BodyFault.{BodyFault}
@@ -25,23 +27,18 @@ use Rattle.drivers.specs.declared.reason.Reason.TheVariants as reasons
 use Rattle.drivers.specs.declared.step.Step.{Step}
 use Rattle.drivers.specs.declared.step.Step.TheVariants as steps
 
--- the number of a cursor beside the name of a command, as an int32 or an int64
-abbrev pub number_of : Tree → Option ℤ
-number_of (scalar (int32 z)) = Some z
-number_of (scalar (int64 z)) = Some z
-number_of other = None
-
-abbrev pub cursor_of : Pairs → Option ℤ
-cursor_of no_pairs = None
-cursor_of (pair name t ps) = number_of t
-
 -- The database has numbers of cursors as int64.
 abbrev pub ask_owner : Option ℤ → Pairs → Step
 ask_owner None body = steps.Ask body
 ask_owner (Some z) body = steps.AskOwner z (put body (codes "getMore") (scalar (int64 z)))
 
+abbrev pub kill_first : Option ℤ → Pairs → Step
+kill_first None body = steps.Ask body
+kill_first (Some z) body = steps.AskOwner z (kill_one body z)
+
 abbrev pub ask : Asked → Pairs → Step
 ask askeds.GetMore body = ask_owner (cursor_of body) body
+ask askeds.KillCursors body = kill_first (option_and_then first_id (ids_of body)) body
 ask other body = steps.Ask body
 
 -- A command for the database: without the fields that it doesn't have, unless one of them is refused.

@@ -29,6 +29,7 @@ fn own_rule(asked: Asked, name: &str) -> Option<Rule>
         Asked::Write => truth("ordered", name),
         Asked::Find => truth("singleBatch", name),
         Asked::GetMore => None,
+        Asked::KillCursors => None,
     }
 }
 

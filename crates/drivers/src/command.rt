@@ -31,6 +31,8 @@ pub(crate) enum Asked {
     Find,
     /// A `getMore`, which goes to the connection that opened the cursor.
     GetMore,
+    /// A `killCursors`, each of whose cursors goes to the connection that opened it.
+    KillCursors,
 }
 
 /// What is done with a command.
@@ -43,7 +45,7 @@ pub(crate) enum Command {
 }
 
 /// The commands by their names.
-const COMMANDS: [(&str, Command); 23] = [
+const COMMANDS: [(&str, Command); 24] = [
     ("hello", Command::Own(Own::Hello)),
     ("isMaster", Command::Own(Own::IsMaster)),
     ("ismaster", Command::Own(Own::IsMaster)),
@@ -67,6 +69,7 @@ const COMMANDS: [(&str, Command); 23] = [
     ("delete", Command::Forwarded(Asked::Write)),
     ("find", Command::Forwarded(Asked::Find)),
     ("getMore", Command::Forwarded(Asked::GetMore)),
+    ("killCursors", Command::Forwarded(Asked::KillCursors)),
 ];
 
 /// What is done with a command of this name; nothing where it is unknown.

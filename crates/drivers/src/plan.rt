@@ -1,15 +1,24 @@
 //! From a message of a driver to its answer.
 
-ghost use Rattle.std.specs.Prelude.{◌≡◌, IfOk, option_map};
+ghost use Rattle.std.specs.Prelude.{◌≡◌, IfOk, option_map, codes};
 ghost use Rattle.bson.specs.View.{tree};
+ghost use Rattle.bson.specs.Lookup.{lookup};
+ghost use Rattle.drivers.specs.WriteErrors.{refused_statement};
+ghost use Rattle.drivers.specs.Cursors.{ids_of, first_id};
 ghost use Rattle.drivers.specs.Starting.{started};
-ghost use Rattle.drivers.specs.Answering.{text_or_none, collection_of, is_true, wait_of, plan_for, plan_in, plan_of, final, end_cursor, cursor_left, answered_by, answered};
+ghost use Rattle.drivers.specs.declared.plan.Wait.TheVariants as waits;
+ghost use Rattle.drivers.specs.Answering.{is_true, is_single, kill_wait, wait_of, plan_for, plan_in, plan_of, final, error_step, end_cursor, cursor_left, kill_next, killed, answered_by, answered};
 
 use crate::answering::{cursor_left, end, kill_command, reword, widen};
+use crate::cleaning::kept;
+use crate::command::Asked;
+use crate::kills::{Kills, first_id, ids_of};
 use crate::message::Message;
 use crate::server_info::ServerInfo;
 use crate::starting::{name_of, start, unheard};
 use crate::step::Step;
+use crate::texts::{collection_of, text_or_none};
+use crate::write_errors::{error_reply, has_one_statement, refused_statement};
 use bson::{Document, NoMemory, Text, Value};
 use std::alloc::Global;
 use std::mem;
@@ -23,36 +32,21 @@ pub enum Wait {
     Single,
     /// The cursor is ended, and this makes the answer.
     Ended(Document),
+    /// It makes the answer, in which the refusal of the one statement is told as drivers expect it.
+    Write,
+    /// It is about the first of these cursors.
+    Kill(Kills),
 }
 
 /// What is kept of a message until the database has answered: whether the driver wants no reply, the database and the collection
-/// that the command names, and what the next reply is to.
+/// that the command names, whether it is an update, and what the next reply is to.
 #[derive(Drop)]
 pub struct Plan {
     pub more_to_come: bool,
     pub database: Text,
     pub collection: Text,
+    pub is_update: bool,
     pub wait: Wait,
-}
-
-/// A text, or the empty one where a value is none.
-fn text_or_none(value: Option<&Value>) -> &str
-    ensures { result.now ≡ text_or_none (option_map (λ v. tree v.now) value.entry) }
-{
-    match value {
-        Some(Value::String(text)) => text.as_str(),
-        _ => "",
-    }
-}
-
-/// The text beside the name of a command, which is that of its collection.
-fn collection_of(body: &Document) -> &str
-    ensures { result.now ≡ collection_of body.now }
-{
-    match body.pairs().first() {
-        Some(pair) => text_or_none(Some(&pair.value)),
-        None => "",
-    }
 }
 
 fn is_true(value: Option<&Value>) -> bool
@@ -64,14 +58,41 @@ fn is_true(value: Option<&Value>) -> bool
     }
 }
 
-/// What the first reply to a command is to.
-fn wait_of(body: &Document) -> Wait
-    ensures { result ≡ wait_of body.now }
+/// What is kept of the cursors that a `killCursors` names.
+fn kill_wait(alloc: Global, body: &Document) -> Result<Wait, NoMemory>
+    ensures { IfOk result (λ w. w ≡ kill_wait body.now (ids_of body.now)) }
 {
-    if name_of(body) == "find" && is_true(body.get("singleBatch")) {
-        return Wait::Single;
+    let Some(ids) = ids_of(alloc, body)? else {
+        return Ok(Wait::Plain);
+    };
+    let command = kept(Asked::KillCursors, body.copy()?);
+    Ok(Wait::Kill(Kills::new(alloc, command, ids)))
+}
+
+/// Whether a command is a find whose first batch is its last.
+fn is_single(body: &Document) -> bool
+    ensures { result ≡ is_single body.now }
+{
+    if name_of(body) == "find" {
+        return is_true(body.get("singleBatch"));
     }
-    Wait::Plain
+    false
+}
+
+/// What the first reply to a command is to.
+fn wait_of(alloc: Global, body: &Document) -> Result<Wait, NoMemory>
+    ensures { IfOk result (λ w. w ≡ wait_of body.now) }
+{
+    if name_of(body) == "killCursors" {
+        return kill_wait(alloc, body);
+    }
+    if is_single(body) {
+        return Ok(Wait::Single);
+    }
+    if has_one_statement(name_of(body), body) {
+        return Ok(Wait::Write);
+    }
+    Ok(Wait::Plain)
 }
 
 fn plan_for(alloc: Global, more_to_come: bool, body: &Document) -> Result<Plan, NoMemory>
@@ -79,11 +100,13 @@ fn plan_for(alloc: Global, more_to_come: bool, body: &Document) -> Result<Plan, 
 {
     let database = Text::from_str(alloc, text_or_none(body.get("$db")))?;
     let collection = Text::from_str(alloc, collection_of(body))?;
+    let wait = wait_of(alloc, body)?;
     Ok(Plan {
         more_to_come,
         database,
         collection,
-        wait: wait_of(body),
+        is_update: name_of(body) == "update",
+        wait,
     })
 }
 
@@ -135,6 +158,49 @@ impl Plan {
         Ok(Step::AskOwner(id, command))
     }
 
+    /// How the refusal of a statement is answered.
+    fn error_step(&self, alloc: Global, mut reply: Document) -> Result<Step, NoMemory>
+        ensures { IfOk result (λ s. s
+            ≡ error_step (refused_statement (lookup reply (codes "code"))) self.now reply) }
+    {
+        let Some(code) = refused_statement(reply.get("code")) else {
+            return self.final_step(alloc, reply);
+        };
+        let database = self.database.as_str();
+        reword(alloc, &mut reply, database, self.collection.as_str())?;
+        let text = text_or_none(reply.get("errmsg"));
+        let answer = error_reply(alloc, self.is_update, code, text)?;
+        Ok(unheard(self.more_to_come, Step::Reply(answer)))
+    }
+
+    /// Goes on with the next cursor, or gives the answer for all.
+    fn kill_next(&mut self, alloc: Global, kills: Kills) -> Result<Step, NoMemory>
+        requires { self.old.wait ≡ waits.Plain }
+        ensures { IfOk result
+            (λ s. (self.new, s) ≡ kill_next (first_id kills.left) self.old kills) }
+    {
+        let Some(id) = first_id(&kills.left) else {
+            let reply = kills.reply(alloc)?;
+            return Ok(unheard(self.more_to_come, Step::Reply(reply)));
+        };
+        let command = kills.command(alloc, id)?;
+        self.wait = Wait::Kill(kills);
+        Ok(Step::AskOwner(id, command))
+    }
+
+    /// Takes the answer for a cursor.
+    fn killed(&mut self, alloc: Global, mut kills: Kills, reply: Document) -> Result<Step, NoMemory>
+        requires { self.old.wait ≡ waits.Plain }
+        ensures { IfOk result (λ s. (self.new, s)
+            ≡ killed (lookup reply (codes "cursorsKilled")) self.old kills reply) }
+    {
+        if reply.get("cursorsKilled").is_none() {
+            return self.final_step(alloc, reply);
+        }
+        kills.take(&reply)?;
+        self.kill_next(alloc, kills)
+    }
+
     /// What is done where the database was asked and answered so. It fails for want of memory alone, and then the plan is of no use.
     pub fn answer(&mut self, alloc: Global, reply: Document) -> Result<Step, NoMemory>
         ensures { IfOk result (λ s. (self.new, s) ≡ answered self.old reply) }
@@ -142,7 +208,9 @@ impl Plan {
         match mem::replace(&mut self.wait, Wait::Plain) {
             Wait::Plain => self.final_step(alloc, reply),
             Wait::Single => self.end_cursor(alloc, reply),
-            Wait::Ended(kept) => self.final_step(alloc, kept),
+            Wait::Ended(answer) => self.final_step(alloc, answer),
+            Wait::Write => self.error_step(alloc, reply),
+            Wait::Kill(kills) => self.killed(alloc, kills, reply),
         }
     }
 }

@@ -2,7 +2,9 @@
 
 ghost use Rattle.std.specs.Prelude.{◌≡◌, IfOk};
 ghost use Rattle.bson.specs.View.{tree};
-ghost use Rattle.drivers.specs.Starting.{number_of, cursor_of, ask_owner, name_of, ask_unless, own_reply, do_command, do_query, do_fault, do_message, failure, unheard, started};
+ghost use Rattle.std.specs.Option.{option_and_then};
+ghost use Rattle.drivers.specs.Cursors.{cursor_of, first_id, ids_of};
+ghost use Rattle.drivers.specs.Starting.{ask_owner, kill_first, name_of, ask_unless, own_reply, do_command, do_query, do_fault, do_message, failure, unheard, started};
 ghost use Rattle.drivers.specs.Commands.{command_of};
 ghost use Rattle.drivers.specs.Cleaning.{first_refused};
 
@@ -10,6 +12,7 @@ use crate::cleaning::{first_refused, kept};
 use crate::command::{Asked, Command, Own, command_of};
 use crate::fields::{Fact, document_of, set};
 use crate::handshake::{build_reply, handshake_reply, ok_reply};
+use crate::kills::{cursor_of, first_id, ids_of, kill_one};
 use crate::message::{BodyFault, Form, Message};
 use crate::reason::{Reason, refusal_reply};
 use crate::server_info::ServerInfo;
@@ -33,27 +36,6 @@ fn failure(alloc: Global) -> Result<Document, NoMemory>
     )
 }
 
-/// The number of a cursor, as an int32 or an int64.
-fn number_of(value: &Value) -> Option<i64>
-    ensures { result ≡ number_of (tree value.now) }
-{
-    match value {
-        Value::Int32(number) => Some(i64::from(*number)),
-        Value::Int64(number) => Some(*number),
-        _ => None,
-    }
-}
-
-/// The number of a cursor beside the name of a command.
-fn cursor_of(body: &Document) -> Option<i64>
-    ensures { result ≡ cursor_of body.now }
-{
-    match body.pairs().first() {
-        Some(pair) => number_of(&pair.value),
-        None => None,
-    }
-}
-
 /// A command that goes to the connection that opened its cursor.
 fn ask_owner(mut body: Document) -> Result<Step, NoMemory>
     ensures { IfOk result (λ s. s ≡ ask_owner (cursor_of body) body) }
@@ -65,6 +47,28 @@ fn ask_owner(mut body: Document) -> Result<Step, NoMemory>
     Ok(Step::AskOwner(cursor, body))
 }
 
+/// The first cursor that a command names.
+fn first_named(alloc: Global, body: &Document) -> Result<Option<i64>, NoMemory>
+    ensures { IfOk result (λ x. x ≡ option_and_then first_id (ids_of body.now)) }
+{
+    match ids_of(alloc, body)? {
+        Some(ids) => Ok(first_id(&ids)),
+        None => Ok(None),
+    }
+}
+
+/// A command that ends cursors, for the first of them.
+fn kill_first(alloc: Global, mut body: Document) -> Result<Step, NoMemory>
+    ensures { IfOk result
+        (λ s. s ≡ kill_first (option_and_then first_id (ids_of body)) body) }
+{
+    let Some(cursor) = first_named(alloc, &body)? else {
+        return Ok(Step::Ask(body));
+    };
+    kill_one(alloc, &mut body, cursor)?;
+    Ok(Step::AskOwner(cursor, body))
+}
+
 /// A command for the database, without the fields that it doesn't have, or why it is refused.
 fn ask(alloc: Global, asked: Asked, body: Document) -> Result<Step, NoMemory>
     ensures { IfOk result (λ s. s ≡ ask_unless asked (first_refused asked body) body) }
@@ -73,10 +77,11 @@ fn ask(alloc: Global, asked: Asked, body: Document) -> Result<Step, NoMemory>
         return Ok(Step::Reply(refusal_reply(alloc, reason, name)?));
     }
     let body = kept(asked, body);
-    if asked == Asked::GetMore {
-        return ask_owner(body);
+    match asked {
+        Asked::GetMore => ask_owner(body),
+        Asked::KillCursors => kill_first(alloc, body),
+        _ => Ok(Step::Ask(body)),
     }
-    Ok(Step::Ask(body))
 }
 
 /// The name of a command, which is that of its first field.
