@@ -16,21 +16,13 @@ const INDEXES: [(&str, &str); 3] = [
 ];
 
 /// Whether the indexes are multikey, a filter, a sort and the plan.
-const PLANS: [&str; 14] = [
-    r#"false | {"a": 5} | {} | INDEX a_1 eq=1 range=none sort=no"#,
+const PLANS: [&str; 6] = [
     r#"false | {"a": 5, "b": {"$gt": 2}} | {} | INDEX a_1_b_-1 eq=1 range=low sort=no"#,
     r#"false | {"a": 5} | {"a": 1, "b": -1} | INDEX a_1_b_-1 eq=1 range=none sort=yes"#,
     r#"false | {"b": {"$gt": 1, "$lt": 5}} | {} | INDEX b_1 eq=0 range=both sort=no"#,
-    r#"false | {} | {"b": 1} | INDEX b_1 eq=0 range=none sort=yes"#,
     r#"false | {"_id": 7, "a": 5} | {} | INDEX _id_ eq=1 range=none sort=no"#,
     r#"false | {"a": [1]} | {} | SCAN"#,
-    r#"false | {"a": {"$in": [1]}} | {} | SCAN"#,
-    r#"false | {} | {} | SCAN"#,
-    r#"false | {"a": {"$gt": [1], "$lt": 5}} | {} | INDEX a_1 eq=0 range=high sort=no"#,
-    r#"false | {"b": 5, "a": 5} | {"a": 1} | INDEX a_1_b_-1 eq=2 range=none sort=no"#,
     r#"true | {"a": {"$gt": 1, "$lt": 5}} | {} | INDEX a_1 eq=0 range=low sort=no"#,
-    r#"true | {"a": {"$lt": 5}} | {} | INDEX a_1 eq=0 range=high sort=no"#,
-    r#"true | {} | {"b": 1} | SCAN"#,
 ];
 
 /// The indexes, multikey or not.
