@@ -124,6 +124,15 @@ impl Leaf {
         self.start(self.places.len())
     }
 
+    /// The same leaf once more.
+    pub fn copy(&self, alloc: Global) -> Result<Leaf, AllocError>
+        ensures { IfOk result (λ made. made ≡ self.now) }
+    {
+        let bytes = Vec::from_slice(alloc, &self.bytes)?;
+        let places = Vec::from_slice(alloc, &self.places)?;
+        Ok(Leaf { bytes, places })
+    }
+
     /// The leaf with a cell more, at a place among the cells. What stands before it and behind it is copied as a whole.
     pub fn with(&self, alloc: Global, at: usize, cell: &Cell<'_>) -> Result<Leaf, AllocError>
         requires place { at ≤ length self.now }
