@@ -29,7 +29,7 @@ map_remove f [] (suc i) = refl
 map_remove f (x ∷ xs) zero = refl
 map_remove f (x ∷ xs) (suc i) = ap (λ zs. f x ∷ zs) (map_remove f xs i)
 
-remove_here : {X : Type 0} (front : List X) (x : X) (back : List X) → remove (front ++ x ∷ back) (length front) ≡ front ++ back
+pub remove_here : {X : Type 0} (front : List X) (x : X) (back : List X) → remove (front ++ x ∷ back) (length front) ≡ front ++ back
 remove_here [] x back = refl
 remove_here (f ∷ fs) x back = ap (λ zs. f ∷ zs) (remove_here fs x back)
 
@@ -61,12 +61,12 @@ map_get [] i d lt = absurd (omega arith)
 map_get (x ∷ xs) zero d lt = refl
 map_get (x ∷ xs) (suc i) d lt = map_get xs i d (omega arith)
 
-module _ (cells : List Cell) (pairs : List Pair) (key : List ℕ) (i : ℕ) (e : map item_in cells ≡ map item_of pairs) (rise : Rises (pair_keys pairs)) (place : IsPlace (map item_in cells) key i) where
-  parted : (cell : Cell) → i < length cells → cell ≡ get_or cells i cell → IsParted pairs key i (item_in cell)
-  parted cell lt h =
-      let long : length cells ≡ length pairs = sym (long_map item_in cells) ∙ ap length e ∙ long_map item_of pairs in
+module _ (items : List Item) (pairs : List Pair) (key : List ℕ) (i : ℕ) (e : items ≡ map item_of pairs) (rise : Rises (pair_keys pairs)) (place : IsPlace items key i) where
+  parted : (it : Item) → i < length items → it ≡ get_or items i it → IsParted pairs key i it
+  parted it lt h =
+      let long : length items ≡ length pairs = ap length e ∙ long_map item_of pairs in
       let c = at_place pairs i (omega arith) in
-      let items_are : map item_in cells ≡ map item_of (c.front ++ c.mid ∷ c.back) = e ∙ ap (map item_of) c.is in
+      let items_are : items ≡ map item_of (c.front ++ c.mid ∷ c.back) = e ∙ ap (map item_of) c.is in
       let place' : IsPlace (map item_of (c.front ++ c.mid ∷ c.back)) key (length c.front) =
       subst (λ n. IsPlace (map item_of (c.front ++ c.mid ∷ c.back)) key n) (sym c.place) (subst (λ zs. IsPlace zs key i) items_are place) in
       let rise' : Rises (pair_keys (c.front ++ c.mid ∷ c.back)) = subst (λ ps. Rises (pair_keys ps)) c.is rise in
@@ -79,13 +79,13 @@ module _ (cells : List Cell) (pairs : List Pair) (key : List ℕ) (i : ℕ) (e :
         under = front_is_under key c.front (c.mid ∷ c.back) rise' place';
         here = mid_not_under key c.front c.mid c.back place';
         over = back_is_over key c.front c.mid c.back rise' place';
-        item = ap item_in h ∙ sym (map_get cells i cell lt) ∙ ap (λ zs. get_or zs i (item_in cell)) items_are
-            ∙ ap (λ n. get_or (map item_of (c.front ++ c.mid ∷ c.back)) n (item_in cell)) (sym c.place) ∙ item_here c.front c.mid c.back (item_in cell);
+        item = h ∙ ap (λ zs. get_or zs i it) items_are
+            ∙ ap (λ n. get_or (map item_of (c.front ++ c.mid ∷ c.back)) n it) (sym c.place) ∙ item_here c.front c.mid c.back it;
       }
 
-  pub taken_past : (s : Store) → length cells ≤ i → IsTakenOut s s key pairs (map item_in cells) i
-  taken_past s le =
-      let same : i ≡ length pairs = omega (arith, place.within, long_map item_in cells, ap length e, long_map item_of pairs) in
+  pub past_taken : (s : Store) → length items ≤ i → IsTakenOut s s key pairs items i
+  past_taken s le =
+      let same : i ≡ length pairs = omega (arith, place.within, ap length e, long_map item_of pairs) in
       record {
         front = pairs;
         mid = [];
@@ -99,10 +99,10 @@ module _ (cells : List Cell) (pairs : List Pair) (key : List ℕ) (i : ℕ) (e :
         retired = none_retired s;
       }
 
-  pub taken_other : (s : Store) (cell : Cell) → i < length cells → cell ≡ get_or cells i cell → is_eq (key_cmp cell.key.now key) ≡ false → IsTakenOut s s key pairs (map item_in cells) i
-  taken_other s cell lt h differs =
-      let p = parted cell lt h in
-      let miss : is_eq (key_cmp p.mid.key key) ≡ false = ap (λ (it : Item). is_eq (key_cmp it.key key)) (sym p.item) ∙ differs in
+  pub other_taken : (s : Store) (it : Item) → i < length items → it ≡ get_or items i it → is_eq (key_cmp it.key key) ≡ false → IsTakenOut s s key pairs items i
+  other_taken s it lt h differs =
+      let p = parted it lt h in
+      let miss : is_eq (key_cmp p.mid.key key) ≡ false = ap (λ (x : Item). is_eq (key_cmp x.key key)) (sym p.item) ∙ differs in
       let over : IsUnder key p.mid.key = elim (not_under_cases p.mid.key key p.here) [ inl equal ↦ cc | inr over ↦ over ] in
       record {
         front = p.front;
@@ -117,19 +117,19 @@ module _ (cells : List Cell) (pairs : List Pair) (key : List ℕ) (i : ℕ) (e :
         retired = none_retired s;
       }
 
-  pub taken_here : (old new : Store) (cell : Cell) → i < length cells → cell ≡ get_or cells i cell → is_eq (key_cmp cell.key.now key) ≡ true → Each (HasChain old) pairs
-      → ((x : Pair) → place_in cell.stored ≡ place_of x.links x.value → HasChain old x → AreRetired old new x.links) → IsTakenOut old new key pairs (map item_in (remove cells i)) i
-  taken_here old new cell lt h hit shown says =
-      let p = parted cell lt h in
-      let same : p.mid.key ≡ key = same_key p.mid.key key (ap (λ (it : Item). is_eq (key_cmp it.key key)) (sym p.item) ∙ hit) in
+  pub here_taken : (old new : Store) (it : Item) → i < length items → it ≡ get_or items i it → is_eq (key_cmp it.key key) ≡ true → Each (HasChain old) pairs
+      → ((x : Pair) → it.place ≡ place_of x.links x.value → HasChain old x → AreRetired old new x.links) → IsTakenOut old new key pairs (remove items i) i
+  here_taken old new it lt h hit shown says =
+      let p = parted it lt h in
+      let same : p.mid.key ≡ key = same_key p.mid.key key (ap (λ (x : Item). is_eq (key_cmp x.key key)) (sym p.item) ∙ hit) in
       let chained : HasChain old p.mid = (each_back (HasChain old) p.front (p.mid ∷ p.back) (subst (Each (HasChain old)) p.is shown)).0 in
-      let gone : AreRetired old new p.mid.links = says p.mid (ap (λ (it : Item). it.place) p.item) chained in
+      let gone : AreRetired old new p.mid.links = says p.mid (ap (λ (x : Item). x.place) p.item) chained in
       record {
         front = p.front;
         mid = p.mid ∷ [];
         back = p.back;
         is = p.is;
-        items_are = map_remove item_in cells i ∙ ap (λ zs. remove zs i) (e ∙ ap (map item_of) p.is ∙ map_append item_of p.front (p.mid ∷ p.back))
+        items_are = ap (λ zs. remove zs i) (e ∙ ap (map item_of) p.is ∙ map_append item_of p.front (p.mid ∷ p.back))
             ∙ ap (λ n. remove (map item_of p.front ++ item_of p.mid ∷ map item_of p.back) n) (sym p.at ∙ sym (long_map item_of p.front))
             ∙ remove_here (map item_of p.front) (item_of p.mid) (map item_of p.back) ∙ sym (map_append item_of p.front p.back);
         place = p.at;
@@ -139,13 +139,34 @@ module _ (cells : List Cell) (pairs : List Pair) (key : List ℕ) (i : ℕ) (e :
         retired = subst (AreRetired old new) (sym (append-nil p.mid.links)) gone;
       }
 
+  pub failed_taken : {X : Type 0} (old new : Store) (it : Item) (P : X → Type 0) (r : Result X TreeFault) (f : TreeFault) → i < length items → it ≡ get_or items i it → Each (HasChain old) pairs → IsErrAnd r (λ g. g ≡ f)
+      → ((x : Pair) → it.place ≡ place_of x.links x.value → HasChain old x → HasCause old new f) → IsAnswer old new P r
+  failed_taken old new it P (Ok v) f lt h shown is says = absurd is
+  failed_taken old new it P (Err g) f lt h shown is says =
+      let p = parted it lt h in
+      let chained : HasChain old p.mid = (each_back (HasChain old) p.front (p.mid ∷ p.back) (subst (Each (HasChain old)) p.is shown)).0 in
+      subst (HasCause old new) (sym is) (says p.mid (ap (λ (x : Item). x.place) p.item) chained)
+
+module _ (cells : List Cell) (pairs : List Pair) (key : List ℕ) (i : ℕ) (e : map item_in cells ≡ map item_of pairs) (rise : Rises (pair_keys pairs)) (place : IsPlace (map item_in cells) key i) where
+  there : (cell : Cell) → i < length cells → cell ≡ get_or cells i cell → item_in cell ≡ get_or (map item_in cells) i (item_in cell)
+  there cell lt h = ap item_in h ∙ sym (map_get cells i cell lt)
+
+  pub taken_past : (s : Store) → length cells ≤ i → IsTakenOut s s key pairs (map item_in cells) i
+  taken_past s le = past_taken (map item_in cells) pairs key i e rise place s (omega (arith, long_map item_in cells))
+
+  pub taken_other : (s : Store) (cell : Cell) → i < length cells → cell ≡ get_or cells i cell → is_eq (key_cmp cell.key.now key) ≡ false → IsTakenOut s s key pairs (map item_in cells) i
+  taken_other s cell lt h differs = other_taken (map item_in cells) pairs key i e rise place s (item_in cell) (omega (arith, long_map item_in cells)) (there cell lt h) differs
+
+  pub taken_here : (old new : Store) (cell : Cell) → i < length cells → cell ≡ get_or cells i cell → is_eq (key_cmp cell.key.now key) ≡ true → Each (HasChain old) pairs
+      → ((x : Pair) → place_in cell.stored ≡ place_of x.links x.value → HasChain old x → AreRetired old new x.links) → IsTakenOut old new key pairs (map item_in (remove cells i)) i
+  taken_here old new cell lt h hit shown says =
+      subst (λ zs. IsTakenOut old new key pairs zs i) (sym (map_remove item_in cells i))
+      (here_taken (map item_in cells) pairs key i e rise place old new (item_in cell) (omega (arith, long_map item_in cells)) (there cell lt h) hit shown says)
+
   pub taken_failed : (old new : Store) (cell : Cell) (r : Result ℕ TreeFault) (f : TreeFault) (items : List Item) → i < length cells → cell ≡ get_or cells i cell → Each (HasChain old) pairs → IsErrAnd r (λ g. g ≡ f)
       → ((x : Pair) → place_in cell.stored ≡ place_of x.links x.value → HasChain old x → HasCause old new f) → IsAnswer old new (λ at. IsTakenOut old new key pairs items at) r
-  taken_failed old new cell (Ok v) f items lt h shown is says = absurd is
-  taken_failed old new cell (Err g) f items lt h shown is says =
-      let p = parted cell lt h in
-      let chained : HasChain old p.mid = (each_back (HasChain old) p.front (p.mid ∷ p.back) (subst (Each (HasChain old)) p.is shown)).0 in
-      subst (HasCause old new) (sym is) (says p.mid (ap (λ (it : Item). it.place) p.item) chained)
+  taken_failed old new cell r f items lt h shown is says =
+      failed_taken (map item_in cells) pairs key i e rise place old new (item_in cell) (λ at. IsTakenOut old new key pairs items at) r f (omega (arith, long_map item_in cells)) (there cell lt h) shown is says
 
 -- ---- a value's place
 
@@ -171,7 +192,7 @@ map_insert f xs zero x = refl
 map_insert f [] (suc i) x = refl
 map_insert f (y ∷ ys) (suc i) x = ap (λ zs. f y ∷ zs) (map_insert f ys i x)
 
-insert_here : {X : Type 0} (front : List X) (x : X) (back : List X) → insert (front ++ back) (length front) x ≡ front ++ x ∷ back
+pub insert_here : {X : Type 0} (front : List X) (x : X) (back : List X) → insert (front ++ back) (length front) x ≡ front ++ x ∷ back
 insert_here [] x back = refl
 insert_here (f ∷ fs) x back = ap (λ zs. f ∷ zs) (insert_here fs x back)
 

@@ -16,7 +16,7 @@ use Rattle.btree.specs.Tree.{HasLinks}
 use Rattle.btree.specs.Change.{edit_keys}
 use Rattle.btree.specs.Keys.{Each, Edit, Entry, IsNotUnder, IsUnder, Rises, sum_of}
 use Rattle.btree.specs.Loose.{IsChild, IsStub, Stub, arm_stub, item_stub, stub_size, stubs_size, under_key}
-use Rattle.btree.specs.Few.{AreFewJoined, AreFewOff, AreFewPages, IsFew, IsFullPart, IsLittle, IsOnePage, IsFewTop, IsOneChild, MakesUpTo, chain_pages, edit_pages, levels_of}
+use Rattle.btree.specs.Few.{AreFewJoined, AreFewOff, AreFewPages, IsFew, IsFewOrOne, IsFullPart, IsLittle, IsOnePage, IsFewTop, IsOneChild, MakesUpTo, chain_pages, edit_pages, levels_of}
 use Rattle.btree.specs.Reach.{HasMap, HasTree}
 use Rattle.btree.specs.Store.{IsMade, Store}
 use Rattle.btree.specs.Turn.{Sheaf, sheaf_in}
@@ -215,6 +215,20 @@ pub few_on : (old mid new : Store) (rank rank' bytes bytes' pages pages' more : 
 few_on old mid new rank rank' bytes bytes' pages pages' more (Err e) m f same wide le = tt
 few_on old mid new rank rank' bytes bytes' pages pages' more (Ok l) m f same wide le = record { rank_is = f.rank_is ∙ same; small = f.small; size = omega (arith, f.size); made = omega (arith, m, f.made) }
 
+pub few_or_one_on : (old mid new : Store) (rank bytes bytes' pages pages' more : ℕ) (r : Result Loose TreeFault) → MakesUpTo old mid more → IfOk r (λ l. IsFewOrOne mid new rank bytes pages (sheaf_in l)) → bytes ≤ bytes' → more + pages ≤ pages'
+    → IfOk r (λ l. IsFewOrOne old new rank bytes' pages' (sheaf_in l))
+few_or_one_on old mid new rank bytes bytes' pages pages' more (Err e) m f wide le = tt
+few_or_one_on old mid new rank bytes bytes' pages pages' more (Ok l) m (inl f) wide le = inl (record { rank_is = f.rank_is; small = f.small; size = omega (arith, f.size); made = omega (arith, m, f.made) })
+few_or_one_on old mid new rank bytes bytes' pages pages' more (Ok l) m (inr f) wide le = inr (record { rank_is = f.rank_is; small = f.small; size = f.size; made = omega (arith, m, f.made) })
+
+pub few_small : (old new : Store) (rank bytes pages : ℕ) (sheaf : Sheaf) → IsFewOrOne old new rank bytes pages sheaf → Each IsStub sheaf.stubs
+few_small old new rank bytes pages sheaf (inl f) = f.small
+few_small old new rank bytes pages sheaf (inr f) = f.small
+
+pub few_alone : (old new : Store) (rank bytes pages : ℕ) (r : Result Loose TreeFault) → IfOk r (λ l. IsFew old new rank bytes pages (sheaf_in l)) → IfOk r (λ l. IsFewOrOne old new rank bytes pages (sheaf_in l))
+few_alone old new rank bytes pages (Err e) f = tt
+few_alone old new rank bytes pages (Ok l) f = inl f
+
 pub few_left_gone : (s : Store) (bytes : ℕ) (left right : Sheaf) → length left.stubs ≡ 0 → Each IsStub right.stubs → AreFewJoined s s bytes left right right
 few_left_gone s bytes left right none h =
     record {
@@ -335,7 +349,7 @@ zero_or (suc n) = inr (omega arith)
 
 -- the children of a branch, of which one was changed
 module _ (old a b c new : Store) (loose left right below front back : Sheaf) (unit : Stub) (pages : ℕ) (parts : loose.stubs ≡ (left.stubs ++ unit ∷ []) ++ right.stubs) (left_rank : left.rank ≡ loose.rank) (right_rank : right.rank ≡ loose.rank)
-    (deep : 0 < loose.rank) (little : IsLittle 5440 loose) (two : 2 ≤ length loose.stubs) (front_is : front ≡ left) (same : MakesUpTo a b 0) (few : IsFew old a (left.rank - 1) 10880 (4 * (left.rank - 1) + pages) below)
+    (deep : 0 < loose.rank) (little : IsLittle 5440 loose) (two : 2 ≤ length loose.stubs) (front_is : front ≡ left) (same : MakesUpTo a b 0)
     (some_behind : 0 < length right.stubs → Each IsStub right.stubs → AreFewJoined b c 10880 below right back) (none_behind : length right.stubs ≡ 0 → (back ≡ below) × MakesUpTo b c 0) where
   parts_size : stubs_size left.stubs + (stub_size unit + stubs_size right.stubs) ≡ stubs_size loose.stubs
   parts_size = omega (arith, ap stubs_size parts, both_size (left.stubs ++ unit ∷ []) right.stubs, both_size left.stubs (unit ∷ []))
@@ -352,25 +366,54 @@ module _ (old a b c new : Store) (loose left right below front back : Sheaf) (un
   right_small : Each IsStub right.stubs
   right_small = each_back IsStub (left.stubs ++ unit ∷ []) right.stubs (subst (Each IsStub) parts little.0)
 
-  last_few : (l : Loose) → length right.stubs ≡ 0 → AreFewJoined c new 10880 left below (sheaf_in l) → MakesUpTo b c 0 → IsFew old new loose.rank 10880 (4 * loose.rank + pages) (sheaf_in l)
-  last_few l none j m =
-      let f = j.behind (omega (arith, few.rank_is)) (omega (arith, parts_long)) few.size in
-      record { rank_is = f.rank_is ∙ left_rank; small = f.small; size = omega (arith, f.size, parts_size, little.1); made = omega (arith, few.made, same, m, f.made) }
+  -- what is below stands in no page
+  module _ (few : IsFew old a (left.rank - 1) 10880 (4 * (left.rank - 1) + pages) below) where
+    last_few : (l : Loose) → length right.stubs ≡ 0 → AreFewJoined c new 10880 left below (sheaf_in l) → MakesUpTo b c 0 → IsFew old new loose.rank 10880 (4 * loose.rank + pages) (sheaf_in l)
+    last_few l none j m =
+        let f = j.behind (omega (arith, few.rank_is)) (omega (arith, parts_long)) few.size in
+        record { rank_is = f.rank_is ∙ left_rank; small = f.small; size = omega (arith, f.size, parts_size, little.1); made = omega (arith, few.made, same, m, f.made) }
 
-  mid_few : (l : Loose) → AreFewJoined c new 10880 left back (sheaf_in l) → IsFew b c right.rank (stubs_size right.stubs + 5440) 4 back → IsFew old new loose.rank 10880 (4 * loose.rank + pages) (sheaf_in l)
-  mid_few l j m =
-      let f = j.level (omega (arith, m.rank_is)) in
-      record { rank_is = f.rank_is ∙ left_rank; small = f.small; size = omega (arith, f.size, m.size, parts_size, little.1); made = omega (arith, few.made, same, m.made, f.made) }
+    mid_few : (l : Loose) → AreFewJoined c new 10880 left back (sheaf_in l) → IsFew b c right.rank (stubs_size right.stubs + 5440) 4 back → IsFew old new loose.rank 10880 (4 * loose.rank + pages) (sheaf_in l)
+    mid_few l j m =
+        let f = j.level (omega (arith, m.rank_is)) in
+        record { rank_is = f.rank_is ∙ left_rank; small = f.small; size = omega (arith, f.size, m.size, parts_size, little.1); made = omega (arith, few.made, same, m.made, f.made) }
 
-  pub children_few : (r : Result Loose TreeFault) → (Each IsStub front.stubs → Each IsStub back.stubs → IfOk r (λ l. AreFewJoined c new 10880 front back (sheaf_in l))) → IfOk r (λ l. IsFew old new loose.rank 10880 (4 * loose.rank + pages) (sheaf_in l))
-  children_few (Err e) j = tt
-  children_few (Ok l) j = elim (zero_or (length right.stubs)) [
-    | inl none ↦ (let n = none_behind none in
-        last_few l none (subst (λ x. AreFewJoined c new 10880 x below (sheaf_in l)) front_is (subst (λ x. AreFewJoined c new 10880 front x (sheaf_in l)) n.0
-        (j (subst (λ (x : Sheaf). Each IsStub x.stubs) (sym front_is) left_small) (subst (λ (x : Sheaf). Each IsStub x.stubs) (sym n.0) few.small)))) n.1)
-    | inr some ↦ (let m = (some_behind some right_small).before (omega (arith, few.rank_is)) some few.size in
-        mid_few l (subst (λ x. AreFewJoined c new 10880 x back (sheaf_in l)) front_is (j (subst (λ (x : Sheaf). Each IsStub x.stubs) (sym front_is) left_small) m.small)) m)
-  ]
+    below_few : (r : Result Loose TreeFault) → (Each IsStub front.stubs → Each IsStub back.stubs → IfOk r (λ l. AreFewJoined c new 10880 front back (sheaf_in l))) → IfOk r (λ l. IsFew old new loose.rank 10880 (4 * loose.rank + pages) (sheaf_in l))
+    below_few (Err e) j = tt
+    below_few (Ok l) j = elim (zero_or (length right.stubs)) [
+      | inl none ↦ (let n = none_behind none in
+          last_few l none (subst (λ x. AreFewJoined c new 10880 x below (sheaf_in l)) front_is (subst (λ x. AreFewJoined c new 10880 front x (sheaf_in l)) n.0
+          (j (subst (λ (x : Sheaf). Each IsStub x.stubs) (sym front_is) left_small) (subst (λ (x : Sheaf). Each IsStub x.stubs) (sym n.0) few.small)))) n.1)
+      | inr some ↦ (let m = (some_behind some right_small).before (omega (arith, few.rank_is)) some few.size in
+          mid_few l (subst (λ x. AreFewJoined c new 10880 x back (sheaf_in l)) front_is (j (subst (λ (x : Sheaf). Each IsStub x.stubs) (sym front_is) left_small) m.small)) m)
+    ]
+
+  -- it was written to one page
+  module _ (one : IsFew old a (left.rank - 1 + 1) 1360 (4 * (left.rank - 1) + pages + 1) below) where
+    end_few : (l : Loose) → AreFewJoined c new 10880 left below (sheaf_in l) → MakesUpTo b c 0 → IsFew old new loose.rank 10880 (4 * loose.rank + pages) (sheaf_in l)
+    end_few l j m =
+        let f = j.level (omega (arith, one.rank_is)) in
+        record { rank_is = f.rank_is ∙ left_rank; small = f.small; size = omega (arith, f.size, one.size, parts_size, little.1); made = omega (arith, one.made, same, m, f.made) }
+
+    amid_few : (l : Loose) → AreFewJoined c new 10880 left back (sheaf_in l) → IsFew b c below.rank (stubs_size below.stubs + stubs_size right.stubs) 0 back → IsFew old new loose.rank 10880 (4 * loose.rank + pages) (sheaf_in l)
+    amid_few l j m =
+        let f = j.level (omega (arith, m.rank_is, one.rank_is)) in
+        record { rank_is = f.rank_is ∙ left_rank; small = f.small; size = omega (arith, f.size, m.size, one.size, parts_size, little.1); made = omega (arith, one.made, same, m.made, f.made) }
+
+    one_below_few : (r : Result Loose TreeFault) → (Each IsStub front.stubs → Each IsStub back.stubs → IfOk r (λ l. AreFewJoined c new 10880 front back (sheaf_in l))) → IfOk r (λ l. IsFew old new loose.rank 10880 (4 * loose.rank + pages) (sheaf_in l))
+    one_below_few (Err e) j = tt
+    one_below_few (Ok l) j = elim (zero_or (length right.stubs)) [
+      | inl none ↦ (let n = none_behind none in
+          end_few l (subst (λ x. AreFewJoined c new 10880 x below (sheaf_in l)) front_is (subst (λ x. AreFewJoined c new 10880 front x (sheaf_in l)) n.0
+          (j (subst (λ (x : Sheaf). Each IsStub x.stubs) (sym front_is) left_small) (subst (λ (x : Sheaf). Each IsStub x.stubs) (sym n.0) one.small)))) n.1)
+      | inr some ↦ (let m = (some_behind some right_small).level (omega (arith, one.rank_is)) in
+          amid_few l (subst (λ x. AreFewJoined c new 10880 x back (sheaf_in l)) front_is (j (subst (λ (x : Sheaf). Each IsStub x.stubs) (sym front_is) left_small) m.small)) m)
+    ]
+
+  pub children_few : IsFewOrOne old a (left.rank - 1) 10880 (4 * (left.rank - 1) + pages) below → (r : Result Loose TreeFault)
+      → (Each IsStub front.stubs → Each IsStub back.stubs → IfOk r (λ l. AreFewJoined c new 10880 front back (sheaf_in l))) → IfOk r (λ l. IsFew old new loose.rank 10880 (4 * loose.rank + pages) (sheaf_in l))
+  children_few (inl few) r j = below_few few r j
+  children_few (inr one) r j = one_below_few one r j
 
 -- ---- the whole tree
 
@@ -393,8 +436,10 @@ first_few old new n chain (Err e) f = tt
 first_few old new n chain (Ok l) f = record { halvings = 1; pages = chain; little = (f.small, f.size); made = f.made; enough = omega arith }
 
 pub levels_few : (old new : Store) (root : ℕ) (pages : List ℕ) (entries : List Entry) (tree : HasMap old root pages entries) (below chain : ℕ) (r : Result Loose TreeFault) → (root ≡ 0 → ⊥)
-    → ((t : HasTree old root pages entries) → below ≡ t.d) → IfOk r (λ l. IsFew old new below 10880 (4 * below + chain) (sheaf_in l)) → IfOk r (λ l. IsFewTop old new (4 * levels_of tree + 3 + chain) (sheaf_in l))
+    → ((t : HasTree old root pages entries) → below ≡ t.d) → IfOk r (λ l. IsFewOrOne old new below 10880 (4 * below + chain) (sheaf_in l)) → IfOk r (λ l. IsFewTop old new (4 * levels_of tree + 3 + chain) (sheaf_in l))
 levels_few old new root pages entries tree below chain (Err e) some is f = tt
 levels_few old new root pages entries (inl none) below chain (Ok l) some is f = absurd (some none.0)
-levels_few old new root pages entries (inr t) below chain (Ok l) some is f =
+levels_few old new root pages entries (inr t) below chain (Ok l) some is (inr f) =
+    record { halvings = 0; pages = 4 * below + chain + 1; little = (f.small, omega (arith, f.size)); made = f.made; enough = omega (arith, is t) }
+levels_few old new root pages entries (inr t) below chain (Ok l) some is (inl f) =
     record { halvings = 2; pages = 4 * below + chain; little = (f.small, f.size); made = f.made; enough = omega (arith, is t) }

@@ -9,6 +9,7 @@ pub mod FanLemmas
 pub mod FewLemmas
 pub mod GetLemmas
 pub mod HeldLemmas
+pub mod InPageLemmas
 pub mod JoinLemmas
 pub mod KeyLemmas
 pub mod ListLemmas

@@ -40,7 +40,7 @@ pub record IsTwo (s : Store) (base : ℕ) (low : List ℕ) (high : Option (List 
   pub front_held : IsHeld s base low between front_entries front_pages (record { rank = rank; stubs = front })
   pub behind : IsBehind s base between high back_entries back_pages (record { rank = rank; stubs = back })
 
-spread_up : (d : ℕ) (low : List ℕ) (high : Option (List ℕ)) (body : Body d) (s : Stub) (ss : List Stub) → stubs_of d body ≡ s ∷ ss → IsSpread d low high body → IsSpread d s.key high body
+pub spread_up : (d : ℕ) (low : List ℕ) (high : Option (List ℕ)) (body : Body d) (s : Stub) (ss : List Stub) → stubs_of d body ≡ s ∷ ss → IsSpread d low high body → IsSpread d s.key high body
 spread_up zero low high [] s ss e h = cc
 spread_up zero low high (x ∷ xs) s ss e h = let same : x.key ≡ s.key = cc in subst (λ k. IsSpread zero k high (x ∷ xs)) same (h.0, ((not_under_itself x.key, h.1.0.1), later (pair_keys xs) h.0.0 h.1.1))
   where

@@ -37,6 +37,19 @@ put_pages (Some value) = chain_pages value
 abbrev pub edit_pages : Edit → ℕ
 edit_pages e = put_pages e.value
 
+-- ---- room in a page
+
+abbrev pub value_room : List ℕ → ℕ
+value_room value = if leb (length value) 330 then length value else 4
+
+-- the bytes of a cell of this key and value, or none
+abbrev pub put_room : List ℕ → Option (List ℕ) → ℕ
+put_room key None = 0
+put_room key (Some value) = 6 + length key + value_room value
+
+abbrev pub edit_room : Edit → ℕ
+edit_room e = put_room e.key e.value
+
 -- ---- what stands in no page
 
 -- Cells or children of this rank, of so many bytes at most. So many pages were made, at most.
@@ -48,6 +61,13 @@ pub record IsFew (old new : Store) (rank bytes pages : ℕ) (sheaf : Sheaf) : Ty
 
 abbrev pub GivesFew : Store → Store → ℕ → ℕ → ℕ → Result Loose TreeFault → Type 0
 GivesFew old new rank bytes pages result = KeepsWord new → IfOk result (λ loose. IsFew old new rank bytes pages (sheaf_in loose))
+
+-- The same, or it was written to one page, and this stands for it above.
+abbrev pub IsFewOrOne : Store → Store → ℕ → ℕ → ℕ → Sheaf → Type 0
+IsFewOrOne old new rank bytes pages sheaf = IsFew old new rank bytes pages sheaf ⊎ IsFew old new (rank + 1) 1360 (pages + 1) sheaf
+
+abbrev pub GivesFewOrOne : Store → Store → ℕ → ℕ → ℕ → Result Loose TreeFault → Type 0
+GivesFewOrOne old new rank bytes pages result = KeepsWord new → IfOk result (λ loose. IsFewOrOne old new rank bytes pages (sheaf_in loose))
 
 -- One child was taken off, and what stood in its page.
 pub record AreFewOff (old new : Store) (stubs : List Stub) (others opened : Sheaf) : Type 0 where

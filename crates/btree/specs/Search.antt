@@ -1,5 +1,5 @@
 -- Places of keys among those of a page.
-use Rattle.std.specs.Prelude.{◌≡◌, ℕ, ◌+◌, ◌<◌, ◌≤◌, ⊤, List, [], ◌∷◌, length, Option, Some, slice_index_or}
+use Rattle.std.specs.Prelude.{◌≡◌, ℕ, ◌+◌, ◌<◌, ◌≤◌, ⊤, List, [], ◌∷◌, ◌++◌, length, Option, Some, slice_index_or}
 use Rattle.btree.specs.Keys.{Each, IsUnder, IsNotUnder, IsBetween}
 use Rattle.page.specs.Content.{Item, Arm, Content, leaf, branch, chain, free_list, item_keys, arm_keys}
 
@@ -8,6 +8,15 @@ pub record IsPlace (items : List Item) (key : List ℕ) (at : ℕ) : Type 0 wher
   pub within : at ≤ length items
   pub below : (k : ℕ) (d : Item) → k + 1 ≡ at → IsUnder (slice_index_or items k d).key key
   pub above : (d : Item) → at < length items → IsNotUnder (slice_index_or items at d).key key
+
+-- The key has no cell, and belongs at this place.
+pub record IsGap (items : List Item) (key : List ℕ) (at : ℕ) : Type 0 where
+  pub front : List Item
+  pub back : List Item
+  pub is : items ≡ front ++ back
+  pub place : length front ≡ at
+  pub under : Each (λ (it : Item). IsUnder it.key key) front
+  pub over : Each (λ (it : Item). IsUnder key it.key) back
 
 -- what stands at this place isn't above the key, unless it is the first, and what stands behind it is
 pub record IsChildPlace (arms : List Arm) (key : List ℕ) (at : ℕ) : Type 0 where

@@ -2,7 +2,7 @@
 ghost use Rattle.std.specs.Prelude.{◌≡◌, ◌<◌, ◌≤◌, ◌+◌, ◌*◌, ◌++◌, ◌∷◌, [], ℕ, zero, List, Option, Some, None, Ok, drop, length, map, slice_index_or, IfErr, IfOk};
 ghost use Rattle.btree.specs.Change.{BeginsAt, edit_keys};
 ghost use Rattle.btree.specs.EditView.{HasRoom, edit_in};
-ghost use Rattle.btree.specs.Few.{IsLittle, GivesFew, edit_pages};
+ghost use Rattle.btree.specs.Few.{IsLittle, GivesFew, GivesFewOrOne, edit_pages};
 ghost use Rattle.btree.specs.Keys.{Each, Entry, IsBetween, IsNotUnder, IsUnder, Pair, Rises, change, entry_of, sum_of};
 ghost use Rattle.btree.specs.Loose.{Stub, first_or};
 ghost use Rattle.btree.specs.LooseView.{stub_in};
@@ -12,6 +12,7 @@ ghost use Rattle.btree.specs.Turn.{IsHeld, IsUpTo, Turns, sheaf_in};
 ghost use Rattle.btree.specs.declared.pages.TreeFault.TheVariants.{Memory};
 
 use crate::editing::{Edit, edit_cells};
+use crate::in_page::{edit_page, has_room, write_leaf};
 use crate::joining::{meet, meet_behind};
 use crate::loose::{Loose, Unit, page_below, units_of_cells};
 use crate::opening::{leaf_cells, units_of_branch};
@@ -121,8 +122,8 @@ fn come_behind(leaf: &Leaf, edits: &[Edit<'_>]) -> bool {
     matches!(leaf_key(leaf, len - 1).cmp(first.key), Ordering::Less)
 }
 
-// The cells of a leaf after edits.
-fn change_leaf<P: Pages>(
+// The cells of a leaf after edits, out of their page.
+fn change_cells<P: Pages>(
     alloc: Global,
     pages: &mut P,
     leaf: &Leaf,
@@ -150,6 +151,32 @@ fn change_leaf<P: Pages>(
     })
 }
 
+// What becomes of a leaf after edits.
+fn change_leaf<P: Pages>(
+    alloc: Global,
+    pages: &mut P,
+    leaf: &Leaf,
+    rank: u32,
+    edits: &[Edit<'_>],
+) -> Result<Loose, TreeFault>
+    requires { Each HasRoom edits.now }
+    ensures grows { Grows (P.store pages.old) (P.store pages.new) }
+    ensures few { length edits.now ≡ 1 → GivesFewOrOne (P.store pages.old) (P.store pages.new) rank
+        5440 (sum_of edit_pages (map edit_in edits.now)) result }
+    ensures turns { (base : ℕ) (low : List ℕ) (high : Option (List ℕ)) (pairs : List Pair)
+        → rank ≡ base → leaf.now ≡ map item_of pairs → IsSound zero low high pairs
+        → Shows (P.store pages.old) zero pairs
+        → Each (λ e. IsBetween low high e.key) (map edit_in edits.now)
+        → Turns (P.store pages.old) (P.store pages.new) base low high
+        (change (map edit_in edits.now) (map entry_of pairs)) (pages_of zero pairs) result }
+{
+    if !has_room(leaf, edits) {
+        return change_cells(alloc, pages, leaf, rank, edits);
+    }
+    let edited = edit_page(alloc, pages, leaf, edits)?;
+    write_leaf(alloc, pages, edited, rank)
+}
+
 /// What is below a page after edits. The keys there begin at `low`, and `rank` says how many levels may be below.
 #[cycle(change)]
 pub(crate) fn change_below<P: Pages>(
@@ -163,7 +190,7 @@ pub(crate) fn change_below<P: Pages>(
     requires { Each HasRoom edits.now }
     ensures grows { Grows (P.store pages.old) (P.store pages.new) }
     ensures few { length edits.now ≡ 1 → 6 + length low.now ≤ 1360
-        → GivesFew (P.store pages.old) (P.store pages.new) rank 10880
+        → GivesFewOrOne (P.store pages.old) (P.store pages.new) rank 10880
         (4 * rank + sum_of edit_pages (map edit_in edits.now)) result }
     ensures turns { (base d : ℕ) (high : Option (List ℕ)) (body : Body d) → rank ≡ base + d
         → IsAt (P.store pages.old) page (content_of d body) → Shows (P.store pages.old) d body

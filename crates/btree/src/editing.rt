@@ -1,8 +1,8 @@
 // Edits of the cells of a leaf.
 ghost use Rattle.std.specs.Prelude.{◌≡◌, ◌∷◌, [], ◌+◌, ◌*◌, ◌≤◌, ◌<◌, ◌^◌, List, length, map, IfOk, zero};
-ghost use Rattle.page.specs.Content.{IsItem, item_size, spilled, total};
+ghost use Rattle.page.specs.Content.{IsItem, item_size, place_size, spilled, total};
 ghost use Rattle.btree.specs.Calls.{IsSmallPlace};
-ghost use Rattle.btree.specs.Few.{Costs, chain_pages, edit_pages};
+ghost use Rattle.btree.specs.Few.{Costs, chain_pages, edit_pages, value_room};
 ghost use Rattle.btree.specs.Keys.{Each, Pair, Rises, sum_of};
 ghost use Rattle.btree.specs.Store.{Store, Grows};
 ghost use Rattle.btree.specs.Tree.{HasChain, Shows, item_of, pair_keys, place_of};
@@ -33,8 +33,8 @@ fn place_among(cells: &[Cell<'_>], key: &[u8]) -> usize
     low
 }
 
-// Retires the pages of a value.
-fn retire_value<P: Pages>(pages: &mut P, stored: Stored<'_>) -> Result<(), TreeFault>
+/// Retires the pages of a value.
+pub(crate) fn retire_value<P: Pages>(pages: &mut P, stored: Stored<'_>) -> Result<(), TreeFault>
     ensures grows { Grows (P.store pages.old) (P.store pages.new) }
     ensures few { Costs (P.store pages.old) (P.store pages.new) 0 result }
     ensures retires { (x : Pair) → place_in stored.entry ≡ place_of x.links x.value
@@ -88,7 +88,7 @@ pub struct Edit<'a> {
 }
 
 /// The longest value that lies in its cell, in bytes.
-const INLINE: usize = 330;
+pub(crate) const INLINE: usize = 330;
 
 fn chained<'a>(len: u32, first: u32) -> Stored<'a>
     ensures place { place_in result ≡ spilled len first }
@@ -97,8 +97,8 @@ fn chained<'a>(len: u32, first: u32) -> Stored<'a>
     Stored::Chained { len, first }
 }
 
-// Where a value lies in a new cell: in it, or in a chain that is written.
-fn stored_value<'a, P: Pages>(
+/// Where a value lies in a new cell: in it, or in a chain that is written.
+pub(crate) fn stored_value<'a, P: Pages>(
     alloc: Global,
     pages: &mut P,
     value: &'a [u8],
@@ -106,6 +106,7 @@ fn stored_value<'a, P: Pages>(
     requires { length value.now < 2 ^ 32 }
     ensures grows { Grows (P.store pages.old) (P.store pages.new) }
     ensures small { IfOk result (λ stored. IsSmallPlace (place_in stored)) }
+    ensures size { IfOk result (λ stored. place_size (place_in stored) ≡ value_room value.now) }
     ensures few { Costs (P.store pages.old) (P.store pages.new) (chain_pages value.now) result }
     ensures stores { StoresValue (P.store pages.old) (P.store pages.new) value.now result }
 {

@@ -5,6 +5,7 @@ mod chain;
 mod changing;
 mod cutting;
 mod editing;
+mod in_page;
 mod joining;
 pub mod laws;
 mod lookup;

@@ -54,7 +54,7 @@ pub(crate) fn units_of_branch(
 }
 
 // The cells of a leaf, out of their page.
-fn units_of_leaf(alloc: Global, leaf: &Leaf) -> Result<Vec<Unit>, TreeFault>
+pub(crate) fn units_of_leaf(alloc: Global, leaf: &Leaf) -> Result<Vec<Unit>, TreeFault>
     ensures some { IfOk result (λ units. 0 < length units.items) }
     ensures sound { IsLeaf leaf.now }
     ensures ok { IfOk result (λ units. map stub_in units.items ≡ map item_stub leaf.now) }

@@ -180,7 +180,7 @@ fn page_of(alloc: Global, units: &[Unit]) -> Result<PageContent, TreeFault>
     branch_of(alloc, units)
 }
 
-fn child_unit(key: Vec<u8>, page: u32) -> Unit
+pub(crate) fn child_unit(key: Vec<u8>, page: u32) -> Unit
     ensures stub { stub_in result ≡ arm_stub (record { key = key.items; child = page }) }
     ensures range { page < 2 ^ 32 }
 {

@@ -7,11 +7,11 @@ use Rattle.byteorder.specs.Endian.{little_bytes, little_number}
 use Rattle.byteorder.specs.Numbers.{little_number-reads_back, little_from-lt}
 use Rattle.page.specs.Content.{Item, Arm, IsItem, IsArm, IsLeaf, IsBranch, item_size, arm_size, arms_size, total, item_keys, arm_keys, rise}
 use Rattle.page.specs.Format.{item_bytes, arm_bytes, arms_bytes, leaf_cell_size, branch_cell_size, item_in, arm_in, items_at, arms_at, body_and_zeros, places_in}
-use Rattle.page.specs.Kept.{IsWhole, KeepsLeaf, KeepsBranch}
-use Rattle.page.proofs.PlaceLemmas.{AreBytes, Found, found, bytes_drop, starts, length-joined, read_again, whole_again}
+use Rattle.page.specs.Kept.{IsWhole, KeepsLeaf, KeepsBranch, starts}
+use Rattle.page.proofs.PlaceLemmas.{AreBytes, Found, found, bytes_drop, length-joined, read_again, whole_again}
 use Rattle.page.proofs.CellLemmas.{leaf_spelled, leaf_item, length-item, item_back, item_size_back, arm_spelled, arm_sound, length-arm, arm_back, arm_size_back, four_again}
 
-zeros_same : (bytes body : List ℕ) (zeros : ℕ) → bytes ≡ body ++ replicate zeros 0 → length bytes ≡ 4080 → bytes ≡ body_and_zeros body
+pub zeros_same : (bytes body : List ℕ) (zeros : ℕ) → bytes ≡ body ++ replicate zeros 0 → length bytes ≡ 4080 → bytes ≡ body_and_zeros body
 zeros_same bytes body zeros is len =
     let all : length body + zeros ≡ 4080 = omega (arith, sym (ap (λ (l : List ℕ). length l) is), len, length-append body (replicate {A = ℕ} zeros 0), length-replicate {A = ℕ} zeros 0) in
     let e : zeros ≡ 4080 - length body = omega arith in
@@ -55,6 +55,7 @@ module _ (bytes : List ℕ) (len : length bytes ≡ 4080) (small : AreBytes byte
         room = omega (arith, len, body_room bytes (flat_map item_bytes (items_at bytes places)) leaf_found.zeros leaf_found.spelled, length-joined item_bytes item_size length-item (items_at bytes places));
       };
       spelled = zeros_same bytes (flat_map item_bytes (items_at bytes places)) leaf_found.zeros leaf_found.spelled len;
+      placed = leaf_found.placed ∙ (λ i. starts (λ x. length-item x i) 0 (items_at bytes places));
     }
 
 module _ (items : List Item) (sound : IsLeaf items) (bytes : List ℕ) (is : bytes ≡ body_and_zeros (flat_map item_bytes items)) where
@@ -67,6 +68,7 @@ module _ (items : List Item) (sound : IsLeaf items) (bytes : List ℕ) (is : byt
     whole = whole_again leaf_cell_size item_in item_bytes item_size IsItem length-item (λ x r s. item_back x r s) (λ x r s. item_size_back x r s) bytes 0 items (replicate (4080 - length (flat_map item_bytes items)) 0) sound.each is (omega (arith, sound.room));
     sound = subst IsLeaf (sym leaf_again) sound;
     spelled = is ∙ ap (λ (l : List Item). body_and_zeros (flat_map item_bytes l)) (sym leaf_again);
+    placed = ap (starts item_size 0) (sym leaf_again);
   }
 
 -- ---- branches
@@ -109,6 +111,7 @@ module _ (bytes : List ℕ) (len : length bytes ≡ 4080) (small : AreBytes byte
         room = omega (arith, len, body_room bytes (arms_bytes (arms_at bytes places)) branch_found.zeros branch_spelled, length-joined arm_bytes arm_size length-arm (map (λ at. arm_in (drop at bytes)) places));
       };
       spelled = zeros_same bytes (arms_bytes (arms_at bytes places)) branch_found.zeros branch_spelled len;
+      placed = branch_found.placed ∙ (λ i. starts (λ x. length-arm x i) 4 (map (λ at. arm_in (drop at bytes)) places));
     }
 
 pub branch_again : (first : Arm) (arms : List Arm) → IsBranch (first ∷ arms) → (bytes : List ℕ) → bytes ≡ body_and_zeros (arms_bytes (first ∷ arms))
@@ -126,12 +129,14 @@ branch_made first arms sound bytes is =
     let rest = replicate {A = ℕ} (4080 - length (arms_bytes (first ∷ arms))) 0 in
     let behind : drop 4 bytes ≡ flat_map arm_bytes arms ++ rest = ap (λ (l : List ℕ). drop 4 l) is in
     let again = branch_again first arms sound bytes is in
+    let others = read_again branch_cell_size arm_in arm_bytes arm_size IsArm length-arm (λ x r s. arm_back x r s) (λ x r s. arm_size_back x r s) bytes 4 arms rest sound.each.1 behind in
     let long = length-joined arm_bytes arm_size length-arm arms in
     record {
       len = ap (λ (l : List ℕ). length l) is ∙ body_len (arms_bytes (first ∷ arms)) (omega (arith, sound.room, long));
       whole = whole_again branch_cell_size arm_in arm_bytes arm_size IsArm length-arm (λ x r s. arm_back x r s) (λ x r s. arm_size_back x r s) bytes 4 arms rest sound.each.1 behind (omega (arith, sound.room));
       sound = subst IsBranch (sym again) sound;
       spelled = is ∙ ap (λ (l : List Arm). body_and_zeros (arms_bytes l)) (sym again);
+      placed = ap (starts arm_size 4) (sym others);
     }
 
 -- ---- how many cells there are

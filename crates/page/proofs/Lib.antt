@@ -11,4 +11,5 @@ pub mod ReadLemmas
 pub mod ReadsBack
 pub mod ReplayLemmas
 pub mod Sectors
+pub mod SplicingLemmas
 pub mod TwoFacts

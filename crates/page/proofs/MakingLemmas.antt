@@ -5,7 +5,8 @@ use Rattle.std.proofs.lemmas.List.{length-map, take_all, take_more, get_or-map, 
 use Rattle.std.proofs.lemmas.Grind.{flat_map-append}
 use Rattle.page.specs.Content.{Arm, IsBranch, total}
 use Rattle.page.specs.Format.{body_and_zeros}
-use Rattle.page.proofs.PlaceLemmas.{starts, starts_more, each_at}
+use Rattle.page.specs.Kept.{starts}
+use Rattle.page.proofs.PlaceLemmas.{starts_more, each_at}
 
 module _ {C X : Type 0} (f : C → X) (cells : List C) where
   pub all_taken : (i : ℕ) → length cells ≤ i → take i (map f cells) ≡ map f cells

@@ -12,7 +12,8 @@ use Rattle.page.specs.Content.{Item, Arm, Content, leaf, branch, chain, free_lis
 use Rattle.page.specs.Format.{header, page_bytes, body_and_zeros, body_of, item_bytes, arm_bytes, arms_bytes, item_in, arm_in, items_at, arms_at, leaf_cell_size, branch_cell_size, places_in, leaf_in, branch_in, free_list_in, numbers_in, are_zeros, content_in, generation_in, sheet_in}
 use Rattle.page.specs.PageLaws.{ReadsBack}
 use Rattle.page.specs.declared.page_fault.PageFault.TheVariants as faults
-use Rattle.page.proofs.PlaceLemmas.{starts, found_again, zeros_are}
+use Rattle.page.specs.Kept.{starts}
+use Rattle.page.proofs.PlaceLemmas.{found_again, zeros_are}
 use Rattle.page.proofs.CellLemmas.{length-item, item_back, item_size_back, length-arm, arm_back, arm_size_back, numbers_len, numbers_back}
 use Rattle.page.proofs.KeptLemmas.{leaf_again, branch_again, few_items, few_arms, leaf_len, branch_len, body_len}
 use Rattle.page.proofs.ReadLemmas.{leaf_judged, branch_judged, sheet_planned}

@@ -2,12 +2,13 @@
 use Rattle.std.proofs.Common.{◌≡◌, ℕ, zero, suc, ◌+◌, ◌-◌, ◌<◌, ◌≤◌, Bool, true, false, List, [], ◌∷◌, ◌++◌, length, map, take, drop, replicate, get_or, refl, sym, ap, ◌∙◌, subst, arith, append_assoc, length-append, length-drop}
 use Rattle.std.specs.Prelude.{◌==◌, ◌&&◌, not, ◌||◌, nat_lt, Result, Ok, Err}
 use Rattle.std.specs.List.{AllByRecursion, flat_map}
-use Rattle.std.proofs.lemmas.List.{drop-drop, take-append-drop}
+use Rattle.std.proofs.lemmas.List.{drop-drop, take-append-drop, length-take-le}
 use Rattle.std.proofs.lemmas.Bool.Decides.{nat_tests}
 use Rattle.std.proofs.Math.Seq.{drop-append_seam}
 use Rattle.outcome.specs.Outcome.{◌>>=◌, unless}
 use Rattle.page.specs.Content.{total}
 use Rattle.page.specs.Format.{are_zeros, places_in}
+use Rattle.page.specs.Kept.{starts}
 use Rattle.page.specs.declared.page_fault.PageFault.{PageFault}
 use Rattle.page.specs.declared.page_fault.PageFault.TheVariants as faults
 
@@ -64,10 +65,6 @@ rest_of at (Err fault) places is = cc
 
 -- ---- where cells of these sizes begin
 
-abbrev pub starts : {X : Type 0} → (X → ℕ) → ℕ → List X → List ℕ
-starts width at [] = []
-starts width at (x ∷ xs) = at ∷ starts width (at + width x) xs
-
 pub starts_more : {X : Type 0} (width : X → ℕ) (at : ℕ) (xs : List X) (x : X) → starts width at (xs ++ x ∷ []) ≡ starts width at xs ++ (at + total width xs) ∷ []
 starts_more width at [] x = let e : at ≡ at + 0 = omega arith in ap (λ (n : ℕ). n ∷ []) e
 starts_more width at (y ∷ xs) x =
@@ -77,6 +74,40 @@ starts_more width at (y ∷ xs) x =
 pub length-starts : {X : Type 0} (width : X → ℕ) (at : ℕ) (xs : List X) → length (starts width at xs) ≡ length xs
 length-starts width at [] = refl
 length-starts width at (x ∷ xs) = ap (λ (n : ℕ). suc n) (length-starts width (at + width x) xs)
+
+pub starts_append : {X : Type 0} (width : X → ℕ) (at : ℕ) (xs ys : List X) → starts width at (xs ++ ys) ≡ starts width at xs ++ starts width (at + total width xs) ys
+starts_append width at [] ys = ap (λ (n : ℕ). starts width n ys) (omega arith)
+starts_append width at (x ∷ xs) ys =
+    ap (λ (l : List ℕ). at ∷ l)
+    (starts_append width (at + width x) xs ys ∙ ap (λ (n : ℕ). starts width (at + width x) xs ++ starts width n ys) (omega arith))
+
+-- further behind, and further in front
+pub starts_later : {X : Type 0} (width : X → ℕ) (at more : ℕ) (xs : List X) → map (λ n. n + more) (starts width at xs) ≡ starts width (at + more) xs
+starts_later width at more [] = refl
+starts_later width at more (x ∷ xs) = ap (λ (l : List ℕ). (at + more) ∷ l) (starts_later width (at + width x) more xs ∙ ap (λ (n : ℕ). starts width n xs) (omega arith))
+
+pub starts_earlier : {X : Type 0} (width : X → ℕ) (at less : ℕ) (xs : List X) → map (λ n. n - less) (starts width (at + less) xs) ≡ starts width at xs
+starts_earlier width at less [] = refl
+starts_earlier width at less (x ∷ xs) =
+    let here : at + less - less ≡ at = omega arith in
+    let rest : map (λ n. n - less) (starts width (at + less + width x) xs) ≡ starts width (at + width x) xs =
+    ap (λ (n : ℕ). map (λ n. n - less) (starts width n xs)) (omega arith) ∙ starts_earlier width (at + width x) less xs in
+    (λ i. here i ∷ rest i)
+
+pub take_starts : {X : Type 0} (width : X → ℕ) (at n : ℕ) (xs : List X) → take n (starts width at xs) ≡ starts width at (take n xs)
+take_starts width at zero xs = refl
+take_starts width at (suc n) [] = refl
+take_starts width at (suc n) (x ∷ xs) = ap (λ (l : List ℕ). at ∷ l) (take_starts width (at + width x) n xs)
+
+pub drop_starts : {X : Type 0} (width : X → ℕ) (at n : ℕ) (xs : List X) → drop n (starts width at xs) ≡ starts width (at + total width (take n xs)) (drop n xs)
+drop_starts width at zero xs = ap (λ (n : ℕ). starts width n xs) (omega arith)
+drop_starts width at (suc n) [] = refl
+drop_starts width at (suc n) (x ∷ xs) = drop_starts width (at + width x) n xs ∙ ap (λ (n' : ℕ). starts width n' (drop n xs)) (omega arith)
+
+pub get_starts : {X : Type 0} (width : X → ℕ) (at n d : ℕ) (xs : List X) → n < length xs → get_or (starts width at xs) n d ≡ at + total width (take n xs)
+get_starts width at n d [] lt = absurd (omega arith)
+get_starts width at zero d (x ∷ xs) lt = omega arith
+get_starts width at (suc n) d (x ∷ xs) lt = omega (arith, get_starts width (at + width x) n d xs (omega arith))
 
 pub total-append : {X : Type 0} (size : X → ℕ) (xs ys : List X) → total size (xs ++ ys) ≡ total size xs + total size ys
 total-append size [] ys = omega arith
@@ -136,6 +167,7 @@ module _ {X : Type 0} (size : List ℕ → ℕ) (read : List ℕ → X) (bytes_o
     pub whole : AllByRecursion (λ (p : ℕ). (p + size (drop p bytes) ≤ length bytes) × (size (drop p bytes) ≤ 1360)) places
     pub zeros : ℕ
     pub spelled : drop at bytes ≡ flat_map bytes_of (map (λ p. read (drop p bytes)) places) ++ replicate zeros 0
+    pub placed : places ≡ starts (λ x. length (bytes_of x)) at (map (λ p. read (drop p bytes)) places)
 
   module _ (again : (b : List ℕ) → AreBytes b → size b ≤ length b → bytes_of (read b) ≡ take (size b) b) (some : (b : List ℕ) → 0 < size b) where
     pub found : (bytes : List ℕ) (n at : ℕ) (places : List ℕ) → AreBytes bytes → at ≤ length bytes → places_in size n at bytes ≡ Ok places → Found bytes n at places
@@ -143,7 +175,7 @@ module _ {X : Type 0} (size : List ℕ → ℕ) (read : List ℕ → X) (bytes_o
         let none : (not (are_zeros (drop at bytes))) ≡ false = passed (not (are_zeros (drop at bytes))) faults.Length (Ok []) places is in
         let all : are_zeros (drop at bytes) ≡ true = not_not (are_zeros (drop at bytes)) none in
         let e : [] ≡ places = ap (ok_or []) (went_on (not (are_zeros (drop at bytes))) faults.Length (Ok []) places is) in
-        subst (Found bytes zero at) e (record { count = refl; whole = tt; zeros = length (drop at bytes); spelled = zeros_of (drop at bytes) all })
+        subst (Found bytes zero at) e (record { count = refl; whole = tt; zeros = length (drop at bytes); spelled = zeros_of (drop at bytes) all; placed = refl })
     found bytes (suc n) at places small room is =
         let b = drop at bytes in
         let s = size b in
@@ -161,7 +193,10 @@ module _ {X : Type 0} (size : List ℕ → ℕ) (read : List ℕ → X) (bytes_o
         ∙ ap (λ (l : List ℕ). take s b ++ l) (drop-drop s at bytes ∙ rest.spelled)
         ∙ ap (λ (l : List ℕ). l ++ (flat_map bytes_of (map (λ p. read (drop p bytes)) r.behind) ++ replicate rest.zeros 0)) (sym (again b (bytes_drop at bytes small) fits))
         ∙ sym (append_assoc (bytes_of (read b)) (flat_map bytes_of (map (λ p. read (drop p bytes)) r.behind)) (replicate rest.zeros 0)) in
-        subst (Found bytes (suc n) at) r.all (record { count = ap (λ (k : ℕ). suc k) rest.count; whole = ((ends, small_size), rest.whole); zeros = rest.zeros; spelled = joined })
+        let long : length (bytes_of (read b)) ≡ s = ap (λ (l : List ℕ). length l) (again b (bytes_drop at bytes small) fits) ∙ length-take-le s b fits in
+        let next : r.behind ≡ starts (λ x. length (bytes_of x)) (at + length (bytes_of (read b))) (map (λ p. read (drop p bytes)) r.behind) =
+        rest.placed ∙ ap (λ (k : ℕ). starts (λ x. length (bytes_of x)) (at + k) (map (λ p. read (drop p bytes)) r.behind)) (sym long) in
+        subst (Found bytes (suc n) at) r.all (record { count = ap (λ (k : ℕ). suc k) rest.count; whole = ((ends, small_size), rest.whole); zeros = rest.zeros; spelled = joined; placed = λ i. at ∷ next i })
 
   module _ (width : X → ℕ) (Sound : X → Type 0) (len : (x : X) → length (bytes_of x) ≡ width x)
       (back : (x : X) (rest : List ℕ) → Sound x → read (bytes_of x ++ rest) ≡ x)

@@ -1,14 +1,15 @@
 //! Leaves: the cells of a page of the tree.
 
-ghost use Rattle.std.specs.Prelude.{◌≡◌, ◌<◌, ℕ, length, map, slice_get, Some, IfOk};
-ghost use Rattle.std.specs.List.{AllByRecursion, flat_map};
+ghost use Rattle.std.specs.Prelude.{◌≡◌, ◌<◌, ◌≤◌, ℕ, length, map, take, slice_get, Some, IfOk};
+ghost use Rattle.std.specs.List.{AllByRecursion, flat_map, insert, remove};
 ghost use Rattle.outcome.specs.Outcome.{Gives};
-ghost use Rattle.page.specs.Content.{Content, leaf, IsLeaf, Item, item_keys, rise};
+ghost use Rattle.page.specs.Content.{Content, leaf, IsLeaf, Item, item_keys, item_size, rise, total};
 ghost use Rattle.page.specs.Format.{leaf_in, leaf_cell_size, items_at, item_bytes, body_and_zeros};
 ghost use Rattle.page.specs.Kept.{IsWhole};
 ghost use Rattle.page.specs.CellView.{item_of};
 
 use crate::cells::{CellForm, keys_rise, leaf_cell, note_place, places_of};
+use crate::splicing::{bytes_with, bytes_without, places_with, places_without};
 use crate::{BODY_BYTES, Cell, PageFault};
 use std::alloc::{AllocError, Global};
 use std::marker::Model;
@@ -102,6 +103,59 @@ impl Leaf {
         ensures { slice_get (item_keys self.now) i ≡ Some result.now }
     {
         self.cell(i).key
+    }
+
+    /// Where a cell begins, by its place among the cells, or where the last one ends.
+    fn start(&self, i: usize) -> usize
+        requires { i ≤ length self.now }
+        ensures { result ≡ total item_size (take i self.now) }
+    {
+        if i < self.places.len() {
+            return self.places[i] as usize;
+        }
+        let last = self.places.len() - 1;
+        self.places[last] as usize + self.cell(last).size()
+    }
+
+    /// The bytes of all cells.
+    pub fn size(&self) -> usize
+        ensures { result ≡ total item_size self.now }
+    {
+        self.start(self.places.len())
+    }
+
+    /// The same leaf once more.
+    pub fn copy(&self, alloc: Global) -> Result<Leaf, AllocError>
+        ensures { IfOk result (λ made. made ≡ self.now) }
+    {
+        let bytes = Vec::from_slice(alloc, &self.bytes)?;
+        let places = Vec::from_slice(alloc, &self.places)?;
+        Ok(Leaf { bytes, places })
+    }
+
+    /// The leaf with a cell more, at a place among the cells. What stands before it and behind it is copied as a whole.
+    pub fn with(&self, alloc: Global, at: usize, cell: &Cell<'_>) -> Result<Leaf, AllocError>
+        requires place { at ≤ length self.now }
+        requires sound { IsLeaf (insert self.now at (item_of cell.now)) }
+        ensures { IfOk result (λ made. made ≡ insert self.now at (item_of cell.now)) }
+    {
+        let from = self.start(at);
+        let bytes = bytes_with(alloc, &self.bytes, from, cell)?;
+        let places = places_with(alloc, &self.places, at, from, cell.size())?;
+        Ok(Leaf { bytes, places })
+    }
+
+    /// The leaf without a cell, by its place among the cells.
+    pub fn without(&self, alloc: Global, at: usize) -> Result<Leaf, AllocError>
+        requires place { at < length self.now }
+        requires sound { IsLeaf (remove self.now at) }
+        ensures { IfOk result (λ made. made ≡ remove self.now at) }
+    {
+        let from = self.start(at);
+        let to = self.start(at + 1);
+        let bytes = bytes_without(alloc, &self.bytes, from, to)?;
+        let places = places_without(alloc, &self.places, at, to - from)?;
+        Ok(Leaf { bytes, places })
     }
 
     /// What stands behind the page's header.

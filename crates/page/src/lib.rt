@@ -14,6 +14,7 @@ mod page_content;
 mod page_fault;
 mod page_image;
 mod pages;
+mod splicing;
 mod stop;
 mod zeros;
 

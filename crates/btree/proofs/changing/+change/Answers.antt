@@ -2,7 +2,7 @@ use Rattle.std.proofs.Common.{◌-◌, ◌*◌, length, ◌≡◌, ◌∙◌, �
 use Rattle.btree.specs.LooseView.{stub_in}
 use Rattle.btree.specs.EditView.{edit_in}
 use Rattle.btree.specs.View.{content_in}
-use Rattle.btree.specs.Few.{IsFew, edit_pages}
+use Rattle.btree.specs.Few.{IsFewOrOne, edit_pages}
 use Rattle.btree.specs.Keys.{change, sum_of, times}
 use Rattle.btree.specs.Store.{Store}
 use Rattle.btree.specs.Tree.{Shows, IsSound, entries_of, pages_of}
@@ -14,7 +14,7 @@ use Rattle.btree.proofs.ChangingLemmas.{at_leaf, begins, behind_later, branch_de
 use Rattle.btree.specs.Change.{IsBehind}
 use Rattle.btree.specs.Turn.{IsHeld}
 use Rattle.btree.proofs.EndLemmas.{last_is_child, within_up_to}
-use Rattle.btree.proofs.FewLemmas.{all_mine, branch_few, branch_two, children_few, few_on, unit_little}
+use Rattle.btree.proofs.FewLemmas.{all_mine, branch_few, branch_two, children_few, few_alone, few_on, few_or_one_on, few_small, unit_little}
 use Rattle.btree.proofs.SplitLemmas.{two_parts}
 use Rattle.btree.proofs.ListLemmas.{long_append, long_map}
 use Rattle.btree.proofs.PrepareLemmas.{begins_there, children_done, prepare}
@@ -148,16 +148,16 @@ change_below-returns-in-Leaf-clause-few g t c =
     λ one little k.
     let gone = c.in_ok-retire.ensures.retires (c.change_leaf.ensures.grows.frame k).word in
     let same = c.in_ok-shared.ensures.same gone.frame.word in
-    few_on (g.P.Pages.store c.args.pages.now) (g.P.Pages.store c.retire.new.self) (g.P.Pages.store c.change_leaf.new.pages) c.args.rank c.args.rank _ _ _ _ 0 c.change_leaf.result (omega (arith, ap length (gone.made ∙ same.made)))
-    (c.change_leaf.ensures.few one k) refl (omega arith) (omega arith)
+    few_or_one_on (g.P.Pages.store c.args.pages.now) (g.P.Pages.store c.retire.new.self) (g.P.Pages.store c.change_leaf.new.pages) c.args.rank _ _ _ _ 0 c.change_leaf.result (omega (arith, ap length (gone.made ∙ same.made)))
+    (c.change_leaf.ensures.few one k) (omega arith) (omega arith)
 
 pub change_below-returns-clause-few : goal.change_below-returns-clause-few
 change_below-returns-clause-few g t c =
     λ one little k.
     let gone = c.in_ok-retire.ensures.retires (c.change_children.ensures.grows.frame k).word in
     let same = c.in_ok-shared.ensures.same gone.frame.word in
-    few_on (g.P.Pages.store c.args.pages.now) (g.P.Pages.store c.retire.new.self) (g.P.Pages.store c.change_children.new.pages) c.args.rank c.args.rank _ _ _ _ 0 c.change_children.result (omega (arith, ap length (gone.made ∙ same.made)))
-    (c.change_children.ensures.few one (branch_few c.args.low.now c.in-Branch.branch _ c.in_ok-units.ensures.ok c.in_ok-units.ensures.sound little) (branch_two c.args.low.now c.in-Branch.branch _ c.in_ok-units.ensures.ok c.in_ok-units.ensures.sound) k) refl (omega arith) (omega arith)
+    few_alone (g.P.Pages.store c.args.pages.now) (g.P.Pages.store c.change_children.new.pages) c.args.rank _ _ c.change_children.result (few_on (g.P.Pages.store c.args.pages.now) (g.P.Pages.store c.retire.new.self) (g.P.Pages.store c.change_children.new.pages) c.args.rank c.args.rank _ _ _ _ 0 c.change_children.result (omega (arith, ap length (gone.made ∙ same.made)))
+    (c.change_children.ensures.few one (branch_few c.args.low.now c.in-Branch.branch _ c.in_ok-units.ensures.ok c.in_ok-units.ensures.sound little) (branch_two c.args.low.now c.in-Branch.branch _ c.in_ok-units.ensures.ok c.in_ok-units.ensures.sound) k) refl (omega arith) (omega arith))
 
 pub change_children-returns-clause-few : goal.change_children-returns-clause-few
 change_children-returns-clause-few g t c =
@@ -176,6 +176,6 @@ change_children-returns-clause-few g t c =
     children_few (g.P.Pages.store c.args.pages.now) (g.P.Pages.store c.change_below.new.pages) (g.P.Pages.store c.change_children.new.pages) (g.P.Pages.store c.meet_behind.new.pages) (g.P.Pages.store c.meet.new.pages)
     (sheaf_in c.args.loose) (sheaf_in left) (sheaf_in right) (sheaf_in c.in_ok-below.below) (sheaf_in c.in_ok-front.front) (sheaf_in c.in_ok-back.back) (stub_in c.in_ok-left.field-0.unit) (sum_of edit_pages (map edit_in c.args.edits.now))
     c.in_ok-left.ensures.parts c.in_ok-left.ensures.left_rank c.in_ok-left.ensures.right_rank c.requires.rank little (omega (arith, long_map stub_in c.args.loose.units.items)) (ap sheaf_in front_is) (omega (arith, ap (λ (s : Store). length s.made) front.1))
-    (subst (λ es. IsFew (g.P.Pages.store c.args.pages.now) (g.P.Pages.store c.change_below.new.pages) (left.rank - 1) 10880 (4 * (left.rank - 1) + sum_of edit_pages es) (sheaf_in c.in_ok-below.below)) (sym m.same) b)
-    (λ some small. c.in_ok-back.ensures.few (omega (arith, long_map stub_in right.units.items)) g4.word b.small small) (λ none. let n = c.in_ok-back.ensures.none (omega (arith, long_map stub_in right.units.items)) g4.word in (ap sheaf_in n.0, n.1))
+    (λ some small. c.in_ok-back.ensures.few (omega (arith, long_map stub_in right.units.items)) g4.word (few_small _ _ _ _ _ _ b) small) (λ none. let n = c.in_ok-back.ensures.none (omega (arith, long_map stub_in right.units.items)) g4.word in (ap sheaf_in n.0, n.1))
+    (subst (λ es. IsFewOrOne (g.P.Pages.store c.args.pages.now) (g.P.Pages.store c.change_below.new.pages) (left.rank - 1) 10880 (4 * (left.rank - 1) + sum_of edit_pages es) (sheaf_in c.in_ok-below.below)) (sym m.same) b)
     c.meet.result (λ hl hr. c.meet.ensures.few k hl hr)

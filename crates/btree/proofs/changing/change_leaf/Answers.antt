@@ -1,20 +1,16 @@
-use Rattle.std.proofs.Common.{◌∙◌, ap, arith, length, sym, refl, subst, map}
-use Rattle.page.specs.Content.{IsItem}
-use Rattle.btree.specs.Keys.{Each}
-use Rattle.btree.specs.Loose.{item_stub}
-use Rattle.btree.specs.View.{item_in}
-use Rattle.btree.proofs.FewLemmas.{cells_few}
-use Rattle.btree.proofs.ChangingLemmas.{each_of_all, leaf_changed}
+use Rattle.std.proofs.Common.{map}
+use Rattle.btree.specs.EditView.{edit_in}
+use Rattle.btree.proofs.InPageLemmas.{edited_turns}
+use Rattle.btree.proofs.StoreLemmas.{grows_trans}
 use Rattle.btree.proofs.changing.change_leaf.Goals as goal
 
-pub returns-clause-turns : goal.returns-clause-turns
-returns-clause-turns g c = λ base low high pairs rank e sound shown between k.
-    leaf_changed (g.P.Pages.store c.args.pages.now) (g.P.Pages.store c.edit_cells.new.pages) base c.args.rank low high _ pairs _ _ rank
-    (c.in_ok-edit_cells.ensures.edits pairs (c.in_ok-cells.ensures.ok ∙ e) sound.0 shown k) (c.in_ok-units.ensures ∙ ap (λ cs. map item_stub (map item_in cs)) c.deref.ensures.value)
-    (c.in_ok-edit_cells.ensures.small (subst (Each IsItem) (sym c.in_ok-cells.ensures.ok) (each_of_all c.args.leaf.now c.in_ok-cells.ensures.sound.each))) sound between
+pub returns-clause-grows : goal.returns-clause-grows
+returns-clause-grows g c = grows_trans _ _ _ c.in_ok-edited.ensures.grows c.write_leaf.ensures.grows
 
-pub returns-clause-few : goal.returns-clause-few
-returns-clause-few g c = λ one k.
-    let f = cells_few _ _ c.args.leaf.now _ (length c.args.edits.now) (c.in_ok-units.ensures ∙ ap (λ cs. map item_stub (map item_in cs)) c.deref.ensures.value)
-    (c.in_ok-edit_cells.ensures.small (subst (Each IsItem) (sym c.in_ok-cells.ensures.ok) (each_of_all c.args.leaf.now c.in_ok-cells.ensures.sound.each))) c.in_ok-cells.ensures.ok c.in_ok-edit_cells.ensures.size c.in_ok-cells.ensures.sound.room (omega arith) in
-    record { rank_is = refl; small = f.0; size = f.1; made = c.in_ok-edit_cells.ensures.few k }
+pub returns-clause-turns : goal.returns-clause-turns
+returns-clause-turns g c =
+    λ base low high pairs rank e sound shown between k.
+    let word = (c.write_leaf.ensures.grows.frame k).word in
+    let h = c.in_ok-edited.ensures.edits pairs e sound.0 shown word in
+    edited_turns (g.P.Pages.store c.args.pages.now) (g.P.Pages.store c.edit_page.new.pages) (g.P.Pages.store c.write_leaf.new.pages) base low high (map edit_in c.args.edits.now) pairs _ c.write_leaf.result (c.in_ok-edited.ensures.grows.frame word) h
+    (c.write_leaf.ensures.turns base low high h.pairs rank h.items_are (h.rise, h.between low high sound.1 between) h.shown k)

@@ -2,7 +2,7 @@ use Rattle.std.proofs.Common.{◌≡◌, ◌∙◌, ◌∷◌, [], None, Some, a
 use Rattle.btree.specs.EditView.{edit_in}
 use Rattle.btree.specs.Few.{edit_pages, levels_of}
 use Rattle.btree.specs.Keys.{sum_of}
-use Rattle.btree.proofs.FewLemmas.{few_on, first_few, levels_few}
+use Rattle.btree.proofs.FewLemmas.{few_or_one_on, first_few, levels_few}
 use Rattle.btree.proofs.GetLemmas.{root_part}
 use Rattle.btree.proofs.RootLemmas.{all_between, turned_behind}
 use Rattle.btree.proofs.StoreLemmas.{part_kept}
@@ -35,4 +35,4 @@ returns-clause-few g c =
     let same = c.in_ok-below.ensures.same word in
     levels_few old (g.P.Pages.store c.change_below.new.pages) c.args.root before entries tree c.in_ok-below.below (sum_of edit_pages (map edit_in c.args.edits.now)) c.change_below.result c.if-root-eq0.false
     (λ t. c.in_ok-below.ensures.levels t.d [] None t.body (root_part old c.args.root t.d t.body t.tree) word)
-    (few_on old mid (g.P.Pages.store c.change_below.new.pages) _ _ _ _ _ _ 0 c.change_below.result (omega (arith, ap (λ zs. length zs) same.made)) (c.change_below.ensures.few one (omega arith) k) refl (omega arith) (omega arith))
+    (few_or_one_on old mid (g.P.Pages.store c.change_below.new.pages) _ _ _ _ _ 0 c.change_below.result (omega (arith, ap (λ zs. length zs) same.made)) (c.change_below.ensures.few one (omega arith) k) (omega arith) (omega arith))

@@ -3,10 +3,10 @@ use Rattle.std.specs.List.{flat_map}
 use Rattle.byteorder.specs.Endian.{little_bytes}
 use Rattle.page.specs.Content.{Arm, IsArm, IsBranch, arm_size, total}
 use Rattle.page.specs.Format.{arm_bytes, arms_bytes, arms_at, body_and_zeros}
-use Rattle.page.specs.Kept.{KeepsBranch}
+use Rattle.page.specs.Kept.{KeepsBranch, starts}
 use Rattle.page.specs.CellView.{arm_of}
 use Rattle.page.specs.declared.cells.Child.{Child}
-use Rattle.page.proofs.PlaceLemmas.{starts, total_take, length-joined}
+use Rattle.page.proofs.PlaceLemmas.{total_take, length-joined}
 use Rattle.page.proofs.CellLemmas.{length-arm}
 use Rattle.page.proofs.KeptLemmas.{branch_again, branch_made}
 use Rattle.page.proofs.MakingLemmas.{all_taken, filled, sound_at, bytes_more, places_more, front_child}

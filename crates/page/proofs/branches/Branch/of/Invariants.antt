@@ -3,7 +3,7 @@ use Rattle.std.specs.List.{flat_map}
 use Rattle.page.specs.Content.{arm_size}
 use Rattle.page.specs.Format.{arm_bytes}
 use Rattle.page.specs.CellView.{arm_of}
-use Rattle.page.proofs.PlaceLemmas.{starts}
+use Rattle.page.specs.Kept.{starts}
 use Rattle.page.proofs.branches.Branch.of.Given as goal
 
 abbrev pub invariant-loop-child : goal.invariant-loop-child

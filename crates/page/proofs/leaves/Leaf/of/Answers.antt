@@ -2,11 +2,11 @@ use Rattle.std.proofs.Common.{◌≡◌, ◌++◌, ◌∷◌, [], ℕ, List, ◌
 use Rattle.std.specs.List.{flat_map}
 use Rattle.page.specs.Content.{Item, IsItem, IsLeaf, item_size, total}
 use Rattle.page.specs.Format.{item_bytes, items_at, body_and_zeros}
-use Rattle.page.specs.Kept.{KeepsLeaf}
+use Rattle.page.specs.Kept.{KeepsLeaf, starts}
 use Rattle.page.specs.CellView.{item_of}
 use Rattle.page.specs.declared.cells.Cell.{Cell}
 use Rattle.page.specs.declared.cells.Stored.TheVariants.{Inline}
-use Rattle.page.proofs.PlaceLemmas.{starts, total_take, length-joined}
+use Rattle.page.proofs.PlaceLemmas.{total_take, length-joined}
 use Rattle.page.proofs.CellLemmas.{length-item}
 use Rattle.page.proofs.KeptLemmas.{leaf_again, leaf_made}
 use Rattle.page.proofs.MakingLemmas.{all_taken, filled, sound_at, bytes_more, places_more}

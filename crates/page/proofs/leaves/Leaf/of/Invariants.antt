@@ -3,7 +3,7 @@ use Rattle.std.specs.List.{flat_map}
 use Rattle.page.specs.Content.{item_size}
 use Rattle.page.specs.Format.{item_bytes}
 use Rattle.page.specs.CellView.{item_of}
-use Rattle.page.proofs.PlaceLemmas.{starts}
+use Rattle.page.specs.Kept.{starts}
 use Rattle.page.proofs.leaves.Leaf.of.Given as goal
 
 abbrev pub invariant-loop-cell : goal.invariant-loop-cell

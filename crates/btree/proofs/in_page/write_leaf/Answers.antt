@@ -1,0 +1,34 @@
+use Rattle.std.proofs.Common.{◌∷◌, ◌++◌, [], ◌∙◌, arith, inl, inr, map, refl}
+use Rattle.btree.specs.LooseView.{stub_in}
+use Rattle.btree.proofs.ChangingLemmas.{each_of_all, leaf_changed}
+use Rattle.btree.proofs.EditLemmas.{not_edited}
+use Rattle.btree.proofs.FewLemmas.{leaf_few}
+use Rattle.btree.proofs.InPageLemmas.{leaf_written, none, one_few}
+use Rattle.btree.proofs.in_page.write_leaf.Goals as goal
+
+pub returns-then-len-lt2-clause-few : goal.returns-then-len-lt2-clause-few
+returns-then-len-lt2-clause-few g c =
+    λ k.
+    let f = leaf_few c.args.leaf _ c.in_ok-units.ensures.ok c.len.ensures.sound in
+    inl (record { rank_is = refl; small = f.0; size = f.1; made = omega arith })
+
+pub returns-then-len-lt2-clause-turns : goal.returns-then-len-lt2-clause-turns
+returns-then-len-lt2-clause-turns g c =
+    λ base low high pairs rank e sound shown k.
+    let s = g.P.Pages.store c.args.pages.now in
+    leaf_changed s s base c.args.rank low high [] pairs c.args.leaf _ rank (not_edited s pairs c.args.leaf e sound.0 shown) c.in_ok-units.ensures.ok (each_of_all c.args.leaf c.len.ensures.sound.each) sound tt
+
+pub returns-clause-few : goal.returns-clause-few
+returns-clause-few g c =
+    λ k.
+    let key = c.in_ok-key.key.items in
+    inr (one_few (g.P.Pages.store c.args.pages.now) (g.P.Pages.store c.fresh.new.self) c.args.rank c.in_ok-page.page key c.args.leaf _ c.len.ensures.sound (c.in_ok-page.ensures.makes k) (c.in_ok-key.ensures.items ∙ c.leaf_key.ensures (none key)) c.child_unit.ensures.range
+    (c.in_ok-push_unit.ensures.ok ∙ (λ i. map stub_in (c.new-units.ensures.items i) ++ c.child_unit.ensures.stub i ∷ [])))
+
+pub returns-clause-turns : goal.returns-clause-turns
+returns-clause-turns g c =
+    λ base low high pairs rank e sound shown k.
+    let key = c.in_ok-key.key.items in
+    leaf_written (g.P.Pages.store c.args.pages.now) (g.P.Pages.store c.fresh.new.self) base c.args.rank c.in_ok-page.page low key high c.args.leaf pairs _ rank e c.len.ensures.sound sound shown (c.in_ok-page.ensures.makes k)
+    (c.in_ok-key.ensures.items ∙ c.leaf_key.ensures (none key)) c.child_unit.ensures.range
+    (c.in_ok-push_unit.ensures.ok ∙ (λ i. map stub_in (c.new-units.ensures.items i) ++ c.child_unit.ensures.stub i ∷ []))
