@@ -1,16 +1,14 @@
 -- What is asked of the database, and what makes no difference to it.
-use Rattle.std.proofs.Common.{◌≡◌, ℕ, Bool, true, false, List, Option, Some, None, refl, ap, subst, sym, ◌∙◌}
+use Rattle.std.proofs.Common.{◌≡◌, ℕ, false, List, Option, Some, None, refl, ap, ◌∙◌}
 use Rattle.std.specs.Prelude.{if◌then◌else◌}
 use Rattle.std.specs.Option.{option_or, option_map}
 use Rattle.bson.specs.Tree.{Tree, Pairs, no_pairs, pair, append}
 use Rattle.drivers.specs.Cleaning.{is_kept, field_fault, first_refused, kept}
 use Rattle.drivers.specs.Starting.{ask, ask_unless, do_command, name_of}
 use Rattle.drivers.specs.Commands.{command_of}
-use Rattle.drivers.specs.Laws.{done, asked_by, Asks, AsksOwnFields, IgnoredMakesNoDifference}
+use Rattle.drivers.specs.Laws.{asked_by, Asks, AsksOwnFields, IgnoredMakesNoDifference}
 use Rattle.drivers.specs.declared.server_info.ServerInfo.{ServerInfo}
 use Rattle.drivers.specs.declared.reason.Reason.{Reason}
-use Rattle.drivers.specs.declared.step.Step.{Step}
-use Rattle.drivers.specs.declared.step.Step.TheVariants as steps
 use Rattle.drivers.specs.declared.command.Asked.{Asked}
 use Rattle.drivers.specs.declared.command.Command.{Command}
 use Rattle.drivers.specs.declared.command.Command.TheVariants as commands

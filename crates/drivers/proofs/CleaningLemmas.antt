@@ -2,7 +2,7 @@
 use Rattle.std.proofs.Common.{◌≡◌, Bool, true, false, List, [], ◌∷◌, refl, ap}
 use Rattle.std.specs.Prelude.{if◌then◌else◌}
 use Rattle.std.specs.List.{filter}
-use Rattle.bson.specs.Tree.{Pairs, no_pairs, pair}
+use Rattle.bson.specs.Tree.{pair}
 use Rattle.bson.specs.View.{tree, pairs_of}
 use Rattle.bson.specs.declared.value.Pair.{Pair}
 use Rattle.drivers.specs.declared.command.Asked.{Asked}

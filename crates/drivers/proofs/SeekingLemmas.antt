@@ -1,7 +1,6 @@
 -- Steps of a search, counted down.
-use Rattle.std.proofs.Common.{◌≡◌, ℕ, suc, ◌+◌, ◌-◌, ◌<◌, ◌≤◌, List, Option, Some, None, Result, Ok, Err, refl, ap, sym, ◌∙◌, arith}
+use Rattle.std.proofs.Common.{◌≡◌, ℕ, suc, ◌+◌, ◌-◌, ◌<◌, ◌≤◌, List, None, refl, ap, sym, ◌∙◌, arith}
 use Rattle.drivers.specs.Seeking.{Place, Seek, step, seek, on}
-use Rattle.drivers.specs.declared.foreign.ForeignType.{ForeignType}
 
 one_more : (n : ℕ) (place : Place) (bytes : List ℕ) → seek (suc n) place bytes ≡ on (seek n) (step place bytes)
 unfolding seek

@@ -1,8 +1,8 @@
 -- What a driver is answered where the database was asked. `ok` becomes an int64, so that no frame has under 36 bytes, which one driver
 -- takes for cut. Two refusals are told by drivers and programs from their texts: that a collection isn't there, and that a key is
 -- there already (MongoDB manual, error codes).
-use Rattle.std.specs.Prelude.{ℕ, ℤ, pos, negsuc, Bool, false, ◌==◌, if◌then◌else◌, List, [], ◌++◌, codes, Option, Some, None, Result, Ok, Err}
-use Rattle.bson.specs.Tree.{Tree, scalar, document, array, text, boolean, int32, int64, Pairs, no_pairs, pair, append, Items, no_items, item}
+use Rattle.std.specs.Prelude.{ℕ, ℤ, pos, negsuc, Bool, false, ◌==◌, if◌then◌else◌, List, ◌++◌, codes, Option, Some, None, Result, Ok, Err}
+use Rattle.bson.specs.Tree.{Tree, scalar, document, array, boolean, int32, int64, Pairs, no_pairs, pair, append, Items, no_items, item}
 use Rattle.bson.specs.Lookup.{lookup}
 use Rattle.bson.specs.Edits.{put, cut}
 use Rattle.std.specs.Str.{bytes_eq}
@@ -15,7 +15,6 @@ use Rattle.drivers.specs.Cursors.{ids_of, first_id, kill_one, no_kills, after, k
 use Rattle.drivers.specs.declared.command.Asked.TheVariants as askeds
 use Rattle.drivers.specs.declared.kills.Kills.{Kills}
 use Rattle.drivers.specs.Starting.{name_of, unheard}
-use Rattle.drivers.specs.declared.server_info.ServerInfo.{ServerInfo}
 use Rattle.drivers.specs.declared.message.BodyFault.{BodyFault}
 use Rattle.drivers.specs.declared.message.Message.{Message}
 use Rattle.drivers.specs.declared.plan.Plan.{Plan}

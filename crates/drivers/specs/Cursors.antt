@@ -1,8 +1,8 @@
 -- Commands about cursors, each of which only the connection that opened it can go on with (mongodb/specifications, find, getMore and
 -- killCursors): `getMore`, and `killCursors`, whose cursors are ended one after the other and whose answers are joined.
-use Rattle.std.specs.Prelude.{ℕ, ℤ, Bool, false, ◌==◌, not, nat_lt, if◌then◌else◌, List, codes, Option, Some, None}
-use Rattle.std.specs.Option.{option_map, option_and_then}
-use Rattle.bson.specs.Tree.{Tree, scalar, array, int32, int64, Pairs, no_pairs, pair, Items, no_items, item, append_items}
+use Rattle.std.specs.Prelude.{ℤ, Bool, false, ◌==◌, not, nat_lt, if◌then◌else◌, codes, Option, Some, None}
+use Rattle.std.specs.Option.{option_map}
+use Rattle.bson.specs.Tree.{Tree, scalar, array, int32, int64, Pairs, no_pairs, pair, append, Items, no_items, item, append_items}
 use Rattle.bson.specs.Lookup.{lookup}
 use Rattle.bson.specs.Edits.{put, items_len, without_item}
 use Rattle.drivers.specs.Handshake.{ok}
@@ -81,9 +81,13 @@ abbrev pub after : Kills → Pairs → Kills
 after kills reply = after_id (first_id kills.left) (was_killed reply) kills
 
 -- the answer for all
+abbrev pub told_ids : Items → Items → Pairs
+told_ids killed missing =
+    pair (codes "cursorsKilled") (array killed)
+    (pair (codes "cursorsNotFound") (array missing) no_pairs)
+
 abbrev pub kill_reply : Kills → Pairs
 kill_reply kills =
-    pair (codes "cursorsKilled") (array kills.killed)
-    (pair (codes "cursorsNotFound") (array kills.missing)
+    append (told_ids kills.killed kills.missing)
     (pair (codes "cursorsAlive") (array no_items)
-    (pair (codes "cursorsUnknown") (array no_items) ok)))
+    (pair (codes "cursorsUnknown") (array no_items) ok))

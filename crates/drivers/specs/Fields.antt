@@ -1,5 +1,5 @@
 -- Documents of a few fields whose values hold no others, as replies are.
-use Rattle.std.specs.Prelude.{ℕ, Bool, true, false, ◌&&◌, ◌==◌, not, Option, is_none, List, [], ◌∷◌}
+use Rattle.std.specs.Prelude.{ℕ, Bool, true, ◌&&◌, ◌==◌, not, is_none, List, [], ◌∷◌}
 use Rattle.std.specs.List.{list_any}
 use Rattle.bson.specs.Tree.{Tree, scalar, text, boolean, date, int32, int64, Pairs, no_pairs, pair, append}
 use Rattle.bson.specs.Lookup.{lookup}

@@ -11,11 +11,16 @@ use Rattle.drivers.specs.declared.message.Form.TheVariants as forms
 use Rattle.drivers.specs.declared.step.Step.{Step}
 use Rattle.drivers.specs.declared.step.Step.TheVariants as steps
 
+abbrev pub begun_head : ℕ → ℕ → ℕ → List ℕ
+begun_head len number request = (le_32 len ++ le_32 number) ++ le_32 request
+
 -- no cursor, from the first document, one document
+abbrev pub one_document : List ℕ
+one_document = to_le_bytes w64 0 ++ le_32 0 ++ le_32 1
+
 abbrev pub query_head : ℕ → ℕ → ℕ → ℕ → List ℕ
 query_head flags number request len =
-    le_32 (len + 36) ++ le_32 number ++ le_32 request ++ le_32 1 ++ le_32 flags
-    ++ to_le_bytes w64 0 ++ le_32 0 ++ le_32 1
+    ((begun_head (len + 36) number request ++ le_32 1) ++ le_32 flags) ++ one_document
 
 abbrev pub with_head : ℕ → ℕ → ℕ → List ℕ → List ℕ
 with_head flags number request body = query_head flags number request (length body) ++ body

@@ -17,3 +17,4 @@ pub mod Framing
 pub mod Cursors
 pub mod Texts
 pub mod WriteErrors
+pub mod Rows

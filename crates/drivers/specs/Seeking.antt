@@ -1,6 +1,6 @@
 -- The first value, from the left, of a type that the database doesn't have (BSON 1.1, bsonspec.org), in bytes that are otherwise a
 -- document: into documents and arrays, and over what other values hold.
-use Rattle.std.specs.Prelude.{ℕ, zero, suc, ◌+◌, ◌-◌, ◌==◌, nat_lt, if◌then◌else◌, List, [], ◌∷◌, ◌++◌, length, take, drop, Option, Some, None, Result, Ok, Err}
+use Rattle.std.specs.Prelude.{ℕ, zero, suc, ◌+◌, ◌-◌, ◌==◌, if◌then◌else◌, List, [], ◌∷◌, ◌++◌, length, take, drop, Option, Some, None, Result, Ok, Err}
 use Rattle.std.specs.Option.{option_or, option_map}
 use Rattle.std.specs.Fmt.{decimal}
 use Rattle.bson.specs.Raw.{number_at, len_at}

@@ -1,5 +1,5 @@
 -- What functions that seek return, beside what the definitions give.
-use Rattle.std.specs.Prelude.{ℕ, List, Option, Some, None, Result, Ok, Err}
+use Rattle.std.specs.Prelude.{Option, Some, None, Result, Ok, Err}
 use Rattle.bson.specs.declared.fault.BsonFault.{BsonFault}
 use Rattle.bson.specs.declared.kind.Kind.{Kind}
 use Rattle.drivers.specs.Seeking.{Place}

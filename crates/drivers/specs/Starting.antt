@@ -10,7 +10,6 @@ use Rattle.drivers.specs.Cleaning.{first_refused, kept}
 use Rattle.drivers.specs.Commands.{command_of}
 use Rattle.drivers.specs.Cursors.{cursor_of, ids_of, first_id, kill_one}
 use Rattle.drivers.specs.declared.server_info.ServerInfo.{ServerInfo}
-use Rattle.drivers.specs.declared.foreign.Foreign.{Foreign}
 use Rattle.drivers.specs.declared.message.BodyFault.{BodyFault}
 use Rattle.drivers.specs.declared.message.BodyFault.TheVariants as faults
 use Rattle.drivers.specs.declared.message.Form.{Form}

@@ -1,5 +1,5 @@
 -- Texts that fields hold.
-use Rattle.std.specs.Prelude.{ℕ, List, [], Option, Some, None}
+use Rattle.std.specs.Prelude.{ℕ, List, [], Option, Some}
 use Rattle.bson.specs.Tree.{Tree, scalar, text, Pairs, no_pairs, pair}
 
 -- a text, or the empty one where there is none

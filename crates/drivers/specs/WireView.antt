@@ -1,5 +1,5 @@
 -- What functions that read messages take, beside what the definitions have.
-use Rattle.std.specs.Prelude.{ℕ, List, [], Option}
+use Rattle.std.specs.Prelude.{[], Option}
 use Rattle.drivers.specs.Seeking.{foreign_in, foreign_in_sections}
 use Rattle.drivers.specs.declared.foreign.Foreign.{Foreign}
 use Rattle.drivers.specs.declared.wire.Spelled.{Spelled}

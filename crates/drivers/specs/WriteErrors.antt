@@ -1,14 +1,13 @@
 -- How drivers are told why a write was refused (mongodb/specifications, crud and server write commands): the refusal of a statement stands in
 -- `writeErrors`, beside its index, and the reply is that of a command that was done. A refusal that isn't one of a statement stays the
 -- command's.
-use Rattle.std.specs.Prelude.{ℕ, ℤ, pos, negsuc, Bool, true, false, not, ◌==◌, nat_eq, if◌then◌else◌, List, [], ◌∷◌, ◌++◌, codes, Option, Some, None}
+use Rattle.std.specs.Prelude.{ℕ, ℤ, pos, negsuc, Bool, false, ◌==◌, if◌then◌else◌, List, [], ◌∷◌, codes, Option, Some, None}
 use Rattle.std.specs.List.{list_any}
 use Rattle.bson.specs.Tree.{Tree, scalar, document, array, int32, Pairs, no_pairs, pair, append, no_items, item}
 use Rattle.bson.specs.Lookup.{lookup}
 use Rattle.bson.specs.Edits.{items_len}
 use Rattle.drivers.specs.Handshake.{int, words, ok}
 use Rattle.drivers.specs.Tables.{beside}
-use Rattle.drivers.specs.Texts.{text_or_none}
 
 -- the field that holds the statements of a write
 abbrev pub statement_fields : List (List ℕ × List ℕ)

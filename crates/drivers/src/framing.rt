@@ -3,7 +3,7 @@
 ghost use Rattle.std.specs.Prelude.{◌≡◌, ◌≤◌, ◌+◌, length, option_map, IfOk};
 ghost use Rattle.bson.specs.Limits.{message_limit};
 ghost use Rattle.bson.specs.Spelling.{frame_of, pairs_bytes};
-ghost use Rattle.drivers.specs.Framing.{query_head, query_reply, frame, framed, IsShort};
+ghost use Rattle.drivers.specs.Framing.{begun_head, query_head, query_reply, frame, framed, IsShort};
 
 use crate::message::Form;
 use crate::step::Step;
@@ -18,6 +18,20 @@ const AWAIT_CAPABLE: u32 = 8;
 /// The flag of an OP_REPLY to a query that failed.
 const QUERY_FAILURE: u32 = 2;
 
+/// What an OP_REPLY says of its documents: of no cursor, from the first one on, one.
+const ONE_DOCUMENT: [u8; 16] = [0, 0, 0, 0, 0, 0, 0, 0, 0, 0, 0, 0, 1, 0, 0, 0];
+
+/// A frame of so many bytes, up to its opcode.
+fn begun_frame(alloc: Global, len: u32, reply_no: u32, request_id: u32) -> Result<Vec<u8>, NoMemory>
+    ensures { IfOk result (λ v. v.items ≡ begun_head len reply_no request_id) }
+{
+    let mut frame = Vec::with_capacity(alloc, len as usize)?;
+    frame.extend_from_slice(&len.to_le_bytes())?;
+    frame.extend_from_slice(&reply_no.to_le_bytes())?;
+    frame.extend_from_slice(&request_id.to_le_bytes())?;
+    Ok(frame)
+}
+
 /// An OP_REPLY up to its document, with room for one of this length.
 fn begun_reply(
     alloc: Global,
@@ -30,15 +44,10 @@ fn begun_reply(
     ensures { IfOk result (λ v. v.items ≡ query_head flags reply_no request_id body_len) }
 {
     let len = body_len as u32 + REPLY_BYTES;
-    let mut frame = Vec::with_capacity(alloc, len as usize)?;
-    frame.extend_from_slice(&len.to_le_bytes())?;
-    frame.extend_from_slice(&reply_no.to_le_bytes())?;
-    frame.extend_from_slice(&request_id.to_le_bytes())?;
+    let mut frame = begun_frame(alloc, len, reply_no, request_id)?;
     frame.extend_from_slice(&1u32.to_le_bytes())?;
     frame.extend_from_slice(&flags.to_le_bytes())?;
-    frame.extend_from_slice(&0u64.to_le_bytes())?;
-    frame.extend_from_slice(&0u32.to_le_bytes())?;
-    frame.extend_from_slice(&1u32.to_le_bytes())?;
+    frame.extend_from_slice(&ONE_DOCUMENT)?;
     Ok(frame)
 }
 

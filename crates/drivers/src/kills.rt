@@ -2,7 +2,7 @@
 
 ghost use Rattle.std.specs.Prelude.{◌≡◌, IfOk, OnOk, option_map};
 ghost use Rattle.bson.specs.View.{tree, items_of};
-ghost use Rattle.drivers.specs.Cursors.{number_of, cursor_of, wide_ids, ids_in, ids_of, first_id, kill_one, no_kills, is_more, was_killed, after, kill_reply};
+ghost use Rattle.drivers.specs.Cursors.{number_of, cursor_of, wide_ids, ids_in, ids_of, first_id, kill_one, no_kills, is_more, was_killed, after, told_ids, kill_reply};
 
 use crate::fields::{add, put, set};
 use bson::{Array, Document, NoMemory, Value};
@@ -98,6 +98,18 @@ fn was_killed(reply: &Document) -> bool
     }
 }
 
+/// Which cursors were ended, and which were missing.
+fn told_ids(alloc: Global, killed: Array, missing: Array) -> Result<Document, NoMemory>
+    ensures { IfOk result (λ d. d ≡ told_ids killed missing) }
+{
+    let _levels = killed.levels();
+    let _levels = missing.levels();
+    let mut reply = Document::new(alloc);
+    put(&mut reply, "cursorsKilled", Value::Array(killed))?;
+    put(&mut reply, "cursorsNotFound", Value::Array(missing))?;
+    Ok(reply)
+}
+
 impl Kills {
     /// Nothing is known yet.
     pub(crate) fn new(alloc: Global, body: Document, ids: Array) -> Kills
@@ -139,11 +151,13 @@ impl Kills {
     pub(crate) fn reply(self, alloc: Global) -> Result<Document, NoMemory>
         ensures { IfOk result (λ d. d ≡ kill_reply self) }
     {
-        let _levels = self.killed.levels();
-        let _levels = self.missing.levels();
-        let mut reply = Document::new(alloc);
-        put(&mut reply, "cursorsKilled", Value::Array(self.killed))?;
-        put(&mut reply, "cursorsNotFound", Value::Array(self.missing))?;
+        let Kills {
+            body: _,
+            left: _,
+            killed,
+            missing,
+        } = self;
+        let mut reply = told_ids(alloc, killed, missing)?;
         put(&mut reply, "cursorsAlive", Value::Array(Array::new(alloc)))?;
         put(
             &mut reply,

@@ -1,6 +1,7 @@
 //! Laws of the definitions, as contracts.
 
 ghost use Rattle.drivers.specs.Laws.{AsksOwnFields, IgnoredMakesNoDifference};
+ghost use Rattle.drivers.specs.Rows.{QueryRows, ForeignRows, StepRows};
 
 /// Something is asked of the database only if the command is one for it and no field of it is refused: the command without the fields
 /// that the database doesn't have.
@@ -11,4 +12,11 @@ pub fn asks_own_fields()
 /// A field that is ignored makes no difference to what is done first.
 pub fn ignored_makes_no_difference()
     ensures { IgnoredMakesNoDifference }
+{}
+
+/// Messages, foreign types and commands, worked by hand.
+pub fn rows()
+    ensures queries { QueryRows }
+    ensures foreign { ForeignRows }
+    ensures steps { StepRows }
 {}

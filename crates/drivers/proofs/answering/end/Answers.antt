@@ -1,5 +1,4 @@
-use Rattle.std.proofs.Common.{◌≡◌, ◌∙◌, Option, Some, ap, sym, codes}
-use Rattle.bson.specs.Tree.{Tree}
+use Rattle.std.proofs.Common.{◌∙◌, Some, ap, sym, codes}
 use Rattle.bson.specs.View.{tree}
 use Rattle.bson.specs.declared.value.Value.{Value}
 use Rattle.drivers.proofs.LevelLemmas.{inner-levels, cut_is}

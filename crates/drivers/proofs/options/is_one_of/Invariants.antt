@@ -1,5 +1,4 @@
 use Rattle.std.proofs.Common.{◌≡◌, drop, map}
-use Rattle.std.specs.Borrow.{Bor}
 use Rattle.drivers.specs.Rules.{is_one_of}
 use Rattle.drivers.proofs.options.is_one_of.Given as goal
 

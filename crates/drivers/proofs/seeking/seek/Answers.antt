@@ -1,6 +1,4 @@
-use Rattle.std.proofs.Common.{◌≡◌, ◌∙◌}
-use Rattle.drivers.specs.Seeking.{step}
-use Rattle.drivers.specs.SeekingView.{seek_of}
+use Rattle.std.proofs.Common.{◌∙◌}
 use Rattle.drivers.proofs.SeekingLemmas.{one_step, no_step}
 use Rattle.drivers.proofs.seeking.seek.Goals as goal
 
