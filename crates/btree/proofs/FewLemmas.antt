@@ -4,7 +4,7 @@ use Rattle.std.specs.List.{AllByRecursion, insert, remove}
 use Rattle.std.proofs.lemmas.Bool.{lt-leb}
 use Rattle.std.proofs.lemmas.List.{length-drop}
 use Rattle.std.specs.Result.{IfOk}
-use Rattle.page.specs.Content.{Arm, IsArm, IsBranch, IsItem, IsLeaf, Item, arm_size, arms_size, item_size, total}
+use Rattle.page.specs.Content.{Arm, IsArm, IsBranch, IsItem, IsLeaf, Item, arm_size, item_size, total}
 use Rattle.btree.specs.declared.loose.Loose.{Loose}
 use Rattle.btree.specs.declared.loose.Unit.{Unit}
 use Rattle.btree.specs.declared.pages.TreeFault.{TreeFault}
@@ -16,7 +16,7 @@ use Rattle.btree.specs.Tree.{HasLinks}
 use Rattle.btree.specs.Change.{edit_keys}
 use Rattle.btree.specs.Keys.{Each, Edit, Entry, IsNotUnder, IsUnder, Rises, sum_of}
 use Rattle.btree.specs.Loose.{IsChild, IsStub, Stub, arm_stub, item_stub, stub_size, stubs_size, under_key}
-use Rattle.btree.specs.Few.{AreFewJoined, AreFewOff, AreFewPages, IsFew, IsFewOrOne, IsFullPart, IsLittle, IsOnePage, IsFewTop, IsOneChild, MakesUpTo, chain_pages, edit_pages, levels_of}
+use Rattle.btree.specs.Few.{AreFewJoined, AreFewPages, IsFew, IsFewOrOne, IsFullPart, IsLittle, IsOnePage, IsFewTop, IsOneChild, MakesUpTo, chain_pages, edit_pages, levels_of}
 use Rattle.btree.specs.Reach.{HasMap, HasTree}
 use Rattle.btree.specs.Store.{IsMade, Store}
 use Rattle.btree.specs.Turn.{Sheaf, sheaf_in}

@@ -1,5 +1,5 @@
 -- Edits of a leaf that stays one page.
-use Rattle.std.proofs.Common.{◌≡◌, ℕ, zero, suc, ◌+◌, ◌*◌, ◌^◌, ◌<◌, ◌≤◌, Bool, true, false, List, [], ◌∷◌, ◌++◌, length, map, take, drop, get_or, Option, Some, None, Result, Ok, Err, refl, sym, ap, ◌∙◌, subst, arith, append-nil, inl, inr}
+use Rattle.std.proofs.Common.{◌≡◌, ℕ, zero, suc, ◌+◌, ◌^◌, ◌<◌, ◌≤◌, Bool, true, false, List, [], ◌∷◌, ◌++◌, length, map, take, get_or, Option, Some, Result, Ok, Err, refl, sym, ap, ◌∙◌, subst, arith, append-nil, inl, inr}
 use Rattle.std.specs.Prelude.{◌&&◌}
 use Rattle.std.specs.List.{AllByRecursion, insert, remove}
 use Rattle.std.specs.Ordering.{is_eq, is_lt, nat_cmp}
@@ -12,19 +12,18 @@ use Rattle.btree.specs.declared.pages.TreeFault.{TreeFault}
 use Rattle.btree.specs.declared.editing.Edit.{Edit as ProgramEdit}
 use Rattle.btree.specs.EditView.{edit_in}
 use Rattle.btree.specs.Calls.{IsAnswer, IsEdited, IsPutIn, IsStored, IsTakenOut}
-use Rattle.btree.specs.Few.{IsFew, IsFewOrOne, MakesUpTo, edit_room}
-use Rattle.btree.specs.Keys.{Each, Edit, Entry, IsBetween, IsNotUnder, IsUnder, Pair, Rises, change, entry_of, key_cmp, sum_of, times}
-use Rattle.btree.specs.Loose.{IsStub, Stub, arm_stub, pair_stub, stub_size, stubs_size}
+use Rattle.btree.specs.Few.{IsFew, edit_room}
+use Rattle.btree.specs.Keys.{Each, Edit, IsNotUnder, IsUnder, Pair, Rises, change, entry_of, key_cmp, sum_of, times}
+use Rattle.btree.specs.Loose.{IsStub, Stub, arm_stub, pair_stub, stubs_size}
 use Rattle.btree.specs.Search.{IsGap, IsPlace}
 use Rattle.btree.specs.Store.{Frame, IsAt, IsMade, Store}
 use Rattle.btree.specs.Tree.{HasChain, IsSound, Shows, item_of, pages_of, pair_keys}
-use Rattle.btree.specs.Turn.{IsHeld, IsTurned, Sheaf, sheaf_in}
-use Rattle.std.specs.Result.{IfOk}
+use Rattle.btree.specs.Turn.{IsTurned}
 use Rattle.btree.proofs.ChangingLemmas.{turned_on}
 use Rattle.btree.proofs.EditLemmas.{edits_more, insert_here, put_key, remove_here}
 use Rattle.btree.proofs.HeldLemmas.{IsTurn}
-use Rattle.btree.proofs.KeyLemmas.{not_under_cases, not_under_itself, under_trans, up_to_then_under}
-use Rattle.btree.proofs.ListLemmas.{At, at_place, each_append, each_back, each_front, each_map, each_of_map, get_front, get_here, long_append, map_append, rises_across, rises_append, rises_back, rises_front}
+use Rattle.btree.proofs.KeyLemmas.{not_under_cases, under_trans, up_to_then_under}
+use Rattle.btree.proofs.ListLemmas.{At, at_place, each_map, each_of_map, get_front, get_here, long_append, map_append, rises_across, rises_append, rises_back, rises_front}
 use Rattle.btree.proofs.SplitLemmas.{spread_up}
 use Rattle.btree.proofs.StoreLemmas.{cause_later, frame_trans, shows_kept}
 

@@ -1,5 +1,5 @@
 -- The root of a tree after a change.
-use Rattle.std.proofs.Common.{◌≡◌, ℕ, zero, suc, ◌+◌, ◌*◌, ◌^◌, ◌<◌, ◌≤◌, List, [], ◌∷◌, ◌++◌, length, map, get_or, Option, Some, None, Result, Ok, Err, refl, sym, ap, ◌∙◌, subst, arith, ◌⊎◌, inl, inr, append-nil}
+use Rattle.std.proofs.Common.{◌≡◌, ℕ, zero, suc, ◌+◌, ◌^◌, ◌<◌, ◌≤◌, List, [], ◌∷◌, ◌++◌, length, map, get_or, Option, None, Result, Ok, Err, refl, sym, ap, ◌∙◌, subst, arith, ◌⊎◌, inl, inr, append-nil}
 use Rattle.std.specs.List.{flat_map}
 use Rattle.std.specs.Result.{IsErrAnd, MatchResult}
 use Rattle.std.proofs.Math.Pow.{pow_mono}
@@ -7,11 +7,11 @@ use Rattle.std.proofs.lemmas.List.{length-append}
 use Rattle.page.specs.Content.{Arm, branch}
 use Rattle.btree.specs.Calls.{IsAnswer, IsPart}
 use Rattle.btree.specs.Change.{IsChanged, IsTooHigh}
-use Rattle.btree.specs.Keys.{Each, Edit, Entry, IsBetween, Pair, change, entry_of, times}
+use Rattle.btree.specs.Keys.{Each, Edit, Entry, IsBetween, change, entry_of, times}
 use Rattle.btree.specs.Loose.{IsChild, IsSpread, Stub, child, pair_stub, stubs_of, twig_stub}
 use Rattle.btree.specs.Reach.{HasMap}
 use Rattle.btree.specs.Store.{Frame, HasCause, IsSame, Store}
-use Rattle.btree.specs.Tree.{Body, IsFan, IsSound, IsTree, IsWhole, Shows, Twig, arm_of, content_of, entries_of, high_of, item_of, pages_of, pairs_of, with_low}
+use Rattle.btree.specs.Tree.{Body, IsFan, IsSound, IsWhole, Shows, Twig, arm_of, content_of, entries_of, high_of, item_of, pages_of, pairs_of}
 use Rattle.btree.specs.Turn.{AreTurned, IsHeld, IsReady, IsTurned, Sheaf, sheaf_in}
 use Rattle.btree.specs.declared.loose.Loose.{Loose}
 use Rattle.btree.specs.declared.pages.TreeFault.{TreeFault}
@@ -20,7 +20,7 @@ use Rattle.btree.proofs.GetLemmas.{root_between}
 use Rattle.btree.proofs.ListLemmas.{long_map}
 use Rattle.btree.proofs.LooseLemmas.{Lies}
 use Rattle.btree.proofs.RaiseLemmas.{no_entries}
-use Rattle.btree.proofs.StoreLemmas.{cause_later, frame_same, part_kept}
+use Rattle.btree.proofs.StoreLemmas.{cause_later, frame_same}
 use Rattle.btree.proofs.WideLemmas.{sound_low}
 
 -- ---- how many entries a tree of so many levels has

@@ -4,7 +4,7 @@ use Rattle.std.proofs.Common.{inl, inr}
 use Rattle.btree.specs.declared.loose.Loose.{Loose}
 use Rattle.btree.specs.declared.pages.TreeFault.{TreeFault}
 use Rattle.btree.specs.Keys.{Each, Edit, Entry}
-use Rattle.btree.specs.Loose.{IsChild, IsStub, Stub, stub_size, stubs_size}
+use Rattle.btree.specs.Loose.{IsChild, IsStub, Stub, stubs_size}
 use Rattle.btree.specs.Reach.{HasMap}
 use Rattle.btree.specs.Store.{KeepsWord, Store}
 use Rattle.btree.specs.Turn.{Sheaf, sheaf_in}

@@ -13,6 +13,7 @@ ghost use Rattle.btree.specs.Turn.{Turns};
 
 use crate::cutting::ROOM;
 use crate::editing::{Edit, INLINE, retire_value, stored_value};
+use crate::joining::QUARTER;
 use crate::loose::{Loose, push_unit};
 use crate::opening::units_of_leaf;
 use crate::parts::child_unit;
@@ -21,10 +22,7 @@ use crate::{Pages, TreeFault};
 use page::{Cell, Leaf, PageContent};
 use std::alloc::Global;
 
-/// A quarter of a page, in bytes: what has less is joined with what is beside it.
-const QUARTER: usize = 1020;
-
-// The bytes of a cell of this key and value, or none.
+// The bytes of a cell of this key and value; none where there is no value.
 fn cell_bytes(key: &[u8], value: Option<&[u8]>) -> usize
     requires { length key.now ≤ 1024 }
     ensures { result ≡ put_room key.now (option_map (λ b. b.now) value.entry) }
@@ -42,7 +40,7 @@ fn cell_bytes(key: &[u8], value: Option<&[u8]>) -> usize
     }
 }
 
-// Whether the leaf surely has room for the cells that are put, and one is left of those that it has.
+/// Whether the leaf surely has room for the cells that are put, and one is left of those that it has.
 pub(crate) fn has_room(leaf: &Leaf, edits: &[Edit<'_>]) -> bool
     requires { Each HasRoom edits.now }
     ensures cells { result ≡ true → length edits.now < length leaf.now }

@@ -15,7 +15,7 @@ use crate::{Pages, TreeFault};
 use std::alloc::Global;
 
 /// A quarter of a page, in bytes: what has less is joined with what is beside it.
-const QUARTER: usize = 1020;
+pub(crate) const QUARTER: usize = 1020;
 
 // Whether it may stand in pages of its own.
 fn is_full(loose: &Loose) -> bool

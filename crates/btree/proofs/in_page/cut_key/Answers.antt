@@ -1,4 +1,4 @@
-use Rattle.std.proofs.Common.{◌≡◌, ◌≤◌, ◌+◌, ◌∙◌, ap, arith, length, subst, sym}
+use Rattle.std.proofs.Common.{◌∙◌, ap, arith, length, subst, sym}
 use Rattle.std.specs.Ordering.{is_eq}
 use Rattle.page.specs.Content.{IsLeaf, item_size, total}
 use Rattle.btree.specs.Calls.{IsTakenOut}

@@ -1,4 +1,4 @@
-use Rattle.std.proofs.Common.{arith, length, map, subst, sym}
+use Rattle.std.proofs.Common.{arith, subst, sym}
 use Rattle.page.specs.Content.{item_size, total}
 use Rattle.btree.specs.Calls.{IsEdited}
 use Rattle.btree.proofs.EditLemmas.{edited_on, edits_more}

@@ -1,4 +1,4 @@
-use Rattle.std.proofs.Common.{◌≡◌, ap, arith, length, map}
+use Rattle.std.proofs.Common.{ap, arith, map}
 use Rattle.std.proofs.lemmas.List.{take_all}
 use Rattle.page.specs.Content.{item_size, total}
 use Rattle.btree.specs.EditView.{edit_in}

@@ -1,4 +1,4 @@
-use Rattle.std.proofs.Common.{◌≤◌, ◌+◌, ap, arith}
+use Rattle.std.proofs.Common.{ap, arith}
 use Rattle.page.specs.declared.cells.Cell.{Cell}
 use Rattle.page.specs.Content.{item_size, total}
 use Rattle.btree.specs.View.{item_in}

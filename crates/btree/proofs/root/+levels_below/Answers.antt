@@ -1,5 +1,5 @@
-use Rattle.std.proofs.Common.{◌≡◌, ◌∙◌, ◌+◌, sym, ap, arith}
-use Rattle.page.specs.Content.{Arm, branch}
+use Rattle.std.proofs.Common.{◌∙◌, ◌+◌, sym, ap, arith}
+use Rattle.page.specs.Content.{Arm}
 use Rattle.page.specs.Format.{Sheet}
 use Rattle.btree.specs.View.{content_in}
 use Rattle.btree.proofs.RootLemmas.{first_part}

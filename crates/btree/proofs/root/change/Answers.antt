@@ -1,4 +1,4 @@
-use Rattle.std.proofs.Common.{◌≡◌, map}
+use Rattle.std.proofs.Common.{map}
 use Rattle.btree.specs.EditView.{edit_in}
 use Rattle.btree.specs.Keys.{change}
 use Rattle.btree.proofs.FewLemmas.{costs_on}

@@ -1,4 +1,4 @@
-use Rattle.std.proofs.Common.{◌≡◌, ◌∙◌, ◌∷◌, [], None, Some, ap, length, map, refl, sym, subst, arith, inl, inr}
+use Rattle.std.proofs.Common.{[], None, ap, length, map, arith, inl, inr}
 use Rattle.btree.specs.EditView.{edit_in}
 use Rattle.btree.specs.Few.{edit_pages, levels_of}
 use Rattle.btree.specs.Keys.{sum_of}
