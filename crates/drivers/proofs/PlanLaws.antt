@@ -1,25 +1,21 @@
 -- What makes no difference to what is kept for the database's reply.
-use Rattle.std.proofs.Common.{◌≡◌, ◌≢◌, ℕ, Bool, true, false, List, [], ◌∷◌, codes, Option, Some, None, refl, ap, sym, subst, ◌∙◌}
+use Rattle.std.proofs.Common.{◌≡◌, ℕ, Bool, true, false, List, codes, Option, Some, None, refl, ap, subst, ◌∙◌}
 use Rattle.std.specs.Prelude.{if◌then◌else◌, is_none}
 use Rattle.std.specs.Str.{bytes_eq}
-use Rattle.std.specs.Option.{option_or}
 use Rattle.std.proofs.lemmas.Slice.Eq.{bytes_eq-Decides}
 use Rattle.bson.specs.Tree.{Tree, Pairs, no_pairs, pair, Items, append}
 use Rattle.bson.specs.Lookup.{lookup}
-use Rattle.drivers.specs.Answering.{plan_for, wait_of, kill_wait, is_single, is_true}
-use Rattle.drivers.specs.Cleaning.{own_rule, is_kept, kept}
+use Rattle.drivers.specs.Answering.{wait_of, kill_wait, is_single, is_true}
+use Rattle.drivers.specs.Cleaning.{kept}
 use Rattle.drivers.specs.Cursors.{ids_of, ids_in, no_kills}
 use Rattle.drivers.specs.Laws.{IgnoredLeavesThePlan}
 use Rattle.drivers.specs.Rules.{rule_of}
-use Rattle.drivers.specs.Starting.{name_of}
-use Rattle.drivers.specs.Tables.{beside}
 use Rattle.drivers.specs.Texts.{text_or_none}
-use Rattle.drivers.specs.WriteErrors.{has_one_statement, is_one_in, is_one, statement_fields}
+use Rattle.drivers.specs.WriteErrors.{has_one_statement, is_one_in, is_one}
 use Rattle.drivers.specs.declared.command.Asked.TheVariants as askeds
 use Rattle.drivers.specs.declared.plan.Plan.{Plan}
 use Rattle.drivers.specs.declared.plan.Wait.{Wait}
 use Rattle.drivers.specs.declared.plan.Wait.TheVariants as waits
-use Rattle.drivers.specs.declared.rules.Rule.{Rule}
 use Rattle.drivers.proofs.AskingLaws.{kept-without}
 
 -- names of which one has a rule and the other hasn't are two
