@@ -13,7 +13,7 @@ use Rattle.drivers.specs.declared.command.Asked.{Asked}
 use Rattle.drivers.specs.declared.command.Command.{Command}
 use Rattle.drivers.specs.declared.command.Command.TheVariants as commands
 
-kept-without : (asked : Asked) (before : Pairs) (name : List ℕ) (t : Tree) (behind : Pairs) → is_kept asked name ≡ false → kept asked (append before (pair name t behind)) ≡ kept asked (append before behind)
+pub kept-without : (asked : Asked) (before : Pairs) (name : List ℕ) (t : Tree) (behind : Pairs) → is_kept asked name ≡ false → kept asked (append before (pair name t behind)) ≡ kept asked (append before behind)
 kept-without asked no_pairs name t behind e = rw e refl
 kept-without asked (pair other u before) name t behind e = ap (λ (ps : Pairs). if is_kept asked other then pair other u ps else ps) (kept-without asked before name t behind e)
 

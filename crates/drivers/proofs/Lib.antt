@@ -5,3 +5,4 @@ mod SeekingLemmas
 mod SectionLemmas
 mod LevelLemmas
 mod IdLemmas
+mod PlanLaws

@@ -1,8 +1,10 @@
 -- Laws of what is asked of the database.
-use Rattle.std.specs.Prelude.{◌≡◌, ℕ, false, List, Option, Some, None}
+use Rattle.std.specs.Prelude.{◌≡◌, ℕ, Bool, false, is_none, List, Option, Some, None}
 use Rattle.bson.specs.Tree.{Tree, Pairs, pair, append}
 use Rattle.drivers.specs.Cleaning.{is_kept, field_fault, first_refused, kept}
 use Rattle.drivers.specs.Starting.{ask, do_command, name_of}
+use Rattle.drivers.specs.Answering.{plan_for}
+use Rattle.drivers.specs.Rules.{rule_of}
 use Rattle.drivers.specs.Commands.{command_of}
 use Rattle.drivers.specs.declared.server_info.ServerInfo.{ServerInfo}
 use Rattle.drivers.specs.declared.command.Asked.{Asked}
@@ -41,3 +43,12 @@ IgnoredMakesNoDifference = (info : ServerInfo) (command : List ℕ) (value : Tre
     → ((asked : Asked) → (is_kept asked name ≡ false) × (field_fault asked name t ≡ None))
     → done info (pair command value (append before (pair name t behind)))
     ≡ done info (pair command value (append before behind))
+
+-- A field behind the command's name that has a rule whatever the command is makes no difference to what is kept for the database's reply,
+-- and so none to the answer.
+abbrev pub IgnoredLeavesThePlan : Type 0
+IgnoredLeavesThePlan = (more : Bool) (command : List ℕ) (value : Tree) (before : Pairs)
+    (name : List ℕ) (t : Tree) (behind : Pairs)
+    → is_none (rule_of name) ≡ false
+    → plan_for more (pair command value (append before (pair name t behind)))
+    ≡ plan_for more (pair command value (append before behind))

@@ -1,8 +1,8 @@
 -- Messages worked by hand: what stands at the front of their bytes, where a foreign type stands in them, and what is done first with commands.
-use Rattle.std.specs.Prelude.{◌≡◌, ℕ, ℤ, pos, true, false, List, [], ◌∷◌, ◌++◌, codes, Option, Some, None, Result, Ok, Err}
-use Rattle.bson.specs.Tree.{Tree, scalar, document, array, text, boolean, null, int32, int64, Pairs, no_pairs, pair, no_items, item}
+use Rattle.std.specs.Prelude.{◌≡◌, ℕ, pos, true, false, List, [], ◌∷◌, ◌++◌, codes, Option, Some, None, Result, Ok, Err}
+use Rattle.bson.specs.Tree.{Tree, scalar, document, array, null, int64, Pairs, no_pairs, pair}
 use Rattle.op_msg.specs.Request.{le_32}
-use Rattle.drivers.specs.Handshake.{handshake_reply, int, words, ok}
+use Rattle.drivers.specs.Handshake.{handshake_reply, int, words}
 use Rattle.drivers.specs.Reasons.{refusal_document}
 use Rattle.drivers.specs.Seeking.{foreign_in}
 use Rattle.drivers.specs.Incoming.{next_message}
@@ -11,7 +11,6 @@ use Rattle.drivers.specs.declared.foreign.Foreign.{Foreign}
 use Rattle.drivers.specs.declared.foreign.ForeignType.TheVariants as types
 use Rattle.drivers.specs.declared.message.Form.{Form}
 use Rattle.drivers.specs.declared.message.Form.TheVariants as forms
-use Rattle.drivers.specs.declared.message.BodyFault.{BodyFault}
 use Rattle.drivers.specs.declared.message.Message.{Message}
 use Rattle.drivers.specs.declared.stream_fault.StreamFault.{StreamFault}
 use Rattle.drivers.specs.declared.stream_fault.StreamFault.TheVariants as faults

@@ -1,6 +1,6 @@
 //! Laws of the definitions, as contracts.
 
-ghost use Rattle.drivers.specs.Laws.{AsksOwnFields, IgnoredMakesNoDifference};
+ghost use Rattle.drivers.specs.Laws.{AsksOwnFields, IgnoredMakesNoDifference, IgnoredLeavesThePlan};
 ghost use Rattle.drivers.specs.Rows.{QueryRows, ForeignRows, StepRows};
 
 /// Something is asked of the database only if the command is one for it and no field of it is refused: the command without the fields
@@ -12,6 +12,11 @@ pub fn asks_own_fields()
 /// A field that is ignored makes no difference to what is done first.
 pub fn ignored_makes_no_difference()
     ensures { IgnoredMakesNoDifference }
+{}
+
+/// Such a field, where it has a rule whatever the command is, makes no difference to the answer either.
+pub fn ignored_leaves_the_plan()
+    ensures { IgnoredLeavesThePlan }
 {}
 
 /// Messages, foreign types and commands, worked by hand.
