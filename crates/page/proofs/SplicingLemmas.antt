@@ -1,9 +1,9 @@
 -- A leaf with a cell more, or one fewer: what stays is the same runs of bytes and places.
-use Rattle.std.proofs.Common.{◌≡◌, ℕ, zero, suc, ◌+◌, ◌-◌, ◌<◌, ◌≤◌, List, [], ◌∷◌, ◌++◌, length, map, take, drop, replicate, get_or, refl, sym, ap, ◌∙◌, subst, arith, append_assoc, length-append, length-drop}
+use Rattle.std.proofs.Common.{◌≡◌, ℕ, zero, suc, ◌+◌, ◌-◌, ◌<◌, ◌≤◌, List, [], ◌∷◌, ◌++◌, length, map, take, drop, replicate, get_or, sym, ap, ◌∙◌, subst, arith, append_assoc, length-append, length-drop}
 use Rattle.std.specs.Prelude.{Option, Some, None, slice_get}
 use Rattle.std.proofs.lemmas.Option.{slice_get-get_or}
 use Rattle.std.specs.List.{AllByRecursion, flat_map, insert, remove}
-use Rattle.std.proofs.lemmas.List.{append-nil, drop_all, length-map, length-replicate, length-take-le, replicate-append-replicate, take-append-drop, take-replicate, take_all, take_more}
+use Rattle.std.proofs.lemmas.List.{append-nil, drop_all, length-replicate, length-take-le, replicate-append-replicate, take-append-drop, take-replicate, take_all}
 use Rattle.std.proofs.lemmas.Grind.{flat_map-append}
 use Rattle.std.proofs.Math.Seq.{drop-append_seam, take-append-add, take-append_seam}
 use Rattle.page.specs.Content.{Item, IsItem, IsLeaf, inline, item_size, total}

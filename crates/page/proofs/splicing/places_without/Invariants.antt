@@ -1,4 +1,4 @@
-use Rattle.std.proofs.Common.{◌≡◌, ◌+◌, ◌-◌, ◌++◌, map, drop}
+use Rattle.std.proofs.Common.{◌≡◌, ◌-◌, ◌++◌, map, drop}
 use Rattle.page.proofs.splicing.places_without.Given as goal
 
 abbrev pub invariant-loop-place : goal.invariant-loop-place
