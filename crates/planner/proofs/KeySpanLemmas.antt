@@ -22,7 +22,7 @@ use Rattle.index.specs.Definition.{Field}
 use Rattle.planner.specs.Usable.{Bound, Usable, nothing, or, bound_at, range_of, usable_in, gather, all_usable, is_path, usable_there}
 use Rattle.planner.specs.Plan.{Range, fields_of, is_multi, leading, asked_next, range_in}
 use Rattle.planner.specs.KeyRange.{front_text, place_by, in_direction, is_of_class, bytes_lie_by, bytes_within, first_bytes_lie, has_bytes}
-use Rattle.planner.specs.KeySpan.{bound_text, least_end, least_text, greatest_text, first_key, last_key, SpansRange}
+use Rattle.planner.specs.KeySpan.{bound_text, least_end, least_text, first_key, last_key, SpansRange}
 use Rattle.planner.proofs.UsableLemmas.{and_first, and_second}
 
 -- ---- a lower end is one, and an upper one too
@@ -198,7 +198,7 @@ behind_front : (front least greatest rest : List ℕ) → is_lt (bytes_cmp rest 
 behind_front front least greatest rest l g = (ap is_lt (same_front front rest least) ∙ l, ap is_gt (place_front front greatest rest) ∙ g)
 
 ends_hold : (low high : Option Bound) → IfSome low IsLow → IfSome high IsHigh → (fs : List Field) (rest : List ℕ) → first_bytes_lie low high fs rest ≡ true
-    → (is_lt (bytes_cmp rest (least_text low high fs)) ≡ false) × (is_gt (place_by (greatest_text low high fs) rest) ≡ false)
+    → (is_lt (bytes_cmp rest (least_text low high fs)) ≡ false) × (is_gt (place_by (least_text high low fs) rest) ≡ false)
 ends_hold low high sl sh [] rest e = (above_nothing rest, refl)
 ends_hold low high sl sh (f ∷ fs) rest e =
     let wl = and_first (bytes_within f.direction low rest) (bytes_within f.direction high rest) e in
@@ -213,7 +213,7 @@ spanned fs r key sl sh e =
     let begins = (bytes_eq-Decides (take (length front) key) front).0 (and_first (bytes_eq (take (length front) key) front) (first_bytes_lie r.low r.high next rest) e) in
     let parts : front ++ rest ≡ key = ap (λ (p : List ℕ). p ++ rest) (sym begins) ∙ take-append-drop (length front) key in
     let ends = ends_hold r.low r.high sl sh next rest (and_second (bytes_eq (take (length front) key) front) (first_bytes_lie r.low r.high next rest) e) in
-    subst (λ (k : List ℕ). IsSpanned fs r k) parts (behind_front front (least_text r.low r.high next) (greatest_text r.low r.high next) rest ends.0 ends.1)
+    subst (λ (k : List ℕ). IsSpanned fs r k) parts (behind_front front (least_text r.low r.high next) (least_text r.high r.low next) rest ends.0 ends.1)
 
 pub spans_range : SpansRange
 spans_range rs sort index key e =

@@ -8,3 +8,4 @@ pub mod KeyBytesLemmas
 pub mod SortedLemmas
 pub mod ChoiceLemmas
 pub mod KeySpanLemmas
+pub mod SpanTextLemmas

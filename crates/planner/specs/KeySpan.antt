@@ -26,21 +26,17 @@ abbrev pub least_end : Direction → Option Bound → Option Bound → List ℕ
 least_end Ascending low high = end_text Ascending low high
 least_end Descending low high = end_text Descending high low
 
--- the least and the greatest of what follows the front
+-- the least of what follows the front; with the ends exchanged, the greatest
 abbrev pub least_text : Option Bound → Option Bound → List Field → List ℕ
 least_text low high [] = []
 least_text low high (f ∷ fs) = least_end f.direction low high
-
-abbrev pub greatest_text : Option Bound → Option Bound → List Field → List ℕ
-greatest_text low high [] = []
-greatest_text low high (f ∷ fs) = least_end f.direction high low
 
 -- a walk begins here, and ends with what goes on from there
 abbrev pub first_key : List Field → Range → List ℕ
 first_key fs r = front_text fs r.equal ++ least_text r.low r.high (drop (length r.equal) fs)
 
 abbrev pub last_key : List Field → Range → List ℕ
-last_key fs r = front_text fs r.equal ++ greatest_text r.low r.high (drop (length r.equal) fs)
+last_key fs r = front_text fs r.equal ++ least_text r.high r.low (drop (length r.equal) fs)
 
 -- No key of the range is below the first or above the last.
 abbrev pub SpansRange : Type 0

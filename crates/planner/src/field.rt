@@ -66,7 +66,7 @@ impl Field<'_> {
         }
     }
 
-    fn direction(self) -> Direction
+    pub fn direction(self) -> Direction
         ensures { result ≡ (field_of self.entry).direction }
     {
         match self {
