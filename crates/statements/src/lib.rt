@@ -6,7 +6,9 @@ pub mod laws;
 mod statements;
 
 pub use documents::{ID, check_key, compare_id, compare_ids, id_text, matches, read_id, stored};
-pub use statements::{Ran, Run, Tally, Write, run_on, unless_memory, update_reply, upsert_document};
+pub use statements::{
+    Ran, Run, Tally, Write, run_on, unless_memory, update_reply, upsert_document,
+};
 
 /// The most bytes of a stored document.
 pub const STORED_LIMIT: u32 = 65_535;
