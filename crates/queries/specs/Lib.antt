@@ -1,0 +1,3 @@
+pub mod ById
+pub mod Within
+pub mod Asking

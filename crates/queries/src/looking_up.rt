@@ -1,0 +1,105 @@
+//! Documents that are looked up by their `_id`, where all that are looked for have one.
+
+ghost use Rattle.std.specs.Prelude.{◌≡◌, All, IfOk, IfSome, take};
+ghost use Rattle.std.specs.List.{filter};
+ghost use Rattle.bson.specs.View.{tree};
+ghost use Rattle.collections.specs.Reading.{IsPlaceOf, ReadsOf, stored_at};
+ghost use Rattle.database_model.specs.Lawful.{IsWithin};
+ghost use Rattle.queries.specs.ById.{AsksForId, found_alone};
+ghost use Rattle.queries.specs.Asking.{IsAsked};
+
+use crate::by_id::id_key;
+use crate::scanning::scanned;
+use crate::selects::Selects;
+use bson::{Document, NoMemory, Value};
+use collections::Collections;
+use page::Disk;
+use path::Refusal;
+use replies::SharedDocument;
+use statements::STORED_LIMIT;
+use std::alloc::Global;
+use update::limits_fault;
+
+/// The document of an `_id` in the collection of a number. A disk may give one that is over the limits of those that are stored.
+fn document_within<D: Disk>(
+    file: &mut Collections<D>,
+    number: u32,
+    id: &[u8],
+) -> Result<Option<Document>, Refusal>
+    ensures reads { ReadsOf D.history (IsPlaceOf number id.now)
+        (λ now place found. found ≡ stored_at place) result file.old file.new }
+    ensures within { IfOk result (λ found. IfSome found (λ d. IsWithin d)) }
+{
+    let Some(document) = file.document(number, id)? else {
+        return Ok(None);
+    };
+    if limits_fault(&document, STORED_LIMIT).is_some() {
+        return Err(Refusal::StorageFailed);
+    }
+    Ok(Some(document))
+}
+
+/// The document that was found, if it is looked for and there is room for it.
+fn select_found<S: Selects>(
+    alloc: Global,
+    which: &S,
+    most: usize,
+    document: Option<Document>,
+) -> Result<Vec<SharedDocument>, NoMemory>
+    ensures { IfOk result (λ found. found.items
+        ≡ take most (filter (S.selects which.now) (found_alone document))) }
+{
+    let mut found = Vec::new(alloc);
+    let Some(document) = document else {
+        return Ok(found);
+    };
+    if 0 < most && which.selects(&document) {
+        found.push(SharedDocument::new(alloc, document)?)?;
+    }
+    Ok(found)
+}
+
+/// The documents of the collection of a number that are looked for and have to have this `_id`.
+fn selected_by_id<D: Disk, S: Selects>(
+    alloc: Global,
+    file: &mut Collections<D>,
+    number: u32,
+    which: &S,
+    id: &Value,
+    most: usize,
+) -> Result<Vec<SharedDocument>, Refusal>
+    requires { AsksForId (S.selects which.now) (tree id.now) }
+    ensures reads { ReadsOf D.history (IsAsked number)
+        (λ now c found. found.items ≡ take most (filter (S.selects which.now) c.documents))
+        result file.old file.new }
+    ensures within { IfOk result (λ found. All IsWithin found.items) }
+{
+    if file.is_stopped() {
+        return Err(Refusal::StorageFailed);
+    }
+    let Some(key) = id_key(alloc, id)? else {
+        return scanned(alloc, file, number, which, most);
+    };
+    let document = document_within(file, number, &key)?;
+    Ok(select_found(alloc, which, most, document)?)
+}
+
+/// The documents of the collection of a number in a file that are looked for, in ascending order of `_id`: the first ones, up to
+/// so many. Where all of them have one `_id`, it is looked up; else all documents are walked through.
+pub fn selected_in<D: Disk, S: Selects>(
+    alloc: Global,
+    file: &mut Collections<D>,
+    number: u32,
+    which: &S,
+    most: usize,
+) -> Result<Vec<SharedDocument>, Refusal>
+    ensures reads { ReadsOf D.history (IsAsked number)
+        (λ now c found. found.items ≡ take most (filter (S.selects which.now) c.documents))
+        result file.old file.new }
+    ensures within { IfOk result (λ found. All IsWithin found.items) }
+{
+    match which.asked_id() {
+        Some(id) => selected_by_id(alloc, file, number, which, id, most),
+        None => scanned(alloc, file, number, which, most),
+    }
+}
