@@ -9,3 +9,4 @@ pub mod SortedLemmas
 pub mod ChoiceLemmas
 pub mod KeySpanLemmas
 pub mod SpanTextLemmas
+pub mod IdLemmas

@@ -7,3 +7,4 @@ pub mod View
 pub mod AnswerLaws
 pub mod Rows
 pub mod ChoiceLaws
+pub mod IdLaws

@@ -2,6 +2,7 @@
 
 ghost use Rattle.planner.specs.AnswerLaws.{OrderedOnce, SortsToAnswer, KeptAreNoted, NeverChangesAnswer, WalksInOrder};
 ghost use Rattle.planner.specs.ChoiceLaws.{ChoosesFirstBest};
+ghost use Rattle.planner.specs.IdLaws.{FindsByIds};
 ghost use Rattle.planner.specs.KeyRange.{HasKeyInRange, HasBytesInRange};
 ghost use Rattle.planner.specs.KeySpan.{SpansRange};
 ghost use Rattle.planner.specs.Rows.{PlanRows, EdgeRows, MultiRows};
@@ -66,4 +67,9 @@ pub fn never_changes_answer()
 /// The entries of an index that is in the order of a sort stand in the order of an answer.
 pub fn walks_in_order()
     ensures { WalksInOrder }
+{}
+
+/// Documents that are found by ascending texts of `_id`s, with all that pass among them, give what a scan gives.
+pub fn finds_by_ids()
+    ensures { FindsByIds }
 {}
