@@ -1,11 +1,10 @@
 -- Documents that are looked up by `_id` where a filter asks for one: they are those that a walk finds.
 use Rattle.std.proofs.Common.{◌≡◌, inl, inr, ◌≤◌, ℕ, zero, suc, ◌<◌, Bool, true, false, List, [], ◌∷◌, length, get_or, take, Option, Some, None, Result, Ok, Err, refl, sym, ap, subst, ◌∙◌, arith}
-use Rattle.std.specs.Prelude.{IfSome, ◌&&◌, ◌||◌, not, is_some, if◌then◌else◌, All, option_and_then}
+use Rattle.std.specs.Prelude.{IfSome, ◌&&◌, ◌||◌, not, is_some, if◌then◌else◌, All, Contains, option_and_then}
 use Rattle.std.specs.List.{filter, list_all, list_any}
 use Rattle.std.specs.Ordering.{is_eq}
 use Rattle.std.specs.declared.cmp.Ordering.{Ordering}
 use Rattle.std.specs.declared.cmp.Ordering.TheVariants as orders
-use Rattle.std.proofs.lemmas.List.Elements.{All-head, All-tail}
 use Rattle.std.proofs.lemmas.Slice.Eq.{bytes_eq-Decides}
 use Rattle.bson.specs.Tree.{Tree, scalar, document, array, Pairs}
 use Rattle.bson.specs.Lookup.{lookup}
@@ -25,23 +24,25 @@ use Rattle.value_order.specs.Order.{compare, value}
 use Rattle.value_order.specs.KeyText.{tree_text}
 use Rattle.value_order.specs.Laws.{IsKey}
 use Rattle.value_order.specs.TotalLaws.{compare_total}
-use Rattle.index.specs.LawfulState.{IsLawfulState, IsRising}
+use Rattle.value_order.specs.declared.texts.Direction.TheVariants as directions
+use Rattle.value_order.proofs.KeyLaws.{texts_agree}
+use Rattle.index.proofs.EntryLemmas.{id_is_key}
+use Rattle.index.proofs.MemberLemmas.{among_of, contains_of, of_all}
+use Rattle.index.specs.LawfulState.{IsLawfulState, IsStorable}
 use Rattle.index.specs.State.{Collection}
-use Rattle.index.specs.StateReads.{find_document}
 use Rattle.index.proofs.FoundLawLemmas.{found_collection, found_document}
 use Rattle.collections.specs.Calls.{HasCause}
 use Rattle.collections.specs.Reading.{IsNumbered, IsPlaceOf, Place, ReadsOf, stored_at}
 use Rattle.collections.specs.Standing.{HasState, IsTurnOf}
 use Rattle.collections.specs.State.{State}
 use Rattle.collections.specs.View.{disk_history, is_stopped}
-use Rattle.queries.specs.ById.{AsksForId, found_alone}
+use Rattle.queries.specs.ById.{AreIdsOf, AsksForId}
 use Rattle.database_model.specs.Documents.{key_of}
 use Rattle.database_model.specs.Lawful.{IsStored, IsWithin}
 use Rattle.queries.specs.Asking.{IsAsked}
 use Rattle.queries.specs.Within.{is_within}
 use Rattle.database_model.specs.Merging.{has_key_of, is_deleted, is_meant_by}
 use Rattle.queries.proofs.ReadingLemmas.{word_before}
-use Rattle.statements.proofs.Ordered.{flipped, rises_tail}
 use Rattle.queries.proofs.WithinLemmas.{by_within}
 
 -- ---- what a condition on the `_id` says of a stored document
@@ -156,50 +157,6 @@ asks_meant s made v asks all x stored meant = at (matches s.filter x) refl meant
     at true e more = asks x stored e
     at false e more = same_as_made made v x all more
 
--- ---- one document among all
-
-module _ (p : Pairs → Bool) (id : Tree) (asks : AsksForId p id) where
-  not_equal : (x : Pairs) → IsStored x → is_eq (compare id (key_of x)) ≡ false → p x ≡ false
-  not_equal x stored other = at (p x) refl
-    where
-      at : (b : Bool) → p x ≡ b → b ≡ false
-      at false e = refl
-      at true e = absurd (let same = flipped compare_total (key_of x) id orders.Equal (asks x stored e) in let no = sym other ∙ ap is_eq same in cc)
-
-  -- those behind the one of this `_id` have others
-  none_behind : (d : Pairs) (ds : List Pairs) → compare id (key_of d) ≡ orders.Equal → All (λ x. compare (key_of d) (key_of x) ≡ orders.Less) ds → All IsStored ds → filter p ds ≡ []
-  none_behind d [] same above stored = refl
-  none_behind d (x ∷ ds) same above stored =
-      let later = none_behind d ds same (All-tail (λ y. compare (key_of d) (key_of y) ≡ orders.Less) x ds above) (All-tail IsStored x ds stored) in
-      at (p x) refl later
-    where
-      at : (b : Bool) → p x ≡ b → filter p ds ≡ [] → filter p (x ∷ ds) ≡ []
-      at false e later = rw e later
-      at true e later =
-          absurd (let tied = asks x (All-head IsStored x ds stored) e in
-          let with_d : compare (key_of x) (key_of d) ≡ orders.Equal = compare_total.congr (key_of x) id (key_of d) tied ∙ same in
-          let less = All-head (λ y. compare (key_of d) (key_of y) ≡ orders.Less) x ds above in
-          let no = sym with_d ∙ flipped compare_total (key_of d) (key_of x) orders.Less less in cc)
-
-  pub found_only : (ds : List Pairs) → IsRising ds → All IsStored ds → filter p ds ≡ filter p (found_alone (find_document ds id))
-  found_only [] up stored = refl
-  found_only (d ∷ ds) up stored = at (compare id (key_of d)) refl (found_only ds (rises_tail compare key_of d ds up) (All-tail IsStored d ds stored))
-    where
-      above : All (λ x. compare (key_of d) (key_of x) ≡ orders.Less) ds
-      above k x below = up 0 (suc k) x (omega arith) (omega (arith, below))
-
-      first : (b : Bool) → p d ≡ b → compare id (key_of d) ≡ orders.Equal → filter p (d ∷ ds) ≡ filter p (d ∷ [])
-      first true e same = rw e (ap (λ (xs : List Pairs). d ∷ xs) (none_behind d ds same above (All-tail IsStored d ds stored)))
-      first false e same = rw e (none_behind d ds same above (All-tail IsStored d ds stored))
-
-      passed : is_eq (compare id (key_of d)) ≡ false → filter p (d ∷ ds) ≡ filter p ds
-      passed other = let no = not_equal d (All-head IsStored d ds stored) other in rw no refl
-
-      at : (r : Ordering) → compare id (key_of d) ≡ r → filter p ds ≡ filter p (found_alone (find_document ds id)) → filter p (d ∷ ds) ≡ filter p (found_alone (if is_eq (compare id (key_of d)) then Some d else find_document ds id))
-      at orders.Equal same later = rw same (first (p d) refl same)
-      at orders.Less other later = rw other (passed (ap is_eq other) ∙ later)
-      at orders.Greater other later = rw other (passed (ap is_eq other) ∙ later)
-
 -- ---- in the file
 
 -- a document that was found in a collection within the limits is within them
@@ -229,45 +186,30 @@ module _ {D : Type 0} (history : D → History) (old new : State D) (number : �
           let no : true ≡ false = sym both ∙ ap not over in
           absurd cc
 
--- the collection that is asked, and the place of the `_id` in it
-module _ {D : Type 0} (history : D → History) (old new : State D) (number : ℕ) (p : Pairs → Bool) (id : Tree) (asks : AsksForId p id) (text : List ℕ) (spelled : text ≡ tree_text id) (key : IsKey (value id)) (most : ℕ) where
-  place_at : (now : List Collection) (c : Collection) → IsAsked number now c → IsPlaceOf number text now (record { collection = c; id = id })
-  place_at now c asked = record { numbered = asked.numbered; key = key; spelled = spelled }
+-- ---- a document of this `_id`
 
-  all_of_it : (now : List Collection) (c : Collection) → IsLawfulState now → IsAsked number now c → filter p c.documents ≡ filter p (found_alone (find_document c.documents id))
-  all_of_it now c state asked =
-      let kept = (found_collection now c.name c state asked.numbered.found).0 in
-      found_only p id asks c.documents kept.rising asked.stored
+-- one that has to have the `_id` has its text
+pub text_of_asked : (p : Pairs → Bool) (id : Tree) (ds : List Pairs) → AsksForId p id → IsKey (value id) → All IsStored ds → All IsStorable ds → (d : Pairs) → Contains ds d → p d ≡ true → Contains (tree_text id ∷ []) (tree_text (key_of d))
+text_of_asked p id ds asks key stored storable d there passes =
+    let at = among_of ds d there in
+    let same : tree_text (key_of d) ≡ tree_text id = (texts_agree directions.Ascending (value (key_of d)) (value id) (id_is_key d (of_all IsStorable ds d storable at)) key).1 (asks d (of_all IsStored ds d stored at) passes) in
+    contains_of (tree_text id ∷ []) (tree_text (key_of d)) (inl same)
 
-  pub looked_up : is_stopped old ≡ false → {X : Type 0} (x : X) (items : X → List Pairs) (one : Option Pairs) → items x ≡ take most (filter p (found_alone one))
-      → ReadsOf history (IsPlaceOf number text) (λ now place (found : Option Pairs). found ≡ stored_at place) (Ok one) old new
-      → ReadsOf history (IsAsked number) (λ now c y. items y ≡ take most (filter p c.documents)) (Ok x) old new
-  looked_up running x items one made reads = record {
-    on = reads.on;
-    unchanged = reads.unchanged;
-    same = reads.same;
-    answers = λ k start now has c asked.
-        let t : IsTurnOf history old start now = has running (word_before history old new reads.on k) in
-        let found = reads.answers k start now has (record { collection = c; id = id }) (place_at now c asked) in
-        made ∙ ap (λ (o : Option Pairs). take most (filter p (found_alone o))) found ∙ ap (take most) (sym (all_of_it now c t.now_state asked));
-  }
-
-  pub not_looked_up : {X : Type 0} (R : List Collection → Collection → X → Type 0) (e : Refusal)
-      → ReadsOf history (IsPlaceOf number text) (λ now place (found : Option Pairs). found ≡ stored_at place) (Err e) old new
-      → ReadsOf history (IsAsked number) R (Err e) old new
-  not_looked_up R e reads = record {
-    on = reads.on;
-    unchanged = reads.unchanged;
-    same = reads.same;
-    answers = λ k start now has c asked. reads.answers k start now has (record { collection = c; id = id }) (place_at now c asked);
-  }
-
--- memory ran out behind what was read
-pub no_memory_then : {D A B X Y : Type 0} (history : D → History) (Was : List Collection → B → Type 0) (P : List Collection → B → Y → Type 0) (r : Result Y Refusal) (Is : List Collection → A → Type 0) (R : List Collection → A → X → Type 0)
-    (old new : State D) (e : Refusal) → e ≡ refusals.OutOfMemory → ReadsOf history Was P r old new → ReadsOf history Is R (Err e) old new
-no_memory_then history Was P r Is R old new e ran_out reads = record {
+-- so it is the only one that has to be looked up
+pub asked_by_id : {D X : Type 0} (history : D → History) (number : ℕ) (p : Pairs → Bool) (id : Tree) (text : List ℕ) (R : List Collection → Collection → X → Type 0) (r : Result X Refusal) (old new : State D) → is_stopped old ≡ false
+    → AsksForId p id → IsKey (value id) → text ≡ tree_text id → ReadsOf history (AreIdsOf number p (text ∷ [])) R r old new → ReadsOf history (IsAsked number) R r old new
+asked_by_id history number p id text R r old new running asks key spelled reads = record {
   on = reads.on;
   unchanged = reads.unchanged;
   same = reads.same;
-  answers = λ k start now has asked is. inl ran_out;
+  answers = λ k start now has c asked.
+      let t : IsTurnOf history old start now = has running (word_before history old new reads.on k) in
+      let kept = (found_collection now c.name c t.now_state asked.numbered.found).0 in
+      reads.answers k start now has c (record {
+        asked = asked;
+        ids = id ∷ [];
+        told = (spelled, key, tt);
+        ascending = λ i j d less below. absurd (omega (arith, less, below));
+        all = λ d there passes. subst (λ (t : List ℕ). Contains (t ∷ []) (tree_text (key_of d))) (sym spelled) (text_of_asked p id c.documents asks key asked.stored kept.storable d there passes);
+      });
 }

@@ -5,3 +5,4 @@ pub mod SelectLemmas
 pub mod CountLemmas
 pub mod NeededLemmas
 pub mod ByIdLemmas
+pub mod LookingUpLemmas

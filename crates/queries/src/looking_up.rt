@@ -1,11 +1,13 @@
 //! Documents that are looked up by their `_id`, where all that are looked for have one.
 
-ghost use Rattle.std.specs.Prelude.{◌≡◌, All, IfOk, IfSome, take};
+ghost use Rattle.std.specs.Prelude.{◌≡◌, ◌++◌, [], All, IfOk, IfSome, OnOk, take};
 ghost use Rattle.std.specs.List.{filter};
 ghost use Rattle.bson.specs.View.{tree};
 ghost use Rattle.collections.specs.Reading.{IsPlaceOf, ReadsOf, stored_at};
 ghost use Rattle.database_model.specs.Lawful.{IsWithin};
-ghost use Rattle.queries.specs.ById.{AsksForId, found_alone};
+ghost use Rattle.index.specs.View.{texts_of};
+ghost use Rattle.planner.specs.IdLaws.{with_found};
+ghost use Rattle.queries.specs.ById.{AreIdsOf, AsksForId};
 ghost use Rattle.queries.specs.Asking.{IsAsked};
 
 use crate::by_id::id_key;
@@ -39,22 +41,68 @@ fn document_within<D: Disk>(
     Ok(Some(document))
 }
 
-/// The document that was found, if it is looked for and there is room for it.
-fn select_found<S: Selects>(
+/// Puts the document that was found behind the others, if it is looked for.
+fn put_found<S: Selects>(
     alloc: Global,
     which: &S,
-    most: usize,
+    found: &mut Vec<SharedDocument>,
     document: Option<Document>,
-) -> Result<Vec<SharedDocument>, NoMemory>
-    ensures { IfOk result (λ found. found.items
-        ≡ take most (filter (S.selects which.now) (found_alone document))) }
+) -> Result<(), NoMemory>
+    ensures { OnOk result (found.new.items
+        ≡ found.old.items ++ filter (S.selects which.now) (with_found document [])) }
 {
-    let mut found = Vec::new(alloc);
     let Some(document) = document else {
-        return Ok(found);
+        return Ok(());
     };
-    if 0 < most && which.selects(&document) {
+    if which.selects(&document) {
         found.push(SharedDocument::new(alloc, document)?)?;
+    }
+    Ok(())
+}
+
+/// Looks one document up, and puts it behind the others, if it is looked for.
+fn look_up<D: Disk, S: Selects>(
+    alloc: Global,
+    file: &mut Collections<D>,
+    number: u32,
+    which: &S,
+    id: &[u8],
+    found: &mut Vec<SharedDocument>,
+) -> Result<(), Refusal>
+    ensures reads { ReadsOf D.history (IsPlaceOf number id.now)
+        (λ now place _. found.new.items ≡ found.old.items
+        ++ filter (S.selects which.now) (with_found (stored_at place) []))
+        result file.old file.new }
+    ensures within { OnOk result (All IsWithin found.old.items → All IsWithin found.new.items) }
+{
+    let document = document_within(file, number, id)?;
+    Ok(put_found(alloc, which, found, document)?)
+}
+
+/// The documents of the collection of a number that are looked for and have one of these `_id`s, told by their ascending key texts:
+/// the first ones, up to so many.
+pub(crate) fn selected_by_ids<D: Disk, S: Selects>(
+    alloc: Global,
+    file: &mut Collections<D>,
+    number: u32,
+    which: &S,
+    ids: &[Vec<u8>],
+    most: usize,
+) -> Result<Vec<SharedDocument>, Refusal>
+    ensures reads { ReadsOf D.history (AreIdsOf number (S.selects which.now) (texts_of ids.now))
+        (λ now c found. found.items ≡ take most (filter (S.selects which.now) c.documents))
+        result file.old file.new }
+    ensures within { IfOk result (λ found. All IsWithin found.items) }
+{
+    if file.is_stopped() {
+        return Err(Refusal::StorageFailed);
+    }
+    let mut found = Vec::new(alloc);
+    'ids: for id in ids {
+        if found.len() == most {
+            return Ok(found);
+        }
+        look_up(alloc, file, number, which, id, &mut found)?;
     }
     Ok(found)
 }
@@ -74,14 +122,11 @@ fn selected_by_id<D: Disk, S: Selects>(
         result file.old file.new }
     ensures within { IfOk result (λ found. All IsWithin found.items) }
 {
-    if file.is_stopped() {
-        return Err(Refusal::StorageFailed);
-    }
     let Some(key) = id_key(alloc, id)? else {
         return scanned(alloc, file, number, which, most);
     };
-    let document = document_within(file, number, &key)?;
-    Ok(select_found(alloc, which, most, document)?)
+    let ids = vec![in alloc; key]?;
+    selected_by_ids(alloc, file, number, which, &ids, most)
 }
 
 /// The documents of the collection of a number in a file that are looked for, in ascending order of `_id`: the first ones, up to
