@@ -11,7 +11,7 @@ use Rattle.database_model.specs.Lawful.{IsWithin}
 use Rattle.replies.specs.FirstBatch.{IsFirstBatch, IsNoBatch}
 use Rattle.replies.specs.View.{projected}
 use Rattle.engine.specs.View.{world_of, world}
-use Rattle.replies.proofs.FirstBatchLemmas.{all_stay}
+use Rattle.replies.proofs.WholeLemmas.{all_stay}
 use Rattle.engine.proofs.Running.{given_none, given_opened, given_whole, table, with_cursor}
 use Rattle.engine.proofs.engine.Engine.give_all.Goals as goal
 
