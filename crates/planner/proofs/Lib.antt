@@ -9,3 +9,5 @@ pub mod SortedLemmas
 pub mod ChoiceLemmas
 pub mod KeySpanLemmas
 pub mod SpanTextLemmas
+pub mod KeyScanLemmas
+pub mod RangeReadingLemmas

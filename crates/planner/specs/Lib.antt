@@ -2,8 +2,11 @@ pub mod Usable
 pub mod Plan
 pub mod Explaining
 pub mod KeyRange
+pub mod KeyScan
+pub mod KeyScanLaws
 pub mod KeySpan
 pub mod View
 pub mod AnswerLaws
+pub mod RangeReading
 pub mod Rows
 pub mod ChoiceLaws

@@ -3,7 +3,9 @@
 ghost use Rattle.planner.specs.AnswerLaws.{OrderedOnce, SortsToAnswer, KeptAreNoted, NeverChangesAnswer, WalksInOrder};
 ghost use Rattle.planner.specs.ChoiceLaws.{ChoosesFirstBest};
 ghost use Rattle.planner.specs.KeyRange.{HasKeyInRange, HasBytesInRange};
+ghost use Rattle.planner.specs.KeyScanLaws.{FindsIdText};
 ghost use Rattle.planner.specs.KeySpan.{SpansRange};
+ghost use Rattle.planner.specs.RangeReading.{RangeFindsMatching};
 ghost use Rattle.planner.specs.Rows.{PlanRows, EdgeRows, MultiRows};
 
 /// The plans of filters and sorts over three indexes.
@@ -66,4 +68,15 @@ pub fn never_changes_answer()
 /// The entries of an index that is in the order of a sort stand in the order of an answer.
 pub fn walks_in_order()
     ensures { WalksInOrder }
+{}
+
+/// The text of the `_id` is found behind each key in the text of an entry.
+pub fn finds_id_text()
+    ensures { FindsIdText }
+{}
+
+/// What is read of an index from the first key of a range to its last leads to each document that the filter matches, and
+/// to stored documents alone.
+pub fn range_finds_matching()
+    ensures { RangeFindsMatching }
 {}
