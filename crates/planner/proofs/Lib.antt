@@ -11,3 +11,4 @@ pub mod KeySpanLemmas
 pub mod SpanTextLemmas
 pub mod KeyScanLemmas
 pub mod RangeReadingLemmas
+pub mod FoundIdLemmas

@@ -8,5 +8,6 @@ pub mod KeySpan
 pub mod View
 pub mod AnswerLaws
 pub mod RangeReading
+pub mod FoundIds
 pub mod Rows
 pub mod ChoiceLaws

@@ -2,6 +2,7 @@
 
 ghost use Rattle.planner.specs.AnswerLaws.{OrderedOnce, SortsToAnswer, KeptAreNoted, NeverChangesAnswer, WalksInOrder};
 ghost use Rattle.planner.specs.ChoiceLaws.{ChoosesFirstBest};
+ghost use Rattle.planner.specs.FoundIds.{IdsLeadToMatching};
 ghost use Rattle.planner.specs.KeyRange.{HasKeyInRange, HasBytesInRange};
 ghost use Rattle.planner.specs.KeyScanLaws.{FindsIdText};
 ghost use Rattle.planner.specs.KeySpan.{SpansRange};
@@ -79,4 +80,9 @@ pub fn finds_id_text()
 /// to stored documents alone.
 pub fn range_finds_matching()
     ensures { RangeFindsMatching }
+{}
+
+/// Of the documents of the `_id`s that are found so the filter selects what it selects of all.
+pub fn ids_lead_to_matching()
+    ensures { IdsLeadToMatching }
 {}
