@@ -122,6 +122,7 @@ below_ids d (e ∷ es) hd all h = (
 )
 
 documents_rise : (es : List Pairs) → ((e : Pairs) → Among e es → IsStorable e) → IsStrictlySortedBy bytes_cmp (map id_of es) → Rises (on key_of compare) es
+unfolding IsStrictlySortedBy
 documents_rise [] all h = tt
 documents_rise (e ∷ es) all h = (below_ids e es (all e (inl refl)) (λ x g. all x (inr g)) h.0, documents_rise es (λ x g. all x (inr g)) h.1)
 

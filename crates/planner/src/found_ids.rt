@@ -48,11 +48,7 @@ fn ascending(ids: Vec<Vec<u8>>) -> Vec<Vec<u8>>
 }
 
 /// The texts of the `_id`s in the texts of an index's entries, each once, in ascending order.
-pub fn ids_in(
-    alloc: Global,
-    index: &IndexSpec,
-    texts: &[Vec<u8>],
-) -> Result<Vec<Vec<u8>>, NoMemory>
+pub fn ids_in(alloc: Global, index: &IndexSpec, texts: &[Vec<u8>]) -> Result<Vec<Vec<u8>>, NoMemory>
     ensures { IfOk result (λ ids. texts_of ids.items
         ≡ ids_in index.now.fields (texts_of texts.now)) }
 {
