@@ -3,6 +3,7 @@ pub mod CommitLemmas
 pub mod CountLemmas
 pub mod EntryLemmas
 pub mod FoundLemmas
+pub mod IndexTextLemmas
 pub mod LawLemmas
 pub mod MarkLemmas
 pub mod OpenLemmas

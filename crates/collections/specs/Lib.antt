@@ -5,6 +5,7 @@ pub mod Counting
 pub mod Entries
 pub mod Holding
 pub mod IndexChecks
+pub mod IndexTexts
 pub mod Laws
 pub mod Marks
 pub mod Opening

@@ -5,6 +5,7 @@
 mod applying;
 mod collections;
 mod index_checks;
+mod index_texts;
 pub mod laws;
 mod mark;
 mod other_keys;

@@ -108,31 +108,34 @@ equal_is Greater e = absurd cc
 abbrev IsBehind : List Field → List Tree → Option Bound → Option Bound → List ℕ → Type 0
 IsBehind fs ts low high bytes = (rest : List ℕ) × (bytes ≡ front_text fs ts ++ rest) × (first_bytes_lie low high (drop (length ts) fs) rest ≡ true)
 
-module _ (low high : Option Bound) (sl : IfSome low (λ b. IsKey (value b.operand))) (sh : IfSome high (λ b. IsKey (value b.operand))) where
-  behind : (fs : List Field) (ts : List Tree) (ks : List Key) → IsIndexKey fs ks → All (λ t. IsKey (value t)) ts → is_in ts low high ks ≡ true → IsBehind fs ts low high (key_bytes fs ks)
-  behind [] [] ks g s h = (key_bytes [] ks, refl, refl)
+module _ (low high : Option Bound) (sl : IfSome low (λ b. IsKey (value b.operand))) (sh : IfSome high (λ b. IsKey (value b.operand))) (tail : List ℕ) where
+  behind : (fs : List Field) (ts : List Tree) (ks : List Key) → IsIndexKey fs ks → All (λ t. IsKey (value t)) ts → is_in ts low high ks ≡ true → IsBehind fs ts low high (key_bytes fs ks ++ tail)
+  behind [] [] ks g s h = (tail, refl, refl)
   behind [] (t ∷ ts) [] g s h = absurd cc
   behind [] (t ∷ ts) (k ∷ ks) g s h = absurd g
   behind (f ∷ fs) ts [] g s h = absurd g
-  behind (f ∷ fs) [] (k ∷ ks) g s h = (
-    key_bytes (f ∷ fs) (k ∷ ks),
-    refl,
-    and_both (bytes_within f.direction low (key_bytes (f ∷ fs) (k ∷ ks))) (bytes_within f.direction high (key_bytes (f ∷ fs) (k ∷ ks)))
-        (within_there f.direction low k (key_bytes fs ks) g.0 sl (and_first (lies_within low k) (lies_within high k) h))
-        (within_there f.direction high k (key_bytes fs ks) g.0 sh (and_second (lies_within low k) (lies_within high k) h)),
-  )
+  behind (f ∷ fs) [] (k ∷ ks) g s h =
+      let rest : List ℕ = directed_text f.direction k ++ (key_bytes fs ks ++ tail) in (
+        rest,
+        append_assoc (directed_text f.direction k) (key_bytes fs ks) tail,
+        and_both (bytes_within f.direction low rest) (bytes_within f.direction high rest)
+            (within_there f.direction low k (key_bytes fs ks ++ tail) g.0 sl (and_first (lies_within low k) (lies_within high k) h))
+            (within_there f.direction high k (key_bytes fs ks ++ tail) g.0 sh (and_second (lies_within low k) (lies_within high k) h)),
+      )
   behind (f ∷ fs) (t ∷ ts) (k ∷ ks) g s h =
       let same : directed_text f.direction k ≡ directed_text f.direction (value t) =
       (texts_agree f.direction k (value t) g.0 (All-head (λ x. IsKey (value x)) t ts s)).1 (equal_is (key_cmp k (value t)) (and_first (is_equal_to t k) (is_in ts low high ks) h)) in
       let later = behind fs ts ks g.1 (All-tail (λ x. IsKey (value x)) t ts s) (and_second (is_equal_to t k) (is_in ts low high ks) h) in (
         later.0,
-        (λ i. same i ++ later.1 i) ∙ sym (append_assoc (directed_text f.direction (value t)) (front_text fs ts) later.0),
+        append_assoc (directed_text f.direction k) (key_bytes fs ks) tail ∙ (λ i. same i ++ later.1 i)
+            ∙ sym (append_assoc (directed_text f.direction (value t)) (front_text fs ts) later.0),
         later.2,
       )
 
-has_bytes_of : (fs : List Field) (r : Range) (ks : List Key) → IsIndexKey fs ks → IsSpellable r → has_key r ks ≡ true → has_bytes fs r (key_bytes fs ks) ≡ true
-has_bytes_of fs r ks g s h =
-    let b = behind r.low r.high s.low_spelled s.high_spelled fs r.equal ks g s.equal_spelled h in
+-- whatever stands behind the key
+pub has_bytes_behind : (fs : List Field) (r : Range) (ks : List Key) (tail : List ℕ) → IsIndexKey fs ks → IsSpellable r → has_key r ks ≡ true → has_bytes fs r (key_bytes fs ks ++ tail) ≡ true
+has_bytes_behind fs r ks tail g s h =
+    let b = behind r.low r.high s.low_spelled s.high_spelled tail fs r.equal ks g s.equal_spelled h in
     subst (λ (bytes : List ℕ). has_bytes fs r bytes ≡ true) (sym b.1) (at b.0 b.2)
   where
     at : (rest : List ℕ) → first_bytes_lie r.low r.high (drop (length r.equal) fs) rest ≡ true → has_bytes fs r (front_text fs r.equal ++ rest) ≡ true
@@ -141,6 +144,10 @@ has_bytes_of fs r ks g s h =
         and_both (bytes_eq (take (length front) (front ++ rest)) front) (first_bytes_lie r.low r.high (drop (length r.equal) fs) (drop (length front) (front ++ rest)))
         ((bytes_eq-Decides (take (length front) (front ++ rest)) front).1 (take-append_seam front rest))
         (ap (first_bytes_lie r.low r.high (drop (length r.equal) fs)) (drop-append_seam front rest) ∙ e)
+
+has_bytes_of : (fs : List Field) (r : Range) (ks : List Key) → IsIndexKey fs ks → IsSpellable r → has_key r ks ≡ true → has_bytes fs r (key_bytes fs ks) ≡ true
+has_bytes_of fs r ks g s h =
+    subst (λ (bytes : List ℕ). has_bytes fs r bytes ≡ true) (append-nil (key_bytes fs ks)) (has_bytes_behind fs r ks [] g s h)
 
 -- ---- one of the encoded keys
 

@@ -10,3 +10,6 @@ pub mod ChoiceLemmas
 pub mod KeySpanLemmas
 pub mod SpanTextLemmas
 pub mod IdLemmas
+pub mod KeyScanLemmas
+pub mod RangeReadingLemmas
+pub mod FoundIdLemmas

@@ -2,9 +2,13 @@ pub mod Usable
 pub mod Plan
 pub mod Explaining
 pub mod KeyRange
+pub mod KeyScan
+pub mod KeyScanLaws
 pub mod KeySpan
 pub mod View
 pub mod AnswerLaws
+pub mod RangeReading
+pub mod FoundIds
 pub mod Rows
 pub mod ChoiceLaws
 pub mod IdLaws

@@ -1,0 +1,82 @@
+//! What the entries of an index tell, from one text up to another.
+
+ghost use Rattle.std.specs.Prelude.{◌≡◌, ◌++◌, OnOk, map, option_map};
+ghost use Rattle.std.specs.Option.{option_to_list};
+ghost use Rattle.btree.specs.Scan.{entry_in};
+ghost use Rattle.index.specs.View.{texts_of};
+ghost use Rattle.collections.specs.IndexTexts.{AreTextsBetween, IsNumberedIndex, text_behind, texts_behind};
+ghost use Rattle.collections.specs.Reading.{OrMemory, ReadsOf};
+
+use crate::collections::Collections;
+use bson::NoMemory;
+use btree::{Entry, Range};
+use index::{end_of, first_key, index_key};
+use page::Disk;
+use path::Refusal;
+use std::alloc::Global;
+
+/// What a key goes on with from a front.
+fn text_behind<'a>(front: &[u8], key: &'a [u8]) -> Option<&'a [u8]>
+    ensures { option_map (λ r. r.now) result ≡ text_behind front.now key.now }
+{
+    if !key.starts_with(front) {
+        return None;
+    }
+    let (_, rest) = key.split_at(front.len());
+    Some(rest)
+}
+
+/// Puts that behind other texts.
+fn push_text(texts: &mut Vec<Vec<u8>>, front: &[u8], key: &[u8]) -> Result<(), NoMemory>
+    ensures { OnOk result (texts_of texts.new.items
+        ≡ texts_of texts.old.items ++ option_to_list (text_behind front.now key.now)) }
+{
+    let alloc = *texts.allocator();
+    let Some(text) = text_behind(front, key) else {
+        return Ok(());
+    };
+    texts.push(text.to_vec(alloc)?)?;
+    Ok(())
+}
+
+/// What the keys of entries go on with from a front.
+fn texts_behind(alloc: Global, front: &[u8], entries: &[Entry]) -> Result<Vec<Vec<u8>>, Refusal>
+    ensures { OrMemory (λ texts. texts_of texts.items
+        ≡ texts_behind front.now (map entry_in entries.now)) result }
+{
+    let mut texts = Vec::with_capacity(alloc, entries.len())?;
+    'entries: for entry in entries {
+        push_text(&mut texts, front, &entry.key)?;
+    }
+    Ok(texts)
+}
+
+impl<D: Disk> Collections<D> {
+    /// The texts of the entries of an index from one text up to another and all that goes on from it, in ascending order. Texts
+    /// behind these may be among them.
+    pub fn index_texts(
+        &mut self,
+        number: u32,
+        index: u32,
+        first: &[u8],
+        last: &[u8],
+    ) -> Result<Vec<Vec<u8>>, Refusal>
+        ensures { ReadsOf D.history (IsNumberedIndex number index)
+            (λ now at texts. AreTextsBetween first.now last.now at (texts_of texts.items))
+            result self.old self.new }
+    {
+        let from = index_key(self.alloc, number, index, first)?;
+        let until = index_key(self.alloc, number, index, last)?;
+        let to = end_of(self.alloc, &until)?;
+        let front = first_key(self.alloc, number, index)?;
+        let batch = self.entries_in(Range {
+            from: &from,
+            to: to.as_deref(),
+            limit: usize::MAX,
+        })?;
+        if batch.next.is_some() {
+            return Err(Refusal::StorageFailed);
+        }
+        texts_behind(self.alloc, &front, &batch.entries)
+    }
+}
