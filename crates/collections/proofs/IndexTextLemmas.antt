@@ -36,13 +36,9 @@ use Rattle.index.proofs.MemberLemmas.{Among, among_each, among_flat, among_image
 use Rattle.index.proofs.WindowLemmas.{among_window, inside_there, is_inside, under_cmp, window_among, window_rises}
 use Rattle.collections.specs.IndexTexts.{AreTextsBetween, Indexed, IsEntryText, IsNumberedIndex, LiesBetween, text_behind, texts_behind}
 use Rattle.path.specs.declared.refusal.Refusal.{Refusal}
-use Rattle.collections.specs.Reading.{IsBatchOf, IsInTree, OrMemory}
+use Rattle.collections.specs.Reading.{IsBatchOf, IsInTree}
 use Rattle.collections.proofs.FoundLemmas.{whole_batch}
 use Rattle.collections.proofs.ReadingLemmas.{next_same}
-
-pub or_memory : {X : Type 0} (P Q : X → Type 0) (r : Result X Refusal) → ((x : X) → P x → Q x) → OrMemory P r → OrMemory Q r
-or_memory P Q (Ok x) on p = on x p
-or_memory P Q (Err e) on is = is
 
 -- ---- texts behind a front
 

@@ -75,6 +75,8 @@ pub fn walks_in_order()
 /// Documents that are found by ascending texts of `_id`s, with all that pass among them, give what a scan gives.
 pub fn finds_by_ids()
     ensures { FindsByIds }
+{}
+
 /// The text of the `_id` is found behind each key in the text of an entry.
 pub fn finds_id_text()
     ensures { FindsIdText }
