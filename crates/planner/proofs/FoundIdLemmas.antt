@@ -1,13 +1,13 @@
 -- Of the documents to which the entries in a range lead, a filter selects what it selects of all.
-use Rattle.std.proofs.Common.{◌≡◌, ℕ, Bool, true, false, List, [], ◌∷◌, map, Option, Some, None, ◌⊎◌, inl, inr, refl, sym, ap, subst, ◌∙◌}
+use Rattle.std.proofs.Common.{◌≡◌, ℕ, true, List, [], ◌∷◌, map, Option, Some, None, inl, inr, refl, sym, ap, subst, ◌∙◌}
 use Rattle.std.specs.Prelude.{if◌then◌else◌, All, Contains}
 use Rattle.std.specs.Cmp.{IsTotalOrder, on_total}
-use Rattle.std.specs.List.{AllByRecursion, AllPairs, filter, flat_map}
+use Rattle.std.specs.List.{AllByRecursion, filter}
 use Rattle.std.specs.List.Sorted.{IsStrictlySortedBy}
 use Rattle.std.specs.Option.{option_to_list}
 use Rattle.std.specs.Ordering.{is_eq, on, ordering_reverse}
 use Rattle.std.specs.declared.cmp.Ordering.{Ordering}
-use Rattle.std.specs.declared.cmp.Ordering.TheVariants.{Less, Equal, Greater}
+use Rattle.std.specs.declared.cmp.Ordering.TheVariants.{Less, Equal}
 use Rattle.std.proofs.lemmas.Cmp.{tied_itself}
 use Rattle.bson.specs.Tree.{Pairs}
 use Rattle.value_order.specs.KeyText.{tree_text}
@@ -23,11 +23,10 @@ use Rattle.index.specs.State.{key_of}
 use Rattle.index.specs.StateReads.{find_document}
 use Rattle.index.proofs.EntryLemmas.{id_is_key, same_id}
 use Rattle.index.proofs.KeyOfDocument.{among_test, test_among}
-use Rattle.index.proofs.MemberLemmas.{Among, among_each, among_flat, among_image, among_map, among_of, contains_of, of_all, of_pairs}
+use Rattle.index.proofs.MemberLemmas.{Among, among_each, among_flat, among_map, among_of, contains_of, of_all, of_pairs}
 use Rattle.index.proofs.SetLemmas.{set_among, set_sorted}
-use Rattle.planner.specs.FoundIds.{IdsLeadToMatching, LeadToMatching, ids_in, ids_of}
+use Rattle.planner.specs.FoundIds.{IdsLeadToMatching, ids_in, ids_of}
 use Rattle.planner.specs.KeyScan.{id_text}
-use Rattle.planner.specs.Plan.{range_in}
 use Rattle.planner.proofs.RangeReadingLemmas.{range_finds_matching}
 use Rattle.planner.proofs.RisingLemmas.{Below, Rises, among_filter, below_each, filter_among, one_rising, rises_filter, rises_of}
 

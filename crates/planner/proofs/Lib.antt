@@ -13,3 +13,4 @@ pub mod IdLemmas
 pub mod KeyScanLemmas
 pub mod RangeReadingLemmas
 pub mod FoundIdLemmas
+pub mod ChosenLemmas
