@@ -40,6 +40,7 @@ use Rattle.queries.specs.ById.{AreIdsOf, AsksForId}
 use Rattle.database_model.specs.Documents.{key_of}
 use Rattle.database_model.specs.Lawful.{IsStored, IsWithin}
 use Rattle.queries.specs.Asking.{IsAsked}
+use Rattle.index.specs.declared.catalogue_reading.Catalogued.{Catalogued}
 use Rattle.queries.specs.Within.{is_within}
 use Rattle.database_model.specs.Merging.{has_key_of, is_deleted, is_meant_by}
 use Rattle.queries.proofs.ReadingLemmas.{word_before}
@@ -196,20 +197,13 @@ text_of_asked p id ds asks key stored storable d there passes =
     contains_of (tree_text id ∷ []) (tree_text (key_of d)) (inl same)
 
 -- so it is the only one that has to be looked up
-pub asked_by_id : {D X : Type 0} (history : D → History) (number : ℕ) (p : Pairs → Bool) (id : Tree) (text : List ℕ) (R : List Collection → Collection → X → Type 0) (r : Result X Refusal) (old new : State D) → is_stopped old ≡ false
-    → AsksForId p id → IsKey (value id) → text ≡ tree_text id → ReadsOf history (AreIdsOf number p (text ∷ [])) R r old new → ReadsOf history (IsAsked number) R r old new
-asked_by_id history number p id text R r old new running asks key spelled reads = record {
-  on = reads.on;
-  unchanged = reads.unchanged;
-  same = reads.same;
-  answers = λ k start now has c asked.
-      let t : IsTurnOf history old start now = has running (word_before history old new reads.on k) in
-      let kept = (found_collection now c.name c t.now_state asked.numbered.found).0 in
-      reads.answers k start now has c (record {
-        asked = asked;
-        ids = id ∷ [];
-        told = (spelled, key, tt);
-        ascending = λ i j d less below. absurd (omega (arith, less, below));
-        all = λ d there passes. subst (λ (t : List ℕ). Contains (t ∷ []) (tree_text (key_of d))) (sym spelled) (text_of_asked p id c.documents asks key asked.stored kept.storable d there passes);
-      });
-}
+pub only_asked : (home : Catalogued) (p : Pairs → Bool) (id : Tree) (texts : List (List ℕ)) (now : List Collection) (c : Collection) → AsksForId p id → IsKey (value id) → texts ≡ tree_text id ∷ [] → IsLawfulState now → IsAsked home now c → AreIdsOf home.number p texts now c
+only_asked home p id texts now c asks key spelled state asked =
+    let kept = (found_collection now c.name c state asked.numbered.found).0 in
+    subst (λ (ts : List (List ℕ)). AreIdsOf home.number p ts now c) (sym spelled) (record {
+      numbered = asked.numbered;
+      ids = id ∷ [];
+      told = (refl, key, tt);
+      ascending = λ i j d less below. absurd (omega (arith, less, below));
+      all = λ d there passes. text_of_asked p id c.documents asks key asked.stored kept.storable d there passes;
+    })

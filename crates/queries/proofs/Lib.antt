@@ -6,3 +6,4 @@ pub mod CountLemmas
 pub mod NeededLemmas
 pub mod ByIdLemmas
 pub mod LookingUpLemmas
+pub mod ByIndexLemmas

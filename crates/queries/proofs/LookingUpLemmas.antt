@@ -59,7 +59,7 @@ module _ {D : Type 0} (history : D → History) (number : ℕ) (p : Pairs → Bo
     same = λ start now has. has;
     there = λ k start now has c asked.
         let t : IsTurnOf history old start now = has running k in
-        let kept = (found_collection now c.name c t.now_state asked.asked.numbered.found).0 in
+        let kept = (found_collection now c.name c t.now_state asked.numbered.found).0 in
         let all : filter p (found_by c.documents asked.ids) ≡ filter p c.documents = finds_by_ids p c.documents asked.ids texts kept.storable kept.rising asked.ascending asked.told asked.all in
         record {
           ids = asked.ids;
@@ -72,7 +72,7 @@ module _ {D : Type 0} (history : D → History) (number : ℕ) (p : Pairs → Bo
     -- the place of the next one
     next_place : (text : List ℕ) (rest : List (List ℕ)) (now : List Collection) (c : Collection) → AreIdsOf number p texts now c → (ids : List Tree) → AreIdTexts (text ∷ rest) ids → (place : Place) × IsPlaceOf number text now place
     next_place text rest now c asked [] told = absurd told
-    next_place text rest now c asked (id ∷ ids) told = (record { collection = c; id = id }, record { numbered = asked.asked.numbered; key = told.1; spelled = told.0 })
+    next_place text rest now c asked (id ∷ ids) told = (record { collection = c; id = id }, record { numbered = asked.numbered; key = told.1; spelled = told.0 })
 
     pub looks_one : (new : State D) (text : List ℕ) (rest : List (List ℕ)) (next : List Pairs) (u : Unit {0}) → left ≡ text ∷ rest → length found < most
         → ReadsOf history (IsPlaceOf number text) (λ now place (_ : Unit {0}). next ≡ found ++ filter p (with_found (stored_at place) [])) (Ok u) mid new → HasLookedUp old new next rest
@@ -83,7 +83,7 @@ module _ {D : Type 0} (history : D → History) (number : ℕ) (p : Pairs → Bo
       there = λ k start now has c asked.
           let at : IsLeft c.documents found (text ∷ rest) = subst (IsLeft c.documents found) is (come.there (word_before history mid new reads.on k) start now has c asked) in
           step c.documents at.ids at.told at.so
-          (λ id key spelled. reads.answers k start now (come.same start now has) (record { collection = c; id = id }) (record { numbered = asked.asked.numbered; key = key; spelled = spelled }));
+          (λ id key spelled. reads.answers k start now (come.same start now has) (record { collection = c; id = id }) (record { numbered = asked.numbered; key = key; spelled = spelled }));
     }
       where
         step : (ds : List Pairs) (ids : List Tree) → AreIdTexts (text ∷ rest) ids → AreSelected p most found ds (found_by ds ids)

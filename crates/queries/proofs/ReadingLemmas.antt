@@ -1,15 +1,19 @@
 -- How calls that read a file add up, one after the other.
-use Rattle.std.proofs.Common.{◌≡◌, inl, inr, List, Result, Ok, Err, refl, sym, ◌∙◌, arith}
+use Rattle.std.proofs.Common.{◌≡◌, inl, inr, false, List, Result, Ok, Err, refl, sym, ◌∙◌, arith}
+use Rattle.std.specs.Prelude.{MatchResult}
 use Rattle.std.proofs.lemmas.Bool.{cases_lt}
 use Rattle.page.specs.History.{History, KeepsWord}
 use Rattle.btree.specs.Store.{Frame, HasNoPage}
 use Rattle.btree.proofs.StoreLemmas.{grows_itself, grows_trans}
 use Rattle.path.specs.declared.refusal.Refusal.{Refusal}
+use Rattle.path.specs.declared.refusal.Refusal.TheVariants as refusals
+use Rattle.index.specs.LawfulState.{IsLawfulState}
 use Rattle.index.specs.State.{Collection}
 use Rattle.collections.specs.Calls.{GoesFrom, HasCause, HasWriteCause, IsOfFile}
 use Rattle.collections.specs.Reading.{ReadsOf}
+use Rattle.collections.specs.Standing.{HasState, IsTurnOf}
 use Rattle.collections.specs.State.{State}
-use Rattle.collections.specs.View.{disk_history, pages_of}
+use Rattle.collections.specs.View.{disk_history, is_stopped, pages_of}
 use Rattle.collections.proofs.StandingLemmas.{stopped_same}
 
 -- ---- a cause between two moments is one between moments around them
@@ -65,12 +69,72 @@ of_file history a b e (inl is) = inl is
 of_file history a b e (inr (inl x)) = inr (inl x.0)
 of_file history a b e (inr (inr x)) = inr (inr x.0)
 
--- what is right of all that is asked for is right of some of it
-pub narrowed : {D A X : Type 0} (history : D → History) (Is Was : List Collection → A → Type 0) (Q : List Collection → A → X → Type 0) (r : Result X Refusal) (old new : State D)
-    → ((now : List Collection) (asked : A) → Is now asked → Was now asked) → ReadsOf history Was Q r old new → ReadsOf history Is Q r old new
-narrowed history Is Was Q r old new less reads = record {
+-- ---- what was read, of something else that is asked for
+
+-- while the collections are lawful, this is so of the other, and what is right of that is right of what is asked for
+pub record IsOther {A B X : Type 0} (Was : List Collection → B → Type 0) (P : List Collection → B → X → Type 0) (R : List Collection → A → X → Type 0) (now : List Collection) (asked : A) : Type 0 where
+  pub other : B
+  pub was : Was now other
+  pub right : (x : X) → P now other x → R now asked x
+
+module _ {D A B X : Type 0} (history : D → History) (Is : List Collection → A → Type 0) (Was : List Collection → B → Type 0) (P : List Collection → B → X → Type 0) (R : List Collection → A → X → Type 0) where
+  either_read : (old new : State D) (r : Result X Refusal) (now : List Collection) (asked : A) (o : IsOther Was P R now asked) → MatchResult r (P now o.other) (HasCause history old new) → MatchResult r (R now asked) (HasCause history old new)
+  either_read old new (Ok x) now asked o right = o.right x right
+  either_read old new (Err e) now asked o cause = cause
+
+  pub reads_as : (old new : State D) (r : Result X Refusal) → is_stopped old ≡ false → ReadsOf history Was P r old new
+      → ((now : List Collection) → IsLawfulState now → (asked : A) → Is now asked → IsOther Was P R now asked) → ReadsOf history Is R r old new
+  reads_as old new r running reads on = record {
+    on = reads.on;
+    unchanged = reads.unchanged;
+    same = reads.same;
+    answers = λ k start now has asked is.
+        let t : IsTurnOf history old start now = has running (word_before history old new reads.on k) in
+        let o = on now t.now_state asked is in
+        either_read old new r now asked o (reads.answers k start now has o.other o.was);
+  }
+
+-- what was read before tells what is asked for next
+module _ {D A B X Y : Type 0} (history : D → History) (Is : List Collection → A → Type 0) (P : List Collection → A → X → Type 0) (Was : List Collection → B → Type 0) (Q : List Collection → B → Y → Type 0) (R : List Collection → A → Y → Type 0) where
+  either_behind : (a b c : State D) → GoesFrom history a b → GoesFrom history b c → KeepsWord (disk_history history c) → (r : Result Y Refusal) (now : List Collection) (asked : A) (o : IsOther Was Q R now asked)
+      → MatchResult r (Q now o.other) (HasCause history b c) → MatchResult r (R now asked) (HasCause history a c)
+  either_behind a b c early late k (Ok y) now asked o right = o.right y right
+  either_behind a b c early late k (Err e) now asked o cause = widen_before history a b c early late k e cause
+
+  pub reads_behind : (a b c : State D) (x : X) (r : Result Y Refusal) → ReadsOf history Is P (Ok x) a b → ReadsOf history Was Q r b c
+      → ((now : List Collection) (asked : A) → Is now asked → P now asked x → IsOther Was Q R now asked) → ReadsOf history Is R r a c
+  reads_behind a b c x r first second on = record {
+    on = goes_on history a b c first.on second.on;
+    unchanged = second.unchanged ∙ first.unchanged;
+    same = λ start now has. second.same start now (first.same start now has);
+    answers = λ k start now has asked is.
+        let o = on now asked is (first.answers (word_before history b c second.on k) start now has asked is) in
+        either_behind a b c first.on second.on k r now asked o (second.answers k start now (first.same start now has) o.other o.was);
+  }
+
+-- a refusal is one whatever was to be read
+pub reads_refused : {D A X Y : Type 0} (history : D → History) (Is : List Collection → A → Type 0) (P : List Collection → A → X → Type 0) (R : List Collection → A → Y → Type 0) (old new : State D) (e : Refusal) → ReadsOf history Is P (Err e) old new → ReadsOf history Is R (Err e) old new
+reads_refused history Is P R old new e reads = record { on = reads.on; unchanged = reads.unchanged; same = reads.same; answers = reads.answers }
+
+-- what is made of what was read, unless memory runs out
+pub reads_made : {D A X Y : Type 0} (history : D → History) (Is : List Collection → A → Type 0) (P : List Collection → A → X → Type 0) (R : List Collection → A → Y → Type 0) (old new : State D) (x : X) (y : Y) → ReadsOf history Is P (Ok x) old new
+    → ((now : List Collection) (asked : A) → Is now asked → P now asked x → R now asked y) → ReadsOf history Is R (Ok y) old new
+reads_made history Is P R old new x y reads on = record {
   on = reads.on;
   unchanged = reads.unchanged;
   same = reads.same;
-  answers = λ k start now has asked is. reads.answers k start now has asked (less now asked is);
+  answers = λ k start now has asked is. on now asked is (reads.answers k start now has asked is);
+}
+
+pub reads_memory : {D A X Y : Type 0} (history : D → History) (Is : List Collection → A → Type 0) (P : List Collection → A → X → Type 0) (R : List Collection → A → Y → Type 0) (r : Result X Refusal) (old new : State D) (e : Refusal) → e ≡ refusals.OutOfMemory → ReadsOf history Is P r old new → ReadsOf history Is R (Err e) old new
+reads_memory history Is P R r old new e is reads = record { on = reads.on; unchanged = reads.unchanged; same = reads.same; answers = λ k start now has asked so. inl is }
+
+-- nothing was read
+pub reads_none : {D A X : Type 0} (history : D → History) (Is : List Collection → A → Type 0) (R : List Collection → A → X → Type 0) (old : State D) (x : X) → is_stopped old ≡ false
+    → ((now : List Collection) → IsLawfulState now → (asked : A) → Is now asked → R now asked x) → ReadsOf history Is R (Ok x) old old
+reads_none history Is R old x running right = record {
+  on = goes_itself history old;
+  unchanged = refl;
+  same = λ start now has. has;
+  answers = λ k start now has asked is. let t : IsTurnOf history old start now = has running k in right now t.now_state asked is;
 }

@@ -8,7 +8,7 @@ use Rattle.value_order.specs.Order.{bytes_cmp, compare}
 use Rattle.index.specs.State.{Collection, key_of}
 use Rattle.planner.specs.IdLaws.{AreIdTexts}
 use Rattle.database_model.specs.Lawful.{IsStored}
-use Rattle.queries.specs.Asking.{IsAsked}
+use Rattle.collections.specs.Reading.{IsNumbered}
 
 -- a stored document that passes has this `_id`
 abbrev pub AsksForId : (Pairs → Bool) → Tree → Type 0
@@ -18,7 +18,7 @@ AsksForId passes id =
 -- These ascending texts tell `_id`s, and a document of the collection that passes has one of them.
 pub record AreIdsOf (number : ℕ) (passes : Pairs → Bool) (texts : List (List ℕ))
     (now : List Collection) (c : Collection) : Type 0 where
-  pub asked : IsAsked number now c
+  pub numbered : IsNumbered now c number
   pub ids : List Tree
   pub told : AreIdTexts texts ids
   pub ascending : AllPairs (λ s t. bytes_cmp s t ≡ orders.Less) texts

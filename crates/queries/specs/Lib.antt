@@ -1,3 +1,4 @@
-pub mod ById
-pub mod Within
 pub mod Asking
+pub mod ById
+pub mod ByIndex
+pub mod Within

@@ -1,21 +1,16 @@
 //! Filters that ask for one `_id`: its document is looked up, and no other is read.
 
-ghost use Rattle.std.specs.Prelude.{◌≡◌, IfOk, IfSome};
+ghost use Rattle.std.specs.Prelude.{◌≡◌, IfSome};
 ghost use Rattle.bson.specs.View.{tree};
 ghost use Rattle.filter.specs.Condition.{equal, is};
 ghost use Rattle.filter.specs.Matches.{holds, matches, whole};
 ghost use Rattle.filter.specs.ProjectionReading.{is_id};
 ghost use Rattle.filter.specs.View.{condition_of};
-ghost use Rattle.value_order.specs.Order.{value};
-ghost use Rattle.value_order.specs.KeyText.{tree_text};
-ghost use Rattle.value_order.specs.Laws.{IsKey};
 ghost use Rattle.queries.specs.ById.{AsksForId};
 
-use bson::{NoMemory, Value};
+use bson::Value;
 use filter::{Condition, Filter, Predicate};
 use path::Path;
-use std::alloc::{AllocError, Global};
-use value_order::{Direction, KeyFault, KeyPart, key_text};
 
 fn is_id(path: &Path) -> bool
     ensures { result ≡ is_id path.now }
@@ -63,17 +58,4 @@ pub fn asked_id(filter: &Filter) -> Option<&Value>
         }
     }
     None
-}
-
-/// The key text of a value; none where it is too long for that of a stored document's `_id`.
-pub(crate) fn id_key(alloc: Global, id: &Value) -> Result<Option<Vec<u8>>, NoMemory>
-    ensures { IfOk result (λ found. IfSome found (λ text.
-        (text.items ≡ tree_text (tree id.now)) × IsKey (value (tree id.now)))) }
-{
-    let _levels = id.levels();
-    match key_text(alloc, &KeyPart::Value(id), Direction::Ascending) {
-        Ok(text) => Ok(Some(text)),
-        Err(KeyFault::TooLong) => Ok(None),
-        Err(KeyFault::Memory) => Err(AllocError),
-    }
 }

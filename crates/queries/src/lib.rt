@@ -3,6 +3,7 @@
 #![tactic(auto)]
 
 mod by_id;
+mod by_index;
 mod counting;
 mod looking_up;
 mod needed;

@@ -1,22 +1,27 @@
-//! Documents that are looked up by their `_id`, where all that are looked for have one.
+//! Documents that are looked up by their `_id`s, where a filter asks for one or an index tells them.
 
-ghost use Rattle.std.specs.Prelude.{◌≡◌, ◌++◌, [], All, IfOk, IfSome, OnOk, take};
+ghost use Rattle.std.specs.Prelude.{◌≡◌, ◌++◌, ◌∷◌, [], All, IfOk, IfSome, OnOk, take};
 ghost use Rattle.std.specs.List.{filter};
 ghost use Rattle.bson.specs.View.{tree};
+ghost use Rattle.value_order.specs.KeyText.{tree_text};
+ghost use Rattle.value_order.specs.Laws.{IsKey};
+ghost use Rattle.value_order.specs.Order.{value};
 ghost use Rattle.collections.specs.Reading.{IsPlaceOf, ReadsOf, stored_at};
 ghost use Rattle.database_model.specs.Lawful.{IsWithin};
 ghost use Rattle.index.specs.View.{texts_of};
 ghost use Rattle.planner.specs.IdLaws.{with_found};
-ghost use Rattle.queries.specs.ById.{AreIdsOf, AsksForId};
+ghost use Rattle.queries.specs.ById.{AreIdsOf};
 ghost use Rattle.queries.specs.Asking.{IsAsked};
 
-use crate::by_id::id_key;
+use crate::by_index::ids_by_index;
 use crate::scanning::scanned;
 use crate::selects::Selects;
 use bson::{Document, NoMemory, Value};
 use collections::Collections;
+use index::Catalogued;
 use page::Disk;
 use path::Refusal;
+use planner::short_text;
 use replies::SharedDocument;
 use statements::STORED_LIMIT;
 use std::alloc::Global;
@@ -107,44 +112,57 @@ pub(crate) fn selected_by_ids<D: Disk, S: Selects>(
     Ok(found)
 }
 
-/// The documents of the collection of a number that are looked for and have to have this `_id`.
-fn selected_by_id<D: Disk, S: Selects>(
-    alloc: Global,
-    file: &mut Collections<D>,
-    number: u32,
-    which: &S,
-    id: &Value,
-    most: usize,
-) -> Result<Vec<SharedDocument>, Refusal>
-    requires { AsksForId (S.selects which.now) (tree id.now) }
-    ensures reads { ReadsOf D.history (IsAsked number)
-        (λ now c found. found.items ≡ take most (filter (S.selects which.now) c.documents))
-        result file.old file.new }
-    ensures within { IfOk result (λ found. All IsWithin found.items) }
+/// The text of an `_id` alone, unless it is longer than that of a stored document may be.
+fn only_id(alloc: Global, id: &Value) -> Result<Option<Vec<Vec<u8>>>, NoMemory>
+    ensures { IfOk result (λ found. IfSome found (λ ids.
+        (texts_of ids.items ≡ tree_text (tree id.now) ∷ []) × IsKey (value (tree id.now)))) }
 {
-    let Some(key) = id_key(alloc, id)? else {
-        return scanned(alloc, file, number, which, most);
+    let Some(text) = short_text(alloc, id)? else {
+        return Ok(None);
     };
-    let ids = vec![in alloc; key]?;
-    selected_by_ids(alloc, file, number, which, &ids, most)
+    Ok(Some(vec![in alloc; text]?))
 }
 
-/// The documents of the collection of a number in a file that are looked for, in ascending order of `_id`: the first ones, up to
-/// so many. Where all of them have one `_id`, it is looked up; else all documents are walked through.
+/// The ascending texts of `_id`s among which are those of all documents that are looked for, where they can be told without a walk.
+fn asked_ids<D: Disk, S: Selects>(
+    alloc: Global,
+    file: &mut Collections<D>,
+    home: &Catalogued,
+    which: &S,
+) -> Result<Option<Vec<Vec<u8>>>, Refusal>
+    ensures { ReadsOf D.history (IsAsked home.now)
+        (λ now c found. IfSome found
+        (λ ids. AreIdsOf home.now.number (S.selects which.now) (texts_of ids.items) now c))
+        result file.old file.new }
+{
+    if file.is_stopped() {
+        return Err(Refusal::StorageFailed);
+    }
+    if let Some(id) = which.asked_id() {
+        return Ok(only_id(alloc, id)?);
+    }
+    match which.asked_filter() {
+        Some(filter) => ids_by_index(alloc, file, home, filter),
+        None => Ok(None),
+    }
+}
+
+/// The documents of a collection in a file that are looked for, in ascending order of `_id`: the first ones, up to so many. Where all
+/// of them have one `_id`, or an index serves the filter that asks for them, they are looked up; else the collection is walked through.
 pub fn selected_in<D: Disk, S: Selects>(
     alloc: Global,
     file: &mut Collections<D>,
-    number: u32,
+    home: &Catalogued,
     which: &S,
     most: usize,
 ) -> Result<Vec<SharedDocument>, Refusal>
-    ensures reads { ReadsOf D.history (IsAsked number)
+    ensures reads { ReadsOf D.history (IsAsked home.now)
         (λ now c found. found.items ≡ take most (filter (S.selects which.now) c.documents))
         result file.old file.new }
     ensures within { IfOk result (λ found. All IsWithin found.items) }
 {
-    match which.asked_id() {
-        Some(id) => selected_by_id(alloc, file, number, which, id, most),
-        None => scanned(alloc, file, number, which, most),
+    match asked_ids(alloc, file, home, which)? {
+        Some(ids) => selected_by_ids(alloc, file, home.number, which, &ids, most),
+        None => scanned(alloc, file, home.number, which, most),
     }
 }

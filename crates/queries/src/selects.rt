@@ -5,6 +5,7 @@ ghost use Rattle.bson.specs.Tree.{Pairs};
 ghost use Rattle.bson.specs.View.{tree};
 ghost use Rattle.filter.specs.Matches.{matches};
 ghost use Rattle.queries.specs.ById.{AsksForId};
+ghost use Rattle.queries.specs.ByIndex.{AsksMatching};
 
 use crate::by_id::asked_id;
 use bson::{Document, NoMemory, RawDoc, Value};
@@ -27,6 +28,10 @@ pub trait Selects {
     /// The `_id` that each of them has, if they are looked for by one.
     fn asked_id(&self) -> Option<&Value>
         ensures { IfSome result (λ v. AsksForId (selects self.now) (tree v.now)) };
+
+    /// A filter that matches each of them, if there is one.
+    fn asked_filter(&self) -> Option<&Filter>
+        ensures { IfSome result (λ f. AsksMatching (selects self.now) f.now) };
 }
 
 impl Selects for Filter {
@@ -42,5 +47,9 @@ impl Selects for Filter {
 
     fn asked_id(&self) -> Option<&Value> {
         asked_id(self)
+    }
+
+    fn asked_filter(&self) -> Option<&Filter> {
+        Some(self)
     }
 }
