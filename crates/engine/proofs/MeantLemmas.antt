@@ -10,9 +10,7 @@ use Rattle.path.specs.declared.refusal.Refusal.{Refusal}
 use Rattle.path.specs.declared.refusal.Refusal.TheVariants as refusals
 use Rattle.commands.specs.Update.{UpdateStatement, IsRead}
 use Rattle.collections.specs.Calls.{HasCause}
-use Rattle.collections.specs.Reading.{IsNumbered}
 use Rattle.index.specs.State.{Collection, find_collection}
-use Rattle.index.proofs.PlaceLemmas.{found_name}
 use Rattle.engine.specs.Durable.{disk_history, file_of, IsSound}
 use Rattle.engine.specs.Looking.{Looks, LooksOf, OnlyReads}
 use Rattle.database_model.specs.Merging.{is_meant, makes_any}
@@ -25,7 +23,9 @@ use Rattle.engine.specs.declared.engine.Engine.{Engine}
 use Rattle.engine.specs.declared.updates.Meant.{Meant}
 use Rattle.statements.specs.declared.statements.Ran.{Ran}
 use Rattle.engine.proofs.LookingLemmas.{looks_behind}
-use Rattle.engine.proofs.NewCollections.{IsNumberOf, none_of, there_of}
+use Rattle.engine.specs.TakingOut.{IsHome}
+use Rattle.index.specs.declared.catalogue_reading.Catalogued.{Catalogued}
+use Rattle.engine.proofs.CataloguedLemmas.{IsCatalogueOf, has_home, not_catalogued}
 use Rattle.engine.proofs.OnlyReading.{cause_from, now_same, reads_none, reads_on, word_before}
 use Rattle.engine.proofs.PlannedUpdates.{ran_update}
 
@@ -70,14 +70,14 @@ module _ {D : Type 0} (history : D → History) (name : List ℕ) (ss : List Upd
   abbrev Means : Result Meant Refusal → Engine D → Type 0
   Means r last = Tries history (IsMeant now name ss) (IsFullFor now name ss) r old last
 
-  pub meant_unread : (e : Refusal) → Looks history (IsNumberOf name) (Err e) old mid → Means (Err e) mid
+  pub meant_unread : (e : Refusal) → Looks history (IsCatalogueOf name) (Err e) old mid → Means (Err e) mid
   meant_unread e first = record { reads = first.reads; answers = λ k. inr (first.answers k) }
 
   pub meant_without_memory : (e : Refusal) → e ≡ refusals.OutOfMemory → OnlyReads history old mid → Means (Err e) mid
   meant_without_memory e is reads = record { reads = reads; answers = λ k. inr (inl is) }
 
   -- it is missing
-  pub meant_missing : (last : Engine D) → Looks history (IsNumberOf name) (Ok None) old mid → (r : Result Meant Refusal)
+  pub meant_missing : (last : Engine D) → Looks history (IsCatalogueOf name) (Ok None) old mid → (r : Result Meant Refusal)
       → Tries history (MeansIn None (world mid).collections ss) (IsFullWithout (world mid).collections ss) r mid last → Means r last
   meant_missing last first r second = record {
     reads = reads_on history old mid last first.reads second.reads;
@@ -85,7 +85,7 @@ module _ {D : Type 0} (history : D → History) (name : List ℕ) (ss : List Upd
   }
     where
       is_none : KeepsWord (disk_history history last) → find_collection now name ≡ None
-      is_none k = none_of now name (first.answers (word_before history (file_of mid) (file_of last) second.reads.goes k))
+      is_none k = not_catalogued now name (first.answers (word_before history (file_of mid) (file_of last) second.reads.goes k))
 
       same : (world mid).collections ≡ now
       same = now_same history old mid first.reads
@@ -100,37 +100,37 @@ module _ {D : Type 0} (history : D → History) (name : List ℕ) (ss : List Upd
           inr (cause_from history (file_of old) (file_of mid) (file_of last) first.reads.goes (word_before history (file_of mid) (file_of last) second.reads.goes k) e cause)
 
   -- it is there
-  module _ (number : ℕ) (first : Looks history (IsNumberOf name) (Ok (Some number)) old mid) (select : Pairs → Bool) (selects : (d : Pairs) → select d ≡ is_meant ss d) (last : Engine D) where
+  module _ (home : Catalogued) (first : Looks history (IsCatalogueOf name) (Ok (Some home)) old mid) (select : Pairs → Bool) (selects : (d : Pairs) → select d ≡ is_meant ss d) (last : Engine D) where
     abbrev Found : List Collection → Collection → Vec Pairs → Type 0
     Found cs c found = found.items ≡ take (2 ^ 64 - 1) (filter select c.documents)
 
     abbrev meant_of : Vec Pairs → Meant
-    meant_of found = record { number = number; is_new = false; documents = found }
+    meant_of found = record { number = home.number; is_new = false; documents = found }
 
     same_filter : (ds : List Pairs) → filter select ds ≡ filter (is_meant ss) ds
     same_filter ds = λ i. filter (λ d. selects d i) ds
 
-    means : (c : Collection) → find_collection now name ≡ Some c → number ≡ c.number → (found : Vec Pairs) → Found now c found → IsMeant now name ss (meant_of found)
+    means : (c : Collection) → find_collection now name ≡ Some c → c.number ≡ home.number → (found : Vec Pairs) → Found now c found → IsMeant now name ss (meant_of found)
     means c there numbered found is =
         let few : length found.items < 2 ^ 64 - 1 = omega (arith, found.ok.0, found.ok.1, found.small) in
         let all : length (filter select c.documents) ≤ 2 ^ 64 - 1 = omega (arith, length-take (2 ^ 64 - 1) (filter select c.documents), few, ap length is) in
         let same : found.items ≡ filter (is_meant ss) c.documents = is ∙ take_all (2 ^ 64 - 1) (filter select c.documents) all ∙ same_filter c.documents in
-        subst (λ (o : Option Collection). MeansIn o now ss (meant_of found)) (sym there) (refl, sym numbered, same)
+        subst (λ (o : Option Collection). MeansIn o now ss (meant_of found)) (sym there) (refl, numbered, same)
 
-    looked : (r : Result (Vec Pairs) Refusal) → LooksOf history (λ cs c. IsNumbered cs c number) Found r mid last → Looks history (λ cs found. IsMeant cs name ss (meant_of found)) r old last
+    looked : (r : Result (Vec Pairs) Refusal) → LooksOf history (λ cs c. IsHome cs c home) Found r mid last → Looks history (λ cs found. IsMeant cs name ss (meant_of found)) r old last
     looked r second =
-        looks_behind history (IsNumberOf name) (λ cs c. IsNumbered cs c number) Found (λ cs found. IsMeant cs name ss (meant_of found)) old mid last (Some number) r first second (λ p.
-        let t = there_of now name number p in
+        looks_behind history (IsCatalogueOf name) (λ cs c. IsHome cs c home) Found (λ cs found. IsMeant cs name ss (meant_of found)) old mid last (Some home) r first second (λ p.
+        let t = has_home now name home p in
         record {
           asked = t.collection;
-          is = record { found = ap (find_collection now) (sym (found_name now name t.collection t.found)) ∙ t.found; same = sym t.numbered };
-          right = λ found is. means t.collection t.found t.numbered found is;
+          is = t.catalogued;
+          right = λ found is. means t.collection t.found t.catalogued.numbered.same found is;
         })
 
-    pub meant_there : (found : Vec Pairs) → LooksOf history (λ cs c. IsNumbered cs c number) Found (Ok found) mid last → Means (Ok (meant_of found)) last
+    pub meant_there : (found : Vec Pairs) → LooksOf history (λ cs c. IsHome cs c home) Found (Ok found) mid last → Means (Ok (meant_of found)) last
     meant_there found second = let l = looked (Ok found) second in record { reads = l.reads; answers = l.answers }
 
-    pub meant_unselected : (e : Refusal) → LooksOf history (λ cs c. IsNumbered cs c number) Found (Err e) mid last → Means (Err e) last
+    pub meant_unselected : (e : Refusal) → LooksOf history (λ cs c. IsHome cs c home) Found (Err e) mid last → Means (Err e) last
     meant_unselected e second = let l = looked (Err e) second in record { reads = l.reads; answers = λ k. inr (l.answers k) }
 
 -- ---- what the statements make of them

@@ -13,6 +13,9 @@ use Rattle.engine.specs.View.{world}
 use Rattle.engine.specs.declared.engine.Engine.{Engine}
 use Rattle.database_model.specs.World.{documents_of}
 use Rattle.queries.specs.Asking.{IsAsked}
+use Rattle.index.specs.declared.catalogue_reading.Catalogued.{Catalogued}
+use Rattle.engine.specs.TakingOut.{HasHome, IsHome}
+use Rattle.engine.proofs.CataloguedLemmas.{IsCatalogueOf, has_home, not_catalogued}
 use Rattle.statements.proofs.Numbers.{found_kept}
 use Rattle.engine.proofs.LookingLemmas.{looks_behind, looks_made}
 
@@ -70,14 +73,33 @@ module _ {D Y : Type 0} (history : D → History) (name : List ℕ) (a b : Engin
       looks_made history (λ now found. found ≡ option_map (λ c. c.number) (find_collection now name)) a b (λ now (y : Y). Q (documents_of now name) y) x y first
       (λ p. subst (λ (ds : List Pairs). Q ds y) (sym (none_so (world a).collections name (sym is ∙ p))) right)
 
--- ---- of a collection by its number
+-- ---- of a collection as the catalogue has it
 
--- the documents of a sound engine's collections are such as a command stores
-pub asked_by_number : {D X : Type 0} (history : D → History) (number : ℕ) (old new : Engine D) (Q : List Collection → Collection → X → Type 0) (r : Result X Refusal) → IsSound history old
-    → LooksOf history (IsAsked number) Q r old new → LooksOf history (λ now of. IsNumbered now of number) Q r old new
-asked_by_number history number old new Q r h looks = record {
+-- the documents of a sound engine's collections are such as commands store
+pub asked_at_home : {D X : Type 0} (history : D → History) (home : Catalogued) (old new : Engine D) (Q : List Collection → Collection → X → Type 0) (r : Result X Refusal) → IsSound history old
+    → LooksOf history (IsAsked home) Q r old new → LooksOf history (λ now of. IsHome now of home) Q r old new
+asked_at_home history home old new Q r h looks = record {
   reads = looks.reads;
-  answers = λ k of numbered.
-      let kept = found_kept (world old).collections of.name of h.lawful.kept numbered.found in
-      looks.answers k of (record { numbered = numbered; stored = kept.lawful.stored });
+  answers = λ k of there.
+      let kept = found_kept (world old).collections of.name of h.lawful.kept there.numbered.found in
+      looks.answers k of (record { numbered = there.numbered; indexed = there.indexed; stored = kept.lawful.stored });
 }
+
+module _ {D Y : Type 0} (history : D → History) (name : List ℕ) (a b : Engine D) (Q : List Pairs → Y → Type 0) (x : Option Catalogued) (first : Looks history (IsCatalogueOf name) (Ok x) a b) where
+  -- what was looked up of the collection
+  pub of_home : (c : Engine D) (home : Catalogued) → x ≡ Some home → (r : Result Y Refusal) → LooksOf history (λ now of. IsHome now of home) (λ now of (y : Y). Q of.documents y) r b c → Looks history (λ now (y : Y). Q (documents_of now name) y) r a c
+  of_home c home is r second =
+      looks_behind history (IsCatalogueOf name) (λ now of. IsHome now of home) (λ now of (y : Y). Q of.documents y) (λ now (y : Y). Q (documents_of now name) y)
+      a b c x r first second (λ p.
+      let now = (world a).collections in
+      let f : HasHome now name home = has_home now name home (subst (IsCatalogueOf name now) is p) in
+      record { asked = f.collection; is = f.catalogued; right = λ y right. subst (λ (ds : List Pairs). Q ds y) (sym (documents_found now name f.collection f.found)) right })
+
+  -- there is none
+  pub of_no_home : x ≡ None → (y : Y) → Q [] y → Looks history (λ now (y : Y). Q (documents_of now name) y) (Ok y) a b
+  of_no_home is y right =
+      looks_made history (IsCatalogueOf name) a b (λ now (y : Y). Q (documents_of now name) y) x y first
+      (λ p. subst (λ (ds : List Pairs). Q ds y) (sym (none_there (world a).collections (not_catalogued (world a).collections name (subst (IsCatalogueOf name (world a).collections) is p)))) right)
+    where
+      none_there : (now : List Collection) → find_collection now name ≡ None → documents_of now name ≡ []
+      none_there now none = rw none refl

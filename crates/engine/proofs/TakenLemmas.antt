@@ -7,7 +7,6 @@ use Rattle.bson.specs.Tree.{Pairs}
 use Rattle.page.specs.History.{History}
 use Rattle.path.specs.declared.refusal.Refusal.{Refusal}
 use Rattle.commands.specs.Delete.{Deletion}
-use Rattle.collections.specs.Reading.{IsNumbered}
 use Rattle.index.specs.State.{Collection, find_collection, put_collection}
 use Rattle.index.specs.declared.catalogue_reading.Catalogued.{Catalogued}
 use Rattle.index.proofs.FoundLawLemmas.{finds_put}
@@ -17,7 +16,7 @@ use Rattle.engine.specs.Looking.{Looks, LooksOf}
 use Rattle.database_model.specs.Merging.{is_deleted}
 use Rattle.statements.specs.Redoing.{all_taken}
 use Rattle.engine.specs.Removing.{IsTaken, deleted}
-use Rattle.engine.specs.TakingOut.{HasHome}
+use Rattle.engine.specs.TakingOut.{HasHome, IsHome}
 use Rattle.engine.specs.View.{world}
 use Rattle.database_model.specs.World.{documents_or_none, documents_of}
 use Rattle.engine.specs.declared.delete.Taken.{Taken}
@@ -92,16 +91,16 @@ module _ {D : Type 0} (history : D → History) (name : List ℕ) (deletions : L
 
     -- the documents that a statement matches were looked up
     pub meant_found : (c : Engine D) (home : Catalogued) → x ≡ Some home → (r : Result (Vec Pairs) Refusal)
-        → LooksOf history (λ now of. IsNumbered now of home.number) (λ now of (found : Vec Pairs). found.items ≡ take (2 ^ 64 - 1) (filter (is_deleted deletions) of.documents)) r b c
+        → LooksOf history (λ now of. IsHome now of home) (λ now of (found : Vec Pairs). found.items ≡ take (2 ^ 64 - 1) (filter (is_deleted deletions) of.documents)) r b c
         → Looks history (λ now (found : Vec Pairs). AreMeant name deletions home now found.items) r a c
     meant_found c home is r second =
-        looks_behind history (IsCatalogueOf name) (λ now of. IsNumbered now of home.number) (λ now of (found : Vec Pairs). found.items ≡ take (2 ^ 64 - 1) (filter (is_deleted deletions) of.documents))
+        looks_behind history (IsCatalogueOf name) (λ now of. IsHome now of home) (λ now of (found : Vec Pairs). found.items ≡ take (2 ^ 64 - 1) (filter (is_deleted deletions) of.documents))
         (λ now (found : Vec Pairs). AreMeant name deletions home now found.items) a b c x r first second (λ p.
         let now = (world a).collections in
         let f = has_home now name home (subst (IsCatalogueOf name now) is p) in
         record {
           asked = f.collection;
-          is = f.catalogued.numbered;
+          is = f.catalogued;
           right = λ y right. record {
             first = right ∙ ap (λ (ds : List Pairs). take (2 ^ 64 - 1) (filter (is_deleted deletions) ds)) (sym (documents_found now name f.collection f.found));
             there = f;

@@ -178,6 +178,13 @@ impl Selects for Matched<'_> {
             _ => None,
         }
     }
+
+    fn asked_filter(&self) -> Option<&Filter> {
+        match self.deletions {
+            [only] => Some(&only.filter),
+            _ => None,
+        }
+    }
 }
 
 /// What a delete takes out of a collection.
@@ -233,7 +240,7 @@ impl<D: Disk> Engine<D> {
         let Some(home) = self.catalogued(namespace)? else {
             return Ok(none_taken(self.alloc));
         };
-        let found = self.selected(home.number, &Matched { deletions }, usize::MAX)?;
+        let found = self.selected(&home, &Matched { deletions }, usize::MAX)?;
         let left = after_deletions(self.alloc, &found, deletions)?;
         Ok(Taken {
             home,

@@ -3,12 +3,13 @@
 ghost use Rattle.std.specs.Prelude.{◌≡◌, All, IfOk, IfSome, take};
 ghost use Rattle.std.specs.List.{filter};
 ghost use Rattle.std.specs.Option.{option_map};
-ghost use Rattle.collections.specs.Reading.{IsNumbered, IsWithinLimits, catalogued_in, catalogued_of};
+ghost use Rattle.collections.specs.Reading.{IsWithinLimits, catalogued_in, catalogued_of};
 ghost use Rattle.index.specs.State.{find_collection};
 ghost use Rattle.engine.specs.Durable.{IsSound};
 ghost use Rattle.database_model.specs.Find.{matching};
 ghost use Rattle.database_model.specs.Lawful.{IsWithin};
 ghost use Rattle.engine.specs.Looking.{Looks, LooksOf};
+ghost use Rattle.engine.specs.TakingOut.{IsHome};
 ghost use Rattle.database_model.specs.World.{documents_of};
 
 use crate::engine::Engine;
@@ -41,21 +42,20 @@ impl<D: Disk> Engine<D> {
         self.file.number_of(namespace)
     }
 
-    /// The documents of the collection of a number that are looked for, in ascending order of `_id`: the first ones, up to
-    /// so many.
+    /// The documents of a collection that are looked for, in ascending order of `_id`: the first ones, up to so many.
     pub(crate) fn selected<S: Selects>(
         &mut self,
-        number: u32,
+        home: &Catalogued,
         which: &S,
         most: usize,
     ) -> Result<Vec<SharedDocument>, Refusal>
         requires { IsSound D.history self.old }
-        ensures looks { LooksOf D.history (λ now c. IsNumbered now c number)
+        ensures looks { LooksOf D.history (λ now c. IsHome now c home.now)
             (λ now c found. found.items ≡ take most (filter (S.selects which.now) c.documents))
             result self.old self.new }
         ensures within { IfOk result (λ found. All IsWithin found.items) }
     {
-        selected_in(self.alloc, &mut self.file, number, which, most)
+        selected_in(self.alloc, &mut self.file, home, which, most)
     }
 
     /// The documents of a collection that match, in ascending order of `_id`: the first ones, up to so many. A missing
@@ -73,9 +73,9 @@ impl<D: Disk> Engine<D> {
             result self.old self.new }
         ensures within { IfOk result (λ found. All IsWithin found.items) }
     {
-        let Some(number) = self.number_of(namespace)? else {
+        let Some(home) = self.catalogued(namespace)? else {
             return Ok(Vec::new(self.alloc));
         };
-        self.selected(number, condition, most)
+        self.selected(&home, condition, most)
     }
 }

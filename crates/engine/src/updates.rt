@@ -27,6 +27,7 @@ ghost use Rattle.engine.specs.View.{world};
 use crate::engine::Engine;
 use bson::{Document, NoMemory, RawDoc, Value};
 use commands::UpdateStatement;
+use filter::Filter;
 use index::{Catalogued, Edits};
 use page::Disk;
 use path::Refusal;
@@ -181,6 +182,17 @@ impl Selects for Meaning<'_> {
             None
         }
     }
+
+    fn asked_filter(&self) -> Option<&Filter> {
+        let [only] = self.statements else {
+            return None;
+        };
+        if self.made.is_empty() {
+            Some(&only.filter)
+        } else {
+            None
+        }
+    }
 }
 
 /// The reply that says what statements came to; `BSONObjectTooLarge` where that is too long, as the `_id`s of many documents that
@@ -321,7 +333,7 @@ impl<D: Disk> Engine<D> {
         ensures within { IfOk result (λ m. All IsWithin m.documents.items) }
         ensures number { IfOk result (λ m. HasNumber m.is_new m.number) }
     {
-        let Some(number) = self.number_of(namespace)? else {
+        let Some(home) = self.catalogued(namespace)? else {
             return self.meant_in_none(statements);
         };
         let made = all_made(self.alloc, statements)?;
@@ -329,9 +341,9 @@ impl<D: Disk> Engine<D> {
             statements,
             made: &made,
         };
-        let documents = self.selected(number, &meaning, usize::MAX)?;
+        let documents = self.selected(&home, &meaning, usize::MAX)?;
         Ok(Meant {
-            number,
+            number: home.number,
             is_new: false,
             documents,
         })

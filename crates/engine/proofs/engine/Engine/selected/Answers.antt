@@ -3,7 +3,7 @@ use Rattle.std.specs.List.{filter}
 use Rattle.bson.specs.Tree.{Pairs}
 use Rattle.queries.specs.Asking.{IsAsked}
 use Rattle.engine.proofs.LookingLemmas.{looks_so_of}
-use Rattle.engine.proofs.NamedLemmas.{asked_by_number}
+use Rattle.engine.proofs.NamedLemmas.{asked_at_home}
 use Rattle.engine.proofs.engine.Engine.selected.Goals as goal
 
 pub returns-clause-looks : goal.returns-clause-looks
@@ -12,6 +12,6 @@ returns-clause-looks g c =
     let old = c.args.self.now in
     let new = record old { file = c.selected_in.new.file } in
     let p = g.S.Selects.selects c.args.which.now in
-    asked_by_number history c.args.number old new (λ now of (found : Vec Pairs Global). found.items ≡ take c.args.most (filter p of.documents)) c.selected_in.result c.requires
-    (looks_so_of history old new c.requires refl refl refl (IsAsked c.args.number)
+    asked_at_home history c.args.home.now old new (λ now of (found : Vec Pairs Global). found.items ≡ take c.args.most (filter p of.documents)) c.selected_in.result c.requires
+    (looks_so_of history old new c.requires refl refl refl (IsAsked c.args.home.now)
     (λ now of (found : Vec Pairs Global). found.items ≡ take c.args.most (filter p of.documents)) c.selected_in.result c.selected_in.ensures.reads)
