@@ -1,4 +1,7 @@
 pub mod RisingLemmas
+pub mod KeyScanLemmas
+pub mod RangeReadingLemmas
+pub mod FoundIdLemmas
 pub mod AnswerLemmas
 pub mod UsableLemmas
 pub mod KeyRangeLemmas
@@ -9,6 +12,4 @@ pub mod SortedLemmas
 pub mod ChoiceLemmas
 pub mod KeySpanLemmas
 pub mod SpanTextLemmas
-pub mod KeyScanLemmas
-pub mod RangeReadingLemmas
-pub mod FoundIdLemmas
+pub mod IdLemmas

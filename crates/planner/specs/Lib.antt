@@ -11,3 +11,4 @@ pub mod RangeReading
 pub mod FoundIds
 pub mod Rows
 pub mod ChoiceLaws
+pub mod IdLaws
