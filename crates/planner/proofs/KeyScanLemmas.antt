@@ -1,10 +1,9 @@
 -- Behind the text of a value stands what follows it, in either direction.
-use Rattle.std.proofs.Common.{◌≡◌, ◌≢◌, ℕ, zero, suc, ◌+◌, ◌-◌, ◌^◌, ◌<◌, ◌≤◌, Bool, true, false, List, [], ◌∷◌, ◌++◌, length, map, take, drop, Option, Some, None, ◌⊎◌, inl, inr, refl, sym, ◌∙◌, ap, subst, arith, append_assoc, length-append}
+use Rattle.std.proofs.Common.{◌≡◌, ◌≢◌, ℕ, zero, suc, ◌+◌, ◌^◌, ◌<◌, ◌≤◌, Bool, true, false, List, [], ◌∷◌, ◌++◌, length, map, drop, Option, Some, None, inl, inr, refl, ◌∙◌, ap, subst, arith, append_assoc, length-append}
 use Rattle.std.specs.Prelude.{◌==◌, if◌then◌else◌}
 use Rattle.std.specs.Fmt.{decimal}
 use Rattle.std.specs.Int.{w32, w64, to_be_bytes, from_be_bytes}
 use Rattle.std.specs.Option.{option_and_then}
-use Rattle.std.proofs.Math.Dec.{eqb}
 use Rattle.std.proofs.Math.Seq.{drop-append_seam}
 use Rattle.std.proofs.lemmas.Bool.{le-ltb}
 use Rattle.std.proofs.lemmas.Bool.Decides.{eqb_tells}
@@ -25,7 +24,7 @@ use Rattle.value_order.proofs.ScalarLaws.{IsSized}
 use Rattle.index.specs.Definition.{Field}
 use Rattle.index.specs.KeyTexts.{key_bytes}
 use Rattle.index.specs.Laws.{IsIndexKey}
-use Rattle.planner.specs.KeyScan.{plain, behind, behind_name, behind_string, number_in, behind_binary, behind_scalar, by_class, behind_value, behind_pairs, behind_items, behind_fields, id_text}
+use Rattle.planner.specs.KeyScan.{plain, behind, behind_name, behind_string, number_in, behind_binary, behind_scalar, by_class, behind_value, behind_pairs, behind_items, behind_fields}
 use Rattle.planner.specs.KeyScanLaws.{FindsIdText}
 
 -- ---- bytes in a direction

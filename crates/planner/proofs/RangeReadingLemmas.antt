@@ -1,14 +1,12 @@
 -- What is read of an index in a range leads to each document that the filter matches.
-use Rattle.std.proofs.Common.{◌≡◌, ℕ, Bool, true, false, ◌||◌, List, [], ◌∷◌, ◌++◌, map, Option, Some, inl, inr, refl, sym, ap, ◌∙◌}
-use Rattle.std.specs.Prelude.{All, Contains}
+use Rattle.std.proofs.Common.{◌≡◌, ℕ, Bool, true, false, ◌||◌, List, [], ◌∷◌, ◌++◌, map, Some, inl, inr, refl, ap, ◌∙◌}
+use Rattle.std.specs.Prelude.{Contains}
 use Rattle.std.specs.List.{AllByRecursion, list_any}
 use Rattle.bson.specs.Tree.{Pairs}
 use Rattle.value_order.specs.KeyText.{tree_text}
 use Rattle.value_order.specs.Order.{Key}
-use Rattle.filter.specs.Condition.{Conditions}
 use Rattle.filter.specs.Matches.{matches}
-use Rattle.filter.specs.Sort.{SortField}
-use Rattle.index.specs.Definition.{Definition, Field}
+use Rattle.index.specs.Definition.{Field}
 use Rattle.index.specs.IndexKeys.{index_keys, is_multikey}
 use Rattle.index.specs.KeyTexts.{encoded_keys, key_bytes}
 use Rattle.index.specs.Laws.{IsIndexKey}
@@ -18,11 +16,10 @@ use Rattle.index.proofs.KeyOfDocument.{IsEncoded, encoded_of, among_test, test_a
 use Rattle.index.proofs.MemberLemmas.{Among, among_image, among_of, contains_of, of_all}
 use Rattle.index.proofs.SetLemmas.{set_among}
 use Rattle.index.proofs.SpellableLaws.{keys_spellable}
-use Rattle.planner.specs.AnswerLaws.{IsNotedFor}
-use Rattle.planner.specs.KeyRange.{has_bytes, has_key}
+use Rattle.planner.specs.KeyRange.{has_key}
 use Rattle.planner.specs.KeyScan.{id_text}
 use Rattle.planner.specs.Plan.{is_multi, range_in}
-use Rattle.planner.specs.RangeReading.{IsEntryText, RangeFindsMatching}
+use Rattle.planner.specs.RangeReading.{RangeFindsMatching}
 use Rattle.planner.proofs.AnswerLemmas.{document_is_key}
 use Rattle.planner.proofs.KeyBytesLemmas.{has_bytes_behind}
 use Rattle.planner.proofs.KeyRangeLemmas.{has_key_in_range}

@@ -1,16 +1,13 @@
-use Rattle.std.proofs.Common.{◌≡◌, [], List, ℕ, Err, map, refl, sym, subst, ◌∙◌, ap}
-use Rattle.std.specs.Global.{Vec}
+use Rattle.std.proofs.Common.{◌≡◌, List, ℕ, Err, map, refl, sym, subst, ◌∙◌}
 use Rattle.std.specs.Option.{option_map}
 use Rattle.std.proofs.lemmas.Result.{err_from_is_err_and}
-use Rattle.btree.specs.Keys.{Entry}
 use Rattle.btree.specs.Scan.{entry_in}
 use Rattle.btree.specs.declared.scanning.Range.{Range}
 use Rattle.index.specs.OtherKeys.{IsEndOf}
-use Rattle.index.specs.State.{Collection}
 use Rattle.index.specs.StateEntries.{key_under}
 use Rattle.index.specs.View.{texts_of}
 use Rattle.path.specs.declared.refusal.Refusal.TheVariants as refusals
-use Rattle.collections.specs.IndexTexts.{AreTextsBetween, Indexed, IsNumberedIndex, texts_behind}
+use Rattle.collections.specs.IndexTexts.{AreTextsBetween, IsNumberedIndex, texts_behind}
 use Rattle.collections.specs.Reading.{IsBatchOf, IsInTree}
 use Rattle.collections.proofs.IndexTextLemmas.{or_memory, texts_asked}
 use Rattle.collections.proofs.OtherKeyLemmas.{not_more}
