@@ -1,6 +1,6 @@
 //! What the entries of an index tell, from one text up to another.
 
-ghost use Rattle.std.specs.Prelude.{◌≡◌, ◌++◌, OnOk, map, option_map};
+ghost use Rattle.std.specs.Prelude.{◌≡◌, ◌++◌, IfSome, OnOk, map, option_map};
 ghost use Rattle.std.specs.Option.{option_to_list};
 ghost use Rattle.btree.specs.Scan.{entry_in};
 ghost use Rattle.index.specs.View.{texts_of};
@@ -52,17 +52,19 @@ fn texts_behind(alloc: Global, front: &[u8], entries: &[Entry]) -> Result<Vec<Ve
 }
 
 impl<D: Disk> Collections<D> {
-    /// The texts of the entries of an index from one text up to another and all that goes on from it, in ascending order. Texts
-    /// behind these may be among them.
+    /// The texts of the entries of an index from one text up to another and all that goes on from it, in ascending order, where there are
+    /// at most so many of these. Texts behind them may be among them.
     pub fn index_texts(
         &mut self,
         number: u32,
         index: u32,
         first: &[u8],
         last: &[u8],
-    ) -> Result<Vec<Vec<u8>>, Refusal>
+        most: usize,
+    ) -> Result<Option<Vec<Vec<u8>>>, Refusal>
         ensures { ReadsOf D.history (IsNumberedIndex number index)
-            (λ now at texts. AreTextsBetween first.now last.now at (texts_of texts.items))
+            (λ now at found. IfSome found
+            (λ texts. AreTextsBetween first.now last.now at (texts_of texts.items)))
             result self.old self.new }
     {
         let from = index_key(self.alloc, number, index, first)?;
@@ -72,11 +74,12 @@ impl<D: Disk> Collections<D> {
         let batch = self.entries_in(Range {
             from: &from,
             to: to.as_deref(),
-            limit: usize::MAX,
+            limit: most,
         })?;
         if batch.next.is_some() {
-            return Err(Refusal::StorageFailed);
+            return Ok(None);
         }
-        texts_behind(self.alloc, &front, &batch.entries)
+        let texts = texts_behind(self.alloc, &front, &batch.entries)?;
+        Ok(Some(texts))
     }
 }

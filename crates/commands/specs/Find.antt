@@ -64,6 +64,11 @@ window_field found name t =
         common ← common_field found.common name t
         Ok (record found { common = common }))
 
+abbrev pub projection_field : FindFields → Tree → Result FindFields Refusal
+projection_field found t = do
+  projection ← spelled_in read_projection t
+  Ok (record found { projection = Some projection })
+
 abbrev pub find_field : FindFields → List ℕ → Tree → Result FindFields Refusal
 find_field found name t =
     if bytes_eq name (codes "filter") then (do
@@ -72,9 +77,7 @@ find_field found name t =
     if bytes_eq name (codes "sort") then (do
       fields ← spelled_in read_sort t
       Ok (record found { sort = Some fields })) else
-    if bytes_eq name (codes "projection") then (do
-      projection ← spelled_in read_projection t
-      Ok (record found { projection = Some projection })) else
+    if bytes_eq name (codes "projection") then projection_field found t else
     window_field found name t
 
 -- A missing filter is met by all, a missing sort changes no order, and a missing projection leaves all.

@@ -3,7 +3,7 @@
 ghost use Rattle.std.specs.Prelude.{◌≡◌};
 ghost use Rattle.bson.specs.View.{tree, pairs_of};
 ghost use Rattle.outcome.specs.Outcome.{Gives, Does};
-ghost use Rattle.commands.specs.Find.{no_find_fields, find_field, window_field, query_of, read_find};
+ghost use Rattle.commands.specs.Find.{no_find_fields, find_field, projection_field, window_field, query_of, read_find};
 ghost use Rattle.commands.specs.Values.{spelled_in};
 ghost use Rattle.filter.specs.ProjectionReading.{read_projection};
 ghost use Rattle.filter.specs.SortReading.{read_sort};
@@ -134,6 +134,15 @@ fn projection_in(alloc: Global, value: &Value) -> Result<Projection, Refusal>
 }
 
 impl<'a> FindFields<'a> {
+    /// Reads what is given of each document.
+    fn read_projection(&mut self, alloc: Global, value: &Value) -> Result<(), Refusal>
+        ensures { Does Refusal.OutOfMemory result self.new
+            (projection_field self.old (tree value.now)) }
+    {
+        self.projection = Some(projection_in(alloc, value)?);
+        Ok(())
+    }
+
     /// Reads one of the fields that say how many documents come, or one that every command may have.
     fn read_window(&mut self, alloc: Global, name: &str, value: &'a Value) -> Result<(), Refusal>
         ensures { Does Refusal.OutOfMemory result self.new
@@ -165,8 +174,7 @@ impl<'a> Fields<'a> for FindFields<'a> {
             self.sort = Some(sort_in(alloc, value)?);
             Ok(())
         } else if name == "projection" {
-            self.projection = Some(projection_in(alloc, value)?);
-            Ok(())
+            self.read_projection(alloc, value)
         } else {
             self.read_window(alloc, name, value)
         }

@@ -41,7 +41,7 @@ use Rattle.engine.proofs.CataloguedLemmas.{IsCatalogueOf, has_home, not_catalogu
 use Rattle.engine.proofs.MakingLemmas.{lawful_now, leads_planned, makes_behind, makes_none, makes_written, performs_done, performs_refused, planned_is, with_reply}
 use Rattle.engine.proofs.OnlyReading.{cause_from, now_same, reads_file, reads_none, reads_on, word_before}
 use Rattle.engine.proofs.TakingOutLemmas.{all_indexable, front_out, front_there}
-use Rattle.engine.proofs.WalkingLemmas.{none_there}
+use Rattle.queries.proofs.WalkingLemmas.{none_there}
 
 -- ---- what a drop comes to
 

@@ -20,7 +20,7 @@ use Rattle.engine.specs.View.{turn_start, world}
 use Rattle.engine.specs.declared.check_fault.CheckFault.TheVariants as faults
 use Rattle.engine.specs.declared.engine.Engine.{Engine}
 use Rattle.engine.proofs.LookingLemmas.{collections_same}
-use Rattle.engine.proofs.WalkingLemmas.{IsFound, IsNumberOf, found_so}
+use Rattle.engine.proofs.NamedLemmas.{IsFound, IsNumberOf, found_so}
 
 -- a collection without a number is missing
 missing_so : (o : Option Collection) → None ≡ option_map (λ (c : Collection). c.number) o → o ≡ None

@@ -20,7 +20,8 @@ use Rattle.replies.proofs.CursorSteps.{rested_untouched, untouched_untouched}
 use Rattle.std.proofs.lemmas.List.Elements.{All-filter, All-map}
 use Rattle.database_model.specs.Lawful.{IsWithin, IsLawfulState, AreLawfulCursors}
 use Rattle.engine.specs.View.{world_of, world, turn_start}
-use Rattle.engine.specs.Durable.{Holds, disk_history, generation, has_changes, is_stopped, IsRunning, IsSound}
+use Rattle.engine.specs.Durable.{disk_history, generation, has_changes, is_stopped, IsRunning, IsSound}
+use Rattle.opening.specs.Holding.{Holds}
 use Rattle.engine.specs.Committing.{Commits}
 use Rattle.engine.specs.declared.engine.Engine.{Engine}
 

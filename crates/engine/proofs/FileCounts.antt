@@ -18,23 +18,25 @@ use Rattle.collections.specs.View.{is_stopped}
 use Rattle.collections.proofs.EntryLemmas.{tree_rises}
 use Rattle.collections.proofs.StandingLemmas.{stopped_same}
 use Rattle.engine.specs.CheckFaults.{reading_fault}
-use Rattle.engine.specs.Checking.{AreCountsIn, ChecksFile, total_documents, total_indexes}
+use Rattle.engine.specs.Checking.{AreCountsIn, ChecksFile}
+use Rattle.opening.specs.Totals.{total_indexes}
+use Rattle.opening.specs.Totals.{total_documents}
 use Rattle.engine.specs.Dump.{HasFaultCause}
 use Rattle.engine.specs.Durable.{disk_history, file_of, generation, IsSound}
-use Rattle.engine.specs.FileOpening.{HasFault, LoadsFile}
-use Rattle.engine.specs.Judging.{MakesNone, bare, listed_of}
+use Rattle.opening.specs.FileOpening.{HasFault, LoadsFile}
+use Rattle.opening.specs.Judging.{MakesNone, bare, listed_of}
 use Rattle.database_model.specs.Lawful.{IsStored}
-use Rattle.engine.specs.Loading.{named_as, progress_of}
+use Rattle.opening.specs.Loading.{named_as, progress_of}
 use Rattle.engine.specs.Looking.{OnlyReads}
 use Rattle.engine.specs.View.{turn_start, world}
 use Rattle.engine.specs.declared.check_fault.CheckFault.{CheckFault}
 use Rattle.engine.specs.declared.check_fault.CheckFault.TheVariants as faults
 use Rattle.engine.specs.declared.checking.Counts.{Counts}
 use Rattle.engine.specs.declared.engine.Engine.{Engine}
-use Rattle.engine.specs.declared.loading.Loading.{Loading}
-use Rattle.engine.proofs.FileEntries.{made_spell}
+use Rattle.opening.specs.declared.loading.Loading.{Loading}
+use Rattle.opening.proofs.FileEntries.{made_spell}
 use Rattle.engine.proofs.OnlyReading.{failed_from, reads_file, reads_none, reads_on, word_before}
-use Rattle.engine.proofs.RefusingLemmas.{none_unmade}
+use Rattle.opening.proofs.RefusingLemmas.{none_unmade}
 
 -- ---- what the catalogue tells
 

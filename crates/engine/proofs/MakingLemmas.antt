@@ -12,7 +12,7 @@ use Rattle.index.specs.StateEntries.{Leads}
 use Rattle.collections.specs.Calls.{HasCause, HasWriteCause, IsOfFile}
 use Rattle.collections.proofs.LawLemmas as laws
 use Rattle.engine.specs.Durable.{disk_history, file_of, IsRunning, IsSound}
-use Rattle.engine.specs.Known.{Known}
+use Rattle.opening.specs.Known.{Known}
 use Rattle.engine.specs.Looking.{OnlyReads}
 use Rattle.engine.specs.Performing.{Performs}
 use Rattle.database_model.specs.Refusals.{ok_reply}

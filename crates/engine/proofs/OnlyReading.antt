@@ -13,7 +13,7 @@ use Rattle.collections.specs.View.{pages_of}
 use Rattle.collections.proofs.LawLemmas as laws
 use Rattle.collections.proofs.StandingLemmas.{stopped_same}
 use Rattle.engine.specs.Durable.{disk_history, file_of, IsSound}
-use Rattle.engine.specs.Known.{Known}
+use Rattle.opening.specs.Known.{Known}
 use Rattle.engine.specs.Looking.{OnlyReads}
 use Rattle.engine.specs.Trying.{Tries}
 use Rattle.engine.specs.View.{world}

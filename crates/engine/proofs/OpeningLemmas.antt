@@ -6,7 +6,7 @@ use Rattle.collections.specs.Standing.{HasState}
 use Rattle.database_model.specs.World.{CursorTable}
 use Rattle.database_model.specs.Lawful.{AreLawfulCursors, IsLawfulState}
 use Rattle.engine.specs.View.{world}
-use Rattle.engine.specs.FileOpening.{IsFileOpened}
+use Rattle.opening.specs.FileOpening.{IsFileOpened}
 use Rattle.engine.specs.Opening.{IsOpened}
 use Rattle.engine.specs.declared.engine.Engine.{Engine}
 

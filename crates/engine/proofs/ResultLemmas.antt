@@ -1,6 +1,5 @@
 -- Results and tests.
 use Rattle.std.proofs.Common.{◌≡◌, true, false, Bool, Result, Ok, Err, sym, ◌∙◌}
-use Rattle.std.specs.Prelude.{IfOk}
 use Rattle.roots.specs.declared.store.CommitFault.{CommitFault}
 use Rattle.roots.specs.declared.store.CommitFault.TheVariants as faults
 
@@ -11,8 +10,3 @@ fault_of (Err e) = e
 
 pub not_both : {X : Type 0} (b : Bool) → b ≡ true → b ≡ false → X
 not_both b on off = let both : true ≡ false = sym on ∙ off in absurd cc
-
--- what holds of an answer holds less of it
-pub if_ok : {X E : Type 0} {P Q : X → Type 0} (r : Result X E) → ((x : X) → P x → Q x) → IfOk r P → IfOk r Q
-if_ok (Ok x) f h = f x h
-if_ok (Err e) f h = tt

@@ -1,5 +1,5 @@
 -- What running a command comes to.
-use Rattle.std.proofs.Common.{◌≡◌, ℕ, ◌+◌, ◌-◌, ◌<◌, ◌≤◌, Bool, true, false, List, [], ◌∷◌, ◌++◌, length, take, drop, Option, Some, None, Result, Ok, Err, refl, sym, ap, ◌∙◌, arith}
+use Rattle.std.proofs.Common.{◌≡◌, inl, inr, ℕ, ◌+◌, ◌-◌, ◌<◌, ◌≤◌, Bool, true, false, List, [], ◌∷◌, ◌++◌, length, take, drop, Option, Some, None, Result, Ok, Err, refl, sym, ap, ◌∙◌, arith}
 use Rattle.std.specs.Prelude.{not, nat_le, if◌then◌else◌, codes, unwrap_or, IfOk, IfErr}
 use Rattle.std.proofs.lemmas.Bool.Decides.{nat_tests}
 use Rattle.bson.specs.Tree.{Pairs, pair, no_pairs}
@@ -12,11 +12,12 @@ use Rattle.aggregate.specs.Pipeline.{run as after_pipeline}
 use Rattle.database_model.specs.Aggregate.{run_aggregate}
 use Rattle.database_model.specs.Find.{query_result, matching, window, run_find}
 use Rattle.commands.specs.Delete.{Delete}
+use Rattle.replies.specs.FirstBatch.{IsFirstBatch, IsNoBatch}
 use Rattle.replies.specs.View.{with_ok}
 use Rattle.database_model.specs.Delete.{after_deletions, deleted_in, run_delete}
-use Rattle.database_model.specs.World.{World, Cursor, collection_of, documents_of}
+use Rattle.database_model.specs.World.{World, Cursor, CursorTable, collection_of, documents_of}
 use Rattle.index.specs.State.{Collection, find_collection, put_collection}
-use Rattle.outcome.specs.Outcome.{◌>>=◌, unless, or_refused}
+use Rattle.outcome.specs.Outcome.{◌>>=◌, Fails, unless, or_refused}
 use Rattle.std.specs.List.{filter, position}
 use Rattle.database_model.specs.Documents.{insert_all}
 use Rattle.database_model.specs.Refusals.{int, total, ok_reply}
@@ -111,10 +112,26 @@ module _ (w : World) (connection : ℕ) (name : List ℕ) (documents : List Pair
   pub refused_batch : n < length documents → is_refused connection w.cursors w.next ≡ true → first_batch w connection name documents n ≡ Err refusals.TooMany
   refused_batch over full = left over ∙ ap after_opening (not_opened full)
 
--- a batch of as many as were counted
-pub batch_is : (w : World) (connection : ℕ) (name : List ℕ) (most n : ℕ) (gs ds : List Pairs) → gs ≡ ds → n ≡ batch_of most gs → first_batch w connection name ds (batch_of most ds) ≡ first_batch w connection name gs n
-batch_is w connection name most n gs ds is counted =
-    ap (λ (es : List Pairs). first_batch w connection name es (batch_of most es)) (sym is) ∙ ap (first_batch w connection name gs) (sym counted)
+-- a first batch that was spelled is the definition's
+module _ (w : World) (connection : ℕ) (name : List ℕ) (ds : List Pairs) (most : ℕ) where
+  abbrev table : CursorTable
+  table = record { list = w.cursors; next = w.next }
+
+  abbrev planned : Result (World × Pairs) Refusal
+  planned = first_batch w connection name ds (batch_of most ds)
+
+  of_count : (n : ℕ) → n ≡ batch_of most ds → planned ≡ first_batch w connection name ds n
+  of_count n counted = ap (first_batch w connection name ds) (sym counted)
+
+  pub given_whole : (n : ℕ) (reply : Pairs) → IsFirstBatch table connection name ds most n reply → length ds ≤ n → with_ok planned ≡ Ok (w, reply)
+  given_whole n reply h fits = ap with_ok (of_count n h.count) ∙ whole_batch w connection name ds n w.next reply fits h.says
+
+  pub given_opened : (n : ℕ) (reply : Pairs) (new : World) → IsFirstBatch table connection name ds most n reply → n < length ds → new ≡ with_cursor w connection name ds n → with_ok planned ≡ Ok (new, reply)
+  given_opened n reply new h over made = ap with_ok (of_count n h.count) ∙ opened_batch w connection name ds n w.next reply new over refl (h.free over) made h.says
+
+  pub given_none : (e : Refusal) → IsNoBatch table connection ds most e → Fails refusals.OutOfMemory e planned
+  given_none e (inl is) other = absurd (other is)
+  given_none e (inr (is, over, full)) other = refused_batch w connection name ds (batch_of most ds) over full ∙ ap (λ (x : Refusal). let r : Result (World × Pairs) Refusal = Err x in r) (sym is)
 
 module _ (w : World) (connection : ℕ) (name : List ℕ) (query : Query) (most : ℕ) where
   abbrev sought : Find

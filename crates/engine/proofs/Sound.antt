@@ -17,11 +17,11 @@ use Rattle.engine.specs.View.{world, turn_start}
 use Rattle.engine.specs.Durable.{IsSound, file_of, has_changes}
 use Rattle.engine.specs.Writing.{FileCause}
 use Rattle.engine.specs.declared.engine.Engine.{Engine}
-use Rattle.engine.specs.declared.told.Told.{Told}
+use Rattle.opening.specs.declared.told.Told.{Told}
 use Rattle.database_model.specs.Refusals.{refusal_reply}
 use Rattle.collections.proofs.LawLemmas as laws
 use Rattle.engine.specs.Performing.{DoesPlanned, Performs}
-use Rattle.engine.specs.Known.{Known}
+use Rattle.opening.specs.Known.{Known}
 use Rattle.path.specs.declared.refusal.Refusal.{Refusal}
 use Rattle.path.specs.declared.refusal.Refusal.TheVariants as refusals
 use Rattle.engine.proofs.LawfulSteps.{Good, good_run}

@@ -26,7 +26,7 @@ use Rattle.engine.proofs.LookingLemmas.{looks_behind, looks_made}
 use Rattle.statements.proofs.MeantDeletions.{taken_alike, taken_count}
 use Rattle.engine.proofs.RemovingLemmas.{all_empty, taken_none}
 use Rattle.engine.proofs.CataloguedLemmas.{IsCatalogueOf, has_home, not_catalogued, some_same}
-use Rattle.engine.proofs.WalkingLemmas.{documents_found}
+use Rattle.engine.proofs.NamedLemmas.{documents_found}
 
 none_empty : {X : Type 0} (xs : List X) → length xs ≡ 0 → xs ≡ []
 none_empty [] e = refl

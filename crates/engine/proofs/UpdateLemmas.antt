@@ -17,7 +17,7 @@ use Rattle.index.specs.LawfulState as states
 use Rattle.index.specs.State.{Collection}
 use Rattle.index.specs.StateEntries.{Leads}
 use Rattle.engine.specs.Durable.{disk_history, file_of, has_changes, IsRunning}
-use Rattle.engine.specs.Known.{Known}
+use Rattle.opening.specs.Known.{Known}
 use Rattle.database_model.specs.Lawful.{IsLawfulState}
 use Rattle.engine.specs.Looking.{OnlyReads}
 use Rattle.engine.specs.Performing.{Performs}

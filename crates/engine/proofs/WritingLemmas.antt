@@ -12,12 +12,12 @@ use Rattle.collections.specs.Standing.{HasState}
 use Rattle.collections.specs.State.{State}
 use Rattle.collections.proofs.LawLemmas as laws
 use Rattle.engine.specs.Durable.{disk_history, is_stopped, IsRunning, IsSound}
-use Rattle.engine.specs.Known.{Known}
+use Rattle.opening.specs.Known.{Known}
 use Rattle.database_model.specs.Lawful.{IsLawfulState}
 use Rattle.engine.specs.View.{world}
 use Rattle.engine.specs.Writing.{Writes}
 use Rattle.engine.specs.declared.engine.Engine.{Engine}
-use Rattle.engine.specs.declared.told.Told.{Told}
+use Rattle.opening.specs.declared.told.Told.{Told}
 
 module _ {D : Type 0} (history : D → History) (old : Engine D) (h : IsSound history old) where
   -- a file that has stopped takes nothing

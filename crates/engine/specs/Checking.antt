@@ -1,9 +1,10 @@
 -- What a check of a file tells: how much the file holds.
-use Rattle.std.specs.Prelude.{◌≡◌, ℕ, ◌+◌, List, [], ◌∷◌, length, Result, MatchResult}
+use Rattle.std.specs.Prelude.{◌≡◌, ℕ, List, length, Result, MatchResult}
 use Rattle.page.specs.History.{History, KeepsWord, now, reads}
 use Rattle.roots.specs.declared.counting.PageCounts.{PageCounts}
 use Rattle.index.specs.State.{Collection}
 use Rattle.collections.specs.Counting.{HasCounts}
+use Rattle.opening.specs.Totals.{total_documents, total_indexes}
 use Rattle.engine.specs.Dump.{HasFaultCause}
 use Rattle.engine.specs.Durable.{disk_history, generation}
 use Rattle.engine.specs.Looking.{OnlyReads}
@@ -11,16 +12,6 @@ use Rattle.engine.specs.View.{turn_start, world}
 use Rattle.engine.specs.declared.check_fault.CheckFault.{CheckFault}
 use Rattle.engine.specs.declared.checking.Counts.{Counts}
 use Rattle.engine.specs.declared.engine.Engine.{Engine}
-
--- how many documents collections have
-abbrev pub total_documents : List Collection → ℕ
-total_documents [] = 0
-total_documents (c ∷ cs) = length c.documents + total_documents cs
-
--- how many indexes, with the one on `_id` of each
-abbrev pub total_indexes : List Collection → ℕ
-total_indexes [] = 0
-total_indexes (c ∷ cs) = 1 + length c.indexes + total_indexes cs
 
 -- The counts of collections.
 pub record AreCountsOf (now : List Collection) (counts : Counts) : Type 0 where

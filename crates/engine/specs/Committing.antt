@@ -6,7 +6,8 @@ use Rattle.roots.specs.declared.store.CommitFault.{CommitFault}
 use Rattle.roots.specs.declared.store.CommitFault.TheVariants as faults
 use Rattle.database_model.specs.World.{are_untouched, after_commit, after_undo}
 use Rattle.engine.specs.View.{world, turn_start}
-use Rattle.engine.specs.Durable.{Holds, disk_history, file_of, full_takes_of, generation, has_changes, is_stopped, IsRunning, IsSound}
+use Rattle.engine.specs.Durable.{disk_history, file_of, full_takes_of, generation, has_changes, is_stopped, IsRunning, IsSound}
+use Rattle.opening.specs.Holding.{Holds}
 use Rattle.engine.specs.declared.engine.Engine.{Engine}
 
 -- The turn was ended, and what it changed is durable, or not.

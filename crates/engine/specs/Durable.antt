@@ -1,19 +1,12 @@
 -- What an engine keeps in its file.
-use Rattle.std.specs.Prelude.{◌≡◌, ℕ, Bool, List, false}
+use Rattle.std.specs.Prelude.{◌≡◌, ℕ, Bool, false}
 use Rattle.page.specs.History.{History}
-use Rattle.index.specs.State.{Collection}
 use Rattle.collections.specs.State.{State}
-use Rattle.collections.specs.Holding as files
 use Rattle.collections.specs.Standing.{HasState}
 use Rattle.collections.specs.View as views
 use Rattle.database_model.specs.Lawful.{IsLawfulState, AreLawfulCursors}
 use Rattle.engine.specs.View.{world, turn_start}
 use Rattle.engine.specs.declared.engine.Engine.{Engine}
-
--- The image holds these collections, which are lawful: the entries of the tree that its root names spell them.
-pub record Holds (image : ℕ → List ℕ) (collections : List Collection) : Type 0 where
-  pub lawful : IsLawfulState collections
-  pub file : files.Holds image collections
 
 -- its file: the disk with all its moments, the root that is committed, and the running turn's tree
 abbrev pub file_of : {D : Type 0} → Engine D → State D

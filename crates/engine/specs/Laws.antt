@@ -6,7 +6,7 @@ use Rattle.database_model.specs.World.{World, new_world}
 use Rattle.index.specs.State.{Collection}
 use Rattle.collections.specs.Calls.{IsOfFile}
 use Rattle.database_model.specs.Lawful.{IsLawful}
-use Rattle.engine.specs.Durable.{Holds}
+use Rattle.opening.specs.Holding.{Holds}
 use Rattle.path.specs.declared.refusal.Refusal.{Refusal}
 use Rattle.commands.specs.Command.{Command, ping, insert, find, count, delete, update, aggregate, create, drop, list_collections, create_indexes, drop_indexes, list_indexes, command_of, get_more, kill_cursors, hello}
 use Rattle.database_model.specs.Step.{step, Answers}

@@ -1,15 +1,10 @@
-pub mod Known
 pub mod View
 pub mod Laws
-pub mod Stored
 pub mod Durable
-pub mod Judging
 pub mod Committing
 pub mod Opening
 pub mod Writing
-pub mod Loading
 pub mod Looking
-pub mod ById
 pub mod Performing
 pub mod Removing
 pub mod TakingOut
@@ -20,7 +15,6 @@ pub mod Storing
 pub mod Dropping
 pub mod Indexing
 pub mod Unindexing
-pub mod FileOpening
 pub mod CheckFaults
 pub mod Dump
 pub mod Checking

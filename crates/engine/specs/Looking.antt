@@ -1,11 +1,7 @@
 -- What commands read of the file.
-use Rattle.std.specs.Prelude.{◌≡◌, ◌⊎◌, Bool, false, not, is_some, List, Result, MatchResult}
-use Rattle.std.specs.List.{list_all}
-use Rattle.bson.specs.Tree.{Pairs}
+use Rattle.std.specs.Prelude.{◌≡◌, List, Result, MatchResult}
 use Rattle.page.specs.History.{History, KeepsWord}
 use Rattle.path.specs.declared.refusal.Refusal.{Refusal}
-use Rattle.path.specs.declared.refusal.Refusal.TheVariants as refusals
-use Rattle.update.specs.Stored.{limits_fault}
 use Rattle.index.specs.State.{Collection}
 use Rattle.collections.specs.Calls.{GoesFrom, HasCause}
 use Rattle.engine.specs.Durable.{disk_history, file_of, has_changes, IsSound}
@@ -37,12 +33,3 @@ pub record LooksOf {D A X : Type 0} (history : D → History) (Is : List Collect
       → Is (world old).collections asked
       → MatchResult result (IsRight (world old).collections asked)
       (HasCause history (file_of old) (file_of new))
-
--- the document is within the limits of those that are stored
-abbrev pub is_within : Pairs → Bool
-is_within d = not (is_some (limits_fault 65535 d))
-
--- Why documents that were read are refused: memory ran out, or one is over these limits.
-abbrev pub HasReadCause : List Pairs → Refusal → Type 0
-HasReadCause ds e = (e ≡ refusals.OutOfMemory)
-    ⊎ ((e ≡ refusals.StorageFailed) × (list_all is_within ds ≡ false))

@@ -1,13 +1,10 @@
 -- What opening a disk gives.
-use Rattle.std.specs.Prelude.{◌≡◌, ◌≢◌, ◌<◌, false, List, [], Err}
+use Rattle.std.specs.Prelude.{◌≡◌, false, []}
 use Rattle.page.specs.History.{History, KeepsWord, now, reads, IsImage}
 use Rattle.page.specs.Crash.{GoesOn, LeavesOnly, LeavesNow}
-use Rattle.roots.specs.Root.{root_of}
-use Rattle.roots.specs.declared.opening.OpenFault.{OpenFault}
-use Rattle.roots.specs.declared.opening.OpenFault.TheVariants as faults
-use Rattle.index.specs.State.{Collection}
+use Rattle.opening.specs.Holding.{Holds}
 use Rattle.engine.specs.View.{world, turn_start}
-use Rattle.engine.specs.Durable.{Holds, disk_history, has_changes, IsRunning, IsSound}
+use Rattle.engine.specs.Durable.{disk_history, has_changes, IsRunning, IsSound}
 use Rattle.engine.specs.declared.engine.Engine.{Engine}
 
 -- The disk was opened as this engine.
@@ -27,21 +24,3 @@ pub record IsOpened {D : Type 0} (history : D → History) (disk : D)
   -- where reads give one of the images, the images during the call and after it are among those from before
   pub any_moment : IsImage (now (history disk)) (reads (now (history disk)))
       → LeavesOnly (history disk) (disk_history history engine) (IsImage (now (history disk)))
-
--- The disk was handed back with this fault.
-pub record IsRefused {D : Type 0} (history : D → History) (disk back : D)
-    (fault : OpenFault) : Type 0 where
-  pub on : GoesOn (history disk) (history back)
-  pub any_moment : IsImage (now (history disk)) (reads (now (history disk)))
-      → LeavesOnly (history disk) (history back) (IsImage (now (history disk)))
-  -- a fault of the bytes comes only where they hold no collections
-  pub damaged : fault ≢ faults.Device → fault ≢ faults.Memory → KeepsWord (history back)
-      → (collections : List Collection) → Holds (reads (now (history disk))) collections → ⊥
-  pub foreign : fault ≡ faults.NotADatabase → KeepsWord (history back)
-      → root_of (reads (now (history disk)) 0) (reads (now (history disk)) 1)
-      ≡ Err faults.NotADatabase
-  pub later : fault ≡ faults.NewerFormat → KeepsWord (history back)
-      → root_of (reads (now (history disk)) 0) (reads (now (history disk)) 1)
-      ≡ Err faults.NewerFormat
-  pub device : fault ≡ faults.Device → KeepsWord (history back)
-      → (history disk).failures < (history back).failures

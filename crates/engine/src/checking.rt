@@ -1,15 +1,14 @@
 //! What a file holds, as a check of it tells.
 
 ghost use Rattle.std.specs.Prelude.{◌≡◌, ◌+◌, IfSome, map};
-ghost use Rattle.engine.specs.Checking.{ChecksFile, total_indexes};
+ghost use Rattle.engine.specs.Checking.{ChecksFile};
+ghost use Rattle.opening.specs.Totals.{total_indexes};
 ghost use Rattle.engine.specs.Durable.{IsSound};
-ghost use Rattle.engine.specs.Loading.{named_as};
+ghost use Rattle.opening.specs.Loading.{named_as};
 
 use crate::check_fault::CheckFault;
 use crate::engine::Engine;
-use crate::judging::Named;
-use crate::loading::load_file;
-use crate::told::Told;
+use opening::{Named, Told, load_file};
 use page::Disk;
 
 /// How much a file holds.

@@ -15,9 +15,7 @@ ghost use Rattle.engine.specs.Writing.{Makes};
 ghost use Rattle.replies.specs.View.{IsSendable};
 ghost use Rattle.engine.specs.View.{world};
 
-use crate::by_id::asked_id;
 use crate::engine::Engine;
-use crate::looking::Selects;
 use crate::removing::note_removed;
 use bson::{Document, NoMemory, RawDoc, Value};
 use commands::Deletion;
@@ -25,6 +23,7 @@ use filter::Filter;
 use index::{Catalogued, Edits};
 use page::Disk;
 use path::Refusal;
+use queries::{Selects, asked_id};
 use replies::{SharedDocument, total_reply};
 use statements::matches;
 use std::alloc::Global;

@@ -13,13 +13,13 @@ ghost use Rattle.engine.specs.View.{world};
 ghost use Rattle.engine.specs.Writing.{Makes};
 
 use crate::engine::Engine;
-use crate::looking::BATCH;
 use crate::removing::note_removed;
 use bson::Document;
 use collections::Walk;
 use index::{Catalogued, Edits};
 use page::Disk;
 use path::Refusal;
+use queries::BATCH;
 use replies::drop_reply;
 use std::alloc::Global;
 

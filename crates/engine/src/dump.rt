@@ -5,10 +5,10 @@ ghost use Rattle.engine.specs.Durable.{IsSound};
 
 use crate::check_fault::CheckFault;
 use crate::engine::Engine;
-use crate::looking::BATCH;
 use bson::SpelledDocument;
 use collections::Walk;
 use page::Disk;
+use queries::BATCH;
 
 impl<D: Disk> Engine<D> {
     /// A walk through the documents of the collection of a name, in ascending order of `_id`. `NamespaceNotFound` where there

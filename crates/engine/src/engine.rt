@@ -5,7 +5,8 @@ ghost use Rattle.page.specs.History.{KeepsWord};
 ghost use Rattle.collections.specs.Calls.{GoesFrom};
 ghost use Rattle.collections.specs.Marks.{Undoes};
 ghost use Rattle.engine.specs.Committing.{Commits};
-ghost use Rattle.engine.specs.Opening.{IsOpened, IsRefused};
+ghost use Rattle.engine.specs.Opening.{IsOpened};
+ghost use Rattle.opening.specs.Refusing.{IsRefused};
 ghost use Rattle.engine.specs.Performing.{Performs};
 ghost use Rattle.database_model.specs.World.{are_untouched, after_commit, after_undo, forget};
 ghost use Rattle.replies.specs.View.{answer_of, outcome_of, IsSendable};
@@ -16,11 +17,10 @@ ghost use Rattle.database_model.specs.Step.{Answers, ChangesNone, WroteNothing, 
 ghost use Rattle.engine.specs.Durable.{disk_history, file_of, full_takes_of, generation, has_changes, is_stopped, IsSound};
 ghost use Rattle.engine.specs.Writing.{FileCause};
 
-use crate::loading::open_file;
-use crate::told::Told;
 use bson::Document;
 use collections::Collections as FileCollections;
 use commands::Command;
+use opening::{Told, open_file};
 use page::Disk;
 use path::Refusal;
 use replies::{Answer, ConnId, Cursors, FIRST_BATCH, built, ping_reply, spelled};

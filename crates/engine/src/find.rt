@@ -10,16 +10,16 @@ ghost use Rattle.engine.specs.Durable.{has_changes, IsSound};
 ghost use Rattle.database_model.specs.Find.{window, given, run_find, Suffices};
 ghost use Rattle.database_model.specs.Lawful.{IsWithin};
 ghost use Rattle.engine.specs.Performing.{Performs};
-ghost use Rattle.replies.specs.View.{IsSendable, Runs};
+ghost use Rattle.replies.specs.View.{projected, IsSendable, Runs};
 ghost use Rattle.engine.specs.View.{world};
 
 use crate::engine::Engine;
 use bson::{Document, NoMemory, SpelledDocument};
 use commands::Query;
-use filter::Filter;
+use filter::Projection;
 use page::Disk;
 use path::Refusal;
-use replies::{BatchKind, ConnId, SharedDocument, batch_reply};
+use replies::{ConnId, SharedDocument};
 use std::alloc::Global;
 
 /// What is left of items without those that are skipped and those past the limit; a limit of 0 is none.
@@ -122,27 +122,39 @@ impl<D: Disk> Engine<D> {
             (world self.new) result }
         ensures sendable { IfOk result (λ d. IsSendable d) }
     {
-        let alloc = self.alloc;
-        let ordered = ordered(alloc, query, found)?;
+        let ordered = ordered(self.alloc, query, found)?;
         let selected = selected(query, &ordered);
-        let number = self.cursors.next_number(connection);
-        let (reply, count) = batch_reply(
-            alloc,
-            BatchKind::First,
-            namespace,
-            number.unwrap_or(0),
-            &query.projection,
-            selected,
-            most,
-        )?;
-        if selected.len() <= count {
+        self.give_shared(connection, namespace, &query.projection, selected, most)
+    }
+
+    /// Gives a first batch of documents of which a projection is given, and opens a cursor on the others.
+    fn give_shared(
+        &mut self,
+        connection: ConnId,
+        namespace: &str,
+        projection: &Projection,
+        documents: &[&SharedDocument],
+        most: usize,
+    ) -> Result<SpelledDocument, Refusal>
+        requires short { length namespace.now ≤ 255 }
+        requires within { All IsWithin (projected projection.now (documents_at documents.now)) }
+        ensures file { self.new.file ≡ self.old.file }
+        ensures told { self.new.told ≡ self.old.told }
+        ensures has_changes { self.new.is_changed ≡ self.old.is_changed }
+        ensures runs { let ds = projected projection.now (documents_at documents.now) in
+            Runs (world self.old)
+            (first_batch (world self.old) connection namespace.now ds (batch_of most ds))
+            (world self.new) result }
+        ensures sendable { IfOk result (λ d. IsSendable d) }
+    {
+        let (reply, count) = self
+            .cursors
+            .first_batch(connection, namespace, projection, documents, most)?;
+        if documents.len() <= count {
             return Ok(reply);
         }
-        if number.is_none() {
-            return Err(Refusal::TooMany);
-        }
-        let rest = share_all(alloc, &selected[count..])?;
-        let projection = query.projection.copy()?;
+        let rest = share_all(self.alloc, &documents[count..])?;
+        let projection = projection.copy()?;
         self.cursors.open(connection, namespace, rest, projection)?;
         Ok(reply)
     }

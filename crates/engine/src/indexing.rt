@@ -11,7 +11,6 @@ ghost use Rattle.engine.specs.View.{world};
 
 use crate::MOST_INDEXES;
 use crate::engine::Engine;
-use crate::looking::BATCH;
 use crate::new_indexes::{is_in_conflict, is_there, unused_number};
 use bson::Document;
 use collections::Walk;
@@ -19,6 +18,7 @@ use commands::NewIndex;
 use index::{Catalogued, Edits, NewEntries};
 use page::Disk;
 use path::Refusal;
+use queries::BATCH;
 use statements::id_text;
 use std::alloc::Global;
 

@@ -2,7 +2,6 @@
 #![tactic(auto)]
 
 mod aggregation;
-mod by_id;
 mod check_fault;
 mod checking;
 mod count;
@@ -19,18 +18,15 @@ mod get_more;
 mod hello;
 mod indexing;
 mod insert;
-mod judging;
 mod kill_cursors;
 pub mod laws;
 mod list_collections;
 mod list_indexes;
-mod loading;
 mod looking;
 mod new_indexes;
 mod numbering;
 mod refusal;
 mod removing;
-mod told;
 mod unindexing;
 mod updates;
 mod writing;
@@ -38,11 +34,10 @@ mod writing;
 pub use check_fault::CheckFault;
 pub use checking::Counts;
 pub use engine::{Engine, Reply};
+pub use opening::MOST_COLLECTIONS;
 pub use path::Refusal;
 pub use refusal::body_refusal;
 pub use replies::{Answer, CONNECTIONS, ConnId, full_bytes, out_of_memory_bytes, refusal_document};
 
-/// The most collections.
-pub const MOST_COLLECTIONS: usize = 1_000;
 /// The most indexes of a collection beside that on `_id`.
 pub const MOST_INDEXES: usize = 16;

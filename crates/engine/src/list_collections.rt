@@ -1,21 +1,22 @@
 //! `listCollections`: the names of a database's collections.
 
-ghost use Rattle.std.specs.Prelude.{◌≡◌, ◌++◌, ◌≤◌, IfOk, length, map, option_map, string_bytes};
+ghost use Rattle.std.specs.Prelude.{◌≡◌, ◌++◌, ◌≤◌, All, IfOk, length, map, option_map, string_bytes};
 ghost use Rattle.collections.specs.Reading.{name_of};
-ghost use Rattle.database_model.specs.ListCollections.{name_in, names_behind, listed, run_list_collections};
+ghost use Rattle.database_model.specs.ListCollections.{name_in, names_behind, names_in, listed, run_list_collections};
 ghost use Rattle.engine.specs.Durable.{has_changes, IsSound};
+ghost use Rattle.engine.specs.Looking.{Looks};
 ghost use Rattle.engine.specs.Performing.{Performs};
+ghost use Rattle.database_model.specs.Lawful.{IsWithin};
 ghost use Rattle.replies.specs.View.{IsSendable};
 ghost use Rattle.engine.specs.View.{world};
 
 use crate::engine::Engine;
-use crate::looking::are_within;
 use bson::{Document, NoMemory, SpelledDocument};
 use collections::Name;
-use filter::Projection;
 use page::Disk;
 use path::Refusal;
-use replies::{BatchKind, batch_reply, listed_document};
+use queries::are_within;
+use replies::{listed_document, whole_reply};
 use std::alloc::Global;
 
 /// The name of a collection without its database, where the namespace begins with this.
@@ -49,6 +50,23 @@ fn joined(alloc: Global, database: &str, behind: &str) -> Result<String, NoMemor
 }
 
 impl<D: Disk> Engine<D> {
+    /// What is said of the collections whose namespaces begin with this. Where that is over the limits of documents, a disk gave
+    /// their names.
+    fn listed(&mut self, front: &str) -> Result<Vec<Document>, Refusal>
+        requires { IsSound D.history self.old }
+        ensures looks { Looks D.history
+            (λ now listed. listed.items ≡ map listed (names_in front.now now))
+            result self.old self.new }
+        ensures within { IfOk result (λ listed. All IsWithin listed.items) }
+    {
+        let names = self.file.names()?;
+        let listed = listed_in(self.alloc, front, &names)?;
+        if !are_within(&listed) {
+            return Err(Refusal::StorageFailed);
+        }
+        Ok(listed)
+    }
+
     /// Lists the collections of a database, all in one batch.
     pub(crate) fn list_collections(&mut self, database: &str) -> Result<SpelledDocument, Refusal>
         requires short { length database.now ≤ 63 }
@@ -61,21 +79,7 @@ impl<D: Disk> Engine<D> {
     {
         let front = joined(self.alloc, database, ".")?;
         let namespace = joined(self.alloc, database, ".$cmd.listCollections")?;
-        let names = self.file.names()?;
-        let listed = listed_in(self.alloc, front.as_str(), &names)?;
-        if !are_within(&listed) {
-            return Err(Refusal::StorageFailed);
-        }
-        let whole = Projection::new(self.alloc);
-        let (reply, _) = batch_reply(
-            self.alloc,
-            BatchKind::First,
-            namespace.as_str(),
-            0,
-            &whole,
-            &listed,
-            listed.len(),
-        )?;
-        Ok(reply)
+        let listed = self.listed(front.as_str())?;
+        Ok(whole_reply(self.alloc, namespace.as_str(), &listed)?)
     }
 }

@@ -12,11 +12,10 @@ ghost use Rattle.engine.specs.View.{world};
 
 use crate::engine::Engine;
 use bson::{Document, NoMemory, SpelledDocument, Value};
-use filter::Projection;
 use index::IndexSpec;
 use page::Disk;
 use path::Refusal;
-use replies::{BatchKind, batch_reply, described_document, put};
+use replies::{described_document, put, whole_reply};
 use std::alloc::Global;
 
 /// What is said of the index on `_id`, which every collection has.
@@ -62,17 +61,7 @@ fn indexes_reply(
     ensures sendable { IfOk result (λ d. IsSendable d) }
 {
     let described = described_all(alloc, indexes)?;
-    let whole = Projection::new(alloc);
-    let (reply, _) = batch_reply(
-        alloc,
-        BatchKind::First,
-        namespace,
-        0,
-        &whole,
-        &described,
-        described.len(),
-    )?;
-    Ok(reply)
+    whole_reply(alloc, namespace, &described)
 }
 
 impl<D: Disk> Engine<D> {

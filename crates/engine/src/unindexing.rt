@@ -14,13 +14,13 @@ ghost use Rattle.engine.specs.View.{world};
 
 use crate::drop_indexes::first_dropped;
 use crate::engine::Engine;
-use crate::looking::BATCH;
 use bson::Document;
 use collections::Walk;
 use commands::DroppedIndexes;
 use index::{Catalogued, Edits, IndexSpec};
 use page::Disk;
 use path::Refusal;
+use queries::BATCH;
 use statements::id_text;
 use std::alloc::Global;
 

@@ -24,14 +24,13 @@ ghost use Rattle.statements.specs.Updating.{MayBePut, news_of, seen};
 ghost use Rattle.replies.specs.View.{IsSendable};
 ghost use Rattle.engine.specs.View.{world};
 
-use crate::by_id::asked_id;
 use crate::engine::Engine;
-use crate::looking::Selects;
 use bson::{Document, NoMemory, RawDoc, Value};
 use commands::UpdateStatement;
 use index::{Catalogued, Edits};
 use page::Disk;
 use path::Refusal;
+use queries::{Selects, asked_id};
 use replies::{REPLY_LIMIT, SharedDocument};
 use statements::{
     Ran, Tally, Write, compare_id, compare_ids, matches, read_id, run_on, unless_memory,

@@ -1,7 +1,4 @@
 pub mod RisingLemmas
-pub mod KeyScanLemmas
-pub mod RangeReadingLemmas
-pub mod FoundIdLemmas
 pub mod AnswerLemmas
 pub mod UsableLemmas
 pub mod KeyRangeLemmas
@@ -13,3 +10,7 @@ pub mod ChoiceLemmas
 pub mod KeySpanLemmas
 pub mod SpanTextLemmas
 pub mod IdLemmas
+pub mod KeyScanLemmas
+pub mod RangeReadingLemmas
+pub mod FoundIdLemmas
+pub mod ChosenLemmas

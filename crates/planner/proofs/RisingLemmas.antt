@@ -20,7 +20,7 @@ module _ {X : Type 0} (cmp : X → X → Ordering) where
   Rises [] = Unit {0}
   Rises (x ∷ xs) = Below x xs × Rises xs
 
-  below_each : (x z : X) (ys : List X) → Below x ys → Among z ys → cmp x z ≡ Less
+  pub below_each : (x z : X) (ys : List X) → Below x ys → Among z ys → cmp x z ≡ Less
   below_each x z [] h g = absurd g
   below_each x z (y ∷ ys) h (inl e) = ap (cmp x) e ∙ h.0
   below_each x z (y ∷ ys) h (inr g) = below_each x z ys h.1 g

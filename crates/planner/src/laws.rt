@@ -2,8 +2,8 @@
 
 ghost use Rattle.planner.specs.AnswerLaws.{OrderedOnce, SortsToAnswer, KeptAreNoted, NeverChangesAnswer, WalksInOrder};
 ghost use Rattle.planner.specs.ChoiceLaws.{ChoosesFirstBest};
-ghost use Rattle.planner.specs.FoundIds.{IdsLeadToMatching};
 ghost use Rattle.planner.specs.IdLaws.{FindsByIds};
+ghost use Rattle.planner.specs.FoundIds.{IdsLeadToMatching};
 ghost use Rattle.planner.specs.KeyRange.{HasKeyInRange, HasBytesInRange};
 ghost use Rattle.planner.specs.KeyScanLaws.{FindsIdText};
 ghost use Rattle.planner.specs.KeySpan.{SpansRange};
@@ -45,22 +45,6 @@ pub fn spans_range()
     ensures { SpansRange }
 {}
 
-/// The text of the `_id` is found behind each key in the text of an entry.
-pub fn finds_id_text()
-    ensures { FindsIdText }
-{}
-
-/// What is read of an index from the first key of a range to its last leads to each document that the filter matches, and
-/// to stored documents alone.
-pub fn range_finds_matching()
-    ensures { RangeFindsMatching }
-{}
-
-/// The `_id`s that are found so are ascending, and those of all documents that the filter matches are among them.
-pub fn ids_lead_to_matching()
-    ensures { IdsLeadToMatching }
-{}
-
 /// Two lists of the same documents that both ascend in the order of an answer are one list.
 pub fn ordered_once()
     ensures { OrderedOnce }
@@ -91,4 +75,20 @@ pub fn walks_in_order()
 /// Documents that are found by ascending texts of `_id`s, with all that pass among them, give what a scan gives.
 pub fn finds_by_ids()
     ensures { FindsByIds }
+{}
+
+/// The text of the `_id` is found behind each key in the text of an entry.
+pub fn finds_id_text()
+    ensures { FindsIdText }
+{}
+
+/// What is read of an index from the first key of a range to its last leads to each document that the filter matches, and
+/// to stored documents alone.
+pub fn range_finds_matching()
+    ensures { RangeFindsMatching }
+{}
+
+/// Of the documents of the `_id`s that are found so the filter selects what it selects of all.
+pub fn ids_lead_to_matching()
+    ensures { IdsLeadToMatching }
 {}

@@ -12,6 +12,7 @@ pub mod laws;
 mod plan;
 mod range;
 mod span;
+mod spelling;
 mod usable;
 
 pub use found_ids::ids_in;
@@ -19,4 +20,5 @@ pub use key_scan::id_text;
 pub use plan::{Plan, choose, explain_text};
 pub use range::{IndexRange, Leading};
 pub use span::KeySpan;
+pub use spelling::short_text;
 pub use usable::Bound;

@@ -4,3 +4,4 @@ pub mod CursorSpelling
 pub mod SpelledSizes
 pub mod Replying
 pub mod CursorSteps
+pub mod WholeLemmas

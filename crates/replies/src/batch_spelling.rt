@@ -189,3 +189,29 @@ pub fn batch_reply<T: AsDocument>(
     laws::spelled_once();
     Ok((SpelledDocument::new(out), count))
 }
+
+/// The reply that gives documents in one batch, as far as they go into it.
+pub fn whole_reply<T: AsDocument>(
+    alloc: Global,
+    namespace: &str,
+    documents: &[T],
+) -> Result<SpelledDocument, NoMemory>
+    requires within { All IsWithin (map T.document documents.now) }
+    requires short { length namespace.now ≤ 255 }
+    ensures reply { let ds = map T.document documents.now in
+        IfOk result (λ d. d ≡ ok_reply (batch_reply (batch_name BatchKind.First)
+        (batch_of (length ds) ds) ds 0 namespace.now)) }
+    ensures sendable { IfOk result (λ d. IsSendable d) }
+{
+    let all = Projection::new(alloc);
+    let (reply, _) = batch_reply(
+        alloc,
+        BatchKind::First,
+        namespace,
+        0,
+        &all,
+        documents,
+        documents.len(),
+    )?;
+    Ok(reply)
+}

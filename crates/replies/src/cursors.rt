@@ -3,7 +3,7 @@
 //! A cursor shares its documents with the collection that they came from, so opening one copies none, and what later commands
 //! do to the collection isn't seen by it.
 
-ghost use Rattle.std.specs.Prelude.{◌≡◌, ◌==◌, ◌<◌, ◌≤◌, ◌^◌, ◌+◌, ◌++◌, [], ◌∷◌, false, true, not, All, length, map, drop, OnOk, OnErr, IfOk, IfSome, IfNone};
+ghost use Rattle.std.specs.Prelude.{◌≡◌, ◌==◌, ◌<◌, ◌≤◌, ◌^◌, ◌+◌, ◌++◌, [], ◌∷◌, false, true, not, All, length, map, drop, OnOk, OnErr, IfOk, IfErr, IfSome, IfNone};
 ghost use Rattle.std.specs.List.{filter, position};
 ghost use Rattle.filter.specs.Projection.{project};
 ghost use Rattle.database_model.specs.World.{at_rest, untouched, count_of, without_cursors};
@@ -12,14 +12,16 @@ ghost use Rattle.database_model.specs.Refusals.{ok_reply};
 ghost use Rattle.database_model.specs.Cursors.{batch_reply, is_refused, new_cursor, is_cursor, cursor_at, advanced};
 ghost use Rattle.database_model.specs.GetMore.{batch_len_of};
 ghost use Rattle.database_model.specs.KillCursors.{has_cursor, is_asked};
-ghost use Rattle.replies.specs.View.{batch_name, IsSendable};
+ghost use Rattle.replies.specs.FirstBatch.{IsFirstBatch, IsNoBatch};
+ghost use Rattle.replies.specs.View.{batch_name, projected, IsSendable};
 
 use crate::MOST_CURSORS;
 use crate::batch_spelling::{BatchKind, batch_reply};
 use crate::connection::ConnId;
 use crate::shared_document::SharedDocument;
 use bson::{NoMemory, SpelledDocument};
-use filter::Projection;
+use filter::{AsDocument, Projection};
+use path::Refusal;
 use std::alloc::Global;
 use std::marker::Model;
 
@@ -258,6 +260,44 @@ impl Cursors {
         self.list.push(cursor)?;
         self.next = number + 1;
         Ok(())
+    }
+
+    /// The reply with a first batch of documents of which a projection is given, and how many they are. `TooMany` where others
+    /// are left and the connection may open no cursor.
+    pub fn first_batch<T: AsDocument>(
+        &self,
+        connection: ConnId,
+        namespace: &str,
+        projection: &Projection,
+        documents: &[T],
+        most: usize,
+    ) -> Result<(SpelledDocument, usize), Refusal>
+        requires within { All IsWithin (projected projection.now (map T.document documents.now)) }
+        requires short { length namespace.now ≤ 255 }
+        ensures batch { IfOk result (λ r. IsFirstBatch self.now connection namespace.now
+            (projected projection.now (map T.document documents.now)) most r.1 r.0) }
+        ensures sendable { IfOk result (λ r. IsSendable r.0) }
+        ensures refuses { IfErr result (IsNoBatch self.now connection
+            (projected projection.now (map T.document documents.now)) most) }
+    {
+        let alloc = *self.list.allocator();
+        let number = self.next_number(connection);
+        let (reply, count) = batch_reply(
+            alloc,
+            BatchKind::First,
+            namespace,
+            number.unwrap_or(0),
+            projection,
+            documents,
+            most,
+        )?;
+        if documents.len() <= count {
+            return Ok((reply, count));
+        }
+        if number.is_none() {
+            return Err(Refusal::TooMany);
+        }
+        Ok((reply, count))
     }
 
     /// Where a connection's cursor of this id and namespace stands.

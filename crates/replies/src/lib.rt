@@ -8,7 +8,7 @@ mod cursors;
 mod reply;
 mod shared_document;
 
-pub use batch_spelling::{BatchKind, batch_reply};
+pub use batch_spelling::whole_reply;
 pub use connection::{CONNECTIONS, ConnId};
 pub use cursors::Cursors;
 pub use reply::{

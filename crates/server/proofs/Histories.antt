@@ -8,7 +8,7 @@ use Rattle.page.specs.History.{History, KeepsWord}
 use Rattle.page.specs.Crash.{GoesOn, LeavesNow}
 use Rattle.page.proofs.Moments.{goes_nowhere, goes_further, leaves_now}
 use Rattle.index.specs.State.{Collection}
-use Rattle.engine.specs.Durable.{Holds}
+use Rattle.opening.specs.Holding.{Holds}
 use Rattle.server.specs.ServerState.{ServerState, fed, ended}
 use Rattle.server.specs.Turn.{Out, Turns, TurnFails}
 use Rattle.server.specs.Moment.{Moment, TurnEnd, Instant, end_at, last_collections, last_moment, FollowsInTurn, FollowInOrder, HoldsEither, LeavesInOrder}

@@ -11,7 +11,7 @@ use Rattle.database_model.specs.World.{World, after_commit, forget}
 use Rattle.index.specs.State.{Collection}
 use Rattle.op_msg.specs.declared.fault.FrameFault.{FrameFault}
 use Rattle.server.specs.Turn.{forget_all}
-use Rattle.engine.specs.Durable.{Holds}
+use Rattle.opening.specs.Holding.{Holds}
 use Rattle.engine.specs.Durable as engines
 use Rattle.engine.specs.View.{world, turn_start}
 use Rattle.engine.specs.declared.engine.Engine.{Engine}

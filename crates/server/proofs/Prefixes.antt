@@ -10,7 +10,7 @@ use Rattle.roots.specs.declared.opening.OpenFault.{OpenFault}
 use Rattle.roots.specs.declared.opening.OpenFault.TheVariants as faults
 use Rattle.index.specs.State.{Collection}
 use Rattle.collections.proofs.LawLemmas.{holds_one}
-use Rattle.engine.specs.Durable.{Holds}
+use Rattle.opening.specs.Holding.{Holds}
 use Rattle.server.specs.ServerState.{ServerState, fed, ended}
 use Rattle.server.specs.Moment.{Moment, TurnEnd, Instant, HasKeptWord, end_at, last_collections, last_moment, HoldsEither, LeavesInOrder}
 use Rattle.server.specs.History.{Happens}

@@ -5,8 +5,8 @@ use Rattle.page.specs.History.{History, KeepsWord, now, reads, LeftSince}
 use Rattle.roots.specs.declared.opening.OpenFault.{OpenFault}
 use Rattle.roots.specs.declared.opening.OpenFault.TheVariants as faults
 use Rattle.index.specs.State.{Collection}
-use Rattle.engine.specs.Durable.{Holds}
-use Rattle.engine.specs.Opening.{IsRefused}
+use Rattle.opening.specs.Holding.{Holds}
+use Rattle.opening.specs.Refusing.{IsRefused}
 use Rattle.server.specs.ServerState.{ServerState}
 use Rattle.server.specs.Turn.{Cut}
 use Rattle.server.specs.Moment.{TurnEnd, Instant, end_at, last_collections, last_moment}

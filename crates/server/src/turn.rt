@@ -63,7 +63,7 @@ pub struct Core<D: Disk> {
 
 impl<D: Disk> Core<D> {
     ghost use Rattle.std.specs.Prelude.{◌≢◌, Err, IfOk, IfErr, OnErr, is_err};
-    ghost use Rattle.engine.specs.Opening.{IsRefused};
+    ghost use Rattle.opening.specs.Refusing.{IsRefused};
     ghost use Rattle.server.specs.ServerState.{fed, ended, find_connection, is_closed_in};
     ghost use Rattle.server.specs.Turn.{is_waiting_in};
     ghost use Rattle.server.specs.View.{state};

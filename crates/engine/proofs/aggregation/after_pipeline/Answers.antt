@@ -6,7 +6,8 @@ use Rattle.aggregate.specs.Limits.{first_fault}
 use Rattle.aggregate.specs.Pipeline.{run as run_stages}
 use Rattle.aggregate.specs.View.{pipeline_of}
 use Rattle.path.specs.declared.refusal.Refusal.TheVariants as refusals
-use Rattle.engine.proofs.Piping.{none_at_fault, outcome_within}
+use Rattle.queries.proofs.WithinLemmas.{none_at_fault}
+use Rattle.engine.proofs.Piping.{outcome_within}
 use Rattle.engine.proofs.aggregation.after_pipeline.Goals as goal
 
 pub returns-in-Some-clause-gives : goal.returns-in-Some-clause-gives

@@ -1,6 +1,6 @@
 use Rattle.std.proofs.Common.{◌≡◌, ◌+◌, drop, map}
-use Rattle.engine.specs.Checking.{total_indexes}
-use Rattle.engine.specs.Loading.{named_as}
+use Rattle.opening.specs.Totals.{total_indexes}
+use Rattle.opening.specs.Loading.{named_as}
 use Rattle.engine.proofs.checking.count_indexes.Given as goal
 
 abbrev pub invariant-names : goal.invariant-names

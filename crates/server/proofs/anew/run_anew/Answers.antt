@@ -4,7 +4,7 @@ use Rattle.page.specs.Memory.{memory_history}
 use Rattle.page.proofs.Moments.{goes_further}
 use Rattle.database_model.specs.World.{new_world}
 use Rattle.index.specs.State.{Collection}
-use Rattle.engine.specs.Durable.{Holds}
+use Rattle.opening.specs.Holding.{Holds}
 use Rattle.server.specs.ServerState.{ServerState}
 use Rattle.server.specs.Durable.{disk_history, collections_of}
 use Rattle.server.proofs.AnewLemmas.{nothing_held}

@@ -5,7 +5,7 @@ use Rattle.database_model.specs.Aggregate.{run_aggregate}
 use Rattle.engine.specs.View.{world}
 use Rattle.engine.proofs.GivingLemmas.{gives_behind, refuses_planned}
 use Rattle.engine.proofs.LookingLemmas.{performs_refused}
-use Rattle.engine.proofs.NeededLemmas.{none_of_lawful}
+use Rattle.engine.proofs.Piping.{none_of_lawful}
 use Rattle.engine.proofs.Running.{asked_of, run_aggregate-is, run_aggregate-refused}
 use Rattle.engine.proofs.engine.Engine.aggregate.Goals as goal
 

@@ -1,7 +1,7 @@
 use Rattle.std.proofs.Common.{length, map, refl, sym, ap, ◌∙◌}
 use Rattle.std.proofs.lemmas.Result.{err_from_is_err_and}
-use Rattle.engine.specs.Checking.{total_indexes}
-use Rattle.engine.specs.Loading.{named_as}
+use Rattle.opening.specs.Totals.{total_indexes}
+use Rattle.opening.specs.Loading.{named_as}
 use Rattle.engine.proofs.FileCounts.{check_done, check_stopped, check_uncounted, check_unread, check_without_memory}
 use Rattle.engine.proofs.engine.Engine.check.Goals as goal
 

@@ -4,7 +4,7 @@ use Rattle.collections.specs.Reading.{IsNumbered}
 use Rattle.database_model.specs.Find.{matching}
 use Rattle.database_model.specs.World.{documents_of}
 use Rattle.engine.proofs.LookingLemmas.{looks_refused, looks_so_of}
-use Rattle.engine.proofs.WalkingLemmas.{IsNumberOf, of_name, of_none}
+use Rattle.engine.proofs.NamedLemmas.{IsNumberOf, of_name, of_none}
 use Rattle.engine.proofs.engine.Engine.count_of.Goals as goal
 
 pub returns : goal.returns

@@ -5,7 +5,7 @@ use Rattle.bson.specs.Tree.{Pairs}
 use Rattle.database_model.specs.Find.{matching}
 use Rattle.database_model.specs.World.{documents_of}
 use Rattle.engine.proofs.LookingLemmas.{looks_refused}
-use Rattle.engine.proofs.WalkingLemmas.{IsNumberOf, of_name, of_none}
+use Rattle.engine.proofs.NamedLemmas.{IsNumberOf, of_name, of_none}
 use Rattle.engine.proofs.engine.Engine.matching.Goals as goal
 
 pub returns-clause-looks : goal.returns-clause-looks

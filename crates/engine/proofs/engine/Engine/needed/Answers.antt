@@ -6,8 +6,8 @@ use Rattle.collections.specs.Reading.{IsNumbered}
 use Rattle.database_model.specs.Aggregate.{AreEnough}
 use Rattle.database_model.specs.World.{documents_of}
 use Rattle.engine.proofs.LookingLemmas.{looks_refused, looks_so_of}
-use Rattle.engine.proofs.NeededLemmas.{none_enough}
-use Rattle.engine.proofs.WalkingLemmas.{IsNumberOf, of_name, of_none}
+use Rattle.queries.proofs.NeededLemmas.{none_enough}
+use Rattle.engine.proofs.NamedLemmas.{IsNumberOf, of_name, of_none}
 use Rattle.engine.proofs.engine.Engine.needed.Goals as goal
 
 pub returns-clause-looks : goal.returns-clause-looks

@@ -2,9 +2,9 @@ use Rattle.std.proofs.Common.{List, sym, subst}
 use Rattle.bson.specs.View.{tree}
 use Rattle.commands.specs.Update.{UpdateStatement}
 use Rattle.filter.specs.Matches.{matches}
-use Rattle.engine.specs.ById.{AsksForId}
+use Rattle.queries.specs.ById.{AsksForId}
 use Rattle.database_model.specs.Merging.{is_meant_by}
-use Rattle.engine.proofs.ByIdLemmas.{asks_meant, only_item}
+use Rattle.queries.proofs.ByIdLemmas.{asks_meant, only_item}
 use Rattle.engine.proofs.updates.MeaningSelects.asked_id.Goals as goal
 
 pub returns-then-all_have : goal.returns-then-all_have

@@ -1,7 +1,8 @@
 use Rattle.std.proofs.Common.{◌≡◌, ℕ, List, ⊎_elim, ap, length, inl, inr, false, true, refl, sym, subst, ◌∙◌, rules}
 use Rattle.std.specs.Prelude.{Bool}
 use Rattle.engine.specs.View.{world}
-use Rattle.engine.specs.Durable.{Holds, disk_history}
+use Rattle.engine.specs.Durable.{disk_history}
+use Rattle.opening.specs.Holding.{Holds}
 use Rattle.server.specs.Causes.{IsCaused}
 use Rattle.server.specs.History.{RoomRanOut}
 use Rattle.server.specs.Moment.{Moment, FollowsInTurn}

@@ -1,5 +1,0 @@
-use Rattle.engine.specs.Judging.{with_document_at}
-use Rattle.engine.proofs.loading.take_document.Given as goal
-
-abbrev pub ghost-change : goal.ghost-change
-ghost-change g a = with_document_at a.with.now.0 a.with.now.1 a.self.now.value.now

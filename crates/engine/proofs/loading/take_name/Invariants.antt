@@ -1,6 +1,0 @@
-use Rattle.index.specs.State.{put_collection}
-use Rattle.engine.specs.Loading.{named_as}
-use Rattle.engine.proofs.loading.take_name.Given as goal
-
-abbrev pub ghost-change : goal.ghost-change
-ghost-change a = put_collection (named_as a.with.now) a.self.now.value.now

@@ -1,0 +1,12 @@
+pub mod EntriesSoFar
+pub mod DocumentEntries
+pub mod FileEntries
+pub mod RefusingLemmas
+pub mod JudgingLemmas
+pub mod LoadingLemmas
+pub mod FileLemmas
+pub mod FileBatches
+pub mod EntryLoops
+pub mod StoredTextLemmas
+pub mod TakingLemmas
+pub mod OnceLists

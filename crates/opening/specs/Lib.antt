@@ -1,0 +1,7 @@
+pub mod Known
+pub mod Judging
+pub mod Loading
+pub mod Holding
+pub mod Totals
+pub mod Refusing
+pub mod FileOpening

@@ -1,0 +1,101 @@
+-- What the entries of an index in the range of a filter lead to.
+use Rattle.std.proofs.Common.{◌≡◌, ℕ, true, List, [], ◌∷◌, map, Option, Some, None, refl, sym, ap, subst, ◌∙◌}
+use Rattle.std.specs.Global.{Vec}
+use Rattle.std.specs.Prelude.{All, Contains, IfSome, unwrap_or}
+use Rattle.std.specs.List.{AllByRecursion, AllPairs, filter}
+use Rattle.std.specs.List.Sorted.{IsStrictlySortedBy}
+use Rattle.std.specs.declared.cmp.Ordering.TheVariants.{Less}
+use Rattle.bson.specs.Tree.{Pairs}
+use Rattle.filter.specs.Condition.{Conditions}
+use Rattle.filter.specs.Matches.{matches}
+use Rattle.value_order.specs.KeyText.{tree_text}
+use Rattle.value_order.specs.Order.{bytes_cmp}
+use Rattle.index.specs.Definition.{Definition}
+use Rattle.index.specs.LawfulState.{IsKept, IsLawfulState, IsStorable}
+use Rattle.index.specs.State.{Collection, key_of}
+use Rattle.index.specs.StateReads.{find_document}
+use Rattle.index.specs.View.{texts_of}
+use Rattle.index.specs.declared.catalogue_reading.Catalogued.{Catalogued}
+use Rattle.index.proofs.EntryLemmas.{id_is_key}
+use Rattle.index.proofs.FoundLawLemmas.{found_collection}
+use Rattle.index.proofs.MemberLemmas.{Among, among_image, among_of, contains_of, of_all}
+use Rattle.index.proofs.ReadLaws.{document_some}
+use Rattle.index.proofs.SetLemmas.{set_sorted}
+use Rattle.collections.specs.IndexTexts.{Indexed, IsNumberedIndex}
+use Rattle.collections.specs.Reading.{IsNumbered}
+use Rattle.planner.specs.FoundIds.{LeadToMatching, ids_in, ids_of}
+use Rattle.planner.specs.IdLaws.{AreIdTexts}
+use Rattle.planner.specs.KeyRange.{IsSpellable}
+use Rattle.planner.specs.Plan.{Range, range_in}
+use Rattle.planner.specs.RangeReading.{AreReadFrom}
+use Rattle.planner.proofs.AnswerLemmas.{kept_are_noted}
+use Rattle.planner.proofs.FoundIdLemmas.{ids_lead_to_matching}
+use Rattle.planner.proofs.RisingLemmas.{Below, Rises, among_filter, filter_among, pairs_of}
+use Rattle.queries.specs.Asking.{IsAsked}
+use Rattle.queries.specs.ById.{AreIdsOf}
+use Rattle.queries.specs.ByIndex.{AreIdsInRange, IsRangeOf}
+use Rattle.queries.proofs.ReadingLemmas.{IsOther}
+
+-- ---- texts that ascend
+
+below_all : (k : List ℕ) (ks : List (List ℕ)) → AllByRecursion (λ y. bytes_cmp k y ≡ Less) ks → Below bytes_cmp k ks
+below_all k [] h = tt
+below_all k (x ∷ ks) h = (h.0, below_all k ks h.1)
+
+rise : (ks : List (List ℕ)) → IsStrictlySortedBy bytes_cmp ks → Rises bytes_cmp ks
+rise [] h = tt
+rise (k ∷ ks) h = (below_all k ks h.0, rise ks h.1)
+
+-- ---- the documents to which they lead
+
+told : (ds es : List Pairs) → All IsStorable ds → AllByRecursion (λ d. find_document ds (key_of d) ≡ Some d) es → AreIdTexts (map (λ d. tree_text (key_of d)) es) (map key_of es)
+told ds [] all h = tt
+told ds (e ∷ es) all h = (refl, id_is_key e (of_all IsStorable ds e all (document_some ds (key_of e) e h.0).0), told ds es all h.1)
+
+pub ids_leading : (rs : Conditions) (number : ℕ) (now : List Collection) (c : Collection) (ids : List (List ℕ)) → IsNumbered now c number → IsKept c → AllPairs (λ s t. bytes_cmp s t ≡ Less) ids → LeadToMatching rs c.documents ids → AreIdsOf number (matches rs) ids now c
+ids_leading rs number now c ids numbered kept up lead = record {
+  numbered = numbered;
+  ids = map key_of lead.documents;
+  told = subst (λ (ts : List (List ℕ)). AreIdTexts ts (map key_of lead.documents)) (sym lead.spelled) (told c.documents lead.documents kept.storable lead.found);
+  ascending = up;
+  all = λ d there passes.
+      let g : Among d (filter (matches rs) lead.documents) = subst (Among d) (sym lead.selects) (among_filter (matches rs) d c.documents (among_of c.documents d there) passes) in
+      let h : Among d lead.documents = (filter_among (matches rs) d lead.documents g).0 in
+      contains_of ids (tree_text (key_of d)) (subst (Among (tree_text (key_of d))) (sym lead.spelled) (among_image (λ (e : Pairs). tree_text (key_of e)) d lead.documents h));
+}
+
+-- ---- the range of a filter in an index of the collection that is asked
+
+module _ (rs : Conditions) (home : Catalogued) (r : Range) (is : IsRangeOf rs home.indexes.items r) (now : List Collection) (state : IsLawfulState now) (c : Collection) (asked : IsAsked home now c) where
+  kept : IsKept c
+  kept = (found_collection now c.name c state asked.numbered.found).0
+
+  listed : Contains c.indexes is.definition
+  listed = subst (λ (ds : List Definition). Contains ds is.definition) (sym asked.indexed) is.there
+
+  index_at : Indexed
+  index_at = record { collection = c; definition = is.definition }
+
+  found_in_range : (ids : List (List ℕ)) → AreIdsInRange r index_at ids → AreIdsOf home.number (matches rs) ids now c
+  found_in_range ids h =
+      let i = is.definition in
+      let read : AreReadFrom i (range_in rs [] (Some i)) c.documents h.texts = subst (λ (x : Range). AreReadFrom i x c.documents h.texts) is.given (record { given = h.between.given; all = h.between.all }) in
+      let lead : LeadToMatching rs c.documents (ids_in i.fields h.texts) = ids_lead_to_matching rs [] i c.documents h.texts (kept_are_noted c i kept listed) (subst IsSpellable is.given is.spellable) kept.storable kept.rising read in
+      subst (λ (ts : List (List ℕ)). AreIdsOf home.number (matches rs) ts now c) (sym h.found)
+      (ids_leading rs home.number now c (ids_in i.fields h.texts) asked.numbered kept (pairs_of bytes_cmp (ids_in i.fields h.texts) (rise (ids_in i.fields h.texts) (set_sorted (ids_of i.fields h.texts)))) lead)
+
+  pub asked_in_index : (index : Definition) → r.index ≡ Some index → IsOther (IsNumberedIndex home.number index.number)
+      (λ now at (found : Option (Vec (Vec ℕ))). at.definition ≡ index → IfSome found (λ ids. AreIdsInRange r at (texts_of ids.items)))
+      (λ now c (found : Option (Vec (Vec ℕ))). IfSome found (λ ids. AreIdsOf home.number (matches rs) (texts_of ids.items) now c)) now c
+  asked_in_index index named = record {
+    other = index_at;
+    was = record { numbered = asked.numbered; listed = listed; same = ap (λ (d : Definition). d.number) same };
+    right = by_found;
+  }
+    where
+      same : is.definition ≡ index
+      same = ap (λ (o : Option Definition). unwrap_or o is.definition) (sym is.index ∙ named)
+
+      by_found : (found : Option (Vec (Vec ℕ))) → (is.definition ≡ index → IfSome found (λ ids. AreIdsInRange r index_at (texts_of ids.items))) → IfSome found (λ ids. AreIdsOf home.number (matches rs) (texts_of ids.items) now c)
+      by_found None h = tt
+      by_found (Some ids) h = found_in_range (texts_of ids.items) (h same)

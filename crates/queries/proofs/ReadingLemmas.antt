@@ -1,0 +1,140 @@
+-- How calls that read a file add up, one after the other.
+use Rattle.std.proofs.Common.{◌≡◌, inl, inr, false, List, Result, Ok, Err, refl, sym, ◌∙◌, arith}
+use Rattle.std.specs.Prelude.{MatchResult}
+use Rattle.std.proofs.lemmas.Bool.{cases_lt}
+use Rattle.page.specs.History.{History, KeepsWord}
+use Rattle.btree.specs.Store.{Frame, HasNoPage}
+use Rattle.btree.proofs.StoreLemmas.{grows_itself, grows_trans}
+use Rattle.path.specs.declared.refusal.Refusal.{Refusal}
+use Rattle.path.specs.declared.refusal.Refusal.TheVariants as refusals
+use Rattle.index.specs.LawfulState.{IsLawfulState}
+use Rattle.index.specs.State.{Collection}
+use Rattle.collections.specs.Calls.{GoesFrom, HasCause, HasWriteCause, IsOfFile}
+use Rattle.collections.specs.Reading.{ReadsOf}
+use Rattle.collections.specs.Standing.{HasState, IsTurnOf}
+use Rattle.collections.specs.State.{State}
+use Rattle.collections.specs.View.{disk_history, is_stopped, pages_of}
+use Rattle.collections.proofs.StandingLemmas.{stopped_same}
+
+-- ---- a cause between two moments is one between moments around them
+
+pub goes_itself : {D : Type 0} (history : D → History) (c : State D) → GoesFrom history c c
+goes_itself history c = grows_itself (pages_of history c)
+
+pub goes_on : {D : Type 0} (history : D → History) (a b c : State D) → GoesFrom history a b → GoesFrom history b c → GoesFrom history a c
+goes_on history a b c = grows_trans (pages_of history a) (pages_of history b) (pages_of history c)
+
+-- the word that the disk keeps now it kept before
+pub word_before : {D : Type 0} (history : D → History) (a b : State D) → GoesFrom history a b → KeepsWord (disk_history history b) → KeepsWord (disk_history history a)
+word_before history a b goes k = (goes.frame k).word
+
+module _ {D : Type 0} (history : D → History) (a b c d : State D) (early : GoesFrom history a b) (within : GoesFrom history b c) (late : GoesFrom history c d) (k : KeepsWord (disk_history history d)) where
+  third : Frame (pages_of history c) (pages_of history d)
+  third = late.frame k
+
+  second : Frame (pages_of history b) (pages_of history c)
+  second = within.frame third.word
+
+  first : Frame (pages_of history a) (pages_of history b)
+  first = early.frame second.word
+
+  no_page_wider : HasNoPage (pages_of history b) (pages_of history c) → HasNoPage (pages_of history a) (pages_of history d)
+  no_page_wider (inl more) = inl (omega (arith, first.full_takes, more, third.full_takes))
+  no_page_wider (inr most) = elim (cases_lt (pages_of history c).full_takes (pages_of history d).full_takes) [
+    | inl more ↦ inl (omega (arith, first.full_takes, second.full_takes, more))
+    | inr same ↦ inr (omega (arith, most, third.full_takes, same))
+  ]
+
+  pub widen : (e : Refusal) → HasCause history b c e → HasCause history a d e
+  widen e (inl is) = inl is
+  widen e (inr (inl (is, inl stopped))) = inr (inl (is, inl (sym (stopped_same history a.pager b.pager early.stays) ∙ stopped)))
+  widen e (inr (inl (is, inr failed))) = inr (inl (is, inr (omega (arith, first.failures, failed, third.failures))))
+  widen e (inr (inr (is, none))) = inr (inr (is, no_page_wider none))
+
+  pub widen_write : (after : List Collection) (e : Refusal) → HasWriteCause history after b c e → HasWriteCause history after a d e
+  widen_write after e (inl cause) = inl (widen e cause)
+  widen_write after e (inr large) = inr large
+
+-- only what came before is added, or only what came after
+module _ {D : Type 0} (history : D → History) (a b c : State D) (early : GoesFrom history a b) (late : GoesFrom history b c) (k : KeepsWord (disk_history history c)) where
+  pub widen_before : (e : Refusal) → HasCause history b c e → HasCause history a c e
+  widen_before = widen history a b c c early late (goes_itself history c) k
+
+  pub widen_after : (e : Refusal) → HasCause history a b e → HasCause history a c e
+  widen_after = widen history a a b c (goes_itself history a) early late k
+
+-- the refusals that have a cause
+pub of_file : {D : Type 0} (history : D → History) (a b : State D) (e : Refusal) → HasCause history a b e → IsOfFile e
+of_file history a b e (inl is) = inl is
+of_file history a b e (inr (inl x)) = inr (inl x.0)
+of_file history a b e (inr (inr x)) = inr (inr x.0)
+
+-- ---- what was read, of something else that is asked for
+
+-- while the collections are lawful, this is so of the other, and what is right of that is right of what is asked for
+pub record IsOther {A B X : Type 0} (Was : List Collection → B → Type 0) (P : List Collection → B → X → Type 0) (R : List Collection → A → X → Type 0) (now : List Collection) (asked : A) : Type 0 where
+  pub other : B
+  pub was : Was now other
+  pub right : (x : X) → P now other x → R now asked x
+
+module _ {D A B X : Type 0} (history : D → History) (Is : List Collection → A → Type 0) (Was : List Collection → B → Type 0) (P : List Collection → B → X → Type 0) (R : List Collection → A → X → Type 0) where
+  either_read : (old new : State D) (r : Result X Refusal) (now : List Collection) (asked : A) (o : IsOther Was P R now asked) → MatchResult r (P now o.other) (HasCause history old new) → MatchResult r (R now asked) (HasCause history old new)
+  either_read old new (Ok x) now asked o right = o.right x right
+  either_read old new (Err e) now asked o cause = cause
+
+  pub reads_as : (old new : State D) (r : Result X Refusal) → is_stopped old ≡ false → ReadsOf history Was P r old new
+      → ((now : List Collection) → IsLawfulState now → (asked : A) → Is now asked → IsOther Was P R now asked) → ReadsOf history Is R r old new
+  reads_as old new r running reads on = record {
+    on = reads.on;
+    unchanged = reads.unchanged;
+    same = reads.same;
+    answers = λ k start now has asked is.
+        let t : IsTurnOf history old start now = has running (word_before history old new reads.on k) in
+        let o = on now t.now_state asked is in
+        either_read old new r now asked o (reads.answers k start now has o.other o.was);
+  }
+
+-- what was read before tells what is asked for next
+module _ {D A B X Y : Type 0} (history : D → History) (Is : List Collection → A → Type 0) (P : List Collection → A → X → Type 0) (Was : List Collection → B → Type 0) (Q : List Collection → B → Y → Type 0) (R : List Collection → A → Y → Type 0) where
+  either_behind : (a b c : State D) → GoesFrom history a b → GoesFrom history b c → KeepsWord (disk_history history c) → (r : Result Y Refusal) (now : List Collection) (asked : A) (o : IsOther Was Q R now asked)
+      → MatchResult r (Q now o.other) (HasCause history b c) → MatchResult r (R now asked) (HasCause history a c)
+  either_behind a b c early late k (Ok y) now asked o right = o.right y right
+  either_behind a b c early late k (Err e) now asked o cause = widen_before history a b c early late k e cause
+
+  pub reads_behind : (a b c : State D) (x : X) (r : Result Y Refusal) → ReadsOf history Is P (Ok x) a b → ReadsOf history Was Q r b c
+      → ((now : List Collection) (asked : A) → Is now asked → P now asked x → IsOther Was Q R now asked) → ReadsOf history Is R r a c
+  reads_behind a b c x r first second on = record {
+    on = goes_on history a b c first.on second.on;
+    unchanged = second.unchanged ∙ first.unchanged;
+    same = λ start now has. second.same start now (first.same start now has);
+    answers = λ k start now has asked is.
+        let o = on now asked is (first.answers (word_before history b c second.on k) start now has asked is) in
+        either_behind a b c first.on second.on k r now asked o (second.answers k start now (first.same start now has) o.other o.was);
+  }
+
+-- a refusal is one whatever was to be read
+pub reads_refused : {D A X Y : Type 0} (history : D → History) (Is : List Collection → A → Type 0) (P : List Collection → A → X → Type 0) (R : List Collection → A → Y → Type 0) (old new : State D) (e : Refusal) → ReadsOf history Is P (Err e) old new → ReadsOf history Is R (Err e) old new
+reads_refused history Is P R old new e reads = record { on = reads.on; unchanged = reads.unchanged; same = reads.same; answers = reads.answers }
+
+-- what is made of what was read, unless memory runs out
+pub reads_made : {D A X Y : Type 0} (history : D → History) (Is : List Collection → A → Type 0) (P : List Collection → A → X → Type 0) (R : List Collection → A → Y → Type 0) (old new : State D) (x : X) (y : Y) → ReadsOf history Is P (Ok x) old new
+    → ((now : List Collection) (asked : A) → Is now asked → P now asked x → R now asked y) → ReadsOf history Is R (Ok y) old new
+reads_made history Is P R old new x y reads on = record {
+  on = reads.on;
+  unchanged = reads.unchanged;
+  same = reads.same;
+  answers = λ k start now has asked is. on now asked is (reads.answers k start now has asked is);
+}
+
+pub reads_memory : {D A X Y : Type 0} (history : D → History) (Is : List Collection → A → Type 0) (P : List Collection → A → X → Type 0) (R : List Collection → A → Y → Type 0) (r : Result X Refusal) (old new : State D) (e : Refusal) → e ≡ refusals.OutOfMemory → ReadsOf history Is P r old new → ReadsOf history Is R (Err e) old new
+reads_memory history Is P R r old new e is reads = record { on = reads.on; unchanged = reads.unchanged; same = reads.same; answers = λ k start now has asked so. inl is }
+
+-- nothing was read
+pub reads_none : {D A X : Type 0} (history : D → History) (Is : List Collection → A → Type 0) (R : List Collection → A → X → Type 0) (old : State D) (x : X) → is_stopped old ≡ false
+    → ((now : List Collection) → IsLawfulState now → (asked : A) → Is now asked → R now asked x) → ReadsOf history Is R (Ok x) old old
+reads_none history Is R old x running right = record {
+  on = goes_itself history old;
+  unchanged = refl;
+  same = λ start now has. has;
+  answers = λ k start now has asked is. let t : IsTurnOf history old start now = has running k in right now t.now_state asked is;
+}

@@ -1,0 +1,80 @@
+-- Documents within the limits of those that are stored.
+use Rattle.std.proofs.Common.{◌≡◌, suc, Bool, true, false, List, [], ◌∷◌, length, Option, Some, None, refl, arith}
+use Rattle.std.specs.Prelude.{All, nat_lt, not, is_some, if◌then◌else◌}
+use Rattle.std.specs.List.{list_all}
+use Rattle.std.proofs.lemmas.List.Elements.{All-cons, All-head, All-tail}
+use Rattle.std.proofs.lemmas.Bool.Decides.{nat_tests}
+use Rattle.bson.specs.Lawful.{pairs_levels}
+use Rattle.bson.specs.Spelling.{frame_of, pairs_bytes}
+use Rattle.bson.specs.Tree.{Pairs}
+use Rattle.path.specs.declared.refusal.Refusal.{Refusal}
+use Rattle.path.specs.declared.refusal.Refusal.TheVariants as refusals
+use Rattle.update.specs.Stored.{fault_if, or_else}
+use Rattle.aggregate.specs.Limits.{limit_fault, else_fault, first_fault}
+use Rattle.index.specs.LawfulState.{IsStorable}
+use Rattle.database_model.specs.Lawful.{IsStored, IsWithin}
+use Rattle.queries.specs.Within.{is_within}
+
+within_by : (d : Pairs) → is_within d ≡ true → IsWithin d
+within_by d is = at (nat_lt 65535 (length (frame_of (pairs_bytes d)))) (nat_lt 90 (suc (pairs_levels d))) refl refl is
+  where
+    at : (large deep : Bool) → nat_lt 65535 (length (frame_of (pairs_bytes d))) ≡ large → nat_lt 90 (suc (pairs_levels d)) ≡ deep
+        → not (is_some (or_else (fault_if large refusals.BSONObjectTooLarge) (fault_if deep refusals.BadValue))) ≡ true → IsWithin d
+    at true deep l f e = absurd cc
+    at false true l f e = absurd cc
+    at false false l f e = record { size = grind (arith, nat_tests, l); depth = grind (arith, nat_tests, f) }
+
+pub by_within : (d : Pairs) → IsWithin d → is_within d ≡ true
+by_within d h =
+    let size : nat_lt 65535 (length (frame_of (pairs_bytes d))) ≡ false = grind (arith, nat_tests, h.size) in
+    let depth : nat_lt 90 (suc (pairs_levels d)) ≡ false = grind (arith, nat_tests, h.depth) in
+    (λ i. not (is_some (or_else (fault_if (size i) refusals.BSONObjectTooLarge) (fault_if (depth i) refusals.BadValue))))
+
+pub all_within : (ds : List Pairs) → list_all is_within ds ≡ true → All IsWithin ds
+all_within [] is = λ k d below. absurd (omega (arith, below))
+all_within (d ∷ ds) is = at (is_within d) refl is (λ later. all_within ds later)
+  where
+    at : (b : Bool) → is_within d ≡ b → list_all is_within (d ∷ ds) ≡ true → (list_all is_within ds ≡ true → All IsWithin ds) → All IsWithin (d ∷ ds)
+    at true e h later = All-cons IsWithin d ds (within_by d e) (later (grind (arith, e, h)))
+    at false e h later = absurd (grind (arith, e, h))
+
+pub within_all : (ds : List Pairs) → All IsWithin ds → list_all is_within ds ≡ true
+within_all [] h = refl
+within_all (d ∷ ds) h = rw (by_within d (All-head IsWithin d ds h)) (within_all ds (All-tail IsWithin d ds h))
+
+pub storable_within : (ds : List Pairs) → All IsStorable ds → All IsWithin ds
+storable_within [] h = λ k d below. absurd (omega (arith, below))
+storable_within (d ∷ ds) h =
+    let one = All-head IsStorable d ds h in
+    All-cons IsWithin d ds (record { size = one.size; depth = one.depth }) (storable_within ds (All-tail IsStorable d ds h))
+
+-- ---- as a pipeline judges them
+
+-- a document within the limits has no fault
+faultless : (d : Pairs) → IsWithin d → limit_fault 65535 d ≡ None
+faultless d h =
+    let size : nat_lt 65535 (length (frame_of (pairs_bytes d))) ≡ false = grind (arith, nat_tests, h.size) in
+    let depth : nat_lt 90 (suc (pairs_levels d)) ≡ false = grind (arith, nat_tests, h.depth) in
+    rw size (rw depth refl)
+
+pub none_at_fault : (ds : List Pairs) → All IsWithin ds → first_fault 65535 ds ≡ None
+none_at_fault [] h = refl
+none_at_fault (d ∷ ds) h = rw (faultless d (All-head IsWithin d ds h)) (none_at_fault ds (All-tail IsWithin d ds h))
+
+-- a document without a fault is within the limits
+faultless_is_within : (d : Pairs) → limit_fault 65535 d ≡ None → IsWithin d
+faultless_is_within d e = at (nat_lt 65535 (length (frame_of (pairs_bytes d)))) (nat_lt 90 (suc (pairs_levels d))) refl refl e
+  where
+    at : (large deep : Bool) → nat_lt 65535 (length (frame_of (pairs_bytes d))) ≡ large → nat_lt 90 (suc (pairs_levels d)) ≡ deep
+        → (if large then Some refusals.BSONObjectTooLarge else if deep then Some refusals.BadValue else None) ≡ None → IsWithin d
+    at true deep l f e = absurd cc
+    at false true l f e = absurd cc
+    at false false l f e = record { size = grind (arith, nat_tests, l); depth = grind (arith, nat_tests, f) }
+
+pub faultless_within : (ds : List Pairs) → first_fault 65535 ds ≡ None → All IsWithin ds
+faultless_within [] e = λ k x below. absurd (omega (arith, below))
+faultless_within (d ∷ ds) e = at (limit_fault 65535 d) refl (λ f. faultless_within ds f) e
+  where
+    at : (o : Option Refusal) → limit_fault 65535 d ≡ o → (first_fault 65535 ds ≡ None → All IsWithin ds) → else_fault o (first_fault 65535 ds) ≡ None → All IsWithin (d ∷ ds)
+    at None is later f = All-cons IsWithin d ds (faultless_is_within d is) (later f)
+    at (Some r) is later f = absurd cc

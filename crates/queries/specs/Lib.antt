@@ -1,0 +1,4 @@
+pub mod Asking
+pub mod ById
+pub mod ByIndex
+pub mod Within

@@ -1,0 +1,97 @@
+//! Filters that an index serves: the `_id`s of the documents that have a key in the range that the filter gives there.
+
+ghost use Rattle.std.specs.Prelude.{◌≡◌, IfOk, IfSome, Some};
+ghost use Rattle.collections.specs.IndexTexts.{IsNumberedIndex};
+ghost use Rattle.collections.specs.Reading.{ReadsOf};
+ghost use Rattle.filter.specs.Matches.{matches};
+ghost use Rattle.index.specs.View.{texts_of};
+ghost use Rattle.planner.specs.View.{range_of};
+ghost use Rattle.queries.specs.Asking.{IsAsked};
+ghost use Rattle.queries.specs.ById.{AreIdsOf};
+ghost use Rattle.queries.specs.ByIndex.{AreIdsInRange, IsRangeOf};
+
+use bson::NoMemory;
+use collections::Collections;
+use filter::{Filter, Sort};
+use index::{Catalogued, IndexSpec};
+use page::Disk;
+use path::Refusal;
+use planner::{IndexRange, Plan, choose, ids_in};
+use std::alloc::Global;
+
+/// Where more entries than this lie in a range, its documents are not looked up one by one: a walk through the collection is quicker.
+const MOST_LOOKED_UP: usize = 4_096;
+
+/// The range of one of these indexes that serves a filter best, if one serves it.
+fn range_asked<'a>(
+    alloc: Global,
+    filter: &'a Filter,
+    indexes: &'a [IndexSpec],
+) -> Result<Option<IndexRange<'a>>, NoMemory>
+    ensures { IfOk result (λ found. IfSome found
+        (λ range. IsRangeOf filter.now indexes.now (range_of range))) }
+{
+    let sort = Sort::new(alloc);
+    let Plan::Index(range) = choose(filter, &sort, indexes) else {
+        return Ok(None);
+    };
+    if range.index.is_none() {
+        return Ok(None);
+    }
+    if !range.is_spellable(alloc)? {
+        return Ok(None);
+    }
+    Ok(Some(range))
+}
+
+/// The texts of the `_id`s in the entries of an index that lie in a range, where these are few.
+fn ids_in_range<D: Disk>(
+    alloc: Global,
+    file: &mut Collections<D>,
+    number: u32,
+    index: &IndexSpec,
+    range: &IndexRange<'_>,
+) -> Result<Option<Vec<Vec<u8>>>, Refusal>
+    requires { (range_of range.now).index ≡ Some index.now }
+    ensures { ReadsOf D.history (IsNumberedIndex number index.now.number)
+        (λ now at found. at.definition ≡ index.now → IfSome found
+        (λ ids. AreIdsInRange (range_of range.now) at (texts_of ids.items)))
+        result file.old file.new }
+{
+    let span = range.span(alloc)?;
+    let Some(texts) = file.index_texts(
+        number,
+        index.number(),
+        &span.first,
+        &span.last,
+        MOST_LOOKED_UP,
+    )?
+    else {
+        return Ok(None);
+    };
+    Ok(Some(ids_in(alloc, index, &texts)?))
+}
+
+/// The ascending texts of the `_id`s among which are those of all documents that a filter matches, where an index serves it.
+pub(crate) fn ids_by_index<D: Disk>(
+    alloc: Global,
+    file: &mut Collections<D>,
+    home: &Catalogued,
+    filter: &Filter,
+) -> Result<Option<Vec<Vec<u8>>>, Refusal>
+    ensures { ReadsOf D.history (IsAsked home.now)
+        (λ now c found. IfSome found
+        (λ ids. AreIdsOf home.now.number (matches filter.now) (texts_of ids.items) now c))
+        result file.old file.new }
+{
+    if file.is_stopped() {
+        return Err(Refusal::StorageFailed);
+    }
+    let Some(range) = range_asked(alloc, filter, &home.indexes)? else {
+        return Ok(None);
+    };
+    let Some(index) = range.index else {
+        return Ok(None);
+    };
+    ids_in_range(alloc, file, home.number, index, &range)
+}

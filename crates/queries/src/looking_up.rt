@@ -1,0 +1,168 @@
+//! Documents that are looked up by their `_id`s, where a filter asks for one or an index tells them.
+
+ghost use Rattle.std.specs.Prelude.{◌≡◌, ◌++◌, ◌∷◌, [], All, IfOk, IfSome, OnOk, take};
+ghost use Rattle.std.specs.List.{filter};
+ghost use Rattle.bson.specs.View.{tree};
+ghost use Rattle.value_order.specs.KeyText.{tree_text};
+ghost use Rattle.value_order.specs.Laws.{IsKey};
+ghost use Rattle.value_order.specs.Order.{value};
+ghost use Rattle.collections.specs.Reading.{IsPlaceOf, ReadsOf, stored_at};
+ghost use Rattle.database_model.specs.Lawful.{IsWithin};
+ghost use Rattle.index.specs.View.{texts_of};
+ghost use Rattle.planner.specs.IdLaws.{with_found};
+ghost use Rattle.queries.specs.ById.{AreIdsOf};
+ghost use Rattle.queries.specs.Asking.{IsAsked};
+
+use crate::by_index::ids_by_index;
+use crate::scanning::scanned;
+use crate::selects::Selects;
+use bson::{Document, NoMemory, Value};
+use collections::Collections;
+use index::Catalogued;
+use page::Disk;
+use path::Refusal;
+use planner::short_text;
+use replies::SharedDocument;
+use statements::STORED_LIMIT;
+use std::alloc::Global;
+use update::limits_fault;
+
+/// The document of an `_id` in the collection of a number. A disk may give one that is over the limits of those that are stored.
+fn document_within<D: Disk>(
+    file: &mut Collections<D>,
+    number: u32,
+    id: &[u8],
+) -> Result<Option<Document>, Refusal>
+    ensures reads { ReadsOf D.history (IsPlaceOf number id.now)
+        (λ now place found. found ≡ stored_at place) result file.old file.new }
+    ensures within { IfOk result (λ found. IfSome found (λ d. IsWithin d)) }
+{
+    let Some(document) = file.document(number, id)? else {
+        return Ok(None);
+    };
+    if limits_fault(&document, STORED_LIMIT).is_some() {
+        return Err(Refusal::StorageFailed);
+    }
+    Ok(Some(document))
+}
+
+/// Puts the document that was found behind the others, if it is looked for.
+fn put_found<S: Selects>(
+    alloc: Global,
+    which: &S,
+    found: &mut Vec<SharedDocument>,
+    document: Option<Document>,
+) -> Result<(), NoMemory>
+    ensures { OnOk result (found.new.items
+        ≡ found.old.items ++ filter (S.selects which.now) (with_found document [])) }
+{
+    let Some(document) = document else {
+        return Ok(());
+    };
+    if which.selects(&document) {
+        found.push(SharedDocument::new(alloc, document)?)?;
+    }
+    Ok(())
+}
+
+/// Looks one document up, and puts it behind the others, if it is looked for.
+fn look_up<D: Disk, S: Selects>(
+    alloc: Global,
+    file: &mut Collections<D>,
+    number: u32,
+    which: &S,
+    id: &[u8],
+    found: &mut Vec<SharedDocument>,
+) -> Result<(), Refusal>
+    ensures reads { ReadsOf D.history (IsPlaceOf number id.now)
+        (λ now place _. found.new.items ≡ found.old.items
+        ++ filter (S.selects which.now) (with_found (stored_at place) []))
+        result file.old file.new }
+    ensures within { OnOk result (All IsWithin found.old.items → All IsWithin found.new.items) }
+{
+    let document = document_within(file, number, id)?;
+    Ok(put_found(alloc, which, found, document)?)
+}
+
+/// The documents of the collection of a number that are looked for and have one of these `_id`s, told by their ascending key texts:
+/// the first ones, up to so many.
+pub(crate) fn selected_by_ids<D: Disk, S: Selects>(
+    alloc: Global,
+    file: &mut Collections<D>,
+    number: u32,
+    which: &S,
+    ids: &[Vec<u8>],
+    most: usize,
+) -> Result<Vec<SharedDocument>, Refusal>
+    ensures reads { ReadsOf D.history (AreIdsOf number (S.selects which.now) (texts_of ids.now))
+        (λ now c found. found.items ≡ take most (filter (S.selects which.now) c.documents))
+        result file.old file.new }
+    ensures within { IfOk result (λ found. All IsWithin found.items) }
+{
+    if file.is_stopped() {
+        return Err(Refusal::StorageFailed);
+    }
+    let mut found = Vec::new(alloc);
+    'ids: for id in ids {
+        if found.len() == most {
+            return Ok(found);
+        }
+        look_up(alloc, file, number, which, id, &mut found)?;
+    }
+    Ok(found)
+}
+
+/// The text of an `_id` alone, unless it is longer than that of a stored document may be.
+fn only_id(alloc: Global, id: &Value) -> Result<Option<Vec<Vec<u8>>>, NoMemory>
+    ensures { IfOk result (λ found. IfSome found (λ ids.
+        (texts_of ids.items ≡ tree_text (tree id.now) ∷ []) × IsKey (value (tree id.now)))) }
+{
+    let Some(text) = short_text(alloc, id)? else {
+        return Ok(None);
+    };
+    Ok(Some(vec![in alloc; text]?))
+}
+
+/// The ascending texts of `_id`s among which are those of all documents that are looked for, where they can be told without a walk.
+fn asked_ids<D: Disk, S: Selects>(
+    alloc: Global,
+    file: &mut Collections<D>,
+    home: &Catalogued,
+    which: &S,
+) -> Result<Option<Vec<Vec<u8>>>, Refusal>
+    ensures { ReadsOf D.history (IsAsked home.now)
+        (λ now c found. IfSome found
+        (λ ids. AreIdsOf home.now.number (S.selects which.now) (texts_of ids.items) now c))
+        result file.old file.new }
+{
+    if file.is_stopped() {
+        return Err(Refusal::StorageFailed);
+    }
+    if let Some(id) = which.asked_id() {
+        return Ok(only_id(alloc, id)?);
+    }
+    match which.asked_filter() {
+        Some(filter) => ids_by_index(alloc, file, home, filter),
+        None => Ok(None),
+    }
+}
+
+/// The documents of a collection in a file that are looked for, in ascending order of `_id`: the first ones, up to so many. Where all
+/// of them have one `_id`, or an index serves the filter that asks for them, they are looked up; else the collection is walked through.
+pub fn selected_in<D: Disk, S: Selects>(
+    alloc: Global,
+    file: &mut Collections<D>,
+    home: &Catalogued,
+    which: &S,
+    most: usize,
+) -> Result<Vec<SharedDocument>, Refusal>
+    ensures reads { ReadsOf D.history (IsAsked home.now)
+        (λ now c found. found.items ≡ take most (filter (S.selects which.now) c.documents))
+        result file.old file.new }
+    ensures within { IfOk result (λ found. All IsWithin found.items) }
+{
+    match asked_ids(alloc, file, home, which)? {
+        Some(ids) => selected_by_ids(alloc, file, home.number, which, &ids, most),
+        None => scanned(alloc, file, home.number, which, most),
+    }
+}
