@@ -48,7 +48,7 @@ const KEYS: [&str; 29] = [
 ];
 
 /// The index on these paths.
-fn index_on(alloc: Global, paths: &str) -> Result<IndexSpec, Fail> {
+pub(crate) fn index_on(alloc: Global, paths: &str) -> Result<IndexSpec, Fail> {
     let text = format!(in alloc;
         "{{\"i\": 1, \"name\": \"x\", \"key\": {{{paths}}}, \"unique\": false, \"multi\": false}}"
     )?;

@@ -7,6 +7,8 @@ mod catalogue;
 #[cfg(test)]
 mod documents;
 #[cfg(test)]
+mod entry_ids;
+#[cfg(test)]
 mod growths;
 #[cfg(test)]
 mod index_keys;
