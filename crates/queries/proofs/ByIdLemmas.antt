@@ -1,7 +1,7 @@
 -- Documents that are looked up by `_id` where a filter asks for one: they are those that a walk finds.
-use Rattle.std.proofs.Common.{◌≡◌, inl, inr, ◌≤◌, ℕ, zero, suc, ◌<◌, Bool, true, false, List, [], ◌∷◌, length, get_or, take, Option, Some, None, Result, Ok, Err, refl, sym, ap, subst, ◌∙◌, arith}
-use Rattle.std.specs.Prelude.{IfSome, ◌&&◌, ◌||◌, not, is_some, if◌then◌else◌, All, Contains, option_and_then}
-use Rattle.std.specs.List.{filter, list_all, list_any}
+use Rattle.std.proofs.Common.{◌≡◌, inl, inr, ◌≤◌, ℕ, zero, suc, ◌<◌, Bool, true, false, List, [], ◌∷◌, length, get_or, Option, Some, None, Ok, Err, refl, sym, ap, subst, ◌∙◌, arith}
+use Rattle.std.specs.Prelude.{IfSome, ◌&&◌, ◌||◌, not, is_some, All, Contains, option_and_then}
+use Rattle.std.specs.List.{list_all, list_any}
 use Rattle.std.specs.Ordering.{is_eq}
 use Rattle.std.specs.declared.cmp.Ordering.{Ordering}
 use Rattle.std.specs.declared.cmp.Ordering.TheVariants as orders
@@ -10,7 +10,6 @@ use Rattle.bson.specs.Tree.{Tree, scalar, document, array, Pairs}
 use Rattle.bson.specs.Lookup.{lookup}
 use Rattle.page.specs.History.{History, KeepsWord}
 use Rattle.path.specs.Reach.{Reached, reach, candidates}
-use Rattle.path.specs.declared.refusal.Refusal.{Refusal}
 use Rattle.path.specs.declared.refusal.Refusal.TheVariants as refusals
 use Rattle.update.specs.Stored.{limits_fault, id_name, no_array}
 use Rattle.filter.specs.Condition.{equal, at, is, Conditions, condition}
@@ -32,7 +31,7 @@ use Rattle.index.specs.LawfulState.{IsLawfulState, IsStorable}
 use Rattle.index.specs.State.{Collection}
 use Rattle.index.proofs.FoundLawLemmas.{found_collection, found_document}
 use Rattle.collections.specs.Calls.{HasCause}
-use Rattle.collections.specs.Reading.{IsNumbered, IsPlaceOf, Place, ReadsOf, stored_at}
+use Rattle.collections.specs.Reading.{IsPlaceOf, Place, ReadsOf, stored_at}
 use Rattle.collections.specs.Standing.{HasState, IsTurnOf}
 use Rattle.collections.specs.State.{State}
 use Rattle.collections.specs.View.{disk_history, is_stopped}
@@ -40,6 +39,9 @@ use Rattle.queries.specs.ById.{AreIdsOf, AsksForId}
 use Rattle.database_model.specs.Documents.{key_of}
 use Rattle.database_model.specs.Lawful.{IsStored, IsWithin}
 use Rattle.queries.specs.Asking.{IsAsked}
+use Rattle.queries.specs.ByIndex.{AsksMatching}
+use Rattle.index.specs.View.{texts_of}
+use Rattle.std.specs.Global.{Vec}
 use Rattle.index.specs.declared.catalogue_reading.Catalogued.{Catalogued}
 use Rattle.queries.specs.Within.{is_within}
 use Rattle.database_model.specs.Merging.{has_key_of, is_deleted, is_meant_by}
@@ -207,3 +209,20 @@ only_asked home p id texts now c asks key spelled state asked =
       ascending = λ i j d less below. absurd (omega (arith, less, below));
       all = λ d there passes. text_of_asked p id c.documents asks key asked.stored kept.storable d there passes;
     })
+
+pub only_where_some : (home : Catalogued) (p : Pairs → Bool) (id : Tree) (now : List Collection) (c : Collection) → AsksForId p id → IsLawfulState now → IsAsked home now c
+    → (o : Option (Vec (Vec ℕ))) → IfSome o (λ ids. (texts_of ids.items ≡ tree_text id ∷ []) × IsKey (value id)) → IfSome o (λ ids. AreIdsOf home.number p (texts_of ids.items) now c)
+only_where_some home p id now c asks state asked None h = tt
+only_where_some home p id now c asks state asked (Some ids) h = only_asked home p id (texts_of ids.items) now c asks h.1 h.0 state asked
+
+-- what leads to all that a filter matches leads to all that pass, where the filter matches each of these
+pub narrowed_where_some : (number : ℕ) (p : Pairs → Bool) (rs : Conditions) (now : List Collection) (c : Collection) → AsksMatching p rs
+    → (o : Option (Vec (Vec ℕ))) → IfSome o (λ ids. AreIdsOf number (matches rs) (texts_of ids.items) now c) → IfSome o (λ ids. AreIdsOf number p (texts_of ids.items) now c)
+narrowed_where_some number p rs now c asks None h = tt
+narrowed_where_some number p rs now c asks (Some ids) h = record {
+  numbered = h.numbered;
+  ids = h.ids;
+  told = h.told;
+  ascending = h.ascending;
+  all = λ d there passes. h.all d there (asks d passes);
+}

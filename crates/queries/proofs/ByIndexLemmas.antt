@@ -1,13 +1,15 @@
 -- What the entries of an index in the range of a filter lead to.
 use Rattle.std.proofs.Common.{◌≡◌, ℕ, true, List, [], ◌∷◌, map, Option, Some, None, refl, sym, ap, subst, ◌∙◌}
 use Rattle.std.specs.Global.{Vec}
-use Rattle.std.specs.Prelude.{All, Contains, IfSome, unwrap_or}
+use Rattle.std.specs.Borrow.{Bor}
+use Rattle.std.specs.Prelude.{All, Contains, IfSome, is_some, unwrap_or}
 use Rattle.std.specs.List.{AllByRecursion, AllPairs, filter}
 use Rattle.std.specs.List.Sorted.{IsStrictlySortedBy}
 use Rattle.std.specs.declared.cmp.Ordering.TheVariants.{Less}
 use Rattle.bson.specs.Tree.{Pairs}
 use Rattle.filter.specs.Condition.{Conditions}
 use Rattle.filter.specs.Matches.{matches}
+use Rattle.filter.specs.Sort.{SortField}
 use Rattle.value_order.specs.KeyText.{tree_text}
 use Rattle.value_order.specs.Order.{bytes_cmp}
 use Rattle.index.specs.Definition.{Definition}
@@ -21,13 +23,19 @@ use Rattle.index.proofs.FoundLawLemmas.{found_collection}
 use Rattle.index.proofs.MemberLemmas.{Among, among_image, among_of, contains_of, of_all}
 use Rattle.index.proofs.ReadLaws.{document_some}
 use Rattle.index.proofs.SetLemmas.{set_sorted}
-use Rattle.collections.specs.IndexTexts.{Indexed, IsNumberedIndex}
+use Rattle.collections.specs.IndexTexts.{AreTextsBetween, Indexed, IsNumberedIndex}
 use Rattle.collections.specs.Reading.{IsNumbered}
 use Rattle.planner.specs.FoundIds.{LeadToMatching, ids_in, ids_of}
 use Rattle.planner.specs.IdLaws.{AreIdTexts}
 use Rattle.planner.specs.KeyRange.{IsSpellable}
-use Rattle.planner.specs.Plan.{Range, range_in}
+use Rattle.planner.specs.KeySpan.{first_key, last_key}
+use Rattle.planner.specs.Plan.{Range, by_index, choose, fields_of, range_in}
 use Rattle.planner.specs.RangeReading.{AreReadFrom}
+use Rattle.planner.specs.View.{index_of, plan_of, range_of}
+use Rattle.planner.specs.declared.plan.Plan.{Plan as Chosen}
+use Rattle.planner.specs.declared.plan.Plan.TheVariants as plans
+use Rattle.planner.specs.declared.range.IndexRange.{IndexRange}
+use Rattle.planner.proofs.ChosenLemmas.{chosen_range}
 use Rattle.planner.proofs.AnswerLemmas.{kept_are_noted}
 use Rattle.planner.proofs.FoundIdLemmas.{ids_lead_to_matching}
 use Rattle.planner.proofs.RisingLemmas.{Below, Rises, among_filter, filter_among, pairs_of}
@@ -43,6 +51,7 @@ below_all k [] h = tt
 below_all k (x ∷ ks) h = (h.0, below_all k ks h.1)
 
 rise : (ks : List (List ℕ)) → IsStrictlySortedBy bytes_cmp ks → Rises bytes_cmp ks
+unfolding IsStrictlySortedBy
 rise [] h = tt
 rise (k ∷ ks) h = (below_all k ks h.0, rise ks h.1)
 
@@ -73,7 +82,7 @@ module _ (rs : Conditions) (home : Catalogued) (r : Range) (is : IsRangeOf rs ho
   listed : Contains c.indexes is.definition
   listed = subst (λ (ds : List Definition). Contains ds is.definition) (sym asked.indexed) is.there
 
-  index_at : Indexed
+  abbrev index_at : Indexed
   index_at = record { collection = c; definition = is.definition }
 
   found_in_range : (ids : List (List ℕ)) → AreIdsInRange r index_at ids → AreIdsOf home.number (matches rs) ids now c
@@ -99,3 +108,32 @@ module _ (rs : Conditions) (home : Catalogued) (r : Range) (is : IsRangeOf rs ho
       by_found : (found : Option (Vec (Vec ℕ))) → (is.definition ≡ index → IfSome found (λ ids. AreIdsInRange r index_at (texts_of ids.items))) → IfSome found (λ ids. AreIdsOf home.number (matches rs) (texts_of ids.items) now c)
       by_found None h = tt
       by_found (Some ids) h = found_in_range (texts_of ids.items) (h same)
+
+-- ---- the range that the planner chose
+
+pub range_chosen : (rs : Conditions) (sort : List SortField) (indexes : List Definition) (plan : Chosen) (range : IndexRange) → sort ≡ [] → plan_of plan ≡ choose rs sort indexes → plan ≡ plans.Index range → is_some range.index ≡ true → IsSpellable (range_of range)
+    → IsRangeOf rs indexes (range_of range)
+range_chosen rs sort indexes plan range none chosen is named spelled = at range.index refl named
+  where
+    by_range : choose rs [] indexes ≡ by_index (range_of range)
+    by_range = ap (λ (s : List SortField). choose rs s indexes) (sym none) ∙ sym chosen ∙ ap plan_of is
+
+    at : (o : Option (Bor Definition)) → range.index ≡ o → is_some o ≡ true → IsRangeOf rs indexes (range_of range)
+    at None e some = absurd cc
+    at (Some spec) e some =
+        let index : (range_of range).index ≡ Some spec.now = ap index_of e in
+        let given = chosen_range rs [] indexes (range_of range) spec.now by_range index in
+        record { definition = spec.now; index = index; there = given.there; given = given.given; spellable = spelled }
+
+-- the entries that were read between the ends of the range
+pub in_range : (r : Range) (index : Definition) (at : Indexed) (first last : List ℕ) (texts ids : List (List ℕ)) → r.index ≡ Some index → at.definition ≡ index
+    → first ≡ first_key (fields_of r.index) r → last ≡ last_key (fields_of r.index) r → AreTextsBetween first last at texts → ids ≡ ids_in index.fields texts → AreIdsInRange r at ids
+in_range r index at first last texts ids named same begins ends between found = record {
+  texts = texts;
+  between =
+      let fields : fields_of r.index ≡ at.definition.fields = ap fields_of named ∙ ap (λ (d : Definition). d.fields) (sym same) in
+      let from : first ≡ first_key at.definition.fields r = begins ∙ ap (λ fs. first_key fs r) fields in
+      let to : last ≡ last_key at.definition.fields r = ends ∙ ap (λ fs. last_key fs r) fields in
+      subst (λ (f : List ℕ). AreTextsBetween f (last_key at.definition.fields r) at texts) from (subst (λ (l : List ℕ). AreTextsBetween first l at texts) to between);
+  found = found ∙ ap (λ (d : Definition). ids_in d.fields texts) (sym same);
+}

@@ -1,5 +1,5 @@
 -- Documents that are looked up one after the other.
-use Rattle.std.proofs.Common.{◌≡◌, ℕ, ◌+◌, ◌<◌, ◌≤◌, inl, inr, Bool, true, false, List, [], ◌∷◌, ◌++◌, length, take, Option, Some, None, Result, Ok, Err, refl, sym, ap, subst, ◌∙◌, arith, append_assoc, length-append}
+use Rattle.std.proofs.Common.{◌≡◌, ℕ, ◌<◌, ◌≤◌, Bool, true, false, List, [], ◌∷◌, ◌++◌, length, take, Option, Some, None, Ok, Err, refl, sym, ap, subst, ◌∙◌, arith, append_assoc, length-append}
 use Rattle.std.specs.Global.{Vec}
 use Rattle.std.specs.List.{filter}
 use Rattle.bson.specs.Tree.{Tree, Pairs}
@@ -13,7 +13,7 @@ use Rattle.index.specs.StateReads.{find_document}
 use Rattle.index.proofs.FoundLawLemmas.{found_collection}
 use Rattle.planner.specs.IdLaws.{AreIdTexts, found_by, with_found}
 use Rattle.planner.proofs.IdLemmas.{finds_by_ids}
-use Rattle.collections.specs.Calls.{GoesFrom, HasCause}
+use Rattle.collections.specs.Calls.{GoesFrom}
 use Rattle.collections.specs.Reading.{IsPlaceOf, Place, ReadsOf, stored_at}
 use Rattle.collections.specs.Standing.{HasState, IsTurnOf}
 use Rattle.collections.specs.State.{State}

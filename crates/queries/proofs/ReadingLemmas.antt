@@ -11,7 +11,7 @@ use Rattle.index.specs.LawfulState.{IsLawfulState}
 use Rattle.index.specs.State.{Collection}
 use Rattle.collections.specs.Calls.{GoesFrom, HasCause, HasWriteCause, IsOfFile}
 use Rattle.collections.specs.Reading.{ReadsOf}
-use Rattle.collections.specs.Standing.{HasState, IsTurnOf}
+use Rattle.collections.specs.Standing.{IsTurnOf}
 use Rattle.collections.specs.State.{State}
 use Rattle.collections.specs.View.{disk_history, is_stopped, pages_of}
 use Rattle.collections.proofs.StandingLemmas.{stopped_same}

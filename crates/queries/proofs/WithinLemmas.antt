@@ -12,7 +12,7 @@ use Rattle.path.specs.declared.refusal.Refusal.TheVariants as refusals
 use Rattle.update.specs.Stored.{fault_if, or_else}
 use Rattle.aggregate.specs.Limits.{limit_fault, else_fault, first_fault}
 use Rattle.index.specs.LawfulState.{IsStorable}
-use Rattle.database_model.specs.Lawful.{IsStored, IsWithin}
+use Rattle.database_model.specs.Lawful.{IsWithin}
 use Rattle.queries.specs.Within.{is_within}
 
 within_by : (d : Pairs) → is_within d ≡ true → IsWithin d

@@ -1,5 +1,5 @@
 -- The collection that a query asks.
-use Rattle.std.specs.Prelude.{◌≡◌, ℕ, List, All}
+use Rattle.std.specs.Prelude.{◌≡◌, List, All}
 use Rattle.collections.specs.Reading.{IsNumbered}
 use Rattle.database_model.specs.Lawful.{IsStored}
 use Rattle.index.specs.State.{Collection}

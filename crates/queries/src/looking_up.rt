@@ -104,7 +104,7 @@ pub(crate) fn selected_by_ids<D: Disk, S: Selects>(
     }
     let mut found = Vec::new(alloc);
     'ids: for id in ids {
-        if found.len() == most {
+        if most <= found.len() {
             return Ok(found);
         }
         look_up(alloc, file, number, which, id, &mut found)?;

@@ -1,9 +1,0 @@
-use Rattle.std.proofs.Common.{subst}
-use Rattle.std.specs.Prelude.{◌≤◌, length, List, ℕ}
-use Rattle.bson.specs.View.{tree}
-use Rattle.index.proofs.ShortKeys.{short_is_key}
-use Rattle.queries.proofs.by_id.id_key.Goals as goal
-
-pub returns-in-Ok : goal.returns-in-Ok
-returns-in-Ok c =
-    (c.in-Ok.ensures.text, short_is_key (tree c.args.id.now) c.levels-levels.ensures.lawful (subst (λ (text : List ℕ). length text ≤ 500) c.in-Ok.ensures.text c.in-Ok.ensures.short))

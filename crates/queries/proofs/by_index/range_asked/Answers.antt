@@ -1,0 +1,8 @@
+use Rattle.std.proofs.Common.{ap, ◌∙◌}
+use Rattle.std.specs.Prelude.{not}
+use Rattle.queries.proofs.ByIndexLemmas.{range_chosen}
+use Rattle.queries.proofs.by_index.range_asked.Goals as goal
+
+pub returns : goal.returns
+returns c =
+    range_chosen c.args.filter.now _ c.args.indexes.now c.choose.result c.in-Index.range c.new-sort.ensures c.choose.ensures c.in-Index.is (c.is_none.ensures ∙ ap not c.if-is_none.false) (c.in_ok-is_spellable.ensures c.if-not-branch.false)
