@@ -55,9 +55,9 @@ impl<D: Disk> Engine<D> {
     fn listed(&mut self, front: &str) -> Result<Vec<Document>, Refusal>
         requires { IsSound D.history self.old }
         ensures looks { Looks D.history
-            (λ now listed. listed.items ≡ map listed (names_in front.now now))
+            (λ now found. found.items ≡ map listed (names_in front.now now))
             result self.old self.new }
-        ensures within { IfOk result (λ listed. All IsWithin listed.items) }
+        ensures within { IfOk result (λ found. All IsWithin found.items) }
     {
         let names = self.file.names()?;
         let listed = listed_in(self.alloc, front, &names)?;
