@@ -114,7 +114,7 @@ module _ (w : World) (connection : ℕ) (name : List ℕ) (documents : List Pair
 
 -- a first batch that was spelled is the definition's
 module _ (w : World) (connection : ℕ) (name : List ℕ) (ds : List Pairs) (most : ℕ) where
-  abbrev table : CursorTable
+  abbrev pub table : CursorTable
   table = record { list = w.cursors; next = w.next }
 
   abbrev planned : Result (World × Pairs) Refusal
