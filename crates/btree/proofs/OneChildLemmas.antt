@@ -1,5 +1,5 @@
 -- A branch of which one child changes.
-use Rattle.std.proofs.Common.{◌≡◌, ℕ, zero, suc, ◌+◌, ◌-◌, ◌*◌, ◌^◌, ◌<◌, ◌≤◌, ◌⊎◌, take, drop, get_or, List, [], ◌∷◌, ◌++◌, length, map, Option, Some, None, Result, Ok, Err, refl, sym, ap, ◌∙◌, subst, arith, inl, inr, append-nil, append_assoc}
+use Rattle.std.proofs.Common.{◌≡◌, ℕ, zero, suc, ◌+◌, ◌-◌, ◌^◌, ◌<◌, ◌≤◌, ◌⊎◌, take, drop, get_or, List, [], ◌∷◌, ◌++◌, length, map, Option, Some, None, Result, refl, sym, ap, ◌∙◌, subst, arith, inl, inr, append-nil, append_assoc}
 use Rattle.std.specs.List.{AllByRecursion}
 use Rattle.page.specs.ChildPage.{with_child}
 use Rattle.page.specs.Content.{Arm, IsArm, IsBranch, branch, first_key}
@@ -9,17 +9,17 @@ use Rattle.btree.specs.declared.pages.TreeFault.{TreeFault}
 use Rattle.btree.specs.Change.{IsBehind, edit_keys}
 use Rattle.btree.specs.EditView.{edit_in}
 use Rattle.btree.specs.Keys.{Each, Edit, Entry, IsBetween, IsNotUnder, IsUnder, IsWithin, Rises, change, entry_of, times}
-use Rattle.btree.specs.Loose.{IsLoad, IsSpread, IsStub, Stub, arm_stub, bare, child, first_or, stubs_of, stubs_size, twig_stub, under_key}
+use Rattle.btree.specs.Loose.{IsLoad, IsSpread, IsStub, Stub, arm_stub, bare, child, first_or, stubs_of, twig_stub, under_key}
 use Rattle.btree.specs.OneChild.{AreAt, IsAmid, IsPageOf}
 use Rattle.btree.specs.Search.{IsChildPlace}
 use Rattle.btree.specs.Store.{Frame, IsAt, IsMade, Store}
 use Rattle.btree.specs.Tree.{Body, IsSound, Shows, Twig, arm_of, entries_of, pages_of, pairs_of, with_low}
-use Rattle.btree.specs.Turn.{AreTurned, IsHeld, IsTurned, IsUpTo, Sheaf, sheaf_in}
+use Rattle.btree.specs.Turn.{AreTurned, IsHeld, IsTurned, IsUpTo, Sheaf}
 use Rattle.btree.proofs.ChangingLemmas.{begins, behind_later, turned_on}
 use Rattle.btree.proofs.EndLemmas.{drop_here, last_off, take_here, within_up_to}
 use Rattle.btree.proofs.HeldLemmas.{IsTurn, arm_there, glue_held, held_later, under_long}
 use Rattle.btree.proofs.KeyLemmas.{not_under_itself, not_under_trans, not_both}
-use Rattle.btree.proofs.ListLemmas.{at_place, each_map, get_here, get_mapped, long_append, long_map, map_map, times_append}
+use Rattle.btree.proofs.ListLemmas.{at_place, each_map, get_here, get_mapped, long_append, map_map, times_append}
 use Rattle.btree.proofs.LooseLemmas.{bare_pages, bare_pairs, bare_shows, bare_sound}
 use Rattle.btree.proofs.PartLemmas.{same_arms}
 use Rattle.btree.proofs.PrepareLemmas.{IsPrepared, all_up_to_last, prepared, prepared_entries}

@@ -1,5 +1,5 @@
 -- A branch with another page for a child: four bytes of it are others.
-use Rattle.std.proofs.Common.{◌≡◌, ℕ, zero, suc, ◌+◌, ◌-◌, ◌^◌, ◌<◌, ◌≤◌, List, [], ◌∷◌, ◌++◌, length, map, take, drop, replicate, get_or, refl, sym, ap, ◌∙◌, subst, arith, append_assoc, length-append}
+use Rattle.std.proofs.Common.{◌≡◌, ℕ, zero, suc, ◌+◌, ◌-◌, ◌^◌, ◌<◌, ◌≤◌, List, [], ◌∷◌, ◌++◌, length, take, drop, replicate, get_or, refl, sym, ap, ◌∙◌, subst, arith, append_assoc}
 use Rattle.std.specs.Prelude.{Option, Some, None, slice_get}
 use Rattle.std.proofs.lemmas.Option.{slice_get-get_or}
 use Rattle.std.specs.List.{AllByRecursion, flat_map}
@@ -10,7 +10,7 @@ use Rattle.page.specs.ChildPage.{later_place, page_place, with_child}
 use Rattle.page.specs.Content.{Arm, IsArm, IsBranch, arm_keys, arm_size, arms_size, first_key, rise, total}
 use Rattle.page.specs.Format.{arm_bytes, arm_in, arms_at, arms_bytes, body_and_zeros}
 use Rattle.page.specs.Kept.{KeepsBranch, starts}
-use Rattle.page.proofs.PlaceLemmas.{get_starts, length-joined, length-starts}
+use Rattle.page.proofs.PlaceLemmas.{get_starts, length-joined}
 use Rattle.page.proofs.CellLemmas.{length-arm}
 use Rattle.page.proofs.KeptLemmas.{branch_again, branch_made}
 

@@ -19,7 +19,7 @@ use Rattle.btree.proofs.EndLemmas.{last_is_child, within_up_to}
 use Rattle.btree.proofs.FewLemmas.{all_mine, branch_few, branch_two, children_few, few_alone, few_on, few_or_one_on, few_small, unit_little}
 use Rattle.btree.proofs.SplitLemmas.{two_parts}
 use Rattle.btree.proofs.ListLemmas.{long_append, long_map}
-use Rattle.btree.proofs.OneChildLemmas.{amid, amid_turned, key_little, prepared_child, reached_now}
+use Rattle.btree.proofs.OneChildLemmas.{amid, amid_turned, key_little, prepared_child}
 use Rattle.btree.proofs.PrepareLemmas.{begins_there, children_done, prepare}
 use Rattle.btree.proofs.changing.+change.Goals as goal
 

@@ -1,4 +1,4 @@
-use Rattle.std.proofs.Common.{◌∙◌, ◌++◌, ◌+◌, ◌-◌, List, ℕ, append_assoc, ap, drop, length, take}
+use Rattle.std.proofs.Common.{◌∙◌, ◌++◌, ◌+◌, List, ℕ, append_assoc, ap, drop, take}
 use Rattle.byteorder.specs.Endian.{little_bytes}
 use Rattle.page.proofs.ReadLemmas.{slice_same}
 use Rattle.page.proofs.splicing.bytes_with_number.Goals as goal

@@ -1,4 +1,4 @@
-use Rattle.std.proofs.Common.{◌≡◌, ◌∙◌, List, ℕ, ap, length, subst, sym, arith}
+use Rattle.std.proofs.Common.{◌∙◌, List, ℕ, ap, length, subst, sym, arith}
 use Rattle.page.specs.Format.{arms_at}
 use Rattle.page.specs.Kept.{KeepsBranch}
 use Rattle.page.proofs.ChildPageLemmas.{now_room, patched, place_room, with_is, with_kept}
