@@ -14,6 +14,7 @@ pub mod JoinLemmas
 pub mod KeyLemmas
 pub mod ListLemmas
 pub mod LooseLemmas
+pub mod OneChildLemmas
 pub mod OnceLemmas
 pub mod PartLemmas
 pub mod PrepareLemmas

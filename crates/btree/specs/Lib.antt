@@ -6,6 +6,7 @@ pub mod Keys
 pub mod Laws
 pub mod Loose
 pub mod LooseView
+pub mod OneChild
 pub mod Reach
 pub mod Scan
 pub mod Search

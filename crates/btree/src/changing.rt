@@ -1,11 +1,13 @@
 // A change by a list of edits, from a page down.
-ghost use Rattle.std.specs.Prelude.{◌≡◌, ◌<◌, ◌≤◌, ◌+◌, ◌*◌, ◌++◌, ◌∷◌, [], ℕ, zero, List, Option, Some, None, Ok, drop, length, map, slice_index_or, IfErr, IfOk};
+ghost use Rattle.std.specs.Prelude.{◌≡◌, ◌<◌, ◌≤◌, ◌+◌, ◌-◌, ◌*◌, ◌++◌, ◌∷◌, [], ℕ, zero, List, Option, Some, None, Ok, drop, length, map, slice_index_or, IfErr, IfOk};
+ghost use Rattle.page.specs.Content.{IsBranch};
 ghost use Rattle.btree.specs.Change.{BeginsAt, edit_keys};
 ghost use Rattle.btree.specs.EditView.{HasRoom, edit_in};
-ghost use Rattle.btree.specs.Few.{IsLittle, GivesFew, GivesFewOrOne, edit_pages};
+ghost use Rattle.btree.specs.Few.{IsFewOrOne, IsLittle, GivesFew, GivesFewOrOne, edit_pages};
 ghost use Rattle.btree.specs.Keys.{Each, Entry, IsBetween, IsNotUnder, IsUnder, Pair, Rises, change, entry_of, sum_of};
-ghost use Rattle.btree.specs.Loose.{Stub, first_or};
+ghost use Rattle.btree.specs.Loose.{Stub, arm_stub, first_or, under_key};
 ghost use Rattle.btree.specs.LooseView.{stub_in};
+ghost use Rattle.btree.specs.OneChild.{AreAt, IsAmid};
 ghost use Rattle.btree.specs.Store.{Grows, IsAt, Store};
 ghost use Rattle.btree.specs.Tree.{Body, IsSound, IsWhole, Shows, content_of, entries_of, item_of, pages_of};
 ghost use Rattle.btree.specs.Turn.{IsHeld, IsUpTo, Turns, sheaf_in};
@@ -13,12 +15,13 @@ ghost use Rattle.btree.specs.declared.pages.TreeFault.TheVariants.{Memory};
 
 use crate::editing::{Edit, edit_cells};
 use crate::in_page::{edit_page, has_room, write_leaf};
-use crate::joining::{meet, meet_behind};
+use crate::joining::{QUARTER, meet, meet_behind};
 use crate::loose::{Loose, Unit, page_below, units_of_cells};
+use crate::one_child::{child_of_all, page_of_one, write_branch};
 use crate::opening::{leaf_cells, units_of_branch};
-use crate::search::leaf_key;
+use crate::search::{branch_child, leaf_key, low_bound};
 use crate::{Pages, TreeFault};
-use page::{Leaf, PageContent};
+use page::{Branch, Leaf, PageContent};
 use std::alloc::Global;
 use std::cmp::Ordering;
 
@@ -177,6 +180,74 @@ fn change_leaf<P: Pages>(
     write_leaf(alloc, pages, edited, rank)
 }
 
+// The children of a branch, out of their page, with what is below one of them in its place.
+fn put_apart<P: Pages>(
+    alloc: Global,
+    pages: &mut P,
+    branch: &Branch,
+    at: usize,
+    rank: u32,
+    low: &[u8],
+    below: Loose,
+) -> Result<Loose, TreeFault>
+    requires place { at < length branch.now }
+    requires rank { 0 < rank }
+    ensures grows { Grows (P.store pages.old) (P.store pages.new) }
+    ensures few { (first : Store) (count : ℕ) → 6 + length low.now ≤ 1360
+        → IsFewOrOne first (P.store pages.old) (rank - 1) 10880 (4 * (rank - 1) + count)
+        (sheaf_in below)
+        → GivesFew first (P.store pages.new) rank 10880 (4 * rank + count) result }
+    ensures turns { (base : ℕ) (high : Option (List ℕ)) (entries : List Entry) (reached : List ℕ)
+        → IsAmid (P.store pages.old) base low.now high branch.now at rank entries reached
+        (sheaf_in below)
+        → Turns (P.store pages.old) (P.store pages.new) base low.now high entries reached result }
+{
+    let units = units_of_branch(alloc, branch, low)?;
+    let loose = Loose {
+        rank,
+        units,
+        fills: false,
+    };
+    let Parted { left, unit, right } = part_at(loose, at)?;
+    drop(unit);
+    let back = meet_behind(alloc, pages, below, right)?;
+    meet(alloc, pages, left, back)
+}
+
+// A branch with what is below one of its children in that one's place. Where it is one page again, the branch is
+// copied with that page in it; a branch that has next to nothing is taken apart.
+fn put_child<P: Pages>(
+    alloc: Global,
+    pages: &mut P,
+    branch: &Branch,
+    at: usize,
+    rank: u32,
+    low: &[u8],
+    below: Loose,
+) -> Result<Loose, TreeFault>
+    requires sound { IsBranch branch.now }
+    requires place { at < length branch.now }
+    requires rank { 0 < rank }
+    ensures grows { Grows (P.store pages.old) (P.store pages.new) }
+    ensures few { (first : Store) (count : ℕ) → 6 + length low.now ≤ 1360
+        → IsFewOrOne first (P.store pages.old) (rank - 1) 10880 (4 * (rank - 1) + count)
+        (sheaf_in below)
+        → GivesFewOrOne first (P.store pages.new) rank 10880 (4 * rank + count) result }
+    ensures turns { (base : ℕ) (high : Option (List ℕ)) (entries : List Entry) (reached : List ℕ)
+        → IsAmid (P.store pages.old) base low.now high branch.now at rank entries reached
+        (sheaf_in below)
+        → base < rank → 6 + length low.now ≤ 1360
+        → Turns (P.store pages.old) (P.store pages.new) base low.now high entries reached result }
+{
+    if branch.size() <= QUARTER || rank == u32::MAX {
+        return put_apart(alloc, pages, branch, at, rank, low, below);
+    }
+    match page_of_one(&below, rank) {
+        Some(page) => write_branch(alloc, pages, branch, at, page, rank, low),
+        None => put_apart(alloc, pages, branch, at, rank, low, below),
+    }
+}
+
 /// What is below a page after edits. The keys there begin at `low`, and `rank` says how many levels may be below.
 #[cycle(change)]
 pub(crate) fn change_below<P: Pages>(
@@ -210,6 +281,9 @@ pub(crate) fn change_below<P: Pages>(
     if rank == 0 {
         return Err(TreeFault::Order);
     }
+    if let Some(at) = child_of_all(branch, edits) {
+        return change_child(alloc, pages, branch, at, rank, low, edits);
+    }
     let units = units_of_branch(alloc, branch, low)?;
     let loose = Loose {
         rank,
@@ -217,6 +291,41 @@ pub(crate) fn change_below<P: Pages>(
         fills: false,
     };
     change_children(alloc, pages, loose, edits)
+}
+
+// A branch of which one child changes.
+#[cycle(change)]
+fn change_child<P: Pages>(
+    alloc: Global,
+    pages: &mut P,
+    branch: &Branch,
+    at: usize,
+    rank: u32,
+    low: &[u8],
+    edits: &[Edit<'_>],
+) -> Result<Loose, TreeFault>
+    requires room { Each HasRoom edits.now }
+    requires sound { IsBranch branch.now }
+    requires place { at < length branch.now }
+    requires rank { 0 < rank }
+    ensures grows { Grows (P.store pages.old) (P.store pages.new) }
+    ensures few { length edits.now ≡ 1 → 6 + length low.now ≤ 1360
+        → GivesFewOrOne (P.store pages.old) (P.store pages.new) rank 10880
+        (4 * rank + sum_of edit_pages (map edit_in edits.now)) result }
+    ensures turns { (base : ℕ) (high : Option (List ℕ)) (entries : List Entry) (reached : List ℕ)
+        → IsHeld (P.store pages.old) base low.now high entries reached
+        (record { rank = rank; stubs = map arm_stub (under_key low.now branch.now) })
+        → base < rank → AreAt branch.now (map edit_in edits.now) at
+        → Rises (edit_keys (map edit_in edits.now))
+        → Each (λ e. IsBetween low.now high e.key) (map edit_in edits.now)
+        → 6 + length low.now ≤ 1360
+        → Turns (P.store pages.old) (P.store pages.new) base low.now high
+        (change (map edit_in edits.now) entries) reached result }
+{
+    let key = low_bound(branch, at, low);
+    let page = branch_child(branch, at).page;
+    let below = change_below(alloc, pages, page, rank - 1, key, edits)?;
+    put_child(alloc, pages, branch, at, rank, low, below)
 }
 
 // Children after edits, from the last one to the first.

@@ -10,6 +10,7 @@ mod joining;
 pub mod laws;
 mod lookup;
 mod loose;
+mod one_child;
 mod opening;
 mod pages;
 mod parts;

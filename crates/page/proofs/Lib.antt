@@ -1,5 +1,6 @@
 pub mod CacheLemmas
 pub mod CellLemmas
+pub mod ChildPageLemmas
 pub mod ImageSteps
 pub mod KeptLemmas
 pub mod MakingLemmas

@@ -1,5 +1,6 @@
 pub mod Cache
 pub mod CellView
+pub mod ChildPage
 pub mod Content
 pub mod Crash
 pub mod FaultNames

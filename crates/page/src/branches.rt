@@ -1,12 +1,14 @@
 //! Branches: the children of a page of the tree.
 
-ghost use Rattle.std.specs.Prelude.{◌≡◌, ◌<◌, ℕ, length, map, slice_get, Some, IfOk};
+ghost use Rattle.std.specs.Prelude.{◌≡◌, ◌<◌, ◌≤◌, ◌+◌, ℕ, length, map, slice_get, Some, IfOk};
 ghost use Rattle.outcome.specs.Outcome.{Gives};
-ghost use Rattle.page.specs.Content.{Content, branch, IsBranch, Arm, arm_keys, arm_pages};
+ghost use Rattle.page.specs.Content.{Content, branch, IsBranch, Arm, arm_keys, arm_pages, arms_size};
+ghost use Rattle.page.specs.ChildPage.{page_place, with_child};
 ghost use Rattle.page.specs.Format.{branch_in, arms_bytes, body_and_zeros};
 ghost use Rattle.page.specs.CellView.{arm_of};
 
 use crate::cells::{CellForm, append_number, branch_child, keys_rise, note_place, places_of};
+use crate::splicing::bytes_with_number;
 use crate::{BODY_BYTES, Child, PageFault};
 use byteorder::{ByteOrder, LittleEndian};
 use std::alloc::{AllocError, Global};
@@ -102,6 +104,34 @@ impl Branch {
         ensures { slice_get (arm_keys self.now) i ≡ Some result.now }
     {
         self.child(i).key
+    }
+
+    /// Where the number of a child's page stands, by its place among the children.
+    fn number_place(&self, i: usize) -> usize
+        requires { i < length self.now }
+        ensures { result ≡ page_place i self.now }
+    {
+        if i == 0 {
+            return 0;
+        }
+        self.places[i - 1] as usize + 2 + self.key(i).len()
+    }
+
+    /// The bytes of all children: the first has its page alone.
+    pub fn size(&self) -> usize
+        ensures { result ≡ arms_size self.now }
+    {
+        self.number_place(self.places.len()) + 4
+    }
+
+    /// The branch with another page for a child, by its place among the children. All else is copied as a whole.
+    pub fn with_page(&self, alloc: Global, i: usize, page: u32) -> Result<Branch, AllocError>
+        requires { i < length self.now }
+        ensures { IfOk result (λ made. made ≡ with_child i page self.now) }
+    {
+        let bytes = bytes_with_number(alloc, &self.bytes, self.number_place(i), page)?;
+        let places = Vec::from_slice(alloc, &self.places)?;
+        Ok(Branch { bytes, places })
     }
 
     /// What stands behind the page's header.

@@ -1,12 +1,14 @@
-//! Bytes and places of a leaf with one cell more, or one fewer: what stays is copied as runs.
+//! Bytes and places of a leaf with one cell more, or one fewer, and bytes of a branch with another page: what stays is
+//! copied as runs.
 
 ghost use Rattle.std.specs.Prelude.{◌≡◌, ◌≤◌, ◌+◌, ◌-◌, ◌++◌, ◌∷◌, [], ℕ, length, map, take, drop, replicate, IfOk};
 ghost use Rattle.std.specs.List.{AllByRecursion};
+ghost use Rattle.byteorder.specs.Endian.{little_bytes};
 ghost use Rattle.page.specs.Content.{IsItem, item_size};
 ghost use Rattle.page.specs.Format.{item_bytes};
 ghost use Rattle.page.specs.CellView.{item_of};
 
-use crate::cells::note_place;
+use crate::cells::{append_number, note_place};
 use crate::{BODY_BYTES, Cell};
 use std::alloc::{AllocError, Global};
 
@@ -94,5 +96,23 @@ pub(crate) fn places_without(
     for place in &places[at + 1..] {
         note_place(&mut made, (*place as usize).saturating_sub(size))?;
     }
+    Ok(made)
+}
+
+/// The bytes with another number at a place, which takes four of them.
+pub(crate) fn bytes_with_number(
+    alloc: Global,
+    bytes: &[u8],
+    at: usize,
+    number: u32,
+) -> Result<Vec<u8>, AllocError>
+    requires { at + 4 ≤ length bytes.now }
+    ensures { IfOk result (λ made. made.items
+        ≡ take at bytes.now ++ (little_bytes 4 number ++ drop (at + 4) bytes.now)) }
+{
+    let mut made = Vec::with_capacity(alloc, bytes.len())?;
+    made.extend_from_slice(&bytes[..at])?;
+    append_number(&mut made, number)?;
+    made.extend_from_slice(&bytes[at + 4..])?;
     Ok(made)
 }

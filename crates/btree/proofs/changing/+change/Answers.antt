@@ -1,4 +1,5 @@
 use Rattle.std.proofs.Common.{◌-◌, ◌*◌, length, ◌≡◌, ◌∙◌, ◌++◌, ◌∷◌, ◌+◌, [], Some, map, sym, ap, subst, arith, refl, inr, suc}
+use Rattle.btree.specs.Loose.{arm_stub, under_key}
 use Rattle.btree.specs.LooseView.{stub_in}
 use Rattle.btree.specs.EditView.{edit_in}
 use Rattle.btree.specs.View.{content_in}
@@ -6,6 +7,7 @@ use Rattle.btree.specs.Few.{IsFewOrOne, edit_pages}
 use Rattle.btree.specs.Keys.{change, sum_of, times}
 use Rattle.btree.specs.Store.{Store}
 use Rattle.btree.specs.Tree.{Shows, IsSound, entries_of, pages_of}
+use Rattle.page.specs.Content.{Arm}
 use Rattle.page.specs.Format.{Sheet}
 use Rattle.btree.specs.Turn.{sheaf_in}
 use Rattle.btree.proofs.StoreLemmas.{answer_failed, cause_later, frame_same, frame_trans, grows_retired, grows_same, grows_trans, shows_kept}
@@ -17,6 +19,7 @@ use Rattle.btree.proofs.EndLemmas.{last_is_child, within_up_to}
 use Rattle.btree.proofs.FewLemmas.{all_mine, branch_few, branch_two, children_few, few_alone, few_on, few_or_one_on, few_small, unit_little}
 use Rattle.btree.proofs.SplitLemmas.{two_parts}
 use Rattle.btree.proofs.ListLemmas.{long_append, long_map}
+use Rattle.btree.proofs.OneChildLemmas.{amid, amid_turned, key_little, prepared_child}
 use Rattle.btree.proofs.PrepareLemmas.{begins_there, children_done, prepare}
 use Rattle.btree.proofs.changing.+change.Goals as goal
 
@@ -179,3 +182,65 @@ change_children-returns-clause-few g t c =
     (λ some small. c.in_ok-back.ensures.few (omega (arith, long_map stub_in right.units.items)) g4.word (few_small _ _ _ _ _ _ b) small) (λ none. let n = c.in_ok-back.ensures.none (omega (arith, long_map stub_in right.units.items)) g4.word in (ap sheaf_in n.0, n.1))
     (subst (λ es. IsFewOrOne (g.P.Pages.store c.args.pages.now) (g.P.Pages.store c.change_below.new.pages) (left.rank - 1) 10880 (4 * (left.rank - 1) + sum_of edit_pages es) (sheaf_in c.in_ok-below.below)) (sym m.same) b)
     c.meet.result (λ hl hr. c.meet.ensures.few k hl hr)
+
+pub change_below-returns-in-Some-clause-grows : goal.change_below-returns-in-Some-clause-grows
+change_below-returns-in-Some-clause-grows g t c = grows_trans _ _ _ (grows_trans (g.P.Pages.store c.args.pages.now) (g.P.Pages.store c.read.new.self) (g.P.Pages.store c.retire.new.self) (grows_same (g.P.Pages.store c.args.pages.now) (g.P.Pages.store c.read.new.self) c.in_ok-shared.ensures.stays c.in_ok-shared.ensures.same) (grows_retired (g.P.Pages.store c.read.new.self) (g.P.Pages.store c.retire.new.self) _ c.in_ok-retire.ensures.stays c.in_ok-retire.ensures.retires)) c.change_child.ensures.grows
+
+pub change_below-returns-in-Some-clause-few : goal.change_below-returns-in-Some-clause-few
+change_below-returns-in-Some-clause-few g t c =
+    λ one little k.
+    let gone = c.in_ok-retire.ensures.retires (c.change_child.ensures.grows.frame k).word in
+    let same = c.in_ok-shared.ensures.same gone.frame.word in
+    few_or_one_on (g.P.Pages.store c.args.pages.now) (g.P.Pages.store c.retire.new.self) (g.P.Pages.store c.change_child.new.pages) c.args.rank _ _ _ _ 0 c.change_child.result (omega (arith, ap length (gone.made ∙ same.made)))
+    (c.change_child.ensures.few one little k) (omega arith) (omega arith)
+
+pub change_below-returns-in-Some-clause-turns : goal.change_below-returns-in-Some-clause-turns
+change_below-returns-in-Some-clause-turns g t c =
+    λ base d high body rank at shown whole sound little rise between word.
+    let gone = c.in_ok-retire.ensures.retires (c.change_child.ensures.grows.frame word).word in
+    let same = c.in_ok-shared.ensures.same gone.frame.word in
+    let grown = frame_trans (g.P.Pages.store c.args.pages.now) (g.P.Pages.store c.read.new.self) (g.P.Pages.store c.retire.new.self) (frame_same _ _ same) gone.frame in
+    let e = sym (ap content_in c.in-Branch.is) ∙ ap (λ (s : Sheet). s.content) c.image.ensures ∙ sym (c.in_ok-shared.ensures.value gone.frame.word) ∙ at.holds in
+    let stubs = map arm_stub (under_key c.args.low.now c.in-Branch.branch) in
+    let o = opened (g.P.Pages.store c.args.pages.now) (g.P.Pages.store c.retire.new.self) base d c.args.rank c.args.page c.args.low.now high body stubs rank shown whole sound little (branch_stubs d c.args.low.now body c.in-Branch.branch stubs e refl) grown
+    (gone.made ∙ same.made) (gone.retired ∙ ap (λ zs. c.args.page ∷ zs) same.retired) in
+    turned_on (g.P.Pages.store c.args.pages.now) (g.P.Pages.store c.retire.new.self) (g.P.Pages.store c.change_child.new.pages) base c.args.low.now high _ _ o.0.after c.change_child.result grown o.0.turned
+    (c.change_child.ensures.turns base high (entries_of d body) o.0.after o.0.held (omega (arith, branch_deep d body c.in-Branch.branch e)) (c.in-Some.ensures.all rise) rise between little word)
+
+pub change_child-returns-in_err-below-clause-turns : goal.change_child-returns-in_err-below-clause-turns
+change_child-returns-in_err-below-clause-turns g t c =
+    λ base high entries reached h deep mine rise between little k.
+    let s = g.P.Pages.store c.args.pages.now in
+    let p = prepared_child s base c.args.low.now high entries reached c.args.branch.now c.args.at c.args.rank c.low_bound-key.result.now c.branch_child-page.result.page (map edit_in c.args.edits.now) h deep mine rise between
+    c.low_bound-key.ensures.first c.low_bound-key.ensures.later (λ d. ap (λ (a : Arm). a.child) (c.branch_child-page.ensures d)) in
+    turns_failed s (g.P.Pages.store c.change_below.new.pages) base c.args.low.now high _ _ c.from_residual.result _ c.from_residual.ensures.1
+    (c.in_err-below.ensures.turns base p.off.d p.two.between p.off.body (omega (arith, p.off.rank_is)) p.off.at p.off.shown p.off.lies.0 p.off.lies.1 p.off.little p.mine_rise p.mine_between k)
+
+pub change_child-returns-clause-grows : goal.change_child-returns-clause-grows
+change_child-returns-clause-grows g t c = grows_trans _ _ _ c.in_ok-below.ensures.grows c.put_child.ensures.grows
+
+pub change_child-returns-clause-few : goal.change_child-returns-clause-few
+change_child-returns-clause-few g t c =
+    λ one little k.
+    let g2 = c.put_child.ensures.grows.frame k in
+    c.put_child.ensures.few (g.P.Pages.store c.args.pages.now) (sum_of edit_pages (map edit_in c.args.edits.now)) little
+    (c.in_ok-below.ensures.few one (key_little c.args.low.now c.args.branch.now c.args.at c.low_bound-key.result.now c.requires.sound c.requires.place c.low_bound-key.ensures.first c.low_bound-key.ensures.later little) g2.word) k
+
+pub change_child-returns-clause-turns : goal.change_child-returns-clause-turns
+change_child-returns-clause-turns g t c =
+    λ base high entries reached h deep mine rise between little k.
+    let g2 = c.put_child.ensures.grows.frame k in
+    let g1 = c.in_ok-below.ensures.grows.frame g2.word in
+    let s = g.P.Pages.store c.args.pages.now in
+    let mid = g.P.Pages.store c.change_below.new.pages in
+    let edits = map edit_in c.args.edits.now in
+    let child_is = λ (d : Arm). ap (λ (a : Arm). a.child) (c.branch_child-page.ensures d) in
+    let p = prepared_child s base c.args.low.now high entries reached c.args.branch.now c.args.at c.args.rank c.low_bound-key.result.now c.branch_child-page.result.page edits h deep mine rise between
+    c.low_bound-key.ensures.first c.low_bound-key.ensures.later child_is in
+    let u = c.in_ok-below.ensures.turns base p.off.d p.two.between p.off.body (omega (arith, p.off.rank_is)) p.off.at p.off.shown p.off.lies.0 p.off.lies.1 p.off.little p.mine_rise p.mine_between g2.word in
+    turned_on s mid (g.P.Pages.store c.put_child.new.pages) base c.args.low.now high _ reached _ c.put_child.result g1
+    (amid_turned s base c.args.low.now high entries reached c.args.branch.now c.args.at c.args.rank c.low_bound-key.result.now c.branch_child-page.result.page edits h deep mine rise between
+    c.low_bound-key.ensures.first c.low_bound-key.ensures.later child_is mid (sheaf_in c.in_ok-below.below) g1 u)
+    (c.put_child.ensures.turns base high (change edits entries) _
+    (amid s base c.args.low.now high entries reached c.args.branch.now c.args.at c.args.rank c.low_bound-key.result.now c.branch_child-page.result.page edits h deep mine rise between
+    c.low_bound-key.ensures.first c.low_bound-key.ensures.later child_is mid (sheaf_in c.in_ok-below.below) g1 u) deep little k)

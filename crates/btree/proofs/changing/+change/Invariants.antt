@@ -7,3 +7,6 @@ decreases-change_below g l = 36893488147419103232 * l.rank + 1844674407370955161
 
 abbrev pub decreases-change_children : goal.decreases-change_children
 decreases-change_children g l = 36893488147419103232 * l.loose.rank + length l.loose.units.items
+
+abbrev pub decreases-change_child : goal.decreases-change_child
+decreases-change_child g l = 36893488147419103232 * l.rank
