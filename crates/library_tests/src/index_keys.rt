@@ -1,10 +1,9 @@
 //! Which keys documents have in indexes.
 
 use crate::rows::{put_digits, split};
-use bson::{Document, NoMemory, Text, Value};
+use bson::NoMemory;
 use ext_json::read;
-use index::{IndexSpec, KeyChanges};
-use path::Refusal;
+use index::IndexSpec;
 use std::alloc::Global;
 use std::test::Fail;
 
@@ -85,78 +84,6 @@ fn keys(rt: HostRuntime) -> Result<(), Fail> {
         let index = index_on(rt.alloc(), paths)?;
         let shown = shown(rt.alloc(), &index, source)?;
         assert_eq!(rt; shown.as_str().trim(), wanted, "{row}");
-    }
-    Ok(())
-}
-
-/// Paths, how many letters `a` has, and whether its key has at most 500 bytes: three of a text are no letters, and null has one.
-const LONG: [(&str, usize, bool); 4] = [
-    (r#""a": 1"#, 497, true),
-    (r#""a": 1"#, 498, false),
-    (r#""a": 1, "b": -1"#, 496, true),
-    (r#""b": 1, "a": 1"#, 497, false),
-];
-
-/// Whether a document whose `a` has so many letters has one key. Else its key is too long.
-fn has_key(alloc: Global, index: &IndexSpec, letters: usize) -> Result<bool, Fail> {
-    let mut text = String::new(alloc);
-    for _ in 0..letters {
-        text.push('x')?;
-    }
-    let mut document = Document::new(alloc);
-    document.push("a", Value::String(Text::from_string(text)))?;
-    match index.keys(alloc, &document) {
-        Ok(keys) => Ok(keys.len() == 1),
-        Err(Refusal::KeyTooLong) => Ok(false),
-        Err(_) => Err(Fail::from("another refusal")),
-    }
-}
-
-#[test]
-fn long_keys(rt: HostRuntime) -> Result<(), Fail> {
-    for (paths, letters, fits) in LONG {
-        let index = index_on(rt.alloc(), paths)?;
-        assert_eq!(rt; has_key(rt.alloc(), &index, letters)?, fits, "{letters}");
-    }
-    Ok(())
-}
-
-/// The paths of an index, a document, the one that replaces it, and which keys are lost and gained.
-const CHANGES: [&str; 4] = [
-    r#""a": 1 | {"a": 5} | {"a": {"$numberLong": "5"}} | >"#,
-    r#""a": 1 | {"a": 1, "b": 1} | {"a": 1, "b": 2} | >"#,
-    r#""a": 1 | {"a": [1, 2, 3]} | {"a": [4, 3, 2]} | 308000000000000001 > 308000000000000004"#,
-    r#""a": 1 | {"a": []} | {"a": [null, "a"]} | 18 > 20 40610000"#,
-];
-
-fn put_lent(out: &mut String, alloc: Global, keys: &[&[u8]]) -> Result<(), NoMemory> {
-    for key in keys {
-        put_digits(out, alloc, key, ' ')?;
-    }
-    Ok(())
-}
-
-/// Which keys are lost and gained where a document replaces another, as the table shows them.
-fn changed(alloc: Global, index: &IndexSpec, old: &str, new: &str) -> Result<String, Fail> {
-    let old = index.keys(alloc, &read(alloc, old)?)?;
-    let new = index.keys(alloc, &read(alloc, new)?)?;
-    let changes = KeyChanges::between(alloc, &old, &new)?;
-    let mut out = String::new(alloc);
-    put_lent(&mut out, alloc, &changes.removed)?;
-    out.push_str("> ")?;
-    put_lent(&mut out, alloc, &changes.added)?;
-    Ok(out)
-}
-
-#[test]
-fn changes(rt: HostRuntime) -> Result<(), Fail> {
-    for row in CHANGES {
-        let (paths, rest) = split(row);
-        let (old, rest) = split(rest);
-        let (new, wanted) = split(rest);
-        let index = index_on(rt.alloc(), paths)?;
-        let changed = changed(rt.alloc(), &index, old, new)?;
-        assert_eq!(rt; changed.as_str().trim(), wanted, "{row}");
     }
     Ok(())
 }

@@ -1,11 +1,9 @@
-//! Tests of the libraries of values, by rows worked by hand: what of `bson`, `value_order`, `index`, `planner` and `ext_json` no
+//! Tests of the libraries of values, by rows worked by hand: what of `value_order`, `index`, `planner` and `ext_json` no
 //! command reaches. The rows of BSON and Extended JSON are scripts (crates/scripts/data).
 #![tactic(auto)]
 
 #[cfg(test)]
 mod catalogue;
-#[cfg(test)]
-mod documents;
 #[cfg(test)]
 mod entry_ids;
 #[cfg(test)]
@@ -14,7 +12,5 @@ mod growths;
 mod index_keys;
 #[cfg(test)]
 mod key_texts;
-#[cfg(test)]
-mod plans;
 #[cfg(test)]
 mod rows;

@@ -110,129 +110,66 @@ fn an_index_and_a_document(rt: HostRuntime) -> Result<(), Fail> {
     Ok(())
 }
 
-/// Cells, a place in the first and the byte there, and whether such a file is sound.
-const FILES: [(&str, &[&[u8]], usize, u8, bool); 20] = [
-    ("as they are", &[INDEXED, SEVEN, SEVEN_ENTRY], 0, 14, true),
-    (
-        "two documents",
-        &[INDEXED, SEVEN, SECOND_SEVEN, SEVEN_ENTRY, OTHERS_ENTRY],
-        0,
-        14,
-        true,
-    ),
-    (
-        "multikey, and no array left",
-        &[INDEXED, SEVEN, SEVEN_ENTRY],
-        MULTI,
-        1,
-        true,
-    ),
-    ("multikey", &[INDEXED, ARRAY, SEVEN_ENTRY], MULTI, 1, true),
-    ("unique", &[INDEXED, SEVEN, SEVEN_ENTRY], UNIQUE, 1, true),
-    (
-        "a document without its entry",
-        &[INDEXED, SEVEN],
-        0,
-        14,
-        false,
-    ),
-    (
-        "one of two without its entry",
-        &[INDEXED, SEVEN, SECOND_SEVEN, SEVEN_ENTRY],
-        0,
-        14,
-        false,
-    ),
-    (
-        "an entry without its document",
-        &[INDEXED, SEVEN_ENTRY],
-        0,
-        14,
-        false,
-    ),
-    (
-        "one of two without its document",
-        &[INDEXED, SEVEN, SEVEN_ENTRY, OTHERS_ENTRY],
-        0,
-        14,
-        false,
-    ),
-    (
-        "an entry twice",
-        &[INDEXED, SEVEN, SEVEN_ENTRY, SEVEN_ENTRY],
-        0,
-        14,
-        false,
-    ),
-    (
-        "another key beside",
-        &[INDEXED, SEVEN, SEVEN_ENTRY, EIGHT_ENTRY],
-        0,
-        14,
-        false,
-    ),
-    ("another key", &[INDEXED, SEVEN, EIGHT_ENTRY], 0, 14, false),
-    (
-        "an entry with a value",
-        &[INDEXED, SEVEN, ENTRY_WITH_A_VALUE],
-        0,
-        14,
-        false,
-    ),
-    (
-        "an entry of no index",
-        &[PLAIN, SEVEN, SEVEN_ENTRY],
-        0,
-        14,
-        false,
-    ),
-    (
-        "an entry of index 1 of an index 2",
-        &[INDEXED, SEVEN, SEVEN_ENTRY],
-        NUMBER,
-        2,
-        false,
-    ),
-    ("index 0", &[INDEXED, SEVEN, SEVEN_ENTRY], NUMBER, 0, false),
-    (
-        "a name that doesn't end",
-        &[INDEXED, SEVEN, SEVEN_ENTRY],
-        NAME_END,
-        1,
-        false,
-    ),
-    (
-        "the direction 2",
-        &[INDEXED, SEVEN, SEVEN_ENTRY],
-        DIRECTION,
-        2,
-        false,
-    ),
-    (
-        "an array, and not multikey",
-        &[INDEXED, ARRAY, SEVEN_ENTRY],
-        0,
-        14,
-        false,
-    ),
+/// What a file is, its cells by their letters (`cell_of`), a place in the first and the byte there, and whether such a file is sound.
+const FILES: [(&str, &str, usize, u8, bool); 20] = [
+    ("as they are", "I1a", 0, 14, true),
+    ("two documents", "I12ab", 0, 14, true),
+    ("multikey, and no array left", "I1a", MULTI, 1, true),
+    ("multikey", "IAa", MULTI, 1, true),
+    ("unique", "I1a", UNIQUE, 1, true),
+    ("a document without its entry", "I1", 0, 14, false),
+    ("one of two without its entry", "I12a", 0, 14, false),
+    ("an entry without its document", "Ia", 0, 14, false),
+    ("one of two without its document", "I1ab", 0, 14, false),
+    ("an entry twice", "I1aa", 0, 14, false),
+    ("another key beside", "I1ac", 0, 14, false),
+    ("another key", "I1c", 0, 14, false),
+    ("an entry with a value", "I1v", 0, 14, false),
+    ("an entry of no index", "P1a", 0, 14, false),
+    ("an entry of index 1 of an index 2", "I1a", NUMBER, 2, false),
+    ("index 0", "I1a", NUMBER, 0, false),
+    ("a name that doesn't end", "I1a", NAME_END, 1, false),
+    ("the direction 2", "I1a", DIRECTION, 2, false),
+    ("an array, and not multikey", "IAa", 0, 14, false),
     (
         "unique, and two documents of one key",
-        &[INDEXED, SEVEN, SECOND_SEVEN, SEVEN_ENTRY, OTHERS_ENTRY],
+        "I12ab",
         UNIQUE,
         1,
         false,
     ),
 ];
 
+/// The cell that a letter stands for.
+fn cell_of(letter: u8) -> &'static [u8] {
+    match letter {
+        b'P' => PLAIN,
+        b'I' => INDEXED,
+        b'1' => SEVEN,
+        b'2' => SECOND_SEVEN,
+        b'A' => ARRAY,
+        b'a' => SEVEN_ENTRY,
+        b'b' => OTHERS_ENTRY,
+        b'c' => EIGHT_ENTRY,
+        b'v' => ENTRY_WITH_A_VALUE,
+        _ => b"",
+    }
+}
+
 #[test]
 fn entries_and_documents_agree(rt: HostRuntime) -> Result<(), Fail> {
-    for (what, cells, at, byte, is_sound) in FILES {
-        let wanted = if is_sound {
-            None
+    for (what, letters, at, byte, is_sound) in FILES {
+        let mut cells = Vec::new(rt.alloc());
+        for letter in letters.bytes() {
+            cells.push(cell_of(letter))?;
+        }
+        let fault = fault_of(rt.alloc(), &cells, at, byte)?;
+        let is_right = if is_sound {
+            fault.is_none()
         } else {
-            Some(OpenFault::Damaged)
+            fault == Some(OpenFault::Damaged)
         };
-        assert!(rt; fault_of(rt.alloc(), cells, at, byte)? == wanted, "{what}");
+        assert!(rt; is_right, "{what}");
     }
     Ok(())
 }

@@ -1,10 +1,8 @@
-//! Tests of `server` over what no script plays: sockets of this machine, disks that are looked into, or written by hand, and dumps.
+//! Tests of `server` over what no script plays: sockets of this machine, and disks that are looked into or written by hand.
 #![tactic(auto)]
 
 #[cfg(test)]
 mod disks;
-#[cfg(test)]
-mod dumps;
 #[cfg(test)]
 mod exchanges;
 #[cfg(test)]
