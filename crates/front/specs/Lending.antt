@@ -1,0 +1,54 @@
+-- Which connections of a server are lent, and what for. A connection without a loan is at rest.
+use Rattle.std.specs.Prelude.{◌≡◌, ℕ, zero, suc, Bool, true, false, ◌&&◌, ◌==◌, nat_lt, if◌then◌else◌, is_none, ◌⊎◌, List, slice_index_or, Option, Some, None}
+use Rattle.front.specs.declared.lending.Loan.{Loan}
+
+-- what a connection is lent for
+abbrev pub loan_at : List (Option Loan) → ℕ → Option Loan
+loan_at loans id = slice_index_or loans id None
+
+abbrev pub is_at_rest : List (Option Loan) → ℕ → Bool
+is_at_rest loans id = is_none (loan_at loans id)
+
+-- ---- the connection at rest that has the fewest cursors, by these counts; of several the first
+
+abbrev pub count_at : List ℕ → ℕ → ℕ
+count_at counts id = slice_index_or counts id 0
+
+abbrev pub is_fewer : List ℕ → ℕ → Option ℕ → Bool
+is_fewer counts id None = true
+is_fewer counts id (Some least) = nat_lt (count_at counts id) (count_at counts least)
+
+abbrev pub better : List (Option Loan) → List ℕ → Option ℕ → ℕ → Option ℕ
+better loans counts least id =
+    if is_at_rest loans id && is_fewer counts id least then Some id else least
+
+-- among so many of the first
+abbrev pub least_used : List (Option Loan) → List ℕ → ℕ → Option ℕ
+least_used loans counts zero = None
+least_used loans counts (suc n) = better loans counts (least_used loans counts n) n
+
+-- ---- what becomes of loans
+
+-- a socket
+abbrev pub is_socket : ℕ → Option ℕ → Bool
+is_socket socket None = false
+is_socket socket (Some other) = other == socket
+
+-- the loan to a socket that has ended
+abbrev pub orphaned : ℕ → Loan → Loan
+orphaned socket loan =
+    if is_socket socket loan.socket then record loan { socket = None } else loan
+
+abbrev pub after_end : ℕ → Option Loan → Option Loan
+after_end socket None = None
+after_end socket (Some loan) = Some (orphaned socket loan)
+
+abbrev pub IsLoanOf : Option ℕ → Option Loan → Type 0
+IsLoanOf socket None = ⊥
+IsLoanOf socket (Some loan) = loan.socket ≡ socket
+
+-- Each connection's loan is as it was; or the connection was at rest, and is lent to this socket.
+abbrev pub Lends : Option ℕ → List (Option Loan) → List (Option Loan) → Type 0
+Lends socket old new = (id : ℕ)
+    → (loan_at new id ≡ loan_at old id)
+    ⊎ ((loan_at old id ≡ None) × IsLoanOf socket (loan_at new id))
