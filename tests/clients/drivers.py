@@ -4,7 +4,7 @@ import os, signal, subprocess, sys, tempfile, threading, traceback
 
 import bson
 import pymongo
-from pymongo.errors import BulkWriteError, DuplicateKeyError, OperationFailure
+from pymongo.errors import DuplicateKeyError, OperationFailure
 
 PROGRAM = os.path.abspath(sys.argv[1])
 FOLDER = tempfile.mkdtemp(prefix="drivers.")
@@ -178,7 +178,7 @@ def indexes(server):
     expect(users.create_index([("city", 1), ("name", -1)], name="both"), "both")
     told = users.index_information()
     expect(sorted(told), ["_id_", "both", "city_1", "name_1"])
-    expect((told["name_1"].get("unique"), told["_id_"].get("unique"), told["both"]["key"]),
+    expect((told["name_1"]["unique"], told["city_1"].get("unique"), told["both"]["key"]),
            (True, None, [("city", 1), ("name", -1)]))
     expect([d["_id"] for d in users.find({"city": 2, "name": "n5"})], [5])
     refused(DuplicateKeyError, lambda: users.insert_one({"_id": 99, "name": "n5"}))
@@ -210,8 +210,9 @@ def refusals(server):
     refused(Exception, lambda: people.insert_one({"_id": 2, "text": "x" * 70_000}))
     expect(people.count_documents({}), 1)
     with client.start_session() as session:
-        with session.start_transaction():
-            refused(OperationFailure, lambda: people.insert_one({"_id": 3}, session=session), 20)
+        session.start_transaction()
+        refused(OperationFailure, lambda: people.insert_one({"_id": 3}, session=session), 20)
+        session.abort_transaction()
     expect(people.count_documents({}), 1)
 
 

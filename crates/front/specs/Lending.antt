@@ -6,6 +6,11 @@ use Rattle.front.specs.declared.lending.Loan.{Loan}
 abbrev pub loan_at : List (Option Loan) → ℕ → Option Loan
 loan_at loans id = slice_index_or loans id None
 
+-- the socket that it is lent to
+abbrev pub borrower : Option Loan → Option ℕ
+borrower None = None
+borrower (Some loan) = loan.socket
+
 abbrev pub is_at_rest : List (Option Loan) → ℕ → Bool
 is_at_rest loans id = is_none (loan_at loans id)
 

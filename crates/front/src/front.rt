@@ -1,7 +1,7 @@
 //! Sockets of drivers before a server.
 
 ghost use Rattle.server.specs.Durable.{IsSound};
-ghost use Rattle.std.specs.Prelude.{◌≡◌, IfOk, map};
+ghost use Rattle.std.specs.Prelude.{◌≡◌, ◌<◌, IfOk, map};
 ghost use Rattle.sockets.specs.Handing.{Hands, Closes};
 ghost use Rattle.front.specs.Fronting.{frame_to, answers_from, closing, closed_from, answered};
 
@@ -56,7 +56,7 @@ impl<C: Clock + Drop, D: Disk + Drop> Front<C, D> {
     /// The milliseconds since 1970.
     fn time(&self) -> i64 {
         match self.clock.since_1970() {
-            Ok(time) => time.as_millis() as i64,
+            Ok(time) => i64::try_from(time.as_millis()).unwrap_or(0),
             Err(_) => 0,
         }
     }
@@ -176,8 +176,8 @@ impl<C: Clock + Drop, D: Disk + Drop> Service for Front<C, D> {
     }
 
     fn answer<O: Outlet>(&mut self, outlet: &mut O) -> Result<(), Stopped> {
-        self.ask_all();
         self.end_cursors();
+        self.ask_all();
         match self.core.turn() {
             Ok(turn) => self.take_turn(&turn),
             // The messages wait for the next turn.
@@ -209,7 +209,9 @@ fn new_sockets(alloc: Global) -> Result<Vec<Socket>, NoMemory> {
 }
 
 /// What a handshake on a socket tells of the server.
-fn info(number: usize, time: i64) -> ServerInfo {
+fn info(number: usize, time: i64) -> ServerInfo
+    requires { number < 1024 }
+{
     ServerInfo {
         most_document_bytes: MOST_DOCUMENT_BYTES,
         most_message_bytes: MESSAGE_LIMIT as i32,

@@ -1,6 +1,6 @@
 //! Which connections of the server are lent, and what for.
 
-ghost use Rattle.std.specs.Prelude.{◌≡◌, ◌<◌, None, Some, is_none, map, replicate, slice_set};
+ghost use Rattle.std.specs.Prelude.{◌≡◌, ◌<◌, IfSome, None, Some, is_none, map, replicate, slice_set};
 ghost use Rattle.std.specs.List.{list_any};
 ghost use Rattle.front.specs.Lending.{loan_at, is_at_rest, is_fewer, better, least_used, is_socket, orphaned, after_end};
 
@@ -77,12 +77,7 @@ impl Lending {
     }
 
     /// The better one of a connection and the best one so far.
-    fn better(
-        &self,
-        counts: &[usize; COUNT],
-        least: Option<ConnId>,
-        id: ConnId,
-    ) -> Option<ConnId>
+    fn better(&self, counts: &[usize; COUNT], least: Option<ConnId>, id: ConnId) -> Option<ConnId>
         ensures { result ≡ better self.now.loans counts.now least id }
     {
         if self.is_at_rest(id) && Lending::is_fewer(counts, id, least) {
@@ -94,7 +89,8 @@ impl Lending {
 
     /// The connection at rest that has the fewest cursors, by these counts; of several the first.
     pub fn least_used(&self, counts: &[usize; COUNT]) -> Option<ConnId>
-        ensures { result ≡ least_used self.now.loans counts.now 64 }
+        ensures least { result ≡ least_used self.now.loans counts.now 64 }
+        ensures rest { IfSome result (λ id. loan_at self.now.loans id ≡ None) }
     {
         let mut least = None;
         'numbers: for number in 0..CONNECTIONS {

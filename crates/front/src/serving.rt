@@ -1,6 +1,9 @@
 //! What a turn does with the sockets.
 
+ghost use Rattle.std.specs.Prelude.{◌≡◌, None, Some, IfSome, slice_set};
 ghost use Rattle.server.specs.Durable.{IsSound};
+ghost use Rattle.front.specs.Lending.{loan_at, borrower, Lends};
+ghost use Rattle.front.specs.Serving.{OthersStay};
 
 use crate::asking::{
     NotAsked, ask, cursor_left, document_of, end_command, has_ended, namespace_of,
@@ -15,10 +18,31 @@ use page::Disk;
 use server::Core;
 use std::alloc::Global;
 
+/// The connection that owns the cursor of a question, if one does.
+fn owner_of(cursors: &OpenCursors, question: &Question) -> Option<ConnId> {
+    match question.cursor {
+        Some(cursor) => cursors.owner_of(cursor),
+        None => None,
+    }
+}
+
+/// A connection, where it is at rest.
+fn if_at_rest(lending: &Lending, id: ConnId) -> Option<ConnId>
+    ensures { IfSome result (λ id. loan_at lending.now.loans id ≡ None) }
+{
+    if lending.is_at_rest(id) {
+        Some(id)
+    } else {
+        None
+    }
+}
+
 /// The connection that a question can be asked on now: the one at rest that owns its cursor, or the one at rest with the fewest.
-fn connection_for(lending: &Lending, cursors: &OpenCursors, question: &Question) -> Option<ConnId> {
-    match question.cursor.and_then(|cursor| cursors.owner_of(cursor)) {
-        Some(owner) => lending.is_at_rest(owner).then_some(owner),
+fn connection_for(lending: &Lending, cursors: &OpenCursors, question: &Question) -> Option<ConnId>
+    ensures rest { IfSome result (λ id. loan_at lending.now.loans id ≡ None) }
+{
+    match owner_of(cursors, question) {
+        Some(owner) => if_at_rest(lending, owner),
         None => lending.least_used(&cursors.counts()),
     }
 }
@@ -33,6 +57,7 @@ pub(crate) fn ask_question<D: Disk>(
 )
     requires sound { IsSound D.history core.old }
     ensures sound { IsSound D.history core.new }
+    ensures lends { Lends (Some number) lending.old.loans lending.new.loans }
 {
     let Some(question) = socket.question() else {
         return;
@@ -65,6 +90,7 @@ pub(crate) fn end_cursor<D: Disk>(
 ) -> bool
     requires sound { IsSound D.history core.old }
     ensures sound { IsSound D.history core.new }
+    ensures lends { Lends None lending.old.loans lending.new.loans }
 {
     let Some(cursor) = cursors.abandoned(lending) else {
         return false;
@@ -128,9 +154,28 @@ fn read_reply(
     Ok(reply)
 }
 
-/// The socket to which a connection was lent, if it is still there.
-fn socket_of<'a>(sockets: &'a mut [Socket], loan: Loan) -> Option<&'a mut Socket> {
-    sockets.get_mut(loan.socket?)
+/// The message that a connection was lent to goes on with the reply, if its socket is still there.
+fn go_on(alloc: Global, sockets: &mut [Socket], loan: Loan, reply: Document)
+    ensures { OthersStay sockets.old loan.socket sockets.new }
+{
+    let Some(number) = loan.socket else {
+        return;
+    };
+    if let Some(socket) = sockets.get_mut(number) {
+        socket.take_reply(alloc, reply);
+    }
+}
+
+/// The socket that a connection was lent to is closed, if it is still there.
+fn give_up(sockets: &mut [Socket], loan: Loan)
+    ensures { OthersStay sockets.old loan.socket sockets.new }
+{
+    let Some(number) = loan.socket else {
+        return;
+    };
+    if let Some(socket) = sockets.get_mut(number) {
+        socket.is_over = true;
+    }
 }
 
 /// Takes what the server has replied on a connection, which is at rest again. Where memory runs out for it, the connection's
@@ -145,23 +190,19 @@ pub(crate) fn take_reply<D: Disk>(
 )
     requires sound { IsSound D.history core.old }
     ensures sound { IsSound D.history core.new }
+    ensures rest { lending.new.loans ≡ slice_set lending.old.loans owner None }
+    ensures others { OthersStay sockets.old (borrower (loan_at lending.old.loans owner)) sockets.new }
 {
     let alloc = core.allocator();
     let Some(loan) = lending.take_back(owner) else {
         return;
     };
     match read_reply(alloc, cursors, owner, loan, frame) {
-        Ok(reply) => {
-            if let Some(socket) = socket_of(sockets, loan) {
-                socket.take_reply(alloc, reply);
-            }
-        }
+        Ok(reply) => go_on(alloc, sockets, loan, reply),
         Err(_) => {
             core.gone(owner);
             cursors.end_all(owner);
-            if let Some(socket) = socket_of(sockets, loan) {
-                socket.is_over = true;
-            }
+            give_up(sockets, loan);
         }
     }
 }
@@ -176,13 +217,13 @@ pub(crate) fn take_closed<D: Disk>(
 )
     requires sound { IsSound D.history core.old }
     ensures sound { IsSound D.history core.new }
+    ensures rest { lending.new.loans ≡ slice_set lending.old.loans owner None }
+    ensures others { OthersStay sockets.old (borrower (loan_at lending.old.loans owner)) sockets.new }
 {
     core.gone(owner);
     cursors.end_all(owner);
     let Some(loan) = lending.take_back(owner) else {
         return;
     };
-    if let Some(socket) = socket_of(sockets, loan) {
-        socket.is_over = true;
-    }
+    give_up(sockets, loan);
 }

@@ -1,6 +1,7 @@
 //! A socket of a driver.
 
-ghost use Rattle.std.specs.Prelude.{◌≡◌, OnOk, OnErr};
+ghost use Rattle.std.specs.Prelude.{◌≡◌, true, OnOk, OnErr};
+ghost use Rattle.drivers.specs.Framing.{IsShort};
 ghost use Rattle.front.specs.Serving.{fresh, fed, waits};
 
 use crate::job::{Job, Question, Stage};
@@ -161,7 +162,9 @@ fn next_number(last: u32) -> u32 {
 }
 
 /// Whether an answer has room in a message.
-fn is_short(step: &Step) -> bool {
+fn is_short(step: &Step) -> bool
+    ensures { result ≡ true → IsShort step.now }
+{
     match step {
         Step::Reply(document) => document.encoded_len() <= MOST_BYTES,
         Step::Fail(document) => document.encoded_len() <= MOST_BYTES,
