@@ -1,2 +1,3 @@
 mod EachLemmas
 mod LoanLemmas
+mod HandingLemmas

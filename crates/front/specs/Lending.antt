@@ -19,16 +19,18 @@ is_at_rest loans id = is_none (loan_at loans id)
 abbrev pub count_at : List ℕ → ℕ → ℕ
 count_at counts id = slice_index_or counts id 0
 
-abbrev pub is_fewer : List ℕ → ℕ → Option ℕ → Bool
-is_fewer counts id None = true
-is_fewer counts id (Some least) = nat_lt (count_at counts id) (count_at counts least)
+abbrev pub fewer : List ℕ → ℕ → ℕ → ℕ
+fewer counts other id = if nat_lt (count_at counts id) (count_at counts other) then id else other
+
+abbrev pub with_one : List ℕ → Option ℕ → ℕ → Option ℕ
+with_one counts None id = Some id
+with_one counts (Some other) id = Some (fewer counts other id)
 
 abbrev pub better : List (Option Loan) → List ℕ → Option ℕ → ℕ → Option ℕ
-better loans counts least id =
-    if is_at_rest loans id && is_fewer counts id least then Some id else least
+better loans counts least id = if is_at_rest loans id then with_one counts least id else least
 
 -- among so many of the first
-abbrev pub least_used : List (Option Loan) → List ℕ → ℕ → Option ℕ
+unfoldable pub least_used : List (Option Loan) → List ℕ → ℕ → Option ℕ
 least_used loans counts zero = None
 least_used loans counts (suc n) = better loans counts (least_used loans counts n) n
 

@@ -1,5 +1,8 @@
 //! The cursors that drivers have open: which connection owns each, and which socket opened it.
 
+ghost use Rattle.std.specs.Prelude.{◌≡◌, IfSome, true};
+ghost use Rattle.front.specs.Lending.{is_at_rest};
+
 use crate::lending::{COUNT, Lending};
 use bson::{NoMemory, Text};
 use engine::ConnId;
@@ -76,7 +79,9 @@ impl OpenCursors {
     }
 
     /// A cursor of a socket that has ended, owned by a connection that is at rest.
-    pub fn abandoned(&self, lending: &Lending) -> Option<&OpenCursor> {
+    pub fn abandoned(&self, lending: &Lending) -> Option<&OpenCursor>
+        ensures { IfSome result (λ c. is_at_rest lending.now.loans c.now.owner ≡ true) }
+    {
         for cursor in self.list.iter() {
             if cursor.opener.is_none() && lending.is_at_rest(cursor.owner) {
                 return Some(cursor);

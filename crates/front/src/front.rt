@@ -159,12 +159,12 @@ impl<C: Clock + Drop, D: Disk + Drop> Service for Front<C, D> {
     ghost is_ended = { λ old i new. IsEnded old.sockets.items i new.sockets.items };
 
     fn take_bytes(&mut self, connection: usize, bytes: &[u8]) -> Result<(), NotTaken> {
-        match self.sockets.get_mut(connection) {
-            Some(socket) => match socket.feed(bytes) {
-                Ok(()) => Ok(()),
-                Err(_) => Err(NotTaken),
-            },
-            None => Err(NotTaken),
+        if self.sockets.len() <= connection {
+            return Err(NotTaken);
+        }
+        match self.sockets[connection].feed(bytes) {
+            Ok(()) => Ok(()),
+            Err(_) => Err(NotTaken),
         }
     }
 
@@ -193,8 +193,8 @@ impl<C: Clock + Drop, D: Disk + Drop> Service for Front<C, D> {
         self.cursors.abandon(connection);
         self.lending.end(connection);
         let alloc = self.core.allocator();
-        if let Some(socket) = self.sockets.get_mut(connection) {
-            *socket = Socket::new(alloc);
+        if connection < self.sockets.len() {
+            self.sockets[connection] = Socket::new(alloc);
         }
     }
 }

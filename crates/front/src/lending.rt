@@ -1,8 +1,8 @@
 //! Which connections of the server are lent, and what for.
 
-ghost use Rattle.std.specs.Prelude.{◌≡◌, ◌<◌, IfSome, None, Some, is_none, map, replicate, slice_set};
+ghost use Rattle.std.specs.Prelude.{◌≡◌, ◌<◌, IfSome, true, None, Some, is_none, map, replicate, slice_set};
 ghost use Rattle.std.specs.List.{list_any};
-ghost use Rattle.front.specs.Lending.{loan_at, is_at_rest, is_fewer, better, least_used, is_socket, orphaned, after_end};
+ghost use Rattle.front.specs.Lending.{loan_at, is_at_rest, fewer, better, least_used, is_socket, orphaned, after_end};
 
 use engine::{CONNECTIONS, ConnId};
 
@@ -49,7 +49,7 @@ impl Lending {
 
     /// Lends a connection that is at rest.
     pub fn lend(&mut self, id: ConnId, loan: Loan)
-        requires rest { loan_at self.old.loans id ≡ None }
+        requires rest { is_at_rest self.old.loans id ≡ true }
         ensures { self.new.loans ≡ slice_set self.old.loans id (Some loan) }
     {
         self.loans[usize::from(id.number())] = Some(loan);
@@ -66,31 +66,24 @@ impl Lending {
         loan
     }
 
-    /// Whether a connection has fewer cursors than the one that had the fewest so far.
-    fn is_fewer(counts: &[usize; COUNT], id: ConnId, least: Option<ConnId>) -> bool
-        ensures { result ≡ is_fewer counts.now id least }
-    {
-        match least {
-            Some(least) => counts[usize::from(id.number())] < counts[usize::from(least.number())],
-            None => true,
-        }
-    }
-
     /// The better one of a connection and the best one so far.
     fn better(&self, counts: &[usize; COUNT], least: Option<ConnId>, id: ConnId) -> Option<ConnId>
         ensures { result ≡ better self.now.loans counts.now least id }
     {
-        if self.is_at_rest(id) && Lending::is_fewer(counts, id, least) {
-            Some(id)
-        } else {
-            least
+        if !self.is_at_rest(id) {
+            return least;
+        }
+        match least {
+            Some(other) => Some(fewer(counts, other, id)),
+            None => Some(id),
         }
     }
 
     /// The connection at rest that has the fewest cursors, by these counts; of several the first.
+    #[tactic(auto, unfolding(crate::specs::Lending::least_used))]
     pub fn least_used(&self, counts: &[usize; COUNT]) -> Option<ConnId>
         ensures least { result ≡ least_used self.now.loans counts.now 64 }
-        ensures rest { IfSome result (λ id. loan_at self.now.loans id ≡ None) }
+        ensures rest { IfSome result (λ id. is_at_rest self.now.loans id ≡ true) }
     {
         let mut least = None;
         'numbers: for number in 0..CONNECTIONS {
@@ -103,9 +96,18 @@ impl Lending {
     pub fn end(&mut self, socket: usize)
         ensures { self.new.loans ≡ map (after_end socket) self.old.loans }
     {
-        'loans: for loan in self.loans.iter_mut() {
-            end_loan(loan, socket);
-        }
+        end_loans(&mut self.loans, socket);
+    }
+}
+
+/// Of two connections the one that has fewer cursors; the first where they have as many.
+fn fewer(counts: &[usize; COUNT], other: ConnId, id: ConnId) -> ConnId
+    ensures { result ≡ fewer counts.now other id }
+{
+    if counts[usize::from(id.number())] < counts[usize::from(other.number())] {
+        id
+    } else {
+        other
     }
 }
 
@@ -145,5 +147,15 @@ fn orphan(loan: &mut Loan, socket: usize)
 {
     if is_socket(socket, loan.socket) {
         loan.socket = None;
+    }
+}
+
+/// A socket has ended, to which connections may be lent.
+fn end_loans(loans: &mut [Option<Loan>], socket: usize)
+    ensures { loans.new ≡ map (after_end socket) loans.old }
+{
+    'loans: for (number, loan) in loans.iter_mut().enumerate() {
+        let _ = number;
+        end_loan(loan, socket);
     }
 }

@@ -1,8 +1,8 @@
 //! What a turn does with the sockets.
 
-ghost use Rattle.std.specs.Prelude.{◌≡◌, None, Some, IfSome, slice_set};
+ghost use Rattle.std.specs.Prelude.{◌≡◌, true, None, Some, IfSome, slice_set};
 ghost use Rattle.server.specs.Durable.{IsSound};
-ghost use Rattle.front.specs.Lending.{loan_at, borrower, Lends};
+ghost use Rattle.front.specs.Lending.{loan_at, is_at_rest, borrower, Lends};
 ghost use Rattle.front.specs.Serving.{OthersStay};
 
 use crate::asking::{
@@ -28,7 +28,7 @@ fn owner_of(cursors: &OpenCursors, question: &Question) -> Option<ConnId> {
 
 /// A connection, where it is at rest.
 fn if_at_rest(lending: &Lending, id: ConnId) -> Option<ConnId>
-    ensures { IfSome result (λ id. loan_at lending.now.loans id ≡ None) }
+    ensures { IfSome result (λ id. is_at_rest lending.now.loans id ≡ true) }
 {
     if lending.is_at_rest(id) {
         Some(id)
@@ -39,7 +39,7 @@ fn if_at_rest(lending: &Lending, id: ConnId) -> Option<ConnId>
 
 /// The connection that a question can be asked on now: the one at rest that owns its cursor, or the one at rest with the fewest.
 fn connection_for(lending: &Lending, cursors: &OpenCursors, question: &Question) -> Option<ConnId>
-    ensures rest { IfSome result (λ id. loan_at lending.now.loans id ≡ None) }
+    ensures rest { IfSome result (λ id. is_at_rest lending.now.loans id ≡ true) }
 {
     match owner_of(cursors, question) {
         Some(owner) => if_at_rest(lending, owner),
@@ -161,8 +161,8 @@ fn go_on(alloc: Global, sockets: &mut [Socket], loan: Loan, reply: Document)
     let Some(number) = loan.socket else {
         return;
     };
-    if let Some(socket) = sockets.get_mut(number) {
-        socket.take_reply(alloc, reply);
+    if number < sockets.len() {
+        sockets[number].take_reply(alloc, reply);
     }
 }
 
@@ -173,8 +173,8 @@ fn give_up(sockets: &mut [Socket], loan: Loan)
     let Some(number) = loan.socket else {
         return;
     };
-    if let Some(socket) = sockets.get_mut(number) {
-        socket.is_over = true;
+    if number < sockets.len() {
+        sockets[number].is_over = true;
     }
 }
 

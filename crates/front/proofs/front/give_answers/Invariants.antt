@@ -1,4 +1,4 @@
-use Rattle.std.proofs.Common.{◌≡◌, ◌×◌, map, take, drop}
+use Rattle.std.proofs.Common.{◌≡◌, map, take, drop}
 use Rattle.sockets.specs.Handing.{Hands}
 use Rattle.front.specs.Fronting.{answers_from, answered}
 use Rattle.front.proofs.front.give_answers.Given as goal

@@ -3,4 +3,4 @@ use Rattle.front.specs.Lending.{least_used}
 use Rattle.front.proofs.lending.Lending.least_used.Given as goal
 
 abbrev pub invariant-numbers : goal.invariant-numbers
-invariant-numbers l = l.least ≡ least_used l.self.loans l.counts l.counter
+invariant-numbers l = l.least ≡ least_used l.self.loans l.counts l.number
