@@ -1,6 +1,6 @@
 """Drives `docpage listen --drivers` by pymongo. Usage: drivers.py PROGRAM [CASE ..]
 Every wait has an end, and so has the whole. The last line is `N passed, M failed`."""
-import os, signal, subprocess, sys, tempfile, threading, traceback
+import os, shutil, signal, socket, subprocess, sys, tempfile, threading, traceback
 
 import bson
 import pymongo
@@ -9,7 +9,7 @@ from pymongo.errors import DuplicateKeyError, OperationFailure
 PROGRAM = os.path.abspath(sys.argv[1])
 FOLDER = tempfile.mkdtemp(prefix="drivers.")
 PATIENCE = 20.0
-signal.alarm(120)
+PROCESSES = []
 
 
 class Server:
@@ -22,6 +22,7 @@ class Server:
     def start(self):
         words = [PROGRAM, "listen", self.file, "--port", "0", "--drivers"]
         self.process = subprocess.Popen(words, stdout=subprocess.PIPE, stderr=subprocess.PIPE)
+        PROCESSES.append(self.process)
         line = self.process.stdout.readline().decode()
         if not line.startswith("listening on "):
             raise AssertionError(line + self.process.stderr.read().decode())
@@ -254,6 +255,23 @@ def clients(server):
         client.close()
 
 
+def idle_sockets(server):
+    """900 sockets that say nothing, or half a message, and one that sends what is no message, beside a client."""
+    idle = [socket.create_connection(("127.0.0.1", server.port)) for _ in range(900)]
+    for one in idle[::3]:
+        one.sendall(b"\x40\0\0\0\1\0\0\0")
+    client = server.client()
+    client.test.idle.insert_one({"_id": 1})
+    expect(client.test.idle.count_documents({}), 1)
+    stranger = socket.create_connection(("127.0.0.1", server.port), timeout=PATIENCE)
+    stranger.sendall(bytes.fromhex("160301020001000100030345"))
+    stranger.sendall(b"x" * 16)
+    expect(stranger.recv(10), b"")
+    for one in idle:
+        one.close()
+    expect(client.test.idle.count_documents({}), 1)
+
+
 def killed(server):
     """What was acknowledged before a kill is there after it."""
     server = Server("killed.docpage")
@@ -287,23 +305,31 @@ def killed(server):
 
 
 CASES = [handshake, inserts, finds, cursors, abandoned_cursors, updates, deletes, counts, indexes, collections, refusals,
-         unacknowledged, pool, clients, killed]
+         unacknowledged, pool, clients, idle_sockets, killed]
 
 
 def main():
     chosen = [case for case in CASES if not sys.argv[2:] or case.__name__ in sys.argv[2:]]
+    passed = []
+
+    def end(*_):
+        for process in PROCESSES:
+            process.kill()
+        print(f"{len(passed)} passed, {len(chosen) - len(passed)} failed", flush=True)
+        shutil.rmtree(FOLDER, ignore_errors=True)
+        os._exit(0 if len(passed) == len(chosen) else 1)
+
+    signal.signal(signal.SIGALRM, end)
+    signal.alarm(int(os.environ.get("SECONDS_AT_MOST", 55)))
     server = Server("main.docpage")
-    passed = 0
     for case in chosen:
         try:
             case(server)
-            passed += 1
+            passed.append(case)
             print(f"{case.__name__}: passed", flush=True)
         except Exception:
             print(f"{case.__name__}: FAILED\n{traceback.format_exc()}", flush=True)
-    server.kill()
-    print(f"{passed} passed, {len(chosen) - passed} failed")
-    sys.exit(0 if passed == len(chosen) else 1)
+    end()
 
 
 main()
