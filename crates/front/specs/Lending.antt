@@ -36,15 +36,13 @@ least_used loans counts (suc n) = better loans counts (least_used loans counts n
 
 -- ---- what becomes of loans
 
--- a socket
-abbrev pub is_socket : ℕ → Option ℕ → Bool
-is_socket socket None = false
-is_socket socket (Some other) = other == socket
+-- whom a connection is lent to, once a socket has ended
+abbrev pub left_borrower : ℕ → Option ℕ → Option ℕ
+left_borrower socket None = None
+left_borrower socket (Some other) = if other == socket then None else Some other
 
--- the loan to a socket that has ended
 abbrev pub orphaned : ℕ → Loan → Loan
-orphaned socket loan =
-    if is_socket socket loan.socket then record loan { socket = None } else loan
+orphaned socket loan = record loan { socket = left_borrower socket loan.socket }
 
 abbrev pub after_end : ℕ → Option Loan → Option Loan
 after_end socket None = None

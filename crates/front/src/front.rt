@@ -3,11 +3,12 @@
 ghost use Rattle.server.specs.Durable.{IsSound};
 ghost use Rattle.std.specs.Prelude.{◌≡◌, ◌<◌, IfOk, map};
 ghost use Rattle.sockets.specs.Handing.{Hands, Closes};
+ghost use Rattle.front.specs.Tying.{AreTied};
 ghost use Rattle.front.specs.Fronting.{frame_to, answers_from, closing, closed_from, answered};
 
 use crate::cursors::OpenCursors;
 use crate::lending::Lending;
-use crate::serving::{ask_question, end_cursor, take_closed, take_reply};
+use crate::serving::{end_cursor, serve_socket, take_closed, take_reply};
 use crate::socket::Socket;
 use bson::{MESSAGE_LIMIT, NoMemory};
 use drivers::ServerInfo;
@@ -41,6 +42,7 @@ impl<C: Clock + Drop, D: Disk + Drop> Front<C, D> {
     pub fn new(clock: C, core: Core<D>) -> Result<Front<C, D>, NoMemory>
         requires sound { IsSound D.history core }
         ensures sound { IfOk result (λ front. IsSound D.history front.core) }
+        ensures tied { IfOk result (λ front. AreTied front.lending.loans front.sockets.items) }
     {
         let alloc = core.allocator();
         Ok(Front {
@@ -64,29 +66,29 @@ impl<C: Clock + Drop, D: Disk + Drop> Front<C, D> {
     /// Takes messages of sockets, each in its turn, and asks the server what they want to know, as far as connections are at rest.
     fn ask_all(&mut self)
         requires sound { IsSound D.history self.old.core }
+        requires tied { AreTied self.old.lending.loans self.old.sockets.items }
         ensures sound { IsSound D.history self.new.core }
+        ensures tied { AreTied self.new.lending.loans self.new.sockets.items }
     {
         let time = self.time();
-        let alloc = self.core.allocator();
         let first = self.first % PLACES;
         'sockets: for step in 0..PLACES {
             let number = (first + step) % PLACES;
-            let Some(socket) = self.sockets.get_mut(number) else {
-                continue;
-            };
-            if !socket.waits() {
+            if self.sockets.len() <= number || !self.sockets[number].waits() {
                 continue;
             }
             if !self.lending.has_rest() {
                 self.first = number;
                 return;
             }
-            socket.begin(alloc, &info(number, time));
-            ask_question(
+            let info = info(number, time);
+            let socket = &mut self.sockets[number];
+            serve_socket(
                 &mut self.core,
                 &mut self.lending,
                 &self.cursors,
                 number,
+                &info,
                 socket,
             );
         }
@@ -95,7 +97,9 @@ impl<C: Clock + Drop, D: Disk + Drop> Front<C, D> {
     /// Ends cursors of sockets that have ended, as far as their owners are at rest.
     fn end_cursors(&mut self)
         requires sound { IsSound D.history self.old.core }
+        requires tied { AreTied self.old.lending.loans self.old.sockets.items }
         ensures sound { IsSound D.history self.new.core }
+        ensures tied { AreTied self.new.lending.loans self.new.sockets.items }
     {
         'cursors: for _ in 0..CONNECTIONS {
             if !end_cursor(&mut self.core, &mut self.lending, &self.cursors) {
@@ -104,10 +108,30 @@ impl<C: Clock + Drop, D: Disk + Drop> Front<C, D> {
         }
     }
 
+    /// Makes a turn of the server, and takes what it handed out.
+    fn make_turn(&mut self) -> Result<(), Stopped>
+        requires sound { IsSound D.history self.old.core }
+        requires tied { AreTied self.old.lending.loans self.old.sockets.items }
+        ensures sound { IsSound D.history self.new.core }
+        ensures tied { AreTied self.new.lending.loans self.new.sockets.items }
+    {
+        match self.core.turn() {
+            Ok(turn) => {
+                self.take_turn(&turn);
+                Ok(())
+            }
+            // The messages wait for the next turn.
+            Err(TurnFault::Memory) => Ok(()),
+            Err(TurnFault::Stopped) => Err(Stopped),
+        }
+    }
+
     /// Takes what a turn of the server handed out.
     fn take_turn(&mut self, turn: &TurnOut)
         requires sound { IsSound D.history self.old.core }
+        requires tied { AreTied self.old.lending.loans self.old.sockets.items }
         ensures sound { IsSound D.history self.new.core }
+        ensures tied { AreTied self.new.lending.loans self.new.sockets.items }
     {
         'replies: for (id, frame) in turn.replies.iter() {
             take_reply(
@@ -125,7 +149,9 @@ impl<C: Clock + Drop, D: Disk + Drop> Front<C, D> {
     /// Takes which connections a turn of the server has closed.
     fn take_all_closed(&mut self, closed: &[(ConnId, FrameFault)])
         requires sound { IsSound D.history self.old.core }
+        requires tied { AreTied self.old.lending.loans self.old.sockets.items }
         ensures sound { IsSound D.history self.new.core }
+        ensures tied { AreTied self.new.lending.loans self.new.sockets.items }
     {
         'closed: for (id, _) in closed {
             take_closed(
@@ -144,13 +170,15 @@ impl<C: Clock + Drop, D: Disk + Drop> Service for Front<C, D> {
     ghost use Rattle.std.specs.Prelude.{◌≡◌, map, slice_set};
     ghost use Rattle.front.specs.Lending.{after_end};
     ghost use Rattle.front.specs.Serving.{fresh};
+    ghost use Rattle.front.specs.Tying.{AreTied};
     ghost use Rattle.front.specs.Fronting.{IsFed, IsEnded, HandsOut};
 
     ghost PLACES = { 1024 };
 
     const PLACES: usize = PLACES;
 
-    ghost is_sound = { λ front. IsSound D.history front.core };
+    ghost is_sound = { λ front. IsSound D.history front.core
+        × AreTied front.lending.loans front.sockets.items };
 
     ghost is_fed = { λ old i bytes new. IsFed old.sockets.items i bytes new.sockets.items };
 
@@ -178,11 +206,8 @@ impl<C: Clock + Drop, D: Disk + Drop> Service for Front<C, D> {
     fn answer<O: Outlet>(&mut self, outlet: &mut O) -> Result<(), Stopped> {
         self.end_cursors();
         self.ask_all();
-        match self.core.turn() {
-            Ok(turn) => self.take_turn(&turn),
-            // The messages wait for the next turn.
-            Err(TurnFault::Memory) => {}
-            Err(TurnFault::Stopped) => return Err(Stopped),
+        if self.make_turn().is_err() {
+            return Err(Stopped);
         }
         give_answers(&mut self.sockets, outlet);
         close_sockets(&self.sockets, outlet);

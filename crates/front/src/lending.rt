@@ -2,7 +2,7 @@
 
 ghost use Rattle.std.specs.Prelude.{◌≡◌, ◌<◌, IfSome, true, None, Some, is_none, map, replicate, slice_set};
 ghost use Rattle.std.specs.List.{list_any};
-ghost use Rattle.front.specs.Lending.{loan_at, is_at_rest, fewer, better, least_used, is_socket, orphaned, after_end};
+ghost use Rattle.front.specs.Lending.{loan_at, is_at_rest, fewer, better, least_used, left_borrower, orphaned, after_end};
 
 use engine::{CONNECTIONS, ConnId};
 
@@ -122,14 +122,17 @@ fn numbered(number: u8) -> ConnId
     }
 }
 
-/// Whether this is the socket.
-fn is_socket(socket: usize, other: Option<usize>) -> bool
-    ensures { result ≡ is_socket socket other }
+/// Whom a connection is lent to, once a socket has ended.
+fn left_borrower(socket: usize, borrower: Option<usize>) -> Option<usize>
+    ensures { result ≡ left_borrower socket borrower }
 {
-    match other {
-        Some(other) => other == socket,
-        None => false,
+    let Some(other) = borrower else {
+        return None;
+    };
+    if other == socket {
+        return None;
     }
+    Some(other)
 }
 
 /// A socket has ended, to which a connection may be lent.
@@ -145,9 +148,7 @@ fn end_loan(loan: &mut Option<Loan>, socket: usize)
 fn orphan(loan: &mut Loan, socket: usize)
     ensures { loan.new ≡ orphaned socket loan.old }
 {
-    if is_socket(socket, loan.socket) {
-        loan.socket = None;
-    }
+    loan.socket = left_borrower(socket, loan.socket);
 }
 
 /// A socket has ended, to which connections may be lent.

@@ -4,6 +4,7 @@ ghost use Rattle.std.specs.Prelude.{◌≡◌, true, None, Some, IfSome, slice_s
 ghost use Rattle.server.specs.Durable.{IsSound};
 ghost use Rattle.front.specs.Lending.{loan_at, is_at_rest, borrower, Lends};
 ghost use Rattle.front.specs.Serving.{OthersStay};
+ghost use Rattle.front.specs.Tying.{Asks, LendsToNone};
 
 use crate::asking::{
     NotAsked, ask, cursor_left, document_of, end_command, has_ended, namespace_of,
@@ -13,6 +14,7 @@ use crate::job::{Question, Stage};
 use crate::lending::{Lending, Loan};
 use crate::socket::Socket;
 use bson::{Document, NoMemory, Text};
+use drivers::ServerInfo;
 use engine::ConnId;
 use page::Disk;
 use server::Core;
@@ -48,7 +50,7 @@ fn connection_for(lending: &Lending, cursors: &OpenCursors, question: &Question)
 }
 
 /// Asks the question of a socket's message, where it has one and a connection can be lent to it.
-pub(crate) fn ask_question<D: Disk>(
+fn ask_question<D: Disk>(
     core: &mut Core<D>,
     lending: &mut Lending,
     cursors: &OpenCursors,
@@ -58,6 +60,7 @@ pub(crate) fn ask_question<D: Disk>(
     requires sound { IsSound D.history core.old }
     ensures sound { IsSound D.history core.new }
     ensures lends { Lends (Some number) lending.old.loans lending.new.loans }
+    ensures asks { Asks number lending.old.loans lending.new.loans socket.old socket.new }
 {
     let Some(question) = socket.question() else {
         return;
@@ -82,6 +85,25 @@ pub(crate) fn ask_question<D: Disk>(
     }
 }
 
+/// Does what can be done of a socket: takes a message where it works on none, and asks the server, where a connection can be lent
+/// to it.
+pub(crate) fn serve_socket<D: Disk>(
+    core: &mut Core<D>,
+    lending: &mut Lending,
+    cursors: &OpenCursors,
+    number: usize,
+    info: &ServerInfo,
+    socket: &mut Socket,
+)
+    requires sound { IsSound D.history core.old }
+    ensures sound { IsSound D.history core.new }
+    ensures lends { Lends (Some number) lending.old.loans lending.new.loans }
+    ensures asks { Asks number lending.old.loans lending.new.loans socket.old socket.new }
+{
+    socket.begin(core.allocator(), info);
+    ask_question(core, lending, cursors, number, socket);
+}
+
 /// Ends a cursor of a socket that has ended, where its owner is at rest. Whether there was one.
 pub(crate) fn end_cursor<D: Disk>(
     core: &mut Core<D>,
@@ -91,6 +113,7 @@ pub(crate) fn end_cursor<D: Disk>(
     requires sound { IsSound D.history core.old }
     ensures sound { IsSound D.history core.new }
     ensures lends { Lends None lending.old.loans lending.new.loans }
+    ensures none { LendsToNone lending.old.loans lending.new.loans }
 {
     let Some(cursor) = cursors.abandoned(lending) else {
         return false;

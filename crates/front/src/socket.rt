@@ -1,8 +1,9 @@
 //! A socket of a driver.
 
-ghost use Rattle.std.specs.Prelude.{◌≡◌, true, OnOk, OnErr};
+ghost use Rattle.std.specs.Prelude.{◌≡◌, true, false, is_some, IfSome, OnOk, OnErr};
 ghost use Rattle.drivers.specs.Framing.{IsShort};
 ghost use Rattle.front.specs.Serving.{fresh, fed, waits};
+ghost use Rattle.front.specs.Tying.{is_asked};
 
 use crate::job::{Job, Question, Stage};
 use bson::{Document, MESSAGE_LIMIT, NoMemory};
@@ -57,7 +58,9 @@ impl Socket {
 
     /// Takes the message at the front, if none is worked on, and does what is done first with it. A socket with a fault at its
     /// front, or for whose message memory ran out, is closed.
-    pub fn begin(&mut self, alloc: Global, info: &ServerInfo) {
+    pub fn begin(&mut self, alloc: Global, info: &ServerInfo)
+        ensures { is_asked self.old.job ≡ true → is_asked self.new.job ≡ true }
+    {
         if self.is_over || self.job.is_some() {
             return;
         }
@@ -102,7 +105,10 @@ impl Socket {
     }
 
     /// What the database is to be asked for the message that is worked on.
-    pub fn question(&self) -> Option<&Question> {
+    pub fn question(&self) -> Option<&Question>
+        ensures { IfSome result (λ _. (is_asked self.now.job ≡ false)
+            × (is_some self.now.job ≡ true)) }
+    {
         let job = self.job.as_ref()?;
         match &job.stage {
             Stage::Asks(question) => Some(question),
@@ -111,7 +117,9 @@ impl Socket {
     }
 
     /// The database was asked.
-    pub fn wait(&mut self) {
+    pub fn wait(&mut self)
+        ensures { is_some self.old.job ≡ true → is_asked self.new.job ≡ true }
+    {
         if let Some(job) = &mut self.job {
             job.stage = Stage::Waits;
         }
