@@ -1,5 +1,5 @@
 -- What a loan more makes of the loans, and that who is lent was at rest.
-use Rattle.std.proofs.Common.{◌≡◌, ℕ, zero, suc, Bool, true, false, List, [], ◌∷◌, set, Option, Some, None, refl, sym, ap, subst, ◌∙◌, inl, inr, ◌⊎◌}
+use Rattle.std.proofs.Common.{◌≡◌, ℕ, zero, suc, Bool, true, false, List, [], ◌∷◌, set, Option, Some, None, refl, sym, subst, inl, inr}
 use Rattle.std.specs.Prelude.{nat_lt, if◌then◌else◌, is_none, IfSome}
 use Rattle.front.specs.Lending.{loan_at, is_at_rest, count_at, with_one, least_used, Lends}
 use Rattle.front.specs.declared.lending.Loan.{Loan}

@@ -1,5 +1,5 @@
 -- What is done with one socket.
-use Rattle.std.specs.Prelude.{◌≡◌, ◌≢◌, ℕ, Bool, true, false, not, ◌&&◌, ◌||◌, is_some, ◌++◌, List, [], length, slice_index_or, Option, Some, None}
+use Rattle.std.specs.Prelude.{◌≡◌, ◌≢◌, ℕ, Bool, false, not, ◌&&◌, ◌||◌, is_some, ◌++◌, List, [], length, slice_index_or, Option, Some, None}
 use Rattle.drivers.specs.Incoming.{whole_at, is_waiting}
 use Rattle.front.specs.declared.socket.Socket.{Socket}
 

@@ -1,4 +1,4 @@
-use Rattle.std.proofs.Common.{rules, ◌≡◌, ◌<◌, ◌+◌, ◌%◌, length, arith}
+use Rattle.std.proofs.Common.{rules, ◌<◌, ◌+◌, ◌%◌, length}
 use Rattle.front.proofs.TyingLemmas.{tied_step}
 use Rattle.front.proofs.front.Front.ask_all.Goals as goal
 

@@ -1,4 +1,4 @@
-use Rattle.std.proofs.Common.{◌≡◌, ℕ, ap, ◌∙◌, arith}
+use Rattle.std.proofs.Common.{◌≡◌, ap, ◌∙◌, arith}
 use Rattle.front.specs.Lending.{least_used}
 use Rattle.front.proofs.LoanLemmas.{found_rests}
 use Rattle.front.proofs.lending.Lending.least_used.Goals as goal
