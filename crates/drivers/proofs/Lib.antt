@@ -6,3 +6,4 @@ mod SectionLemmas
 mod LevelLemmas
 mod IdLemmas
 mod PlanLaws
+mod ListingLemmas

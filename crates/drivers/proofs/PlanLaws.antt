@@ -5,10 +5,11 @@ use Rattle.std.specs.Str.{bytes_eq}
 use Rattle.std.proofs.lemmas.Slice.Eq.{bytes_eq-Decides}
 use Rattle.bson.specs.Tree.{Tree, Pairs, no_pairs, pair, Items, append}
 use Rattle.bson.specs.Lookup.{lookup}
-use Rattle.drivers.specs.Answering.{wait_of, kill_wait, is_single, is_true}
+use Rattle.drivers.specs.Answering.{wait_of, kill_wait, collections_wait, is_single, is_true}
 use Rattle.drivers.specs.Cleaning.{kept}
 use Rattle.drivers.specs.Cursors.{ids_of, ids_in, no_kills}
 use Rattle.drivers.specs.Laws.{IgnoredLeavesThePlan}
+use Rattle.drivers.specs.Listing.{named}
 use Rattle.drivers.specs.Rules.{rule_of}
 use Rattle.drivers.specs.Texts.{text_or_none}
 use Rattle.drivers.specs.WriteErrors.{has_one_statement, is_one_in, is_one}
@@ -58,6 +59,10 @@ no_rule_deletes : is_none (rule_of (codes "deletes")) ≡ true
 unfolding rule_of
 no_rule_deletes = refl
 
+no_rule_filter : is_none (rule_of (codes "filter")) ≡ true
+unfolding rule_of
+no_rule_filter = refl
+
 -- two commands in which what stands under a name without a rule is the same, and so are the fields that are kept
 record AreAlike (ps qs : Pairs) : Type 0 where
   found : (other : List ℕ) → is_none (rule_of other) ≡ true → lookup ps other ≡ lookup qs other
@@ -91,9 +96,10 @@ single-alike command t ps qs h =
 
 wait-alike : (command : List ℕ) (t : Tree) (ps qs : Pairs) → AreAlike (pair command t ps) (pair command t qs) → wait_of (pair command t ps) ≡ wait_of (pair command t qs)
 wait-alike command t ps qs h =
-    ap (λ (w : Wait). choose w (is_single whole) (has_one_statement command whole)) (kill-alike whole other h)
-    ∙ ap (λ (b : Bool). choose (kill_wait other (ids_of other)) b (has_one_statement command whole)) (single-alike command t ps qs h)
-    ∙ ap (choose (kill_wait other (ids_of other)) (is_single other)) (one-alike whole other command h)
+    ap (λ (w : Wait). choose w (collections_wait whole) (is_single whole) (has_one_statement command whole)) (kill-alike whole other h)
+    ∙ ap (λ (x : Option Tree). choose (kill_wait other (ids_of other)) (waits.Collections (named x)) (is_single whole) (has_one_statement command whole)) (h.found (codes "filter") no_rule_filter)
+    ∙ ap (λ (b : Bool). choose (kill_wait other (ids_of other)) (collections_wait other) b (has_one_statement command whole)) (single-alike command t ps qs h)
+    ∙ ap (choose (kill_wait other (ids_of other)) (collections_wait other) (is_single other)) (one-alike whole other command h)
   where
     whole : Pairs
     whole = pair command t ps
@@ -101,8 +107,8 @@ wait-alike command t ps qs h =
     other : Pairs
     other = pair command t qs
 
-    choose : Wait → Bool → Bool → Wait
-    choose kill single one = if bytes_eq command (codes "killCursors") then kill else if single then waits.Single else if one then waits.Write else waits.Plain
+    choose : Wait → Wait → Bool → Bool → Wait
+    choose kill listed single one = if bytes_eq command (codes "killCursors") then kill else if bytes_eq command (codes "listCollections") then listed else if single then waits.Single else if one then waits.Write else waits.Plain
 
 pub ignored_leaves_the_plan : IgnoredLeavesThePlan
 ignored_leaves_the_plan more command value before name t behind has =

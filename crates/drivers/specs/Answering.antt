@@ -14,6 +14,7 @@ use Rattle.drivers.specs.Cleaning.{kept}
 use Rattle.drivers.specs.Cursors.{ids_of, first_id, kill_one, no_kills, after, kill_reply}
 use Rattle.drivers.specs.declared.command.Asked.TheVariants as askeds
 use Rattle.drivers.specs.declared.kills.Kills.{Kills}
+use Rattle.drivers.specs.Listing.{named, batch_in, retold}
 use Rattle.drivers.specs.Starting.{name_of, unheard}
 use Rattle.drivers.specs.declared.message.BodyFault.{BodyFault}
 use Rattle.drivers.specs.declared.message.Message.{Message}
@@ -34,6 +35,10 @@ abbrev pub kill_wait : Pairs → Option Items → Wait
 kill_wait body None = waits.Plain
 kill_wait body (Some ids) = waits.Kill (no_kills (kept askeds.KillCursors body) ids)
 
+-- what is kept of the collections that a listCollections asks for
+abbrev pub collections_wait : Pairs → Wait
+collections_wait body = waits.Collections (named (lookup body (codes "filter")))
+
 -- A find may say that its first batch is its last (mongodb/specifications, find, getMore and killCursors).
 abbrev pub is_single : Pairs → Bool
 is_single body = if bytes_eq (name_of body) (codes "find")
@@ -43,6 +48,7 @@ is_single body = if bytes_eq (name_of body) (codes "find")
 abbrev pub wait_of : Pairs → Wait
 wait_of body =
     if bytes_eq (name_of body) (codes "killCursors") then kill_wait body (ids_of body) else
+    if bytes_eq (name_of body) (codes "listCollections") then collections_wait body else
     if is_single body then waits.Single else
     if has_one_statement (name_of body) body then waits.Write else
     waits.Plain
@@ -176,6 +182,10 @@ answered_by waits.Write plan reply = (
 )
 answered_by (waits.Kill kills) plan reply =
     killed (lookup reply (codes "cursorsKilled")) plan kills reply
+answered_by (waits.Collections wanted) plan reply = (
+  record plan { wait = waits.Plain },
+  final plan (retold wanted plan.database (batch_in (lookup reply (codes "cursor"))) reply),
+)
 
 abbrev pub answered : Plan → Pairs → Plan × Step
 answered plan reply = answered_by plan.wait plan reply

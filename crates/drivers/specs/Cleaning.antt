@@ -1,10 +1,10 @@
 -- A command without the fields that the database doesn't have, or the first of its fields by which it is refused. A field without a
 -- rule is left to the database.
-use Rattle.std.specs.Prelude.{ℕ, Bool, if◌then◌else◌, List, codes, Option, Some, None, is_none}
+use Rattle.std.specs.Prelude.{ℕ, Bool, if◌then◌else◌, List, [], ◌∷◌, codes, Option, Some, None, is_none}
 use Rattle.std.specs.Option.{option_or, option_map, option_and_then}
 use Rattle.std.specs.Str.{bytes_eq}
 use Rattle.bson.specs.Tree.{Tree, Pairs, no_pairs, pair}
-use Rattle.drivers.specs.Rules.{rule_of, fault_of}
+use Rattle.drivers.specs.Rules.{rule_of, fault_of, is_one_of}
 use Rattle.drivers.specs.declared.command.Asked.{Asked}
 use Rattle.drivers.specs.declared.command.Asked.TheVariants as askeds
 use Rattle.drivers.specs.declared.rules.Rule.{Rule}
@@ -15,6 +15,16 @@ use Rattle.drivers.specs.declared.reason.Reason.{Reason}
 abbrev pub truth : List ℕ → List ℕ → Option Rule
 truth word name = if bytes_eq name word then Some rules.Truth else None
 
+-- a field of one of these names is read over
+abbrev pub read_over : List (List ℕ) → List ℕ → Option Rule
+read_over words name = if is_one_of words name then Some rules.ReadOver else None
+
+-- Lists are given in one batch, with all that is known of each entry.
+abbrev pub listing_rule : List ℕ → Option Rule
+listing_rule name =
+    if bytes_eq name (codes "filter") then Some rules.NameFilter else
+    read_over (codes "cursor" ∷ codes "nameOnly" ∷ []) name
+
 -- The rule of a field that this command alone has. A write is done as a whole or refused as a whole, so the order of its statements
 -- makes no difference. How many batches a find gives, its plan sees to.
 abbrev pub own_rule : Asked → List ℕ → Option Rule
@@ -23,6 +33,8 @@ own_rule askeds.Write name = truth (codes "ordered") name
 own_rule askeds.Find name = truth (codes "singleBatch") name
 own_rule askeds.GetMore name = None
 own_rule askeds.KillCursors name = None
+own_rule askeds.ListCollections name = listing_rule name
+own_rule askeds.ListIndexes name = read_over (codes "cursor" ∷ []) name
 
 abbrev pub rule_in : Asked → List ℕ → Option Rule
 rule_in asked name = option_or (own_rule asked name) (rule_of name)

@@ -21,6 +21,8 @@ commands_by_name =
     ++ each (commands.Forwarded askeds.Find) (codes "find" ∷ [])
     ++ each (commands.Forwarded askeds.GetMore) (codes "getMore" ∷ [])
     ++ each (commands.Forwarded askeds.KillCursors) (codes "killCursors" ∷ [])
+    ++ each (commands.Forwarded askeds.ListCollections) (codes "listCollections" ∷ [])
+    ++ each (commands.Forwarded askeds.ListIndexes) (codes "listIndexes" ∷ [])
 
 -- what is done with a command of this name; nothing where it is unknown
 unfoldable pub command_of : List ℕ → Option Command

@@ -1,6 +1,6 @@
 -- The message at the front of a socket's bytes: an OP_MSG, or an OP_QUERY (MongoDB wire protocol; the header is int32 length, number of the
 -- request, number of what it answers, opcode). A wrong length and another opcode are faults as soon as the header is there.
-use Rattle.std.specs.Prelude.{◌≡◌, ℕ, Bool, false, not, ◌&&◌, ◌==◌, nat_lt, if◌then◌else◌, List, [], length, take, drop, codes, Option, Some, None, Result, Ok, Err}
+use Rattle.std.specs.Prelude.{◌≡◌, ℕ, Bool, true, false, not, ◌&&◌, ◌==◌, nat_lt, if◌then◌else◌, List, [], length, take, drop, codes, Option, Some, None, Result, Ok, Err}
 use Rattle.std.specs.Str.{bytes_eq}
 use Rattle.outcome.specs.Outcome.{◌>>=◌, unless, Fails}
 use Rattle.bson.specs.Tree.{Pairs}
@@ -33,6 +33,12 @@ whole_at bytes =
     (unless (is_no_opcode (number_at 12 bytes)) faults.Opcode
     (if nat_lt (length bytes) (number_at 0 bytes) then Ok None else
     Ok (Some (number_at 0 bytes))))
+
+-- whether a message, or a fault, stands there
+abbrev pub is_waiting : Result (Option ℕ) StreamFault → Bool
+is_waiting (Ok None) = false
+is_waiting (Ok (Some len)) = true
+is_waiting (Err fault) = true
 
 -- ---- a message's document, or why it has none: where a type is wrong, the first one from the left that the database doesn't have
 

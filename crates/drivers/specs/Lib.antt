@@ -8,6 +8,7 @@ pub mod Commands
 pub mod ForeignTypes
 pub mod Starting
 pub mod Laws
+pub mod Listing
 pub mod Answering
 pub mod Seeking
 pub mod SeekingView

@@ -1,6 +1,6 @@
 -- Fields that drivers send with any command and that the database doesn't have (MongoDB manual, database commands;
 -- mongodb/specifications: sessions, transactions, retryable writes, read and write concern, versioned API), and what is done with each.
-use Rattle.std.specs.Prelude.{ℕ, ℤ, pos, negsuc, Bool, true, false, not, ◌&&◌, ◌==◌, nat_lt, if◌then◌else◌, List, [], ◌∷◌, ◌++◌, codes, Option, Some, None}
+use Rattle.std.specs.Prelude.{ℕ, ℤ, pos, negsuc, Bool, true, false, not, ◌&&◌, ◌||◌, ◌==◌, nat_lt, if◌then◌else◌, List, [], ◌∷◌, ◌++◌, codes, Option, Some, None}
 use Rattle.std.specs.Option.{option_or, option_map_or}
 use Rattle.std.specs.Str.{bytes_eq}
 use Rattle.std.specs.List.{list_any}
@@ -117,6 +117,27 @@ abbrev pub truth_fault : Tree → Option Reason
 truth_fault (scalar (boolean b)) = None
 truth_fault other = Some reasons.FieldType
 
+-- ---- which collections are listed (mongodb/specifications, enumerate collections)
+
+-- the expressions by which drivers leave out the system's collections, of which there are none here
+abbrev pub no_system : List (List ℕ)
+no_system = codes "^(?!system\\.)" ∷ codes "^(?!system\\\\.)" ∷ []
+
+-- a name, or none of the system's
+abbrev pub is_name_asked : Tree → Bool
+is_name_asked (scalar (text s)) = true
+is_name_asked (document ps) =
+    pairs_len ps == 1
+    && option_map_or (is_word no_system) (lookup ps (codes "$regex")) false
+is_name_asked other = false
+
+-- all, or by a name
+abbrev pub is_name_filter : Tree → Bool
+is_name_filter (document ps) =
+    pairs_len ps == 0
+    || (pairs_len ps == 1 && option_map_or is_name_asked (lookup ps (codes "name")) false)
+is_name_filter other = false
+
 -- why a field with this rule is refused, if it is
 abbrev pub fault_of : Rule → Tree → Option Reason
 fault_of rules.ReadOver t = None
@@ -128,3 +149,4 @@ fault_of rules.ReadConcern t = options_fault read_option_fault t
 fault_of rules.Collation t = unless_said (is_simple t)
 fault_of rules.ApiVersion t = unless_said (is_word (codes "1" ∷ []) t)
 fault_of rules.Truth t = truth_fault t
+fault_of rules.NameFilter t = unless_said (is_name_filter t)

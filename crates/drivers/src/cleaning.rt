@@ -1,11 +1,11 @@
 //! Commands without the fields that the database doesn't have.
 
-ghost use Rattle.std.specs.Prelude.{◌≡◌, option_map};
+ghost use Rattle.std.specs.Prelude.{◌≡◌, map, option_map};
 ghost use Rattle.bson.specs.View.{tree, pairs_of};
-ghost use Rattle.drivers.specs.Cleaning.{truth, own_rule, rule_in, is_kept, field_fault, first_refused, kept};
+ghost use Rattle.drivers.specs.Cleaning.{truth, read_over, listing_rule, own_rule, rule_in, is_kept, field_fault, first_refused, kept};
 
 use crate::command::Asked;
-use crate::options::fault_of;
+use crate::options::{fault_of, is_one_of};
 use crate::reason::Reason;
 use crate::rules::{Rule, rule_of};
 use bson::{Document, Pair, Value};
@@ -20,6 +20,26 @@ fn truth(word: &str, name: &str) -> Option<Rule>
     None
 }
 
+/// A field of one of these names is read over.
+fn read_over(words: &[&str], name: &str) -> Option<Rule>
+    ensures { result ≡ read_over (map (λ s. s.now) words.now) name.now }
+{
+    if is_one_of(words, name) {
+        return Some(Rule::ReadOver);
+    }
+    None
+}
+
+/// The rule of a field of `listCollections`.
+fn listing_rule(name: &str) -> Option<Rule>
+    ensures { result ≡ listing_rule name.now }
+{
+    if name == "filter" {
+        return Some(Rule::NameFilter);
+    }
+    read_over(&["cursor", "nameOnly"], name)
+}
+
 /// The rule of a field that this command alone has.
 fn own_rule(asked: Asked, name: &str) -> Option<Rule>
     ensures { result ≡ own_rule asked name.now }
@@ -30,6 +50,8 @@ fn own_rule(asked: Asked, name: &str) -> Option<Rule>
         Asked::Find => truth("singleBatch", name),
         Asked::GetMore => None,
         Asked::KillCursors => None,
+        Asked::ListCollections => listing_rule(name),
+        Asked::ListIndexes => read_over(&["cursor"], name),
     }
 }
 

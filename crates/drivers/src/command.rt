@@ -33,6 +33,10 @@ pub(crate) enum Asked {
     GetMore,
     /// A `killCursors`, each of whose cursors goes to the connection that opened it.
     KillCursors,
+    /// A `listCollections`, which may say which ones by their names.
+    ListCollections,
+    /// A `listIndexes`.
+    ListIndexes,
 }
 
 /// What is done with a command.
@@ -45,7 +49,7 @@ pub(crate) enum Command {
 }
 
 /// The commands by their names.
-const COMMANDS: [(&str, Command); 24] = [
+const COMMANDS: [(&str, Command); 26] = [
     ("hello", Command::Own(Own::Hello)),
     ("isMaster", Command::Own(Own::IsMaster)),
     ("ismaster", Command::Own(Own::IsMaster)),
@@ -70,6 +74,11 @@ const COMMANDS: [(&str, Command); 24] = [
     ("find", Command::Forwarded(Asked::Find)),
     ("getMore", Command::Forwarded(Asked::GetMore)),
     ("killCursors", Command::Forwarded(Asked::KillCursors)),
+    (
+        "listCollections",
+        Command::Forwarded(Asked::ListCollections),
+    ),
+    ("listIndexes", Command::Forwarded(Asked::ListIndexes)),
 ];
 
 /// What is done with a command of this name; nothing where it is unknown.

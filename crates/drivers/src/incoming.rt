@@ -1,7 +1,7 @@
 //! Messages from the bytes of a socket.
 
 ghost use Rattle.std.specs.Prelude.{◌≡◌, ◌≤◌, ◌++◌, [], drop, vec_len, OnOk, OnErr};
-ghost use Rattle.drivers.specs.Incoming.{next_message, IsNext};
+ghost use Rattle.drivers.specs.Incoming.{next_message, whole_at, is_waiting, IsNext};
 
 use crate::message::Message;
 use crate::stream_fault::StreamFault;
@@ -76,5 +76,17 @@ impl Incoming {
         let message = read_whole(alloc, whole)?;
         self.taken += len;
         Ok(Some(message))
+    }
+
+    /// Whether a whole message or a fault stands at the front. It takes no memory.
+    pub fn waiting(&self) -> bool
+        ensures { result ≡ is_waiting (whole_at self.now) }
+    {
+        let (_, bytes) = self.bytes.split_at(self.taken);
+        match read_len(bytes) {
+            Ok(None) => false,
+            Ok(Some(_)) => true,
+            Err(_) => true,
+        }
     }
 }

@@ -11,6 +11,7 @@ mod handshake;
 mod incoming;
 mod kills;
 pub mod laws;
+mod listing;
 mod message;
 mod options;
 mod place;

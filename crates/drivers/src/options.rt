@@ -5,7 +5,7 @@ ghost use Rattle.std.specs.List.{list_any};
 ghost use Rattle.std.specs.Str.{bytes_eq};
 ghost use Rattle.std.specs.Prelude.{map};
 ghost use Rattle.bson.specs.View.{tree, pairs_of};
-ghost use Rattle.drivers.specs.Rules.{is_nothing, is_word, is_one_of, servers_fault, w_fault, write_option_fault, read_option_fault, first_in, options_fault, is_simple, unless_said, truth_fault, fault_of};
+ghost use Rattle.drivers.specs.Rules.{is_nothing, is_word, is_one_of, servers_fault, w_fault, write_option_fault, read_option_fault, first_in, options_fault, is_simple, is_name_asked, is_name_filter, unless_said, truth_fault, fault_of};
 
 use crate::reason::Reason;
 use crate::rules::Rule;
@@ -27,7 +27,7 @@ fn is_nothing(value: &Value) -> bool
 }
 
 /// Whether a text is one of these words.
-fn is_one_of(words: &[&str], text: &str) -> bool
+pub(crate) fn is_one_of(words: &[&str], text: &str) -> bool
     ensures { result ≡ is_one_of (map (λ s. s.now) words.now) text.now }
 {
     'words: for word in words {
@@ -161,6 +161,43 @@ fn is_simple(value: &Value) -> bool
     }
 }
 
+/// Whether a value is a name, or leaves out no more than the system's collections.
+fn is_name_asked(value: &Value) -> bool
+    ensures { result ≡ is_name_asked (tree value.now) }
+{
+    let document = match value {
+        Value::String(_) => return true,
+        Value::Document(document) => document,
+        _ => return false,
+    };
+    if document.len() != 1 {
+        return false;
+    }
+    match document.get("$regex") {
+        Some(expression) => is_word(&["^(?!system\\.)", "^(?!system\\\\.)"], expression),
+        None => false,
+    }
+}
+
+/// Whether a value asks for all collections, or for those that a name says.
+fn is_name_filter(value: &Value) -> bool
+    ensures { result ≡ is_name_filter (tree value.now) }
+{
+    let Value::Document(document) = value else {
+        return false;
+    };
+    if document.is_empty() {
+        return true;
+    }
+    if document.len() != 1 {
+        return false;
+    }
+    match document.get("name") {
+        Some(name) => is_name_asked(name),
+        None => false,
+    }
+}
+
 fn unless_said(said: bool) -> Option<Reason>
     ensures { result ≡ unless_said said }
 {
@@ -194,5 +231,6 @@ pub(crate) fn fault_of(rule: Rule, value: &Value) -> Option<Reason>
         Rule::Collation => unless_said(is_simple(value)),
         Rule::ApiVersion => unless_said(is_word(&["1"], value)),
         Rule::Truth => truth_fault(value),
+        Rule::NameFilter => unless_said(is_name_filter(value)),
     }
 }

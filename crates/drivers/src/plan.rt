@@ -6,13 +6,15 @@ ghost use Rattle.bson.specs.Lookup.{lookup};
 ghost use Rattle.drivers.specs.WriteErrors.{refused_statement};
 ghost use Rattle.drivers.specs.Cursors.{ids_of, first_id};
 ghost use Rattle.drivers.specs.Starting.{started};
+ghost use Rattle.drivers.specs.Listing.{batch_in, retold};
 ghost use Rattle.drivers.specs.declared.plan.Wait.TheVariants as waits;
-ghost use Rattle.drivers.specs.Answering.{is_true, is_single, kill_wait, wait_of, plan_for, plan_in, plan_of, final, error_step, end_cursor, cursor_left, kill_next, killed, answered_by, answered};
+ghost use Rattle.drivers.specs.Answering.{is_true, is_single, kill_wait, collections_wait, wait_of, plan_for, plan_in, plan_of, final, error_step, end_cursor, cursor_left, kill_next, killed, answered_by, answered};
 
 use crate::answering::{cursor_left, end, kill_command, reword, widen};
 use crate::cleaning::kept;
 use crate::command::Asked;
 use crate::kills::{Kills, first_id, ids_of};
+use crate::listing::{named, retold};
 use crate::message::Message;
 use crate::server_info::ServerInfo;
 use crate::starting::{name_of, start, unheard};
@@ -36,6 +38,8 @@ pub enum Wait {
     Write,
     /// It is about the first of these cursors.
     Kill(Kills),
+    /// It makes the answer, with the collection of this name alone, if there is one.
+    Collections(Option<Text>),
 }
 
 /// What is kept of a message until the database has answered: whether the driver wants no reply, the database and the collection
@@ -69,6 +73,16 @@ fn kill_wait(alloc: Global, body: &Document) -> Result<Wait, NoMemory>
     Ok(Wait::Kill(Kills::new(alloc, command, ids)))
 }
 
+/// What is kept of the collections that a `listCollections` asks for.
+fn collections_wait(alloc: Global, body: &Document) -> Result<Wait, NoMemory>
+    ensures { IfOk result (λ w. w ≡ collections_wait body.now) }
+{
+    match named(body.get("filter")) {
+        Some(name) => Ok(Wait::Collections(Some(Text::from_str(alloc, name)?))),
+        None => Ok(Wait::Collections(None)),
+    }
+}
+
 /// Whether a command is a find whose first batch is its last.
 fn is_single(body: &Document) -> bool
     ensures { result ≡ is_single body.now }
@@ -85,6 +99,9 @@ fn wait_of(alloc: Global, body: &Document) -> Result<Wait, NoMemory>
 {
     if name_of(body) == "killCursors" {
         return kill_wait(alloc, body);
+    }
+    if name_of(body) == "listCollections" {
+        return collections_wait(alloc, body);
     }
     if is_single(body) {
         return Ok(Wait::Single);
@@ -201,6 +218,20 @@ impl Plan {
         self.kill_next(alloc, kills)
     }
 
+    /// The answer that lists collections.
+    fn retell(
+        &self,
+        alloc: Global,
+        wanted: &Option<Text>,
+        reply: Document,
+    ) -> Result<Step, NoMemory>
+        ensures { IfOk result (λ s. s ≡ final self.now (retold wanted.now self.now.database
+            (batch_in (lookup reply (codes "cursor"))) reply)) }
+    {
+        let reply = retold(alloc, wanted, self.database.as_str(), reply)?;
+        self.final_step(alloc, reply)
+    }
+
     /// What is done where the database was asked and answered so. It fails for want of memory alone, and then the plan is of no use.
     pub fn answer(&mut self, alloc: Global, reply: Document) -> Result<Step, NoMemory>
         ensures { IfOk result (λ s. (self.new, s) ≡ answered self.old reply) }
@@ -211,6 +242,7 @@ impl Plan {
             Wait::Ended(answer) => self.final_step(alloc, answer),
             Wait::Write => self.error_step(alloc, reply),
             Wait::Kill(kills) => self.killed(alloc, kills, reply),
+            Wait::Collections(wanted) => self.retell(alloc, &wanted, reply),
         }
     }
 }

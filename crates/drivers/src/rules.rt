@@ -26,6 +26,8 @@ pub(crate) enum Rule {
     ApiVersion,
     /// True or false, which the plan sees to.
     Truth,
+    /// Which collections are listed, by their names, which the plan sees to.
+    NameFilter,
 }
 
 /// The fields by their names.

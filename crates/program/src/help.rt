@@ -10,7 +10,7 @@ docpage keeps documents in one file and answers MongoDB-style commands.
   docpage check FILE
   docpage dump FILE NAMESPACE
   docpage exec FILE
-  docpage listen FILE --port P [--idle-seconds S]
+  docpage listen FILE --port P [--idle-seconds S] [--drivers]
   docpage serve FILE --port P --connections N --turns T
   docpage help [WORD]
 
@@ -80,13 +80,14 @@ Answers one connection: frames of OP_MSG on standard input, replies on standard 
 ";
 
 const LISTEN: &str = "\
-docpage listen FILE --port P [--idle-seconds S]
+docpage listen FILE --port P [--idle-seconds S] [--drivers]
 
 Answers every connection to 127.0.0.1:P, 64 at a time, until a signal ends it. Port 0 is any that is free; it is printed.
 
   --idle-seconds S   closes a connection that has sent nothing for so long
+  --drivers          translates for MongoDB drivers, 1,024 connections at a time
 
-  docpage listen people.docpage --port 27017
+  docpage listen people.docpage --port 27017 --drivers
 ";
 
 const SERVE: &str = "\

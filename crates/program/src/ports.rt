@@ -4,6 +4,7 @@ ghost use Rattle.server.specs.Durable.{IsSound};
 
 use crate::fault::ProgramFault;
 use crate::words::{Listened, Served};
+use front::Front;
 use page::Disk;
 use server::{Core, serve_on};
 use std::io::Write;
@@ -39,6 +40,20 @@ pub(crate) fn listen<
 {
     let listener = bind(rt, listened.port, output)?;
     Ok(sockets::listen(rt, listener, listened.idle, core)?)
+}
+
+/// Serves MongoDB drivers on all connections of a port.
+pub(crate) fn listen_to_drivers<
+    R: AllocGlobal + Clock + Net<Listener = TcpListener, Stream = TcpStream>,
+    D: Disk + Drop,
+>(rt: &R, core: Core<D>, listened: &Listened, output: &mut impl Write) -> Result<(), ProgramFault>
+    requires sound { IsSound D.history core }
+{
+    let Ok(mut front) = Front::new(rt, core) else {
+        return Err(ProgramFault::Memory);
+    };
+    let listener = bind(rt, listened.port, output)?;
+    Ok(sockets::listen(rt, listener, listened.idle, &mut front)?)
 }
 
 /// Listens on a port of this machine's own address, and says on which.

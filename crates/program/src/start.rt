@@ -11,7 +11,7 @@ use crate::fault::ProgramFault;
 use crate::help::help_for;
 use crate::in_process::Server;
 use crate::people::{ask_all, export_all, import_all};
-use crate::ports::{listen, serve};
+use crate::ports::{listen, listen_to_drivers, serve};
 use crate::terminal::Terminal;
 use crate::words::{Task, Words, parse};
 use clap::error::ErrorKind;
@@ -108,6 +108,11 @@ fn run_over<
 ) -> Result<(), ProgramFault> {
     let mut server = open(rt, words)?;
     let task = &words.task;
+    if let Task::Listen(listened) = task {
+        if listened.drivers {
+            return listen_to_drivers(rt, server.core, listened, output);
+        }
+    }
     let ended = run_task(rt, &mut server, task, terminal, input, output, errors);
     drop(server);
     ended

@@ -99,11 +99,12 @@ pub(crate) struct Served {
     ghost few: { connections ≤ 64 },
 }
 
-/// A port (0 for any that is free), and how long a connection may be silent.
+/// A port (0 for any that is free), how long a connection may be silent, and whether MongoDB drivers are served.
 #[derive(Drop)]
 pub(crate) struct Listened {
     pub port: u16,
     pub idle: Option<Duration>,
+    pub drivers: bool,
 }
 
 /// Parses the words. None is said where they match but a number is out of range.
@@ -191,7 +192,8 @@ fn listen_words<'a>(alloc: Global) -> Result<Command<'a>, AllocError> {
     Command::new(alloc, "listen")
         .arg(file(alloc))?
         .arg(option(alloc, "port").required(true))?
-        .arg(option(alloc, "idle-seconds"))
+        .arg(option(alloc, "idle-seconds"))?
+        .arg(flag(alloc, "drivers"))
 }
 
 fn ask_words<'a>(alloc: Global) -> Result<Command<'a>, AllocError> {
@@ -287,7 +289,12 @@ fn listened_of(matches: &ArgMatches<'_>) -> Option<Task> {
         Some(text) => Some(seconds(text)?),
         None => None,
     };
-    Some(Task::Listen(Listened { port, idle }))
+    let drivers = matches.get_flag("drivers");
+    Some(Task::Listen(Listened {
+        port,
+        idle,
+        drivers,
+    }))
 }
 
 /// What `ask` is to do. A command that names no database is asked in `test`.

@@ -6,7 +6,7 @@ ghost use Rattle.server.specs.View.{frames_in};
 ghost use Rattle.server.specs.Durable.{IsSound};
 
 use crate::turn::{Core, TurnFault};
-use engine::ConnId;
+use engine::{CONNECTIONS, ConnId};
 use op_msg::FrameFault;
 use page::Disk;
 use sockets::{NotTaken, Outlet, ServeFault, Service, Stopped};
@@ -18,6 +18,10 @@ impl<D: Disk> Service for Core<D> {
     ghost use Rattle.server.specs.Serving.{IsAnswered};
     ghost use Rattle.server.specs.View.{state};
     ghost use Rattle.server.specs.Durable.{IsSound};
+
+    ghost PLACES = { 64 };
+
+    const PLACES: usize = CONNECTIONS as usize;
 
     ghost is_sound = { λ core. IsSound D.history core };
 

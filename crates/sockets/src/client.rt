@@ -117,7 +117,7 @@ impl<T: Read + Write + Drop> Client<T> {
         buffer: &mut [u8],
         service: &mut S,
     ) -> Incoming
-        requires number { connection < 64 }
+        requires number { connection < S.PLACES }
         requires sound { S.is_sound service.old }
         ensures sound { S.is_sound service.new }
         ensures fed { IsFedBy S.is_fed connection result buffer.new service.old service.new

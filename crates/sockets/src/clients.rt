@@ -14,12 +14,8 @@ use std::io::ErrorKind;
 use std::net::{Net, TcpListener};
 use std::time::Duration;
 
-/// The most connections at a time.
-pub(crate) const PLACES: usize = 64;
 /// The most bytes of one read.
 const READ_BYTES: usize = 65_536;
-/// The token of the listener. A connection's is its number.
-const LISTENER: Token = Token(PLACES);
 
 /// What is known of the connections that no one accepted.
 #[derive(Clone, Copy, Debug, PartialEq, Eq)]
@@ -32,25 +28,30 @@ pub(crate) enum Backlog {
     Refused,
 }
 
+/// The token of the listener. A connection's is its number.
+fn listener_token<S: Service>() -> Token {
+    Token(S::PLACES)
+}
+
 /// The connections, and what tells when they are ready.
 #[derive(Drop)]
-pub(crate) struct Clients {
+pub(crate) struct Clients<S: Service> {
     alloc: Global,
     poll: Poll,
     events: Events,
-    pub table: Table<TcpStream>,
+    pub table: Table<TcpStream, S>,
     buffer: Vec<u8>,
 }
 
-impl Clients {
+impl<S: Service> Clients<S> {
     /// So many free places.
-    pub fn new(net: &impl Net, alloc: Global, count: usize) -> io::Result<Clients>
-        requires { count ≤ 64 }
+    pub fn new(net: &impl Net, alloc: Global, count: usize) -> io::Result<Clients<S>>
+        requires { count ≤ S.PLACES }
     {
         Ok(Clients {
             alloc,
             poll: Poll::new(net)?,
-            events: Events::with_capacity(alloc, PLACES + 1)?,
+            events: Events::with_capacity(alloc, S::PLACES.saturating_add(1))?,
             table: Table::new(alloc, count)?,
             buffer: Vec::from_elem(alloc, 0, READ_BYTES)?,
         })
@@ -84,13 +85,13 @@ impl Clients {
         let mut listener = Listener::from_std(listener);
         self.poll
             .registry()
-            .register(&mut listener, LISTENER, Interest::READABLE)?;
+            .register(&mut listener, listener_token::<S>(), Interest::READABLE)?;
         Ok(listener)
     }
 
     /// Accepts what waits, as far as numbers are free. A connection that can't be watched is dropped.
     pub fn accept(&mut self, listener: &Listener) -> Backlog {
-        for _ in 0..PLACES {
+        for _ in 0..S::PLACES {
             if !self.table.has_room() {
                 return Backlog::More;
             }
@@ -113,7 +114,7 @@ impl Clients {
         self.poll.poll(&mut self.events, limit)?;
         let mut accepts = false;
         for event in &self.events {
-            if event.token() == LISTENER {
+            if event.token() == listener_token::<S>() {
                 accepts = true;
             } else if let Some(client) = self.table.get_mut(event.token().0) {
                 note(client, event);
@@ -124,7 +125,7 @@ impl Clients {
 
     /// One round over what is ready: it writes what waits, reads, makes a turn where a message waits for one, and forgets
     /// the connections that are over. Whether it made a turn.
-    pub fn round<S: Service>(&mut self, service: &mut S) -> Result<bool, ServeFault>
+    pub fn round(&mut self, service: &mut S) -> Result<bool, ServeFault>
         requires sound { S.is_sound service.old }
         ensures sound { S.is_sound service.new }
     {

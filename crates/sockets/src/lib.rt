@@ -1,5 +1,5 @@
-//! Up to 64 connections served by one thread: what is there is read from each, all are answered in one turn, and what a
-//! socket does not take waits for it. What answers is a `Service`.
+//! Connections served by one thread, as many as a `Service` has numbers for: what is there is read from each, all are answered in
+//! one turn, and what a socket does not take waits for it.
 #![tactic(auto)]
 
 mod client;

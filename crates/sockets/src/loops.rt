@@ -2,7 +2,7 @@
 
 ghost use Rattle.std.specs.Prelude.{◌≡◌, ◌≤◌};
 
-use crate::clients::{Backlog, Clients, PLACES};
+use crate::clients::{Backlog, Clients};
 use crate::service::{ServeFault, Service};
 use mio::net::TcpListener as Listener;
 use std::io;
@@ -22,11 +22,11 @@ pub fn serve_on<R: AllocGlobal + Net, S: Service>(
     turns: u64,
     service: &mut S,
 ) -> Result<(), ServeFault>
-    requires connections { connections ≤ 64 }
+    requires connections { connections ≤ S.PLACES }
     requires sound { S.is_sound service.old }
     ensures sound { S.is_sound service.new }
 {
-    let Ok(mut clients) = accept_all(rt, listener, connections) else {
+    let Ok(mut clients) = accept_all::<R, S>(rt, listener, connections) else {
         return Err(ServeFault::Accept);
     };
     let served = serve_turns(&mut clients, turns, service);
@@ -36,12 +36,12 @@ pub fn serve_on<R: AllocGlobal + Net, S: Service>(
 }
 
 /// Accepts so many connections.
-fn accept_all<R: AllocGlobal + Net>(
+fn accept_all<R: AllocGlobal + Net, S: Service>(
     rt: &R,
     listener: &TcpListener,
     connections: usize,
-) -> io::Result<Clients>
-    requires { connections ≤ 64 }
+) -> io::Result<Clients<S>>
+    requires { connections ≤ S.PLACES }
 {
     let mut clients = Clients::new(rt, rt.alloc(), connections)?;
     for _ in 0..connections {
@@ -52,7 +52,7 @@ fn accept_all<R: AllocGlobal + Net>(
 
 /// Serves the connections until so many turns were made or none is open.
 fn serve_turns<S: Service>(
-    clients: &mut Clients,
+    clients: &mut Clients<S>,
     turns: u64,
     service: &mut S,
 ) -> Result<(), ServeFault>
@@ -75,7 +75,7 @@ fn serve_turns<S: Service>(
     Ok(())
 }
 
-/// Serves every connection that comes, at most 64 at a time, for as long as the process runs. A new one has the least free
+/// Serves every connection that comes, as many at a time as the service has numbers for, for as long as the process runs. A new one has the least free
 /// number, and where none is free it waits. One of which nothing has come for `idle` is ended.
 pub fn listen<R: AllocGlobal + Net + Clock, S: Service>(
     rt: &R,
@@ -86,7 +86,7 @@ pub fn listen<R: AllocGlobal + Net + Clock, S: Service>(
     requires sound { S.is_sound service.old }
     ensures sound { S.is_sound service.new }
 {
-    let Ok((mut clients, listener)) = watched(rt, listener) else {
+    let Ok((mut clients, listener)) = watched::<R, S>(rt, listener) else {
         return Err(ServeFault::Accept);
     };
     let served = serve_all(rt, &mut clients, &listener, idle, service);
@@ -98,7 +98,7 @@ pub fn listen<R: AllocGlobal + Net + Clock, S: Service>(
 /// Serves every connection that the listener gives.
 fn serve_all<R: Clock, S: Service>(
     rt: &R,
-    clients: &mut Clients,
+    clients: &mut Clients<S>,
     listener: &Listener,
     idle: Option<Duration>,
     service: &mut S,
@@ -120,8 +120,11 @@ fn serve_all<R: Clock, S: Service>(
 }
 
 /// No connections yet, and a listener whose connections are accepted as they come.
-fn watched<R: AllocGlobal + Net>(rt: &R, listener: TcpListener) -> io::Result<(Clients, Listener)> {
-    let clients = Clients::new(rt, rt.alloc(), PLACES)?;
+fn watched<R: AllocGlobal + Net, S: Service>(
+    rt: &R,
+    listener: TcpListener,
+) -> io::Result<(Clients<S>, Listener)> {
+    let clients = Clients::new(rt, rt.alloc(), S::PLACES)?;
     let listener = clients.watch(listener)?;
     Ok((clients, listener))
 }
@@ -129,7 +132,7 @@ fn watched<R: AllocGlobal + Net>(rt: &R, listener: TcpListener) -> io::Result<(C
 /// Waits until something is ready. Whether a connection may be there to be accepted.
 fn wait<R: Clock, S: Service>(
     rt: &R,
-    clients: &mut Clients,
+    clients: &mut Clients<S>,
     backlog: Backlog,
     idle: Option<Duration>,
     service: &S,
@@ -144,7 +147,7 @@ fn wait<R: Clock, S: Service>(
 
 /// A round over what is ready. Then it ends the connections of which nothing has come for so long.
 fn serve_round<S: Service>(
-    clients: &mut Clients,
+    clients: &mut Clients<S>,
     idle: Option<Duration>,
     service: &mut S,
 ) -> Result<(), ServeFault>
@@ -161,7 +164,7 @@ fn serve_round<S: Service>(
 
 /// How long to wait for something to be ready. None is as long as it takes.
 fn patience<S: Service>(
-    clients: &Clients,
+    clients: &Clients<S>,
     backlog: Backlog,
     idle: Option<Duration>,
     service: &S,

@@ -50,8 +50,14 @@ pub trait Outlet {
         ensures closed { is_closed self.old connection self.new };
 }
 
-/// Something that takes bytes of connections, numbered from 0 to 63, and answers all of them in turns.
+/// Something that takes bytes of connections, numbered from 0 on, and answers all of them in turns.
 pub trait Service {
+    /// How many connections it has numbers for.
+    ghost PLACES: { ℕ };
+
+    /// How many connections it has numbers for.
+    const PLACES: usize;
+
     /// What holds between two calls.
     ghost is_sound: { Self → Type 0 };
 
@@ -66,14 +72,14 @@ pub trait Service {
 
     /// Takes bytes that came on a connection. The first ones open it.
     fn take_bytes(&mut self, connection: usize, bytes: &[u8]) -> Result<(), NotTaken>
-        requires number { connection < 64 }
+        requires number { connection < PLACES }
         requires sound { is_sound self.old }
         ensures sound { is_sound self.new }
         ensures fed { OnOk result (is_fed self.old connection bytes.now self.new) };
 
     /// Whether a turn would take something from a connection.
     fn has_message(&self, connection: usize) -> bool
-        requires number { connection < 64 };
+        requires number { connection < PLACES };
 
     /// Answers the first message of each connection, and hands out the replies.
     fn answer<O: Outlet>(&mut self, outlet: &mut O) -> Result<(), Stopped>
@@ -84,7 +90,7 @@ pub trait Service {
 
     /// A connection has ended, and its number is free.
     fn forget(&mut self, connection: usize)
-        requires number { connection < 64 }
+        requires number { connection < PLACES }
         requires sound { is_sound self.old }
         ensures sound { is_sound self.new }
         ensures ended { is_ended self.old connection self.new };

@@ -8,25 +8,30 @@ use crate::service::{Outlet, Service};
 use crate::stream::Incoming;
 use std::alloc::{AllocError, Global};
 use std::io::{Read, Write};
+use std::marker::PhantomData;
 use std::time::Duration;
 
-/// The connections, each at the place of its number. A free place has nothing of the connection that had it before.
+/// The connections, each at the place of its number, and no more than the service has numbers for. A free place has nothing of
+/// the connection that had it before.
 #[derive(Drop)]
-pub(crate) struct Table<T> {
+pub(crate) struct Table<T, S: Service> {
     pub places: Vec<Option<Client<T>>>,
     // the time of the round
     pub time: Duration,
-    ghost few: { length places.items ≤ 64 },
+    // whose numbers they are
+    pub numbers: PhantomData<S>,
+    ghost few: { length places.items ≤ S.PLACES },
 }
 
-impl<T: Read + Write + Drop> Table<T> {
+impl<T: Read + Write + Drop, S: Service> Table<T, S> {
     /// So many free places.
-    pub fn new(alloc: Global, count: usize) -> Result<Table<T>, AllocError>
-        requires { count ≤ 64 }
+    pub fn new(alloc: Global, count: usize) -> Result<Table<T, S>, AllocError>
+        requires { count ≤ S.PLACES }
     {
         Ok(Table {
             places: free_places(alloc, count)?,
             time: Duration::ZERO,
+            numbers: PhantomData,
         })
     }
 
@@ -63,12 +68,12 @@ impl<T: Read + Write + Drop> Table<T> {
     }
 
     /// Whether there is something to do without a further event: a read, a write, or a turn.
-    pub fn is_busy<S: Service>(&self, service: &S) -> bool {
+    pub fn is_busy(&self, service: &S) -> bool {
         self.places.iter().flatten().any(|client| client.is_busy()) || self.has_messages(service)
     }
 
     /// Whether a message of some connection waits for a turn.
-    pub fn has_messages<S: Service>(&self, service: &S) -> bool {
+    pub fn has_messages(&self, service: &S) -> bool {
         for (connection, place) in self.places.iter().enumerate() {
             if place.is_some() && service.has_message(connection) {
                 return true;
@@ -87,7 +92,7 @@ impl<T: Read + Write + Drop> Table<T> {
     }
 
     /// Reads once from each connection of which no message and no reply waits, in rising number.
-    pub fn read<S: Service>(&mut self, buffer: &mut [u8], service: &mut S)
+    pub fn read(&mut self, buffer: &mut [u8], service: &mut S)
         requires sound { S.is_sound service.old }
         ensures sound { S.is_sound service.new }
     {
@@ -122,7 +127,7 @@ impl<T: Read + Write + Drop> Table<T> {
     }
 
     /// Forgets the connections that are over. Their numbers are free.
-    pub fn settle<S: Service>(&mut self, service: &mut S)
+    pub fn settle(&mut self, service: &mut S)
         requires sound { S.is_sound service.old }
         ensures sound { S.is_sound service.new }
     {
@@ -141,7 +146,7 @@ impl<T: Read + Write + Drop> Table<T> {
     }
 }
 
-impl<T: Read + Write + Drop> Outlet for Table<T> {
+impl<T: Read + Write + Drop, S: Service> Outlet for Table<T, S> {
     ghost use Rattle.sockets.specs.Places.{IsGiven, IsClosed};
 
     ghost is_given = { λ old i frame new. IsGiven T.contents old.places.items i frame
@@ -201,7 +206,7 @@ fn read_place<T: Read + Write + Drop, S: Service>(
     service: &mut S,
     now: Duration,
 )
-    requires number { connection < 64 }
+    requires number { connection < S.PLACES }
     requires sound { S.is_sound service.old }
     ensures sound { S.is_sound service.new }
 {
@@ -222,7 +227,7 @@ fn settle_place<T: Read + Write + Drop, S: Service>(
     connection: usize,
     service: &mut S,
 )
-    requires number { connection < 64 }
+    requires number { connection < S.PLACES }
     requires sound { S.is_sound service.old }
     ensures sound { S.is_sound service.new }
     ensures over { is_over_in place.old ≡ true

@@ -1,0 +1,4 @@
+mod EachLemmas
+mod LoanLemmas
+mod HandingLemmas
+mod TyingLemmas

@@ -1,0 +1,9 @@
+use Rattle.server.specs.Durable.{IsSound}
+use Rattle.front.specs.Tying.{AreTied}
+use Rattle.front.proofs.front.Front.ask_all.Given as goal
+
+abbrev pub invariant-sockets : goal.invariant-sockets
+invariant-sockets g l = record {
+  sound : IsSound g.D.Disk.history l.self.core;
+  tied : AreTied l.self.lending.loans l.self.sockets.items;
+}

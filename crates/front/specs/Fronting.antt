@@ -1,0 +1,41 @@
+-- What a front hands out, of which sockets.
+use Rattle.std.specs.Prelude.{◌≡◌, ℕ, ◌+◌, Bool, if◌then◌else◌, List, [], ◌∷◌, ◌++◌, map, slice_set, slice_index_or, length, ◌<◌, Option, Some, None, Vec}
+use Rattle.front.specs.declared.socket.Socket.{Socket}
+use Rattle.front.specs.Serving.{fed, fresh}
+
+abbrev pub frame_to : {Z : Type 0} → ℕ → Option (Vec ℕ Z) → List (ℕ × List ℕ)
+frame_to i None = []
+frame_to i (Some frame) = (i, frame.items) ∷ []
+
+-- the answers that are ready, each with the number of its socket, from this number on
+abbrev pub answers_from : ℕ → List Socket → List (ℕ × List ℕ)
+answers_from i [] = []
+answers_from i (s ∷ ss) = frame_to i s.answer ++ answers_from (i + 1) ss
+
+abbrev pub closing : ℕ → Bool → List ℕ
+closing i is_over = if is_over then i ∷ [] else []
+
+-- the sockets that are to be closed, from this number on
+abbrev pub closed_from : ℕ → List Socket → List ℕ
+closed_from i [] = []
+closed_from i (s ∷ ss) = closing i s.is_over ++ closed_from (i + 1) ss
+
+-- a socket whose answer was handed out
+abbrev pub answered : Socket → Socket
+answered s = record s { answer = None }
+
+-- A turn hands out the answers that are ready, one of a socket at most and in rising number, and closes the sockets that are to be closed.
+pub record HandsOut (replies : List (ℕ × List ℕ)) (closed : List ℕ) (new : List Socket) : Type 0 where
+  pub ready : List Socket
+  pub answers : replies ≡ answers_from 0 ready
+  pub given : new ≡ map answered ready
+  pub over : closed ≡ closed_from 0 new
+
+-- bytes came on the socket of this number
+pub record IsFed (old : List Socket) (i : ℕ) (bytes : List ℕ) (new : List Socket) : Type 0 where
+  pub within : i < length old
+  pub fed : (any : Socket) → new ≡ slice_set old i (fed (slice_index_or old i any) bytes)
+
+-- The socket of this number has ended: nothing of it is left.
+abbrev pub IsEnded : List Socket → ℕ → List Socket → Type 0
+IsEnded old i new = new ≡ slice_set old i fresh

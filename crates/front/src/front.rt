@@ -1,0 +1,284 @@
+//! Sockets of drivers before a server.
+
+ghost use Rattle.server.specs.Durable.{IsSound};
+ghost use Rattle.std.specs.Prelude.{◌≡◌, ◌<◌, IfOk, map};
+ghost use Rattle.sockets.specs.Handing.{Hands, Closes};
+ghost use Rattle.front.specs.Tying.{AreTied};
+ghost use Rattle.front.specs.Fronting.{frame_to, answers_from, closing, closed_from, answered};
+
+use crate::cursors::OpenCursors;
+use crate::lending::Lending;
+use crate::serving::{end_cursor, serve_socket, take_closed, take_reply};
+use crate::socket::Socket;
+use bson::{MESSAGE_LIMIT, NoMemory};
+use drivers::ServerInfo;
+use engine::{CONNECTIONS, ConnId};
+use op_msg::FrameFault;
+use page::Disk;
+use server::{Core, TurnFault, TurnOut};
+use sockets::{NotTaken, Outlet, Service, Stopped};
+use std::alloc::Global;
+use std::rt::Clock;
+
+/// How many sockets there are.
+const PLACES: usize = 1_024;
+/// The most bytes of a document.
+const MOST_DOCUMENT_BYTES: i32 = 65_535;
+
+/// A server with up to 1,024 sockets of drivers before its 64 connections.
+#[derive(Drop)]
+pub struct Front<C: Clock, D: Disk> {
+    clock: C,
+    core: Core<D>,
+    sockets: Vec<Socket>,
+    lending: Lending,
+    cursors: OpenCursors,
+    // the socket that is served first in the next turn
+    first: usize,
+}
+
+impl<C: Clock + Drop, D: Disk + Drop> Front<C, D> {
+    /// A front of a server that has no connection yet.
+    pub fn new(clock: C, core: Core<D>) -> Result<Front<C, D>, NoMemory>
+        requires sound { IsSound D.history core }
+        ensures sound { IfOk result (λ front. IsSound D.history front.core) }
+        ensures tied { IfOk result (λ front. AreTied front.lending.loans front.sockets.items) }
+    {
+        let alloc = core.allocator();
+        Ok(Front {
+            clock,
+            core,
+            sockets: new_sockets(alloc)?,
+            lending: Lending::new(),
+            cursors: OpenCursors::new(alloc),
+            first: 0,
+        })
+    }
+
+    /// The milliseconds since 1970.
+    fn time(&self) -> i64 {
+        match self.clock.since_1970() {
+            Ok(time) => i64::try_from(time.as_millis()).unwrap_or(0),
+            Err(_) => 0,
+        }
+    }
+
+    /// Takes messages of sockets, each in its turn, and asks the server what they want to know, as far as connections are at rest.
+    fn ask_all(&mut self)
+        requires sound { IsSound D.history self.old.core }
+        requires tied { AreTied self.old.lending.loans self.old.sockets.items }
+        ensures sound { IsSound D.history self.new.core }
+        ensures tied { AreTied self.new.lending.loans self.new.sockets.items }
+    {
+        let time = self.time();
+        let first = self.first % PLACES;
+        'sockets: for step in 0..PLACES {
+            let number = (first + step) % PLACES;
+            if self.sockets.len() <= number || !self.sockets[number].waits() {
+                continue;
+            }
+            if !self.lending.has_rest() {
+                self.first = number;
+                return;
+            }
+            let info = info(number, time);
+            let socket = &mut self.sockets[number];
+            serve_socket(
+                &mut self.core,
+                &mut self.lending,
+                &self.cursors,
+                number,
+                &info,
+                socket,
+            );
+        }
+    }
+
+    /// Ends cursors of sockets that have ended, as far as their owners are at rest.
+    fn end_cursors(&mut self)
+        requires sound { IsSound D.history self.old.core }
+        requires tied { AreTied self.old.lending.loans self.old.sockets.items }
+        ensures sound { IsSound D.history self.new.core }
+        ensures tied { AreTied self.new.lending.loans self.new.sockets.items }
+    {
+        'cursors: for _ in 0..CONNECTIONS {
+            if !end_cursor(&mut self.core, &mut self.lending, &self.cursors) {
+                return;
+            }
+        }
+    }
+
+    /// Makes a turn of the server, and takes what it handed out.
+    fn make_turn(&mut self) -> Result<(), Stopped>
+        requires sound { IsSound D.history self.old.core }
+        requires tied { AreTied self.old.lending.loans self.old.sockets.items }
+        ensures sound { IsSound D.history self.new.core }
+        ensures tied { AreTied self.new.lending.loans self.new.sockets.items }
+    {
+        match self.core.turn() {
+            Ok(turn) => {
+                self.take_turn(&turn);
+                Ok(())
+            }
+            // The messages wait for the next turn.
+            Err(TurnFault::Memory) => Ok(()),
+            Err(TurnFault::Stopped) => Err(Stopped),
+        }
+    }
+
+    /// Takes what a turn of the server handed out.
+    fn take_turn(&mut self, turn: &TurnOut)
+        requires sound { IsSound D.history self.old.core }
+        requires tied { AreTied self.old.lending.loans self.old.sockets.items }
+        ensures sound { IsSound D.history self.new.core }
+        ensures tied { AreTied self.new.lending.loans self.new.sockets.items }
+    {
+        'replies: for (id, frame) in turn.replies.iter() {
+            take_reply(
+                &mut self.core,
+                &mut self.lending,
+                &mut self.cursors,
+                &mut self.sockets,
+                *id,
+                frame,
+            );
+        }
+        self.take_all_closed(&turn.closed);
+    }
+
+    /// Takes which connections a turn of the server has closed.
+    fn take_all_closed(&mut self, closed: &[(ConnId, FrameFault)])
+        requires sound { IsSound D.history self.old.core }
+        requires tied { AreTied self.old.lending.loans self.old.sockets.items }
+        ensures sound { IsSound D.history self.new.core }
+        ensures tied { AreTied self.new.lending.loans self.new.sockets.items }
+    {
+        'closed: for (id, _) in closed {
+            take_closed(
+                &mut self.core,
+                &mut self.lending,
+                &mut self.cursors,
+                &mut self.sockets,
+                *id,
+            );
+        }
+    }
+}
+
+impl<C: Clock + Drop, D: Disk + Drop> Service for Front<C, D> {
+    ghost use Rattle.server.specs.Durable.{IsSound};
+    ghost use Rattle.std.specs.Prelude.{◌≡◌, map, slice_set};
+    ghost use Rattle.front.specs.Lending.{after_end};
+    ghost use Rattle.front.specs.Serving.{fresh};
+    ghost use Rattle.front.specs.Tying.{AreTied};
+    ghost use Rattle.front.specs.Fronting.{IsFed, IsEnded, HandsOut};
+
+    ghost PLACES = { 1024 };
+
+    const PLACES: usize = PLACES;
+
+    ghost is_sound = { λ front. IsSound D.history front.core
+        × AreTied front.lending.loans front.sockets.items };
+
+    ghost is_fed = { λ old i bytes new. IsFed old.sockets.items i bytes new.sockets.items };
+
+    ghost is_answered = { λ old replies closed new. HandsOut replies closed new.sockets.items };
+
+    ghost is_ended = { λ old i new. IsEnded old.sockets.items i new.sockets.items };
+
+    fn take_bytes(&mut self, connection: usize, bytes: &[u8]) -> Result<(), NotTaken> {
+        if self.sockets.len() <= connection {
+            return Err(NotTaken);
+        }
+        match self.sockets[connection].feed(bytes) {
+            Ok(()) => Ok(()),
+            Err(_) => Err(NotTaken),
+        }
+    }
+
+    fn has_message(&self, connection: usize) -> bool {
+        match self.sockets.get(connection) {
+            Some(socket) => socket.waits(),
+            None => false,
+        }
+    }
+
+    fn answer<O: Outlet>(&mut self, outlet: &mut O) -> Result<(), Stopped> {
+        self.end_cursors();
+        self.ask_all();
+        if self.make_turn().is_err() {
+            return Err(Stopped);
+        }
+        give_answers(&mut self.sockets, outlet);
+        close_sockets(&self.sockets, outlet);
+        Ok(())
+    }
+
+    fn forget(&mut self, connection: usize) {
+        self.cursors.abandon(connection);
+        self.lending.end(connection);
+        let alloc = self.core.allocator();
+        if connection < self.sockets.len() {
+            self.sockets[connection] = Socket::new(alloc);
+        }
+    }
+}
+
+/// Sockets of which nothing has come.
+fn new_sockets(alloc: Global) -> Result<Vec<Socket>, NoMemory> {
+    let mut sockets = Vec::with_capacity(alloc, PLACES)?;
+    for _ in 0..PLACES {
+        sockets.push(Socket::new(alloc))?;
+    }
+    Ok(sockets)
+}
+
+/// What a handshake on a socket tells of the server.
+fn info(number: usize, time: i64) -> ServerInfo
+    requires { number < 1024 }
+{
+    ServerInfo {
+        most_document_bytes: MOST_DOCUMENT_BYTES,
+        most_message_bytes: MESSAGE_LIMIT as i32,
+        connection: number as i32,
+        time,
+    }
+}
+
+/// Hands out the answer of a socket, if it is ready.
+fn give_answer<O: Outlet>(number: usize, socket: &mut Socket, outlet: &mut O)
+    ensures hands { Hands O.is_given (frame_to number socket.old.answer) outlet.old outlet.new }
+    ensures answered { socket.new ≡ answered socket.old }
+{
+    if let Some(frame) = socket.answer.take() {
+        outlet.reply(number, &frame);
+    }
+}
+
+/// Hands out the answers that are ready.
+fn give_answers<O: Outlet>(sockets: &mut [Socket], outlet: &mut O)
+    ensures hands { Hands O.is_given (answers_from 0 sockets.old) outlet.old outlet.new }
+    ensures answered { sockets.new ≡ map answered sockets.old }
+{
+    'sockets: for (number, socket) in sockets.iter_mut().enumerate() {
+        give_answer(number, socket, outlet);
+    }
+}
+
+/// Closes a socket, if it is to be closed.
+fn close_socket<O: Outlet>(number: usize, socket: &Socket, outlet: &mut O)
+    ensures { Closes O.is_closed (closing number socket.now.is_over) outlet.old outlet.new }
+{
+    if socket.is_over {
+        outlet.close(number);
+    }
+}
+
+/// Closes the sockets that are to be closed.
+fn close_sockets<O: Outlet>(sockets: &[Socket], outlet: &mut O)
+    ensures { Closes O.is_closed (closed_from 0 sockets.now) outlet.old outlet.new }
+{
+    'sockets: for (number, socket) in sockets.iter().enumerate() {
+        close_socket(number, socket, outlet);
+    }
+}

@@ -1,0 +1,252 @@
+//! What a turn does with the sockets.
+
+ghost use Rattle.std.specs.Prelude.{◌≡◌, true, None, Some, IfSome, slice_set};
+ghost use Rattle.server.specs.Durable.{IsSound};
+ghost use Rattle.front.specs.Lending.{loan_at, is_at_rest, borrower, Lends};
+ghost use Rattle.front.specs.Serving.{OthersStay};
+ghost use Rattle.front.specs.Tying.{Asks, LendsToNone};
+
+use crate::asking::{
+    NotAsked, ask, cursor_left, document_of, end_command, has_ended, namespace_of,
+};
+use crate::cursors::{OpenCursor, OpenCursors};
+use crate::job::{Question, Stage};
+use crate::lending::{Lending, Loan};
+use crate::socket::Socket;
+use bson::{Document, NoMemory, Text};
+use drivers::ServerInfo;
+use engine::ConnId;
+use page::Disk;
+use server::Core;
+use std::alloc::Global;
+
+/// The connection that owns the cursor of a question, if one does.
+fn owner_of(cursors: &OpenCursors, question: &Question) -> Option<ConnId> {
+    match question.cursor {
+        Some(cursor) => cursors.owner_of(cursor),
+        None => None,
+    }
+}
+
+/// A connection, where it is at rest.
+fn if_at_rest(lending: &Lending, id: ConnId) -> Option<ConnId>
+    ensures { IfSome result (λ id. is_at_rest lending.now.loans id ≡ true) }
+{
+    if lending.is_at_rest(id) {
+        Some(id)
+    } else {
+        None
+    }
+}
+
+/// The connection that a question can be asked on now: the one at rest that owns its cursor, or the one at rest with the fewest.
+fn connection_for(lending: &Lending, cursors: &OpenCursors, question: &Question) -> Option<ConnId>
+    ensures rest { IfSome result (λ id. is_at_rest lending.now.loans id ≡ true) }
+{
+    match owner_of(cursors, question) {
+        Some(owner) => if_at_rest(lending, owner),
+        None => lending.least_used(&cursors.counts()),
+    }
+}
+
+/// Asks the question of a socket's message, where it has one and a connection can be lent to it.
+fn ask_question<D: Disk>(
+    core: &mut Core<D>,
+    lending: &mut Lending,
+    cursors: &OpenCursors,
+    number: usize,
+    socket: &mut Socket,
+)
+    requires sound { IsSound D.history core.old }
+    ensures sound { IsSound D.history core.new }
+    ensures lends { Lends (Some number) lending.old.loans lending.new.loans }
+    ensures asks { Asks number lending.old.loans lending.new.loans socket.old socket.new }
+{
+    let Some(question) = socket.question() else {
+        return;
+    };
+    let Some(id) = connection_for(lending, cursors, question) else {
+        return;
+    };
+    match ask(core, id, &question.command) {
+        Ok(()) => {
+            let cursor = question.cursor;
+            lending.lend(
+                id,
+                Loan {
+                    socket: Some(number),
+                    cursor,
+                },
+            );
+            socket.wait();
+        }
+        Err(NotAsked::Long) => socket.refuse_long(core.allocator()),
+        Err(NotAsked::Memory) => socket.is_over = true,
+    }
+}
+
+/// Does what can be done of a socket: takes a message where it works on none, and asks the server, where a connection can be lent
+/// to it.
+pub(crate) fn serve_socket<D: Disk>(
+    core: &mut Core<D>,
+    lending: &mut Lending,
+    cursors: &OpenCursors,
+    number: usize,
+    info: &ServerInfo,
+    socket: &mut Socket,
+)
+    requires sound { IsSound D.history core.old }
+    ensures sound { IsSound D.history core.new }
+    ensures lends { Lends (Some number) lending.old.loans lending.new.loans }
+    ensures asks { Asks number lending.old.loans lending.new.loans socket.old socket.new }
+{
+    socket.begin(core.allocator(), info);
+    ask_question(core, lending, cursors, number, socket);
+}
+
+/// Ends a cursor of a socket that has ended, where its owner is at rest. Whether there was one.
+pub(crate) fn end_cursor<D: Disk>(
+    core: &mut Core<D>,
+    lending: &mut Lending,
+    cursors: &OpenCursors,
+) -> bool
+    requires sound { IsSound D.history core.old }
+    ensures sound { IsSound D.history core.new }
+    ensures lends { Lends None lending.old.loans lending.new.loans }
+    ensures none { LendsToNone lending.old.loans lending.new.loans }
+{
+    let Some(cursor) = cursors.abandoned(lending) else {
+        return false;
+    };
+    let Ok(command) = end_command(core.allocator(), cursor) else {
+        return false;
+    };
+    if ask(core, cursor.owner, &command).is_err() {
+        return false;
+    }
+    lending.lend(
+        cursor.owner,
+        Loan {
+            socket: None,
+            cursor: Some(cursor.id),
+        },
+    );
+    true
+}
+
+/// Notes the cursor that a reply leaves open, where it is a new one.
+fn note_cursor(
+    alloc: Global,
+    cursors: &mut OpenCursors,
+    owner: ConnId,
+    opener: Option<usize>,
+    reply: &Document,
+) -> Result<(), NoMemory> {
+    let Some(id) = cursor_left(reply) else {
+        return Ok(());
+    };
+    if cursors.owner_of(id).is_some() {
+        return Ok(());
+    }
+    let (database, collection) = namespace_of(reply).unwrap_or(("", ""));
+    cursors.open(OpenCursor {
+        id,
+        owner,
+        opener,
+        database: Text::from_str(alloc, database)?,
+        collection: Text::from_str(alloc, collection)?,
+    })
+}
+
+/// The document of what the server has replied on a connection that was lent, once it is noted which cursor has ended by it and
+/// which was opened.
+fn read_reply(
+    alloc: Global,
+    cursors: &mut OpenCursors,
+    owner: ConnId,
+    loan: Loan,
+    frame: &[u8],
+) -> Result<Document, NoMemory> {
+    let reply = document_of(alloc, frame)?;
+    if let Some(asked) = loan.cursor {
+        if has_ended(&reply) && cursor_left(&reply) != Some(asked) {
+            cursors.end(asked);
+        }
+    }
+    note_cursor(alloc, cursors, owner, loan.socket, &reply)?;
+    Ok(reply)
+}
+
+/// The message that a connection was lent to goes on with the reply, if its socket is still there.
+fn go_on(alloc: Global, sockets: &mut [Socket], loan: Loan, reply: Document)
+    ensures { OthersStay sockets.old loan.socket sockets.new }
+{
+    let Some(number) = loan.socket else {
+        return;
+    };
+    if number < sockets.len() {
+        sockets[number].take_reply(alloc, reply);
+    }
+}
+
+/// The socket that a connection was lent to is closed, if it is still there.
+fn give_up(sockets: &mut [Socket], loan: Loan)
+    ensures { OthersStay sockets.old loan.socket sockets.new }
+{
+    let Some(number) = loan.socket else {
+        return;
+    };
+    if number < sockets.len() {
+        sockets[number].is_over = true;
+    }
+}
+
+/// Takes what the server has replied on a connection, which is at rest again. Where memory runs out for it, the connection's
+/// cursors end with it, and the socket is closed.
+pub(crate) fn take_reply<D: Disk>(
+    core: &mut Core<D>,
+    lending: &mut Lending,
+    cursors: &mut OpenCursors,
+    sockets: &mut [Socket],
+    owner: ConnId,
+    frame: &[u8],
+)
+    requires sound { IsSound D.history core.old }
+    ensures sound { IsSound D.history core.new }
+    ensures rest { lending.new.loans ≡ slice_set lending.old.loans owner None }
+    ensures others { OthersStay sockets.old (borrower (loan_at lending.old.loans owner)) sockets.new }
+{
+    let alloc = core.allocator();
+    let Some(loan) = lending.take_back(owner) else {
+        return;
+    };
+    match read_reply(alloc, cursors, owner, loan, frame) {
+        Ok(reply) => go_on(alloc, sockets, loan, reply),
+        Err(_) => {
+            core.gone(owner);
+            cursors.end_all(owner);
+            give_up(sockets, loan);
+        }
+    }
+}
+
+/// The server has closed a connection: it begins anew, without cursors, and the socket to which it was lent is closed.
+pub(crate) fn take_closed<D: Disk>(
+    core: &mut Core<D>,
+    lending: &mut Lending,
+    cursors: &mut OpenCursors,
+    sockets: &mut [Socket],
+    owner: ConnId,
+)
+    requires sound { IsSound D.history core.old }
+    ensures sound { IsSound D.history core.new }
+    ensures rest { lending.new.loans ≡ slice_set lending.old.loans owner None }
+    ensures others { OthersStay sockets.old (borrower (loan_at lending.old.loans owner)) sockets.new }
+{
+    core.gone(owner);
+    cursors.end_all(owner);
+    let Some(loan) = lending.take_back(owner) else {
+        return;
+    };
+    give_up(sockets, loan);
+}

@@ -1,0 +1,199 @@
+//! A socket of a driver.
+
+ghost use Rattle.std.specs.Prelude.{◌≡◌, true, false, is_some, IfSome, OnOk, OnErr};
+ghost use Rattle.drivers.specs.Framing.{IsShort};
+ghost use Rattle.front.specs.Serving.{fresh, fed, waits};
+ghost use Rattle.front.specs.Tying.{is_asked};
+
+use crate::job::{Job, Question, Stage};
+use bson::{Document, MESSAGE_LIMIT, NoMemory};
+use drivers::{Form, Incoming, Message, Plan, ServerInfo, Step, StreamFault, framed};
+use engine::{Refusal, refusal_document};
+use std::alloc::Global;
+
+/// The most bytes of an answer's document.
+const MOST_BYTES: usize = MESSAGE_LIMIT - 36;
+/// The greatest number of a reply. After it comes 1.
+const LAST_REPLY: u32 = 2_147_483_647;
+
+/// A socket: its bytes that no message has taken, the message that is worked on, the answer that is ready, the number of the last
+/// one, and whether it is to be closed.
+#[derive(Drop)]
+pub(crate) struct Socket {
+    incoming: Incoming,
+    job: Option<Job>,
+    pub answer: Option<Vec<u8>>,
+    last_reply: u32,
+    pub is_over: bool,
+}
+
+impl Socket {
+    /// A socket of which nothing has come.
+    pub fn new(alloc: Global) -> Socket
+        ensures { result ≡ fresh }
+    {
+        Socket {
+            incoming: Incoming::new(alloc),
+            job: None,
+            answer: None,
+            last_reply: 0,
+            is_over: false,
+        }
+    }
+
+    /// Bytes have come.
+    pub fn feed(&mut self, bytes: &[u8]) -> Result<(), NoMemory>
+        ensures ok { OnOk result (self.new ≡ fed self.old bytes.now) }
+        ensures err { OnErr result (self.new ≡ self.old) }
+    {
+        self.incoming.feed(bytes)
+    }
+
+    /// Whether a turn would do something with it.
+    pub fn waits(&self) -> bool
+        ensures { result ≡ waits self.now }
+    {
+        !self.is_over && (self.job.is_some() || self.incoming.waiting())
+    }
+
+    /// Takes the message at the front, if none is worked on, and does what is done first with it. A socket with a fault at its
+    /// front, or for whose message memory ran out, is closed.
+    pub fn begin(&mut self, alloc: Global, info: &ServerInfo)
+        ensures { is_asked self.old.job ≡ true → is_asked self.new.job ≡ true }
+    {
+        if self.is_over || self.job.is_some() {
+            return;
+        }
+        match self.incoming.next() {
+            Ok(None) => {}
+            Ok(Some(message)) => self.start(alloc, info, message),
+            // The message is taken by a later turn.
+            Err(StreamFault::Memory) => {}
+            Err(_) => self.is_over = true,
+        }
+    }
+
+    /// Does what is done first with a message.
+    fn start(&mut self, alloc: Global, info: &ServerInfo, message: Message) {
+        let form = message.form;
+        let number = message.number;
+        match Plan::start(alloc, info, message) {
+            Ok((plan, step)) => self.follow(alloc, form, number, plan, step),
+            Err(_) => self.is_over = true,
+        }
+    }
+
+    /// Does what comes next with a message: the database is asked, or an answer is ready, or there is none.
+    fn follow(&mut self, alloc: Global, form: Form, number: u32, plan: Plan, step: Step) {
+        let question = match step {
+            Step::Ask(command) => Question {
+                cursor: None,
+                command,
+            },
+            Step::AskOwner(id, command) => Question {
+                cursor: Some(id),
+                command,
+            },
+            other => return self.finish(alloc, form, number, other),
+        };
+        self.job = Some(Job {
+            form,
+            number,
+            plan,
+            stage: Stage::Asks(question),
+        });
+    }
+
+    /// What the database is to be asked for the message that is worked on.
+    pub fn question(&self) -> Option<&Question>
+        ensures { IfSome result (λ _. (is_asked self.now.job ≡ false)
+            × (is_some self.now.job ≡ true)) }
+    {
+        let job = self.job.as_ref()?;
+        match &job.stage {
+            Stage::Asks(question) => Some(question),
+            Stage::Waits => None,
+        }
+    }
+
+    /// The database was asked.
+    pub fn wait(&mut self)
+        ensures { is_some self.old.job ≡ true → is_asked self.new.job ≡ true }
+    {
+        if let Some(job) = &mut self.job {
+            job.stage = Stage::Waits;
+        }
+    }
+
+    /// The database has answered the message that is worked on.
+    pub fn take_reply(&mut self, alloc: Global, reply: Document) {
+        let Some(job) = self.job.take() else {
+            return;
+        };
+        let Job {
+            form,
+            number,
+            mut plan,
+            stage: _,
+        } = job;
+        match plan.answer(alloc, reply) {
+            Ok(step) => self.follow(alloc, form, number, plan, step),
+            Err(_) => self.is_over = true,
+        }
+    }
+
+    /// The database can't be asked, since the command is too long for a message.
+    pub fn refuse_long(&mut self, alloc: Global) {
+        match refusal_document(alloc, Refusal::BSONObjectTooLarge) {
+            Ok(reply) => self.take_reply(alloc, reply),
+            Err(_) => self.is_over = true,
+        }
+    }
+
+    /// Makes the frame of an answer.
+    fn finish(&mut self, alloc: Global, form: Form, number: u32, step: Step) {
+        let reply_no = next_number(self.last_reply);
+        match frame(alloc, form, reply_no, number, step) {
+            Ok(Some(frame)) => {
+                self.last_reply = reply_no;
+                self.answer = Some(frame);
+            }
+            Ok(None) => {}
+            Err(_) => self.is_over = true,
+        }
+    }
+}
+
+/// The number of the next reply.
+fn next_number(last: u32) -> u32 {
+    if last < LAST_REPLY { last + 1 } else { 1 }
+}
+
+/// Whether an answer has room in a message.
+fn is_short(step: &Step) -> bool
+    ensures { result ≡ true → IsShort step.now }
+{
+    match step {
+        Step::Reply(document) => document.encoded_len() <= MOST_BYTES,
+        Step::Fail(document) => document.encoded_len() <= MOST_BYTES,
+        _ => true,
+    }
+}
+
+/// The frame of an answer. One that has no room in a message is the refusal that says so.
+fn frame(
+    alloc: Global,
+    form: Form,
+    reply_no: u32,
+    number: u32,
+    step: Step,
+) -> Result<Option<Vec<u8>>, NoMemory> {
+    if is_short(&step) {
+        return framed(alloc, form, reply_no, number, &step);
+    }
+    let refusal = Step::Reply(refusal_document(alloc, Refusal::BSONObjectTooLarge)?);
+    if is_short(&refusal) {
+        return framed(alloc, form, reply_no, number, &refusal);
+    }
+    Ok(None)
+}

@@ -1,0 +1,335 @@
+"""Drives `docpage listen --drivers` by pymongo. Usage: drivers.py PROGRAM [CASE ..]
+Every wait has an end, and so has the whole. The last line is `N passed, M failed`."""
+import os, shutil, signal, socket, subprocess, sys, tempfile, threading, traceback
+
+import bson
+import pymongo
+from pymongo.errors import DuplicateKeyError, OperationFailure
+
+PROGRAM = os.path.abspath(sys.argv[1])
+FOLDER = tempfile.mkdtemp(prefix="drivers.")
+PATIENCE = 20.0
+PROCESSES = []
+
+
+class Server:
+    """A server of a file, on a port of its own."""
+
+    def __init__(self, name):
+        self.file = os.path.join(FOLDER, name)
+        self.start()
+
+    def start(self):
+        words = [PROGRAM, "listen", self.file, "--port", "0", "--drivers"]
+        self.process = subprocess.Popen(words, stdout=subprocess.PIPE, stderr=subprocess.PIPE)
+        PROCESSES.append(self.process)
+        line = self.process.stdout.readline().decode()
+        if not line.startswith("listening on "):
+            raise AssertionError(line + self.process.stderr.read().decode())
+        self.port = int(line.split(":")[1])
+
+    def client(self, **options):
+        return pymongo.MongoClient("127.0.0.1", self.port, serverSelectionTimeoutMS=5000,
+                                   socketTimeoutMS=int(PATIENCE * 1000), **options)
+
+    def kill(self):
+        self.process.send_signal(signal.SIGKILL)
+        self.process.wait(PATIENCE)
+        self.process.stdout.close()
+        self.process.stderr.close()
+
+
+def expect(answer, wanted):
+    if answer != wanted:
+        raise AssertionError(f"{answer!r}, and not {wanted!r}")
+
+
+def refused(kind, call, code=None):
+    """Whether a call is refused in this way."""
+    try:
+        answer = call()
+    except kind as fault:
+        if code is not None:
+            expect(fault.code, code)
+        return fault
+    raise AssertionError(f"answered {answer!r}")
+
+
+def all_of(threads):
+    """Runs these at the same time, and gives the faults of all."""
+    faults = []
+
+    def run(call):
+        try:
+            call()
+        except Exception as fault:
+            faults.append(fault)
+
+    running = [threading.Thread(target=run, args=(call,)) for call in threads]
+    for thread in running:
+        thread.start()
+    for thread in running:
+        thread.join(PATIENCE)
+    return faults
+
+
+def handshake(server):
+    client = server.client()
+    expect(client.admin.command("ping")["ok"], 1)
+    expect(client.server_info()["version"], "4.2.0")
+    hello = client.admin.command("isMaster")
+    expect((hello["ismaster"], hello["maxBsonObjectSize"], hello["maxWireVersion"]), (True, 65535, 8))
+    client.close()
+
+
+def inserts(server):
+    people = server.client().test.inserted
+    expect(people.insert_one({"_id": 1, "name": "Ada"}).inserted_id, 1)
+    made = people.insert_one({"name": "Grace"}).inserted_id
+    expect(type(made), bson.ObjectId)
+    expect(people.find_one({"_id": made}), {"_id": made, "name": "Grace"})
+    expect(people.insert_many([{"_id": n} for n in range(10, 1500)]).inserted_ids, list(range(10, 1500)))
+    expect(people.estimated_document_count(), 1492)
+    many = [{"_id": n, "text": "x" * 30_000} for n in range(2000, 2080)]
+    expect(len(people.insert_many(many).inserted_ids), 80)
+    expect(people.find_one({"_id": 2079}), many[-1])
+
+
+def finds(server):
+    numbers = server.client().test.numbers
+    numbers.insert_many([{"_id": n, "half": n // 2, "tags": ["even" if n % 2 == 0 else "odd"]} for n in range(500)])
+    expect([d["_id"] for d in numbers.find({"half": {"$gte": 248}}).sort("_id", -1)], [499, 498, 497, 496])
+    expect(list(numbers.find({"_id": 7}, {"half": 1})), [{"_id": 7, "half": 3}])
+    expect([d["_id"] for d in numbers.find({"tags": "odd"}).sort([("half", 1), ("_id", 1)]).skip(2).limit(3)], [5, 7, 9])
+    expect([d["_id"] for d in numbers.find({"$or": [{"_id": 3}, {"half": {"$in": [4]}}]}).sort("_id", 1)], [3, 8, 9])
+    expect(numbers.find_one({"_id": 1000}), None)
+    expect([d["_id"] for d in numbers.find({}).limit(-2)], [0, 1])
+
+
+def cursors(server):
+    client = server.client()
+    numbers = client.test.batches
+    numbers.insert_many([{"_id": n} for n in range(500)])
+    expect([d["_id"] for d in numbers.find().batch_size(7)], list(range(500)))
+    one, other = numbers.find().batch_size(3), numbers.find().sort("_id", -1).batch_size(2)
+    expect([(next(one)["_id"], next(other)["_id"]) for _ in range(500)], [(n, 499 - n) for n in range(500)])
+    early = numbers.find().batch_size(2)
+    next(early)
+    early.close()
+    refused(OperationFailure, lambda: client.test.command({"getMore": bson.Int64(99999), "collection": "batches"}), 43)
+
+
+def abandoned_cursors(server):
+    """Each connection of the server has room for 16 cursors, so 1,024 are open at most."""
+    server.client().test.many.insert_many([{"_id": n} for n in range(5)])
+    for _ in range(3):
+        client = server.client()
+        opened = [client.test.many.find().batch_size(1) for _ in range(1000)]
+        expect([next(cursor)["_id"] for cursor in opened], [0] * 1000)
+        expect([next(cursor)["_id"] for cursor in opened[::100]], [1] * 10)
+        for cursor in opened:
+            cursor._Cursor__killed = True
+        client.close()
+
+
+def updates(server):
+    people = server.client().test.updated
+    people.insert_many([{"_id": n, "age": 20 + n} for n in range(10)])
+    done = people.update_one({"_id": 3}, {"$set": {"name": "Ada"}, "$inc": {"age": 1}})
+    expect((done.matched_count, done.modified_count), (1, 1))
+    expect(people.find_one({"_id": 3}), {"_id": 3, "age": 24, "name": "Ada"})
+    done = people.update_many({"age": {"$gte": 25}}, {"$push": {"tags": "old"}})
+    expect((done.matched_count, done.modified_count), (5, 5))
+    done = people.replace_one({"_id": 4}, {"other": True})
+    expect((done.matched_count, people.find_one({"_id": 4})), (1, {"_id": 4, "other": True}))
+    done = people.update_one({"_id": 77}, {"$set": {"age": 77}}, upsert=True)
+    expect((done.matched_count, done.upserted_id), (0, 77))
+    expect(people.find_one({"_id": 77}), {"_id": 77, "age": 77})
+    expect(people.update_one({"_id": 78}, {"$set": {"age": 1}}).matched_count, 0)
+
+
+def deletes(server):
+    people = server.client().test.deleted
+    people.insert_many([{"_id": n, "odd": n % 2} for n in range(20)])
+    expect(people.delete_one({"_id": 4}).deleted_count, 1)
+    expect(people.delete_many({"odd": 1}).deleted_count, 10)
+    expect([d["_id"] for d in people.find()], [0, 2, 6, 8, 10, 12, 14, 16, 18])
+    expect(people.delete_many({}).deleted_count, 9)
+    expect(people.count_documents({}), 0)
+
+
+def counts(server):
+    sold = server.client().test.sold
+    sold.insert_many([{"_id": n, "what": "abc"[n % 3], "price": n} for n in range(30)])
+    expect(sold.count_documents({"what": "a"}), 10)
+    expect(sold.count_documents({}), 30)
+    groups = sold.aggregate([{"$match": {"price": {"$gte": 3}}},
+                             {"$group": {"_id": "$what", "sum": {"$sum": "$price"}, "n": {"$sum": 1}}},
+                             {"$sort": {"_id": 1}}])
+    expect(list(groups), [{"_id": "a", "sum": 135, "n": 9}, {"_id": "b", "sum": 144, "n": 9},
+                          {"_id": "c", "sum": 153, "n": 9}])
+
+
+def indexes(server):
+    database = server.client().indexed
+    users = database.users
+    users.insert_many([{"_id": n, "name": f"n{n}", "city": n % 3} for n in range(30)])
+    expect(users.create_index("city"), "city_1")
+    expect(users.create_index([("name", pymongo.ASCENDING)], unique=True), "name_1")
+    expect(users.create_index([("city", 1), ("name", -1)], name="both"), "both")
+    told = users.index_information()
+    expect(sorted(told), ["_id_", "both", "city_1", "name_1"])
+    expect((told["name_1"]["unique"], told["city_1"].get("unique"), told["both"]["key"]),
+           (True, None, [("city", 1), ("name", -1)]))
+    expect([d["_id"] for d in users.find({"city": 2, "name": "n5"})], [5])
+    refused(DuplicateKeyError, lambda: users.insert_one({"_id": 99, "name": "n5"}))
+    users.drop_index("both")
+    expect(sorted(users.index_information()), ["_id_", "city_1", "name_1"])
+    users.drop_indexes()
+    expect(sorted(users.index_information()), ["_id_"])
+
+
+def collections(server):
+    database = server.client().listed
+    database.one.insert_one({"_id": 1})
+    database.create_collection("two")
+    expect(sorted(database.list_collection_names()), ["one", "two"])
+    expect(database.list_collection_names(filter={"name": "two"}), ["two"])
+    expect([c["type"] for c in database.list_collections()], ["collection", "collection"])
+    database.one.drop()
+    expect(database.list_collection_names(), ["two"])
+
+
+def refusals(server):
+    client = server.client()
+    people = client.test.refused
+    people.insert_one({"_id": 1})
+    refused(DuplicateKeyError, lambda: people.insert_one({"_id": 1}), 11000)
+    refused(OperationFailure, lambda: client.admin.command("frobnicate"), 59)
+    refused(OperationFailure, lambda: people.find_one({"$frob": 1}), 52)
+    refused(Exception, lambda: people.insert_one({"_id": 2, "weight": 1.5}))
+    refused(Exception, lambda: people.insert_one({"_id": 2, "text": "x" * 70_000}))
+    expect(people.count_documents({}), 1)
+    with client.start_session() as session:
+        session.start_transaction()
+        refused(OperationFailure, lambda: people.insert_one({"_id": 3}, session=session), 20)
+        session.abort_transaction()
+    expect(people.count_documents({}), 1)
+
+
+def unacknowledged(server):
+    client = server.client()
+    people = client.test.get_collection("unheard", write_concern=pymongo.WriteConcern(w=0))
+    for n in range(20):
+        people.insert_one({"_id": n})
+    expect(client.admin.command("ping")["ok"], 1)
+    expect(client.test.unheard.count_documents({}), 20)
+
+
+def pool(server):
+    """100 sockets of one client, all in use at the same time, and their cursors."""
+    client = server.client(maxPoolSize=100, minPoolSize=100)
+    written = client.test.pool
+    start = threading.Barrier(100)
+
+    def work(worker):
+        for turn in range(10):
+            start.wait(PATIENCE)
+            written.insert_one({"_id": worker * 10 + turn, "worker": worker})
+        found = written.find({"worker": worker}).batch_size(3)
+        expect([d["_id"] for d in found], [worker * 10 + turn for turn in range(10)])
+
+    faults = all_of([lambda worker=worker: work(worker) for worker in range(100)])
+    expect(faults, [])
+    expect(written.count_documents({}), 1000)
+    client.close()
+
+
+def clients(server):
+    """200 clients of their own, each with three sockets or so."""
+    many = [server.client() for _ in range(200)]
+    faults = all_of([lambda n=n, client=client: client.test.each.insert_one({"_id": n}) for n, client in enumerate(many)])
+    expect(faults, [])
+    expect(many[0].test.each.count_documents({}), 200)
+    for client in many:
+        client.close()
+
+
+def idle_sockets(server):
+    """900 sockets that say nothing, or half a message, and one that sends what is no message, beside a client."""
+    idle = [socket.create_connection(("127.0.0.1", server.port)) for _ in range(900)]
+    for one in idle[::3]:
+        one.sendall(b"\x40\0\0\0\1\0\0\0")
+    client = server.client()
+    client.test.idle.insert_one({"_id": 1})
+    expect(client.test.idle.count_documents({}), 1)
+    stranger = socket.create_connection(("127.0.0.1", server.port), timeout=PATIENCE)
+    stranger.sendall(bytes.fromhex("160301020001000100030345"))
+    stranger.sendall(b"x" * 16)
+    expect(stranger.recv(10), b"")
+    for one in idle:
+        one.close()
+    expect(client.test.idle.count_documents({}), 1)
+
+
+def killed(server):
+    """What was acknowledged before a kill is there after it."""
+    server = Server("killed.docpage")
+    acknowledged, is_over = [], threading.Event()
+
+    def write(worker):
+        client = server.client(retryWrites=False)
+        for n in range(100_000):
+            if is_over.is_set():
+                return
+            try:
+                client.test.kept.insert_one({"_id": worker * 1_000_000 + n, "worker": worker})
+            except pymongo.errors.PyMongoError:
+                return
+            acknowledged.append(worker * 1_000_000 + n)
+
+    threads = [threading.Thread(target=write, args=(worker,)) for worker in range(8)]
+    for thread in threads:
+        thread.start()
+    is_over.wait(2)
+    server.kill()
+    is_over.set()
+    for thread in threads:
+        thread.join(PATIENCE)
+    server.start()
+    there = {d["_id"] for d in server.client().test.kept.find({}, {"_id": 1})}
+    expect(sorted(set(acknowledged) - there), [])
+    if len(acknowledged) < 8 or len(there) > len(acknowledged) + 8:
+        raise AssertionError(f"{len(acknowledged)} acknowledged, {len(there)} there")
+    server.kill()
+
+
+CASES = [handshake, inserts, finds, cursors, abandoned_cursors, updates, deletes, counts, indexes, collections, refusals,
+         unacknowledged, pool, clients, idle_sockets, killed]
+
+
+def main():
+    chosen = [case for case in CASES if not sys.argv[2:] or case.__name__ in sys.argv[2:]]
+    passed = []
+
+    def end(*_):
+        for process in PROCESSES:
+            process.kill()
+        print(f"{len(passed)} passed, {len(chosen) - len(passed)} failed", flush=True)
+        shutil.rmtree(FOLDER, ignore_errors=True)
+        os._exit(0 if len(passed) == len(chosen) else 1)
+
+    signal.signal(signal.SIGALRM, end)
+    signal.alarm(int(os.environ.get("SECONDS_AT_MOST", 55)))
+    server = Server("main.docpage")
+    for case in chosen:
+        try:
+            case(server)
+            passed.append(case)
+            print(f"{case.__name__}: passed", flush=True)
+        except Exception:
+            print(f"{case.__name__}: FAILED\n{traceback.format_exc()}", flush=True)
+    end()
+
+
+main()
