@@ -1,5 +1,5 @@
 -- What a pipeline makes of stored documents is within the limits of documents that are given.
-use Rattle.std.proofs.Common.{◌≡◌, suc, Bool, true, false, List, [], ◌∷◌, length, get_or, map, ap, ◌∙◌, Option, Some, None, Result, Ok, Err, refl, arith}
+use Rattle.std.proofs.Common.{◌≡◌, ℕ, suc, Bool, true, false, List, [], ◌∷◌, length, get_or, map, ap, ◌∙◌, Option, Some, None, Result, Ok, Err, refl, arith}
 use Rattle.std.specs.Prelude.{nat_lt, if◌then◌else◌, All, IfOk}
 use Rattle.std.specs.Global.{Vec}
 use Rattle.outcome.specs.Outcome.{Gives}
@@ -14,7 +14,10 @@ use Rattle.aggregate.specs.Stage.{Stage}
 use Rattle.aggregate.specs.Limits.{limit_fault, else_fault, first_fault}
 use Rattle.aggregate.specs.Pipeline.{run as after_pipeline}
 use Rattle.aggregate.specs.TakingLaws.{stays_within}
-use Rattle.database_model.specs.Lawful.{IsStored, IsWithin}
+use Rattle.index.specs.State.{Collection}
+use Rattle.database_model.specs.World.{documents_of}
+use Rattle.statements.proofs.KeptLemmas.{stored_at}
+use Rattle.database_model.specs.Lawful.{IsLawfulState, IsStored, IsWithin}
 use Rattle.engine.proofs.Finding.{stored_within}
 use Rattle.queries.proofs.WithinLemmas.{faultless_within, none_at_fault}
 

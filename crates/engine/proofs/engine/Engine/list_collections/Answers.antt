@@ -1,5 +1,7 @@
 use Rattle.std.proofs.Common.{◌≡◌, List, length, map, refl, sym, ap, subst, ◌∙◌}
-use Rattle.std.specs.Prelude.{All, Ok}
+use Rattle.std.specs.Prelude.{All, Ok, Result}
+use Rattle.path.specs.declared.refusal.Refusal.{Refusal}
+use Rattle.database_model.specs.World.{World}
 use Rattle.std.proofs.lemmas.List.{map-id}
 use Rattle.std.proofs.lemmas.Result.{err_from_is_err_and}
 use Rattle.bson.specs.Tree.{Pairs}
@@ -8,7 +10,7 @@ use Rattle.database_model.specs.Lawful.{IsWithin}
 use Rattle.database_model.specs.ListCollections.{listed, names_in, run_list_collections}
 use Rattle.engine.specs.View.{world}
 use Rattle.engine.proofs.Listing.{run_list-is}
-use Rattle.engine.proofs.LookingLemmas.{performs_memory, performs_read, performs_refused, reads_nothing}
+use Rattle.engine.proofs.LookingLemmas.{performs_memory, performs_read, performs_refused, reads_nothing, world_same}
 use Rattle.engine.proofs.engine.Engine.list_collections.Goals as goal
 
 pub returns-in_err-front-clause-performs : goal.returns-in_err-front-clause-performs
@@ -49,4 +51,5 @@ returns-clause-performs g c =
     performs_read g.D.Disk.history old c.listed.new.self (run_list_collections w (record { database = c.args.database.now })) (Ok c.in_ok-whole_reply.field-0) c.in_ok-listed.ensures.looks.reads (λ k.
     let is : gs ≡ map listed (names_in c.as_str.result.now w.collections) = map-id seen ∙ c.deref.ensures.value ∙ c.in_ok-listed.ensures.looks.answers k in
     run_list-is w c.args.database.now c.as_str.result.now c.as_str-2.result.now gs (batch_of (length gs) gs) c.in_ok-whole_reply.field-0 c.requires.sound.lawful
-    (c.as_str.ensures.value ∙ c.in_ok-front.ensures) (c.as_str-2.ensures.value ∙ c.in_ok-namespace.ensures) is refl c.in_ok-whole_reply.ensures.reply)
+    (c.as_str.ensures.value ∙ c.in_ok-front.ensures) (c.as_str-2.ensures.value ∙ c.in_ok-namespace.ensures) is refl c.in_ok-whole_reply.ensures.reply
+    ∙ ap (λ (x : World). let r : Result (World × Pairs) Refusal = Ok (x, c.in_ok-whole_reply.field-0) in r) (sym (world_same g.D.Disk.history old c.listed.new.self c.in_ok-listed.ensures.looks.reads)))
