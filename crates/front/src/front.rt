@@ -12,7 +12,7 @@ use crate::serving::{end_cursor, serve_socket, take_closed, take_reply};
 use crate::socket::Socket;
 use bson::{MESSAGE_LIMIT, NoMemory};
 use drivers::ServerInfo;
-use engine::{CONNECTIONS, ConnId};
+use engine::ConnId;
 use op_msg::FrameFault;
 use page::Disk;
 use server::{Core, TurnFault, TurnOut};
@@ -22,6 +22,8 @@ use std::rt::Clock;
 
 /// How many sockets there are.
 const PLACES: usize = 1_024;
+/// The most cursors that a turn ends of sockets that have ended, so that connections are left for messages.
+const MOST_ENDS: u8 = 16;
 /// The most bytes of a document.
 const MOST_DOCUMENT_BYTES: i32 = 65_535;
 
@@ -94,14 +96,14 @@ impl<C: Clock + Drop, D: Disk + Drop> Front<C, D> {
         }
     }
 
-    /// Ends cursors of sockets that have ended, as far as their owners are at rest.
+    /// Ends some cursors of sockets that have ended, as far as their owners are at rest.
     fn end_cursors(&mut self)
         requires sound { IsSound D.history self.old.core }
         requires tied { AreTied self.old.lending.loans self.old.sockets.items }
         ensures sound { IsSound D.history self.new.core }
         ensures tied { AreTied self.new.lending.loans self.new.sockets.items }
     {
-        'cursors: for _ in 0..CONNECTIONS {
+        'cursors: for _ in 0..MOST_ENDS {
             if !end_cursor(&mut self.core, &mut self.lending, &self.cursors) {
                 return;
             }
