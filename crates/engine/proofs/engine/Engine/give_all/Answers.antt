@@ -28,8 +28,11 @@ returns-in_err-reply-clause-runs g c =
     let same : projected c.new-whole.result (map (λ (d : Pairs). d) seen) ≡ c.args.given.items = all_stay c.new-whole.result (map (λ (d : Pairs). d) seen) c.new-whole.ensures ∙ map-id seen ∙ c.deref.ensures.value in
     let e = err_from_is_err_and c.from_residual.result c.from_residual.ensures.1 in
     let x = c.in_err-reply.field-0.0 in
-    rw (e.1, e.2) (refl, given_none w c.args.connection c.args.namespace.now c.args.given.items c.args.most x
-    (subst (λ (es : List Pairs). IsNoBatch (table w c.args.connection c.args.namespace.now c.args.given.items c.args.most) c.args.connection es c.args.most x) same c.in_err-reply.ensures.refuses))
+    rw (e.1, e.2) (
+      refl,
+      given_none w c.args.connection c.args.namespace.now c.args.given.items c.args.most x
+          (subst (λ (es : List Pairs). IsNoBatch (table w c.args.connection c.args.namespace.now c.args.given.items c.args.most) c.args.connection es c.args.most x) same c.in_err-reply.ensures.refuses),
+    )
 
 pub returns-then-len-count-clause-runs : goal.returns-then-len-count-clause-runs
 returns-then-len-count-clause-runs g c =
