@@ -63,7 +63,7 @@ fn operand<'a>(bound: Option<Bound<'a>>) -> Option<&'a Value>
 }
 
 impl IndexRange<'_> {
-    /// Whether each of its values has a text within the limit of keys. No document has a key in the range otherwise.
+    /// Whether each of its values has a text within the limit of keys, so that BSON can spell it.
     pub fn is_spellable(&self, alloc: Global) -> Result<bool, NoMemory>
         ensures { IfOk result (λ is. is ≡ true → IsSpellable (range_of self.now)) }
     {
