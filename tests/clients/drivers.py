@@ -1,10 +1,11 @@
-"""Drives `docpage listen --drivers` by pymongo. Usage: drivers.py PROGRAM [CASE ..]
+"""Drives `docpage listen --drivers` by pymongo, and by those of the drivers for Ruby, Perl, Node and C that are installed. Usage: drivers.py PROGRAM [CASE ..]
 Every wait has an end, and so has the whole. The last line is `N passed, M failed`."""
 import os, shutil, signal, socket, subprocess, sys, tempfile, threading, traceback
 
 import bson
 import pymongo
-from pymongo.errors import DuplicateKeyError, OperationFailure
+from pymongo import DeleteOne, InsertOne, ReplaceOne, UpdateMany, UpdateOne
+from pymongo.errors import BulkWriteError, DuplicateKeyError, OperationFailure
 
 PROGRAM = os.path.abspath(sys.argv[1])
 FOLDER = tempfile.mkdtemp(prefix="drivers.")
@@ -148,6 +149,60 @@ def updates(server):
     expect(people.update_one({"_id": 78}, {"$set": {"age": 1}}).matched_count, 0)
 
 
+def batches(server):
+    """Batches of which some statements are refused: in order up to the first, else past it."""
+    people = server.client().test.batched
+    people.insert_one({"_id": 2})
+
+    def told(call):
+        details = refused(BulkWriteError, call).details
+        counts = {name: details[name] for name in ("nInserted", "nMatched", "nModified", "nRemoved") if details[name]}
+        return counts, [(error["index"], error["code"]) for error in details["writeErrors"]]
+
+    expect(told(lambda: people.insert_many([{"_id": n} for n in range(5)])), ({"nInserted": 2}, [(2, 11000)]))
+    expect([d["_id"] for d in people.find()], [0, 1, 2])
+    some = [{"_id": n} for n in (5, 1, 6, 2, 7)]
+    expect(told(lambda: people.insert_many(some, ordered=False)), ({"nInserted": 3}, [(1, 11000), (3, 11000)]))
+    expect([d["_id"] for d in people.find()], [0, 1, 2, 5, 6, 7])
+    mixed = [UpdateOne({"_id": 0}, {"$set": {"a": "x"}}), UpdateMany({}, {"$inc": {"n": 1}}), UpdateOne({"_id": 0}, {"$inc": {"a": 1}}),
+             UpdateOne({"_id": 1}, {"$set": {"a": 1}}), DeleteOne({"_id": 7})]
+    expect(told(lambda: people.bulk_write(mixed)), ({"nMatched": 7, "nModified": 7}, [(2, 14)]))
+    expect(told(lambda: people.bulk_write(mixed, ordered=False)),
+           ({"nMatched": 8, "nModified": 7, "nRemoved": 1}, [(2, 14)]))
+    expect(people.find_one({"_id": 1}), {"_id": 1, "n": 2, "a": 1})
+    expect(told(lambda: people.insert_many([{"_id": n % 290} for n in range(300)], ordered=False))[0], {"nInserted": 285})
+    unheard = people.with_options(write_concern=pymongo.WriteConcern(w=0))
+    unheard.insert_many([{"_id": n} for n in (2000, 0, 2001)], ordered=False)
+    expect(people.count_documents({"_id": {"$gte": 2000}}), 2)
+
+
+def upserts(server):
+    """Upserts that say no `_id` for the document that they make."""
+    people = server.client().test.upserted
+    done = people.update_one({"name": "Ada"}, {"$set": {"age": 36}}, upsert=True)
+    made = done.upserted_id
+    expect((type(made), done.matched_count), (bson.ObjectId, 0))
+    expect(people.find_one({"name": "Ada"}), {"_id": made, "name": "Ada", "age": 36})
+    done = people.update_one({"name": "Ada"}, {"$inc": {"age": 1}}, upsert=True)
+    expect((done.upserted_id, done.matched_count, done.modified_count), (None, 1, 1))
+    done = people.replace_one({"name": "Alan"}, {"name": "Alan", "born": 1912}, upsert=True)
+    expect(people.find_one({"name": "Alan"}), {"_id": done.upserted_id, "name": "Alan", "born": 1912})
+    done = people.replace_one({"name": "Alan"}, {"born": 1912}, upsert=True)
+    expect((done.upserted_id, people.find_one({"born": 1912})["_id"] is None), (None, False))
+    done = people.bulk_write([InsertOne({"_id": 1}), UpdateOne({"name": "Grace"}, {"$set": {"a": 1}}, upsert=True),
+                              UpdateOne({"name": "Ada"}, {"$set": {"a": 1}}, upsert=True),
+                              ReplaceOne({"name": "Edsger"}, {"name": "Edsger"}, upsert=True),
+                              UpdateOne({"_id": 7}, {"$set": {"a": 1}}, upsert=True)])
+    expect((done.matched_count, sorted(done.upserted_ids)), (1, [1, 3, 4]))
+    expect(people.find_one({"_id": done.upserted_ids[1]})["name"], "Grace")
+    expect(people.find_one({"_id": done.upserted_ids[3]})["name"], "Edsger")
+    expect(done.upserted_ids[4], 7)
+    # what was found isn't made anew, also where the update is refused
+    people.insert_one({"_id": 9, "tag": "x", "list": 1})
+    refused(OperationFailure, lambda: people.update_one({"tag": "x"}, {"$push": {"list": 2}}, upsert=True), 2)
+    expect(people.count_documents({"tag": "x"}), 1)
+
+
 def deletes(server):
     people = server.client().test.deleted
     people.insert_many([{"_id": n, "odd": n % 2} for n in range(20)])
@@ -183,6 +238,11 @@ def indexes(server):
            (True, None, [("city", 1), ("name", -1)]))
     expect([d["_id"] for d in users.find({"city": 2, "name": "n5"})], [5])
     refused(DuplicateKeyError, lambda: users.insert_one({"_id": 99, "name": "n5"}))
+    plan = lambda found: found.explain()["queryPlanner"]["winningPlan"]["stage"]
+    expect(plan(users.find({"city": 2})), "INDEX city_1 eq=1 range=none sort=no")
+    expect(plan(users.find({"city": 2}).sort([("city", 1), ("name", -1)]).limit(1)), "INDEX both eq=1 range=none sort=yes")
+    expect(plan(users.find({"born": 2})), "SCAN")
+    refused(OperationFailure, lambda: users.find({"city": 2}).hint("both").explain(), 72)
     users.drop_index("both")
     expect(sorted(users.index_information()), ["_id_", "city_1", "name_1"])
     users.drop_indexes()
@@ -198,6 +258,11 @@ def collections(server):
     expect([c["type"] for c in database.list_collections()], ["collection", "collection"])
     database.one.drop()
     expect(database.list_collection_names(), ["two"])
+    database.one.insert_one({"_id": 1})
+    server.client().other.one.insert_one({"_id": 1})
+    server.client().drop_database("listed")
+    expect((database.list_collection_names(), server.client().other.list_collection_names()), ([], ["one"]))
+    server.client().drop_database("listed")
 
 
 def refusals(server):
@@ -304,12 +369,36 @@ def killed(server):
     server.kill()
 
 
-CASES = [handshake, inserts, finds, cursors, abandoned_cursors, updates, deletes, counts, indexes, collections, refusals,
+def other_driver(language, probe, words):
+    """The session of another driver, by a program of its own: where that driver is installed."""
+    def case(server):
+        ran = subprocess.run(words + [str(server.port)], stdin=subprocess.DEVNULL, capture_output=True, text=True, timeout=PATIENCE)
+        if ran.returncode:
+            raise AssertionError(ran.stdout + ran.stderr)
+
+    case.__name__ = language
+    case.is_there = subprocess.run(probe, stdin=subprocess.DEVNULL, capture_output=True).returncode == 0 if shutil.which(probe[0]) else False
+    return case
+
+
+HERE = os.path.dirname(os.path.abspath(__file__))
+COMPILE = f"cc -o {FOLDER}/session {HERE}/drivers.c $(pkg-config --cflags --libs libmongoc-1.0)"
+NODE = ["env", "NODE_PATH=/usr/share/nodejs", "nodejs"]
+OTHERS = [other_driver("ruby", ["ruby", "-rmongo", "-e", "1"], ["ruby", f"{HERE}/drivers.rb"]),
+          other_driver("perl", ["perl", "-MMongoDB", "-e", "1"], ["perl", f"{HERE}/drivers.pl"]),
+          other_driver("node", NODE + ["-e", "require('mongodb')"], NODE + [f"{HERE}/drivers.js"]),
+          other_driver("c", ["sh", "-c", COMPILE], [f"{FOLDER}/session"])]
+
+CASES = [handshake, inserts, finds, cursors, abandoned_cursors, updates, batches, upserts, deletes, counts, indexes, collections, refusals,
          unacknowledged, pool, clients, idle_sockets, killed]
 
 
 def main():
-    chosen = [case for case in CASES if not sys.argv[2:] or case.__name__ in sys.argv[2:]]
+    for other in OTHERS:
+        if not other.is_there:
+            print(f"{other.__name__}: its driver is not there, so it was not tried", flush=True)
+    chosen = [case for case in CASES + [other for other in OTHERS if other.is_there]
+              if not sys.argv[2:] or case.__name__ in sys.argv[2:]]
     passed = []
 
     def end(*_):
@@ -320,7 +409,7 @@ def main():
         os._exit(0 if len(passed) == len(chosen) else 1)
 
     signal.signal(signal.SIGALRM, end)
-    signal.alarm(int(os.environ.get("SECONDS_AT_MOST", 55)))
+    signal.alarm(int(os.environ.get("SECONDS_AT_MOST", 75)))
     server = Server("main.docpage")
     for case in chosen:
         try:

@@ -1,6 +1,7 @@
--- The table of the accumulators (MongoDB manual, "$group"): of each its name, where it starts, what one value more makes of
--- what it has, and what it gives in the end. A missing value is None.
-use Rattle.std.specs.Prelude.{ℕ, ℤ, pos, ◌+ℤ◌, Bool, true, false, if◌then◌else◌, Option, Some, None, Result, Ok, List, codes, fold}
+-- The table of the accumulators (MongoDB manual, "$group"): of each its name, where it starts, what
+-- one value more makes of what it has, and what it gives in the end. A missing value is None.
+use Rattle.std.specs.Prelude.{ℕ, ℤ, pos, ◌+ℤ◌, Bool, true, false, if◌then◌else◌, Option, Some, None}
+use Rattle.std.specs.Prelude.{Result, Ok, List, codes, fold}
 use Rattle.std.specs.Str.{bytes_eq}
 use Rattle.std.specs.declared.cmp.Ordering.{Ordering}
 use Rattle.std.specs.declared.cmp.Ordering.TheVariants.{Less, Equal, Greater}

@@ -1,4 +1,5 @@
--- `$count` gives one document that says how many there are, and none where there is none (MongoDB manual, "$count").
+-- `$count` gives one document that says how many there are, and none where there is none (MongoDB
+-- manual, "$count").
 use Rattle.std.specs.Prelude.{ℕ, pos, true, Result, Ok, List, [], ◌∷◌, length}
 use Rattle.bson.specs.Tree.{Pairs, no_pairs}
 use Rattle.outcome.specs.Outcome.{◌>>=◌}

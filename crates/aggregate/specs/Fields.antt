@@ -1,5 +1,5 @@
--- Fields that a stage makes in a document: in their name's place, or at the end where the name is new. As in an update,
--- no document nests more than 100 levels.
+-- Fields that a stage makes in a document: in their name's place, or at the end where the name is
+-- new. As in an update, no document nests more than 100 levels.
 use Rattle.std.specs.Prelude.{ℕ, nat_lt, Result, Ok, List}
 use Rattle.bson.specs.Tree.{Tree, Pairs}
 use Rattle.bson.specs.Edits.{put}

@@ -1,6 +1,7 @@
--- `$group` splits the documents by the order's equality of a value, `_id`, and gives a document for each group, in the order
--- of first appearance (MongoDB manual, "$group").
-use Rattle.std.specs.Prelude.{ℕ, ◌++◌, not, Bool, if◌then◌else◌, Option, Some, None, Result, Ok, List, [], ◌∷◌, map, codes}
+-- `$group` splits the documents by the order's equality of a value, `_id`, and gives a document for
+-- each group, in the order of first appearance (MongoDB manual, "$group").
+use Rattle.std.specs.Prelude.{ℕ, ◌++◌, not, Bool, if◌then◌else◌, Option, Some, None, Result, Ok}
+use Rattle.std.specs.Prelude.{List, [], ◌∷◌, map, codes}
 use Rattle.std.specs.List.{filter}
 use Rattle.std.specs.Str.{bytes_eq}
 use Rattle.bson.specs.Tree.{Tree, scalar, document, array, Pairs, no_pairs, pair}
@@ -75,7 +76,8 @@ abbrev pub read_parts : Pairs → Parts → Result Parts Refusal
 read_parts no_pairs parts = Ok parts
 read_parts (pair name t ps) parts = read_part name t parts >>= read_parts ps
 
--- the grouping that a document spells, or the first misuse from the left; without `_id` there is none
+-- the grouping that a document spells, or the first misuse from the left; without `_id` there is
+-- none
 abbrev pub read_grouping : Pairs → Result Grouping Refusal
 read_grouping ps = read_parts ps no_parts
     >>= (λ parts. or_refused parts.id refusals.FailedToParse

@@ -1,5 +1,6 @@
 -- The groups that the code holds, and how it finds one by the text of its `_id`.
-use Rattle.std.specs.Prelude.{◌≡◌, ℕ, ◌<◌, Bool, true, false, Option, Some, None, List, map, length, get_or, is_some}
+use Rattle.std.specs.Prelude.{◌≡◌, ℕ, ◌<◌, Bool, true, false, Option, Some, None, List, map, length}
+use Rattle.std.specs.Prelude.{get_or, is_some}
 use Rattle.std.specs.Global.{Vec}
 use Rattle.std.specs.Str.{bytes_eq}
 use Rattle.bson.specs.Tree.{Tree}
@@ -21,7 +22,8 @@ entries_of gs = map entry_of gs.groups.items
 abbrev pub same_text : Vec ℕ → Vec ℕ → Bool
 same_text a b = bytes_eq a.items b.items
 
--- No two groups have the same `_id`. A text is that of a place among them; the text of each one's `_id` is known.
+-- No two groups have the same `_id`. A text is that of a place among them; the text of each one's
+-- `_id` is known.
 pub record IsIndexed (gs : Groups) : Type 0 where
   pub apart : Apart same (entries_of gs)
   pub within : (text : Vec ℕ) (at : ℕ) → get same_text gs.places text ≡ Some at

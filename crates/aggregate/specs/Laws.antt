@@ -29,7 +29,8 @@ GroupsNone = (g : Grouping) → grouped g [] ≡ Ok []
 
 -- every document is in one group: their numbers sum up to that of all documents
 abbrev pub GroupsAll : Type 0
-GroupsAll = (documents : List Identified) → sum_by (λ g. length g.1) (groups documents) ≡ length documents
+GroupsAll = (documents : List Identified)
+    → sum_by (λ g. length g.1) (groups documents) ≡ length documents
 
 -- one pipeline behind another is the two run one after the other
 abbrev pub RunsOneAfterOther : Type 0

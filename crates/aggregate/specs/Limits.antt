@@ -1,5 +1,7 @@
--- What a document that a stage gives may be: at most so many bytes, and at most 90 levels, itself among them.
-use Rattle.std.specs.Prelude.{ℕ, suc, nat_lt, if◌then◌else◌, Option, Some, None, Result, Ok, Err, List, [], ◌∷◌, length}
+-- What a document that a stage gives may be: at most so many bytes, and at most 90 levels, itself
+-- among them.
+use Rattle.std.specs.Prelude.{ℕ, suc, nat_lt, if◌then◌else◌, Option, Some, None, Result, Ok, Err}
+use Rattle.std.specs.Prelude.{List, [], ◌∷◌, length}
 use Rattle.bson.specs.Tree.{Pairs}
 use Rattle.bson.specs.Lawful.{pairs_levels}
 use Rattle.bson.specs.Spelling.{frame_of, pairs_bytes}

@@ -1,5 +1,7 @@
--- A total as a value: an int32 where that is asked for and it fits, else an int64. Past int64 it is refused.
-use Rattle.std.specs.Prelude.{ℤ, pos, negsuc, int_lt, ◌&&◌, not, Bool, if◌then◌else◌, Result, Ok, Err}
+-- A total as a value: an int32 where that is asked for and it fits, else an int64. Past int64 it is
+-- refused.
+use Rattle.std.specs.Prelude.{ℤ, pos, negsuc, int_lt, ◌&&◌, not, Bool, if◌then◌else◌, Result, Ok}
+use Rattle.std.specs.Prelude.{Err}
 use Rattle.bson.specs.Tree.{Tree, scalar, int32, int64}
 use Rattle.path.specs.declared.refusal.Refusal.{Refusal}
 use Rattle.path.specs.declared.refusal.Refusal.TheVariants as refusals

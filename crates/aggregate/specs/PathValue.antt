@@ -1,5 +1,6 @@
--- The value of `"$path"` (MongoDB manual, "Field Paths"). Documents are descended by field. An array with parts left gives
--- the array of what its documents and arrays give. Any other value with parts left gives nothing.
+-- The value of `"$path"` (MongoDB manual, "Field Paths"). Documents are descended by field. An
+-- array with parts left gives the array of what its documents and arrays give. Any other value with
+-- parts left gives nothing.
 use Rattle.std.specs.Prelude.{ℕ, Option, Some, None, List, [], ◌∷◌}
 use Rattle.std.specs.Option.{option_and_then}
 use Rattle.bson.specs.Tree.{Tree, scalar, document, array, Items, no_items, item}

@@ -1,5 +1,5 @@
--- A pipeline: one function on lists of documents after the other, each of which gives a list or is refused. What a stage
--- gives is judged before the next one.
+-- A pipeline: one function on lists of documents after the other, each of which gives a list or is
+-- refused. What a stage gives is judged before the next one.
 use Rattle.std.specs.Prelude.{ℕ, ◌==◌, ◌++◌, Result, Ok, List, [], ◌∷◌, length}
 use Rattle.bson.specs.Tree.{Tree, Pairs}
 use Rattle.outcome.specs.Outcome.{◌>>=◌, unless, or_refused}

@@ -1,14 +1,16 @@
--- `$project` is a projection, of which undotted fields may be computed: `{name: "$path"}` (MongoDB manual, "$project").
--- A computed field isn't taken from the document. It stands behind the others, in the order written, and is left out where
--- its path gives nothing.
-use Rattle.std.specs.Prelude.{ℕ, ◌++◌, Bool, true, false, Option, Some, None, Result, Ok, Err, List, [], ◌∷◌}
+-- `$project` is a projection, of which undotted fields may be computed: `{name: "$path"}` (MongoDB
+-- manual, "$project"). A computed field isn't taken from the document. It stands behind the others,
+-- in the order written, and is left out where its path gives nothing.
+use Rattle.std.specs.Prelude.{ℕ, ◌++◌, Bool, true, false, Option, Some, None, Result, Ok, Err, List}
+use Rattle.std.specs.Prelude.{[], ◌∷◌}
 use Rattle.bson.specs.Tree.{Tree, scalar, text, document, Pairs, no_pairs, pair}
 use Rattle.path.specs.Edits.{set_at, cut_at}
 use Rattle.outcome.specs.Outcome.{◌>>=◌, unless}
 use Rattle.path.specs.declared.refusal.Refusal.{Refusal}
 use Rattle.path.specs.declared.refusal.Refusal.TheVariants as refusals
 use Rattle.filter.specs.Projection.{Projection, project}
-use Rattle.filter.specs.ProjectionReading.{Seen, nothing_seen, read_field, with_computed, projection_seen}
+use Rattle.filter.specs.ProjectionReading.{Seen, nothing_seen, read_field, with_computed}
+use Rattle.filter.specs.ProjectionReading.{projection_seen}
 use Rattle.filter.specs.Reading.{path_in}
 use Rattle.aggregate.specs.Each.{just, each}
 use Rattle.aggregate.specs.Operands.{dollar_path, source_path}

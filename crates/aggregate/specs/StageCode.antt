@@ -12,7 +12,8 @@ use Rattle.aggregate.specs.Expression.{Expression, constant, source}
 use Rattle.aggregate.specs.Group.{IdField, GroupId, one_value, id_document, GroupField, Grouping}
 use Rattle.aggregate.specs.declared.accumulators.Accumulator.{Accumulator}
 use Rattle.aggregate.specs.declared.accumulators.Accumulator.TheVariants as accumulators
-use Rattle.aggregate.specs.Stage.{Stage, match_stage, project_stage, unwind_stage, group_stage, sort_stage, skip_stage, limit_stage, count_stage}
+use Rattle.aggregate.specs.Stage.{Stage, match_stage, project_stage, unwind_stage, group_stage}
+use Rattle.aggregate.specs.Stage.{sort_stage, skip_stage, limit_stage, count_stage}
 
 abbrev coded_path : Coded Path
 coded_path = coded_list (coded_list coded_ℕ)
@@ -48,7 +49,8 @@ number_accumulator (suc (suc (suc zero))) = accumulators.First
 number_accumulator (suc (suc (suc (suc zero)))) = accumulators.Last
 number_accumulator (suc (suc (suc (suc (suc n))))) = accumulators.Push
 
-pub number_accumulator-accumulator_number : (a : Accumulator) → number_accumulator (accumulator_number a) ≡ a
+pub number_accumulator-accumulator_number : (a : Accumulator)
+    → number_accumulator (accumulator_number a) ≡ a
 number_accumulator-accumulator_number accumulators.Sum = refl
 number_accumulator-accumulator_number accumulators.Least = refl
 number_accumulator-accumulator_number accumulators.Greatest = refl
@@ -57,7 +59,8 @@ number_accumulator-accumulator_number accumulators.Last = refl
 number_accumulator-accumulator_number accumulators.Push = refl
 
 abbrev coded_accumulator : Coded Accumulator
-coded_accumulator = code_by ℕ coded_ℕ accumulator_number number_accumulator number_accumulator-accumulator_number
+coded_accumulator =
+    code_by ℕ coded_ℕ accumulator_number number_accumulator number_accumulator-accumulator_number
 
 abbrev expression_sum : Expression → Tree ⊎ Path
 expression_sum (constant t) = inl t

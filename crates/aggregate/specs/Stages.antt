@@ -1,4 +1,5 @@
--- The table of the stages: of each its name, how its operand is read, and what it makes of a list of documents.
+-- The table of the stages: of each its name, how its operand is read, and what it makes of a list
+-- of documents.
 use Rattle.std.specs.Prelude.{ℕ, if◌then◌else◌, Option, Some, None, Result, Ok, List, codes}
 use Rattle.std.specs.Str.{bytes_eq}
 use Rattle.bson.specs.Tree.{Tree, Pairs}
@@ -9,7 +10,8 @@ use Rattle.filter.specs.Sort.{order}
 use Rattle.filter.specs.SortReading.{read_sort}
 use Rattle.aggregate.specs.Operands.{document_in, text_in, number_in, dollar_path_in}
 use Rattle.aggregate.specs.Names.{field_name}
-use Rattle.aggregate.specs.Stage.{Stage, match_stage, project_stage, unwind_stage, group_stage, sort_stage, skip_stage, limit_stage, count_stage}
+use Rattle.aggregate.specs.Stage.{Stage, match_stage, project_stage, unwind_stage, group_stage}
+use Rattle.aggregate.specs.Stage.{sort_stage, skip_stage, limit_stage, count_stage}
 use Rattle.aggregate.specs.Match.{matching}
 use Rattle.aggregate.specs.Group.{read_grouping, grouped}
 use Rattle.aggregate.specs.Project.{read_projecting, all_projected}

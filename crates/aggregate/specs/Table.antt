@@ -1,5 +1,7 @@
--- How groups grow, one document after the other: an entry for each group, with its `_id` and what its accumulators have.
-use Rattle.std.specs.Prelude.{◌≡◌, ◌||◌, Bool, false, if◌then◌else◌, Result, Ok, List, [], ◌∷◌, map, codes}
+-- How groups grow, one document after the other: an entry for each group, with its `_id` and what
+-- its accumulators have.
+use Rattle.std.specs.Prelude.{◌≡◌, ◌||◌, Bool, false, if◌then◌else◌, Result, Ok, List, [], ◌∷◌, map}
+use Rattle.std.specs.Prelude.{codes}
 use Rattle.bson.specs.Tree.{Tree, Pairs, no_pairs}
 use Rattle.outcome.specs.Outcome.{◌>>=◌}
 use Rattle.path.specs.declared.refusal.Refusal.{Refusal}

@@ -1,8 +1,11 @@
--- Which documents a pipeline takes at all: a `$match` in front tells, before anything is made of a document. And which of
--- these are enough: where it keeps the first ones, of the documents as they come or in the order of a `$sort`.
-use Rattle.std.specs.Prelude.{◌≡◌, ◌≤◌, ℕ, Bool, true, false, None, List, [], ◌∷◌, ◌++◌, length, take, Result, Ok}
+-- Which documents a pipeline takes at all: a `$match` in front tells, before anything is made of a
+-- document. And which of these are enough: where it keeps the first ones, of the documents as they
+-- come or in the order of a `$sort`.
+use Rattle.std.specs.Prelude.{◌≡◌, ◌≤◌, ℕ, Bool, true, false, Option, Some, None, List, [], ◌∷◌}
+use Rattle.std.specs.Prelude.{◌++◌, length, take, Result, Ok}
 use Rattle.std.specs.List.{filter, AllByRecursion}
 use Rattle.bson.specs.Tree.{Pairs}
+use Rattle.filter.specs.Condition.{Conditions}
 use Rattle.filter.specs.Matches.{matches}
 use Rattle.outcome.specs.Outcome.{◌>>=◌}
 use Rattle.path.specs.declared.refusal.Refusal.{Refusal}
@@ -18,6 +21,15 @@ takes_by other d = true
 abbrev pub takes : List Stage → Pairs → Bool
 takes [] d = true
 takes (s ∷ stages) d = takes_by s d
+
+-- what a `$match` in front asks, which is all that a pipeline takes a document by
+abbrev pub asked_by : Stage → Option Conditions
+asked_by (match_stage rules) = Some rules
+asked_by other = None
+
+abbrev pub leading_match : List Stage → Option Conditions
+leading_match [] = None
+leading_match (s ∷ stages) = asked_by s
 
 -- a pipeline makes the same of the documents that it takes as of all of them
 abbrev pub OnlyTaken : Type 0
@@ -56,8 +68,8 @@ abbrev pub SufficesTaken : List Stage → ℕ → Type 0
 SufficesTaken stages most = (limit : ℕ) (ds : List Pairs) → first_fault limit ds ≡ None
     → run stages limit (take most (filter (takes stages) ds)) ≡ run stages limit ds
 
--- These few documents are enough of those that the pipeline has taken so far: it takes them, they are no more, and
--- whatever comes behind, it makes the same of them and that as of all.
+-- These few documents are enough of those that the pipeline has taken so far: it takes them, they
+-- are no more, and whatever comes behind, it makes the same of them and that as of all.
 pub record IsEnough (stages : List Stage) (few taken : List Pairs) : Type 0 where
   pub are_taken : AllByRecursion (λ d. takes stages d ≡ true) few
   pub no_more : length few ≤ length taken

@@ -1,6 +1,6 @@
--- `$unwind` gives a document for each element of the array at a path, with the element in the array's place (MongoDB
--- manual, "$unwind"). A value that is no array counts as one element. Where nothing or null stands there, and where the
--- path leads through an array, there is none.
+-- `$unwind` gives a document for each element of the array at a path, with the element in the
+-- array's place (MongoDB manual, "$unwind"). A value that is no array counts as one element. Where
+-- nothing or null stands there, and where the path leads through an array, there is none.
 use Rattle.std.specs.Prelude.{ℕ, if◌then◌else◌, Option, Some, None, Result, Ok, List, [], ◌∷◌}
 use Rattle.bson.specs.Tree.{Tree, scalar, null, document, array, Pairs}
 use Rattle.path.specs.Edits.{set_at}

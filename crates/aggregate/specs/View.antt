@@ -1,6 +1,7 @@
 -- What the types of the crate stand for.
 use Rattle.std.specs.Prelude.{List, map}
-use Rattle.aggregate.specs.Stage.{Stage, match_stage, project_stage, unwind_stage, group_stage, sort_stage, skip_stage, limit_stage, count_stage}
+use Rattle.aggregate.specs.Stage.{Stage, match_stage, project_stage, unwind_stage, group_stage}
+use Rattle.aggregate.specs.Stage.{sort_stage, skip_stage, limit_stage, count_stage}
 use Rattle.aggregate.specs.declared.stage.Stage.{Stage as Made}
 use Rattle.aggregate.specs.declared.stage.Stage.TheVariants as stages
 use Rattle.filter.specs.Seen.{seen_of}

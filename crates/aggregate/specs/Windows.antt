@@ -1,4 +1,5 @@
--- `$skip` leaves out the first documents, `$limit` those behind the first ones (MongoDB manual, "$skip", "$limit").
+-- `$skip` leaves out the first documents, `$limit` those behind the first ones (MongoDB manual,
+-- "$skip", "$limit").
 use Rattle.std.specs.Prelude.{ℕ, List, take, drop}
 use Rattle.bson.specs.Tree.{Pairs}
 

@@ -1,13 +1,13 @@
 //! Which documents a pipeline needs.
 
-ghost use Rattle.std.specs.Prelude.{◌≡◌, None, IfOk, IfSome, is_some, List, map};
+ghost use Rattle.std.specs.Prelude.{◌≡◌, None, IfOk, IfSome, is_some, List, map, option_map};
 ghost use Rattle.bson.specs.Tree.{Pairs};
 ghost use Rattle.outcome.specs.Outcome.{Gives};
 ghost use Rattle.std.specs.List.{filter};
 ghost use Rattle.aggregate.specs.Limits.{first_fault};
 ghost use Rattle.aggregate.specs.Pipeline.{run};
 ghost use Rattle.aggregate.specs.GroupView.{grouping_of};
-ghost use Rattle.aggregate.specs.Taking.{takes, behind_match, groups_first, run_behind_groups, Suffices, SufficesTaken, IsEnough};
+ghost use Rattle.aggregate.specs.Taking.{takes, behind_match, groups_first, leading_match, run_behind_groups, Suffices, SufficesTaken, IsEnough};
 ghost use Rattle.aggregate.specs.View.{stage_of, pipeline_of};
 
 use crate::grouping::Grouping;
@@ -17,7 +17,7 @@ use crate::matching::matches;
 use crate::pipeline::{Pipeline, run_stages};
 use crate::stage::Stage;
 use bson::{Document, NoMemory, RawDoc};
-use filter::{AsDocument, laws};
+use filter::{AsDocument, Filter, laws};
 use path::Refusal;
 use std::alloc::Global;
 
@@ -38,6 +38,16 @@ fn enough(stages: &[Stage]) -> Option<usize>
     match stages.split_first() {
         Some((Stage::Limit(most), _)) => Some(*most),
         Some((Stage::Skip(skipped), behind)) => enough(behind)?.checked_add(*skipped),
+        _ => None,
+    }
+}
+
+/// The filter of a `$match` in front.
+fn leading_match(stages: &[Stage]) -> Option<&Filter>
+    ensures { option_map (λ f. f.now) result ≡ leading_match (map stage_of stages.now) }
+{
+    match stages.first() {
+        Some(Stage::Match(filter)) => Some(filter),
         _ => None,
     }
 }
@@ -69,6 +79,13 @@ impl Pipeline {
         ensures { result ≡ takes (pipeline_of self.now) document.now }
     {
         takes(&self.stages, document)
+    }
+
+    /// The filter of a `$match` in front, by which alone it takes a document.
+    pub fn leading_match(&self) -> Option<&Filter>
+        ensures { option_map (λ f. f.now) result ≡ leading_match (pipeline_of self.now) }
+    {
+        leading_match(&self.stages)
     }
 
     /// The same of a document that stays its bytes.

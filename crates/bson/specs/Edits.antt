@@ -1,5 +1,6 @@
 -- Edits of a document's pairs and of an array's items, and why an edit is refused.
-use Rattle.std.specs.Prelude.{◌≡◌, ℕ, zero, suc, ◌<◌, ◌≤◌, if◌then◌else◌, Option, Some, None, option_map, List}
+use Rattle.std.specs.Prelude.{◌≡◌, ℕ, zero, suc, ◌<◌, ◌≤◌, if◌then◌else◌, Option, Some, None}
+use Rattle.std.specs.Prelude.{option_map, List}
 use Rattle.std.specs.Str.{bytes_eq}
 use Rattle.bson.specs.Tree.{Tree, Pairs, no_pairs, pair, append, Items, no_items, item}
 use Rattle.bson.specs.Lawful.{levels, IsName, Lacks, IsDocument}
@@ -85,8 +86,8 @@ PushFault ps name t builds.Repeated = IsName name × ¬ Lacks ps name
 PushFault ps name t builds.Deep = IsName name × Lacks ps name × (99 < levels t)
 PushFault ps name t builds.Memory = IsName name × Lacks ps name × (levels t ≤ 99)
 
--- why a name was not given a value: the first of these that fits, where only a new name can be a wrong one, or want
--- memory
+-- why a name was not given a value: the first of these that fits, where only a new name can be a
+-- wrong one, or want memory
 abbrev pub SetFault : Pairs → List ℕ → Tree → BuildFault → Type 0
 SetFault ps name t builds.Name = Lacks ps name × ¬ IsName name
 SetFault ps name t builds.Repeated = ⊥

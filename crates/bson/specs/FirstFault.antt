@@ -1,15 +1,18 @@
--- The first fault of bytes from the left: where what is wrong begins (`place`), up to where bytes are looked at to tell
--- (`seen`), and which fault it is. All before the place is spelled as BSON 1.1 (bsonspec.org) has it: the length of each
--- document or array that is open there, the pairs or items in it that are whole, and the type byte and the name of the
--- one that is open. Behind what is seen there is nothing of which a definition here speaks but how many bytes are left
--- and the zeros that end what is open.
-use Rattle.std.specs.Prelude.{◌≡◌, ◌≢◌, ◌⊎◌, ℕ, zero, suc, ◌+◌, ◌-◌, ◌<◌, ◌≤◌, Bool, true, false, List, ◌∷◌, ◌++◌, length, take, slice_index, Ok, Err}
+-- The first fault of bytes from the left: where what is wrong begins (`place`), up to where bytes
+-- are looked at to tell (`seen`), and which fault it is. All before the place is spelled as BSON
+-- 1.1 (bsonspec.org) has it: the length of each document or array that is open there, the pairs or
+-- items in it that are whole, and the type byte and the name of the one that is open. Behind what
+-- is seen there is nothing of which a definition here speaks but how many bytes are left and the
+-- zeros that end what is open.
+use Rattle.std.specs.Prelude.{◌≡◌, ◌≢◌, ◌⊎◌, ℕ, zero, suc, ◌+◌, ◌-◌, ◌<◌, ◌≤◌, Bool, true, false}
+use Rattle.std.specs.Prelude.{List, ◌∷◌, ◌++◌, length, take, slice_index, Ok, Err}
 use Rattle.bson.specs.Tree.{Pairs, Items}
 use Rattle.bson.specs.Lawful.{IsName, IsPairs, IsItems, pairs_levels, items_levels}
 use Rattle.bson.specs.Limits.{message_limit}
 use Rattle.bson.specs.Spelling.{frame_of, pairs_bytes, items_bytes}
 use Rattle.bson.specs.Edits.{items_len}
-use Rattle.bson.specs.Reading.{zero_at, name_at, kind_of, scalar_at, count_at, length_at, document_at, stands_in, is_no_index}
+use Rattle.bson.specs.Reading.{zero_at, name_at, kind_of, scalar_at, count_at, length_at}
+use Rattle.bson.specs.Reading.{document_at, stands_in, is_no_index}
 use Rattle.bson.specs.Raw.{tree_names}
 use Rattle.bson.specs.declared.fault.BsonFault.{BsonFault}
 use Rattle.bson.specs.declared.fault.BsonFault.TheVariants as faults
@@ -58,8 +61,8 @@ pub record WrongEnd (bytes : List ℕ) (place seen : ℕ) (fault : BsonFault) : 
   pub fits : count.0 - 5 < length count.1
   pub judged : slice_index count.1 (count.0 - 5) ≢ 0
 
--- An element: a type byte that is not known; a name without a zero or that is not UTF-8; a name that is wrong here; or
--- its value.
+-- An element: a type byte that is not known; a name without a zero or that is not UTF-8; a name
+-- that is wrong here; or its value.
 pub data WrongElement (value : Kind → List ℕ → ℕ → ℕ → BsonFault → Type 0) (wrong : List ℕ → Bool)
     (named : BsonFault) (type : ℕ) (bytes : List ℕ) (place seen : ℕ)
     (fault : BsonFault) : Type 0 where

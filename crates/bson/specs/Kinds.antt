@@ -1,6 +1,7 @@
 -- The kinds of values, and the byte that each has in BSON 1.1 (bsonspec.org).
 use Rattle.std.specs.Prelude.{ℕ}
-use Rattle.bson.specs.Tree.{Scalar, text, binary, object_id, boolean, date, null, int32, timestamp, int64, min_key, max_key, Tree, scalar, document, array}
+use Rattle.bson.specs.Tree.{Scalar, text, binary, object_id, boolean, date, null, int32, timestamp}
+use Rattle.bson.specs.Tree.{int64, min_key, max_key, Tree, scalar, document, array}
 use Rattle.bson.specs.declared.kind.Kind.{Kind}
 use Rattle.bson.specs.declared.kind.Kind.TheVariants as kinds
 

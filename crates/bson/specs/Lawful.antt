@@ -1,9 +1,12 @@
--- Which trees are documents of BSON 1.1 (bsonspec.org): texts are UTF-8, numbers fit, an object id has twelve bytes,
--- and names have no zero byte. Narrower than the standard: the names of a document are distinct, no binary has
--- subtype 2, and documents and arrays nest at most 100 levels.
-use Rattle.std.specs.Prelude.{◌≡◌, ◌≢◌, ℕ, suc, max, ◌<◌, ◌≤◌, ◌^◌, List, [], ◌∷◌, length, slice_index, IsUtf8, FitsSigned}
+-- Which trees are documents of BSON 1.1 (bsonspec.org): texts are UTF-8, numbers fit, an object id
+-- has twelve bytes, and names have no zero byte. Narrower than the standard: the names of a
+-- document are distinct, no binary has subtype 2, and documents and arrays nest at most 100 levels.
+use Rattle.std.specs.Prelude.{◌≡◌, ◌≢◌, ℕ, suc, max, ◌<◌, ◌≤◌, ◌^◌, List, [], ◌∷◌, length}
+use Rattle.std.specs.Prelude.{slice_index, IsUtf8, FitsSigned}
 use Rattle.std.specs.Int.{w32, w64}
-use Rattle.bson.specs.Tree.{Scalar, text, binary, object_id, boolean, date, null, int32, timestamp, int64, min_key, max_key, Tree, scalar, document, array, Pairs, no_pairs, pair, Items, no_items, item}
+use Rattle.bson.specs.Tree.{Scalar, text, binary, object_id, boolean, date, null, int32, timestamp}
+use Rattle.bson.specs.Tree.{int64, min_key, max_key, Tree, scalar, document, array, Pairs, no_pairs}
+use Rattle.bson.specs.Tree.{pair, Items, no_items, item}
 
 -- how deep documents and arrays nest
 abbrev mutual

@@ -1,5 +1,6 @@
 -- Bytes that spell, as they stand: elements one behind the other, a document, a value.
-use Rattle.std.specs.Prelude.{◌≡◌, ◌^◌, ◌+◌, ◌<◌, ◌≤◌, ℕ, nat_lt, if◌then◌else◌, List, [], ◌∷◌, length, take, Result, Ok, Err}
+use Rattle.std.specs.Prelude.{◌≡◌, ◌^◌, ◌+◌, ◌<◌, ◌≤◌, ℕ, nat_lt, if◌then◌else◌, List, [], ◌∷◌}
+use Rattle.std.specs.Prelude.{length, take, Result, Ok, Err}
 use Rattle.std.specs.Int.{w32, from_le_bytes}
 use Rattle.bson.specs.Tree.{Tree, scalar, null, Pairs, no_pairs, pair}
 use Rattle.bson.specs.Kinds.{kind}
@@ -41,7 +42,8 @@ pub record Elements (bytes : List ℕ) (ps : Pairs) : Type 0 where
   pub spelled : bytes ≡ pairs_bytes ps
   pub short : length bytes < 2 ^ 31
 
--- a first pair, taken apart: the kind of its value, its name, the spelling of its value, the elements behind it
+-- a first pair, taken apart: the kind of its value, its name, the spelling of its value, the
+-- elements behind it
 abbrev pub IsFirst : Pairs → Kind → List ℕ → List ℕ → List ℕ → Type 0
 IsFirst no_pairs k name value rest = ⊥
 IsFirst (pair first t ps) k name value rest =

@@ -1,13 +1,18 @@
--- Reading a document of BSON 1.1 (bsonspec.org) from left to right, with the first fault that is met. Where several faults could be named, what stands
--- further left decides: of an element first its type byte, then its name, then its value; of a value first its
--- count, and whether that fits what is left of the document's content, then what the count is of. A document or
--- array at level 101 is too deep whatever stands there.
-use Rattle.std.specs.Prelude.{ℕ, zero, suc, ◌+◌, ◌-◌, ◌^◌, Bool, true, false, not, ◌||◌, ◌==◌, nat_lt, nat_le, if◌then◌else◌, List, [], ◌∷◌, ◌++◌, length, take, drop, slice_index, Result, Ok, Err}
+-- Reading a document of BSON 1.1 (bsonspec.org) from left to right, with the first fault that is
+-- met. Where several faults could be named, what stands further left decides: of an element first
+-- its type byte, then its name, then its value; of a value first its count, and whether that fits
+-- what is left of the document's content, then what the count is of. A document or array at level
+-- 101 is too deep whatever stands there.
+use Rattle.std.specs.Prelude.{ℕ, zero, suc, ◌+◌, ◌-◌, ◌^◌, Bool, true, false, not, ◌||◌, ◌==◌}
+use Rattle.std.specs.Prelude.{nat_lt, nat_le, if◌then◌else◌, List, [], ◌∷◌, ◌++◌, length, take}
+use Rattle.std.specs.Prelude.{drop, slice_index, Result, Ok, Err}
 use Rattle.std.specs.Int.{w32, w64, from_le_bytes, cast_signed}
 use Rattle.std.specs.Str.{is_utf8, bytes_eq}
 use Rattle.std.specs.List.{list_any, position_or_len}
 use Rattle.std.specs.Fmt.{decimal}
-use Rattle.bson.specs.Tree.{Scalar, text, binary, object_id, boolean, date, null, int32, timestamp, int64, min_key, max_key, Tree, scalar, document, array, Pairs, no_pairs, pair, Items, no_items, item}
+use Rattle.bson.specs.Tree.{Scalar, text, binary, object_id, boolean, date, null, int32, timestamp}
+use Rattle.bson.specs.Tree.{int64, min_key, max_key, Tree, scalar, document, array, Pairs, no_pairs}
+use Rattle.bson.specs.Tree.{pair, Items, no_items, item}
 use Rattle.bson.specs.Limits.{message_limit}
 use Rattle.outcome.specs.Outcome.{◌>>=◌, unless}
 use Rattle.bson.specs.declared.fault.BsonFault.{BsonFault}
@@ -174,7 +179,8 @@ item_by read i type bytes = do
   first ← element_by read (is_no_index i) faults.ArrayName type bytes
   Ok (first.0.1, first.1)
 
--- The elements of a document. Each takes a byte at least, so there are at most as many as there are bytes.
+-- The elements of a document. Each takes a byte at least, so there are at most as many as there are
+-- bytes.
 unfoldable pub pairs_by : (Kind → List ℕ → Read Tree) → ℕ → List (List ℕ) → List ℕ
     → Result Pairs BsonFault
 pairs_by read most earlier [] = Ok no_pairs

@@ -1,10 +1,14 @@
--- The one spelling of each document, as BSON 1.1 (bsonspec.org) writes it: numbers with the lowest byte first; a
--- document as its length in four bytes, its elements and a zero; an element as its type byte, its name ended by a
--- zero, and its value; an array as a document whose names are `0`, `1`, `2` and so on.
-use Rattle.std.specs.Prelude.{if◌then◌else◌, ◌≡◌, ℕ, ◌+◌, ◌^◌, ◌<◌, ◌≤◌, List, [], ◌∷◌, ◌++◌, length, take}
+-- The one spelling of each document, as BSON 1.1 (bsonspec.org) writes it: numbers with the lowest
+-- byte first; a document as its length in four bytes, its elements and a zero; an element as its
+-- type byte, its name ended by a zero, and its value; an array as a document whose names are `0`,
+-- `1`, `2` and so on.
+use Rattle.std.specs.Prelude.{if◌then◌else◌, ◌≡◌, ℕ, ◌+◌, ◌^◌, ◌<◌, ◌≤◌, List, [], ◌∷◌, ◌++◌}
+use Rattle.std.specs.Prelude.{length, take}
 use Rattle.std.specs.Int.{w32, w64, to_le_bytes, cast_unsigned}
 use Rattle.std.specs.Fmt.{decimal}
-use Rattle.bson.specs.Tree.{Scalar, text, binary, object_id, boolean, date, null, int32, timestamp, int64, min_key, max_key, Tree, scalar, document, array, Pairs, no_pairs, pair, Items, no_items, item}
+use Rattle.bson.specs.Tree.{Scalar, text, binary, object_id, boolean, date, null, int32, timestamp}
+use Rattle.bson.specs.Tree.{int64, min_key, max_key, Tree, scalar, document, array, Pairs, no_pairs}
+use Rattle.bson.specs.Tree.{pair, Items, no_items, item}
 use Rattle.bson.specs.Kinds.{kind_byte, kind}
 use Rattle.bson.specs.Lawful.{IsTree, IsDocument, levels}
 use Rattle.bson.specs.Limits.{message_limit}
@@ -20,7 +24,8 @@ frame_of content = to_le_bytes w32 (length content + 5) ++ (content ++ 0 ∷ [])
 abbrev pub element : ℕ → List ℕ → List ℕ → List ℕ
 element type name value = type ∷ (name ++ 0 ∷ value)
 
--- the count of a text includes the zero that ends it, that of a binary neither itself nor the subtype
+-- the count of a text includes the zero that ends it, that of a binary neither itself nor the
+-- subtype
 abbrev pub scalar_bytes : Scalar → List ℕ
 scalar_bytes (text s) = to_le_bytes w32 (length s + 1) ++ (s ++ 0 ∷ [])
 scalar_bytes (binary subtype bytes) = to_le_bytes w32 (length bytes) ++ subtype ∷ bytes

@@ -1,7 +1,9 @@
--- What the types of the crate stand for. A `Document` is its `Pairs`, an `Array` its `Items`, a `Text` and `Bytes`
--- are lists of bytes and a `Subtype` is its byte; `tree` says what a `Value` is.
+-- What the types of the crate stand for. A `Document` is its `Pairs`, an `Array` its `Items`, a
+-- `Text` and `Bytes` are lists of bytes and a `Subtype` is its byte; `tree` says what a `Value` is.
 use Rattle.std.specs.Prelude.{ℕ, List, map, [], ◌∷◌}
-use Rattle.bson.specs.Tree.{text, binary, object_id, boolean, date, null, int32, timestamp, int64, min_key, max_key, Tree, scalar, document, array, Pairs, no_pairs, pair, Items, no_items, item}
+use Rattle.bson.specs.Tree.{text, binary, object_id, boolean, date, null, int32, timestamp, int64}
+use Rattle.bson.specs.Tree.{min_key, max_key, Tree, scalar, document, array, Pairs, no_pairs, pair}
+use Rattle.bson.specs.Tree.{Items, no_items, item}
 use Rattle.bson.specs.declared.value.Value.{Value}
 use Rattle.bson.specs.declared.value.Value.TheVariants as values
 use Rattle.bson.specs.declared.value.Pair.{Pair}

@@ -1,5 +1,6 @@
 -- What writing at the end of bytes does.
-use Rattle.std.specs.Prelude.{◌≡◌, ◌<◌, ◌≤◌, ℕ, ◌+◌, ◌-◌, List, ◌++◌, length, take, drop, Result, Ok, Err}
+use Rattle.std.specs.Prelude.{◌≡◌, ◌<◌, ◌≤◌, ℕ, ◌+◌, ◌-◌, List, ◌++◌, length, take, drop, Result}
+use Rattle.std.specs.Prelude.{Ok, Err}
 use Rattle.std.specs.Int.{w32, to_le_bytes}
 use Rattle.bson.specs.Limits.{message_limit}
 use Rattle.bson.specs.declared.fault.EncodeFault.{EncodeFault}

@@ -1,13 +1,16 @@
 -- What the calls of a tree give.
-use Rattle.std.specs.Prelude.{◌≡◌, ℕ, ◌+◌, ◌<◌, ◌≤◌, ⊤, List, ◌∷◌, ◌++◌, length, map, Option, Some, None, Result, MatchResult}
+use Rattle.std.specs.Prelude.{◌≡◌, ℕ, ◌+◌, ◌<◌, ◌≤◌, ⊤, List, ◌∷◌, ◌++◌, length, map, Option, Some}
+use Rattle.std.specs.Prelude.{None, Result, MatchResult}
 use Rattle.std.specs.Option.{option_map}
 use Rattle.std.specs.List.{flat_map, insert}
 use Rattle.btree.specs.declared.pages.TreeFault.{TreeFault}
 use Rattle.page.specs.declared.cells.Stored.{Stored}
 use Rattle.page.specs.Content.{Item, IsPlace, Place, place_size}
-use Rattle.btree.specs.Keys.{Pair, Entry, Edit, Each, IsBetween, IsUnder, Rises, change, entry_of, times, value_at}
+use Rattle.btree.specs.Keys.{Pair, Entry, Edit, Each, IsBetween, IsUnder, Rises, change, entry_of}
+use Rattle.btree.specs.Keys.{times, value_at}
 use Rattle.btree.specs.Store.{HasCause, IsAt, KeepsWord, Store}
-use Rattle.btree.specs.Tree.{Body, HasChain, HasLinks, content_of, item_of, next_of, pair_keys, place_of, IsSound, IsWhole, Shows}
+use Rattle.btree.specs.Tree.{Body, HasChain, HasLinks, content_of, item_of, next_of, pair_keys}
+use Rattle.btree.specs.Tree.{place_of, IsSound, IsWhole, Shows}
 use Rattle.btree.specs.View.{place_in}
 
 -- an answer of which this holds, or a fault with its cause
@@ -19,7 +22,8 @@ abbrev pub Yields : {X : Type 0} → Store → Store → (X → Type 0) → Resu
 Yields old new P result = KeepsWord new → IsAnswer old new P result
 
 -- a page that heads a sound part of a tree, at a level below its root
-pub record IsPart (s : Store) (page level d : ℕ) (low : List ℕ) (high : Option (List ℕ)) (body : Body d) : Type 0 where
+pub record IsPart (s : Store) (page level d : ℕ) (low : List ℕ) (high : Option (List ℕ))
+    (body : Body d) : Type 0 where
   pub at : IsAt s page (content_of d body)
   pub shown : Shows s d body
   pub whole : IsWhole d body
@@ -33,7 +37,8 @@ IsPlaceOf (Some x) (Some stored) = place_in stored ≡ place_of x.links x.value
 IsPlaceOf _ _ = ⊥
 
 -- the value itself
-abbrev pub Reads : {V : Type 0} → (V → List ℕ) → Store → Store → List ℕ → Result V TreeFault → Type 0
+abbrev pub Reads : {V : Type 0} → (V → List ℕ) → Store → Store → List ℕ → Result V TreeFault
+    → Type 0
 Reads bytes old new value result = Yields old new (λ answer. bytes answer ≡ value) result
 
 -- a value was written into a chain of pages
@@ -57,7 +62,8 @@ abbrev pub Retires : {X : Type 0} → Store → Store → List ℕ → Result X 
 Retires old new links result = Yields old new (λ done. AreRetired old new links) result
 
 -- What stands at a key was taken out of a leaf's pairs, and its value's pages were retired.
-pub record IsTakenOut (old new : Store) (key : List ℕ) (pairs : List Pair) (items : List Item) (at : ℕ) : Type 0 where
+pub record IsTakenOut (old new : Store) (key : List ℕ) (pairs : List Pair) (items : List Item)
+    (at : ℕ) : Type 0 where
   pub front : List Pair
   pub mid : List Pair
   pub back : List Pair
@@ -70,7 +76,8 @@ pub record IsTakenOut (old new : Store) (key : List ℕ) (pairs : List Pair) (it
   pub retired : AreRetired old new (flat_map (λ x. x.links) mid)
 
 abbrev pub TakesOut : Store → Store → List ℕ → List Pair → List Item → Result ℕ TreeFault → Type 0
-TakesOut old new key pairs items result = Yields old new (λ at. IsTakenOut old new key pairs items at) result
+TakesOut old new key pairs items result =
+    Yields old new (λ at. IsTakenOut old new key pairs items at) result
 
 -- no longer than what lies in a cell may be
 abbrev pub IsSmallPlace : Place → Type 0
@@ -85,35 +92,46 @@ pub record IsStored (old new : Store) (value : List ℕ) (place : Place) : Type 
   pub retired : new.retired ≡ old.retired
 
 abbrev pub StoresValue : Store → Store → List ℕ → Result Stored TreeFault → Type 0
-StoresValue old new value result = Yields old new (λ stored. IsStored old new value (place_in stored)) result
+StoresValue old new value result =
+    Yields old new (λ stored. IsStored old new value (place_in stored)) result
 
 -- a cell was put in at a place
-pub record IsPutIn (old new : Store) (key value : List ℕ) (at : ℕ) (items items' : List Item) : Type 0 where
+pub record IsPutIn (old new : Store) (key value : List ℕ) (at : ℕ)
+    (items items' : List Item) : Type 0 where
   pub links : List ℕ
   pub is : items' ≡ insert items at (item_of (record { key = key; value = value; links = links }))
   pub has : 0 < length links → HasLinks new links value
   pub made : (n : ℕ) → times n new.made ≡ times n links + times n old.made
   pub retired : new.retired ≡ old.retired
 
-abbrev pub PutsIn : {X : Type 0} → Store → Store → List ℕ → List ℕ → ℕ → List Item → List Item → Result X TreeFault → Type 0
-PutsIn old new key value at items items' result = Yields old new (λ done. IsPutIn old new key value at items items') result
+abbrev pub PutsIn : {X : Type 0} → Store → Store → List ℕ → List ℕ → ℕ → List Item → List Item
+    → Result X TreeFault → Type 0
+PutsIn old new key value at items items' result =
+    Yields old new (λ done. IsPutIn old new key value at items items') result
 
--- The pairs of a leaf after edits: the map that the edits make, in order, with the pages of their chains.
-pub record IsEdited (old new : Store) (edits : List Edit) (before : List Pair) (items : List Item) : Type 0 where
+-- The pairs of a leaf after edits: the map that the edits make, in order, with the pages of their
+-- chains.
+pub record IsEdited (old new : Store) (edits : List Edit) (before : List Pair)
+    (items : List Item) : Type 0 where
   pub pairs : List Pair
   pub items_are : items ≡ map item_of pairs
   pub rise : Rises (pair_keys pairs)
   pub shown : Each (HasChain new) pairs
   pub entries : map entry_of pairs ≡ change edits (map entry_of before)
-  pub pages : (n : ℕ) → times n (flat_map (λ x. x.links) pairs) + times n new.retired + times n old.made
+  pub pages : (n : ℕ)
+      → times n (flat_map (λ x. x.links) pairs) + times n new.retired + times n old.made
       ≡ times n (flat_map (λ x. x.links) before) + times n old.retired + times n new.made
-  pub between : (low : List ℕ) (high : Option (List ℕ)) → Each (IsBetween low high) (pair_keys before) → Each (λ e. IsBetween low high e.key) edits
+  pub between : (low : List ℕ) (high : Option (List ℕ))
+      → Each (IsBetween low high) (pair_keys before) → Each (λ e. IsBetween low high e.key) edits
       → Each (IsBetween low high) (pair_keys pairs)
 
-abbrev pub Edits : {X : Type 0} → Store → Store → List Edit → List Pair → List Item → Result X TreeFault → Type 0
-Edits old new edits before items result = Yields old new (λ done. IsEdited old new edits before items) result
+abbrev pub Edits : {X : Type 0} → Store → Store → List Edit → List Pair → List Item
+    → Result X TreeFault → Type 0
+Edits old new edits before items result =
+    Yields old new (λ done. IsEdited old new edits before items) result
 
--- Some first of these entries, and the key of the one behind them: at most so many, and all where no key is given.
+-- Some first of these entries, and the key of the one behind them: at most so many, and all where
+-- no key is given.
 pub record IsCut (limit : ℕ) (all entries : List Entry) (key : List ℕ) : Type 0 where
   pub next : Entry
   pub others : List Entry
@@ -126,5 +144,7 @@ IsBatch limit all entries None = (entries ≡ all) × (length entries ≤ limit)
 IsBatch limit all entries (Some key) = IsCut limit all entries key
 
 -- the value at the key, or none
-abbrev pub Looks : {V : Type 0} → (V → List ℕ) → Store → Store → List ℕ → List Entry → Result (Option V) TreeFault → Type 0
-Looks bytes old new key entries result = Yields old new (λ answer. option_map bytes answer ≡ value_at key entries) result
+abbrev pub Looks : {V : Type 0} → (V → List ℕ) → Store → Store → List ℕ → List Entry
+    → Result (Option V) TreeFault → Type 0
+Looks bytes old new key entries result =
+    Yields old new (λ answer. option_map bytes answer ≡ value_at key entries) result

@@ -1,5 +1,6 @@
 -- Edits of a tree's children.
-use Rattle.std.specs.Prelude.{◌≡◌, ℕ, ◌⊎◌, ◌≤◌, List, [], length, map, Option, Some, None, Result, MatchResult}
+use Rattle.std.specs.Prelude.{◌≡◌, ℕ, ◌⊎◌, ◌≤◌, List, [], length, map, Option, Some, None, Result}
+use Rattle.std.specs.Prelude.{MatchResult}
 use Rattle.btree.specs.Keys.{Edit, Entry, times}
 use Rattle.btree.specs.Loose.{Stub, first_or}
 use Rattle.btree.specs.Reach.{HasMap}
@@ -11,14 +12,16 @@ use Rattle.btree.specs.declared.pages.TreeFault.TheVariants.{Full}
 abbrev pub edit_keys : List Edit → List (List ℕ)
 edit_keys edits = map (λ e. e.key) edits
 
-pub record IsHeldBehind (s : Store) (base : ℕ) (between high : Option (List ℕ)) (entries : List Entry) (pages : List ℕ) (sheaf : Sheaf) : Type 0 where
+pub record IsHeldBehind (s : Store) (base : ℕ) (between high : Option (List ℕ))
+    (entries : List Entry) (pages : List ℕ) (sheaf : Sheaf) : Type 0 where
   pub mid : List ℕ
   pub is : between ≡ Some mid
   pub held : IsHeld s base mid high entries pages sheaf
   pub within : IsUpTo mid high
 
 -- What is behind a bound, if there is anything.
-abbrev pub IsBehind : Store → ℕ → Option (List ℕ) → Option (List ℕ) → List Entry → List ℕ → Sheaf → Type 0
+abbrev pub IsBehind : Store → ℕ → Option (List ℕ) → Option (List ℕ) → List Entry → List ℕ → Sheaf
+    → Type 0
 IsBehind s base between high entries pages sheaf =
     ((sheaf.stubs ≡ []) × (between ≡ high) × (entries ≡ []) × ((n : ℕ) → times n pages ≡ 0))
     ⊎ IsHeldBehind s base between high entries pages sheaf
@@ -36,8 +39,10 @@ removal key = record { key = key; value = None }
 
 -- ---- the whole tree
 
--- The tree below this root has these entries. It reaches the pages from before, less those retired, with those made.
-pub record IsChanged (old new : Store) (root : ℕ) (entries : List Entry) (before : List ℕ) : Type 0 where
+-- The tree below this root has these entries. It reaches the pages from before, less those retired,
+-- with those made.
+pub record IsChanged (old new : Store) (root : ℕ) (entries : List Entry)
+    (before : List ℕ) : Type 0 where
   pub after : List ℕ
   pub map : HasMap new root after entries
   pub turned : AreTurned old new before after

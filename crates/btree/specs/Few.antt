@@ -1,5 +1,6 @@
 -- How many pages a change makes, at most.
-use Rattle.std.specs.Prelude.{◌≡◌, ℕ, suc, ◌+◌, ◌-◌, ◌*◌, ◌/◌, ◌^◌, ◌<◌, ◌≤◌, ◌⊎◌, leb, List, length, take, Option, Some, None, Result, IfOk, if◌then◌else◌}
+use Rattle.std.specs.Prelude.{◌≡◌, ℕ, suc, ◌+◌, ◌-◌, ◌*◌, ◌/◌, ◌^◌, ◌<◌, ◌≤◌, ◌⊎◌, leb, List}
+use Rattle.std.specs.Prelude.{length, take, Option, Some, None, Result, IfOk, if◌then◌else◌}
 use Rattle.std.proofs.Common.{inl, inr}
 use Rattle.btree.specs.declared.loose.Loose.{Loose}
 use Rattle.btree.specs.declared.pages.TreeFault.{TreeFault}
@@ -12,7 +13,8 @@ use Rattle.btree.specs.Turn.{Sheaf, sheaf_in}
 -- ---- what the calls of a tree promise
 
 -- the levels of a tree: none of the empty one, one of a single leaf
-abbrev pub levels_of : {s : Store} {root : ℕ} {pages : List ℕ} {entries : List Entry} → HasMap s root pages entries → ℕ
+abbrev pub levels_of : {s : Store} {root : ℕ} {pages : List ℕ} {entries : List Entry}
+    → HasMap s root pages entries → ℕ
 levels_of (inl empty) = 0
 levels_of (inr tree) = suc tree.d
 
@@ -60,14 +62,17 @@ pub record IsFew (old new : Store) (rank bytes pages : ℕ) (sheaf : Sheaf) : Ty
   pub made : MakesUpTo old new pages
 
 abbrev pub GivesFew : Store → Store → ℕ → ℕ → ℕ → Result Loose TreeFault → Type 0
-GivesFew old new rank bytes pages result = KeepsWord new → IfOk result (λ loose. IsFew old new rank bytes pages (sheaf_in loose))
+GivesFew old new rank bytes pages result = KeepsWord new
+    → IfOk result (λ loose. IsFew old new rank bytes pages (sheaf_in loose))
 
 -- The same, or it was written to one page, and this stands for it above.
 abbrev pub IsFewOrOne : Store → Store → ℕ → ℕ → ℕ → Sheaf → Type 0
-IsFewOrOne old new rank bytes pages sheaf = IsFew old new rank bytes pages sheaf ⊎ IsFew old new (rank + 1) 1360 (pages + 1) sheaf
+IsFewOrOne old new rank bytes pages sheaf =
+    IsFew old new rank bytes pages sheaf ⊎ IsFew old new (rank + 1) 1360 (pages + 1) sheaf
 
 abbrev pub GivesFewOrOne : Store → Store → ℕ → ℕ → ℕ → Result Loose TreeFault → Type 0
-GivesFewOrOne old new rank bytes pages result = KeepsWord new → IfOk result (λ loose. IsFewOrOne old new rank bytes pages (sheaf_in loose))
+GivesFewOrOne old new rank bytes pages result = KeepsWord new
+    → IfOk result (λ loose. IsFewOrOne old new rank bytes pages (sheaf_in loose))
 
 -- One child was taken off, and what stood in its page.
 pub record AreFewOff (old new : Store) (stubs : List Stub) (others opened : Sheaf) : Type 0 where
@@ -83,21 +88,28 @@ IsLittle bytes sheaf = Each IsStub sheaf.stubs × (stubs_size sheaf.stubs ≤ by
 abbrev pub IsOneChild : List Stub → Type 0
 IsOneChild stubs = (length stubs ≡ 1) × Each (λ s. IsChild s.load) stubs
 
--- What stands at one height goes together with no page made. What stands one level below the other, and has so many bytes
--- at most, makes four pages at most.
+-- What stands at one height goes together with no page made. What stands one level below the other,
+-- and has so many bytes at most, makes four pages at most.
 pub record AreFewJoined (old new : Store) (bytes : ℕ) (left right both : Sheaf) : Type 0 where
-  pub level : left.rank ≡ right.rank → IsFew old new left.rank (stubs_size left.stubs + stubs_size right.stubs) 0 both
-  pub behind : left.rank ≡ right.rank + 1 → 0 < length left.stubs → stubs_size right.stubs ≤ bytes → IsFew old new left.rank (stubs_size left.stubs + 5440) 4 both
-  pub before : left.rank + 1 ≡ right.rank → 0 < length right.stubs → stubs_size left.stubs ≤ bytes → IsFew old new right.rank (stubs_size right.stubs + 5440) 4 both
+  pub level : left.rank ≡ right.rank
+      → IsFew old new left.rank (stubs_size left.stubs + stubs_size right.stubs) 0 both
+  pub behind : left.rank ≡ right.rank + 1 → 0 < length left.stubs → stubs_size right.stubs ≤ bytes
+      → IsFew old new left.rank (stubs_size left.stubs + 5440) 4 both
+  pub before : left.rank + 1 ≡ right.rank → 0 < length right.stubs → stubs_size left.stubs ≤ bytes
+      → IsFew old new right.rank (stubs_size right.stubs + 5440) 4 both
 
 abbrev pub JoinsFew : ℕ → Store → Store → Sheaf → Sheaf → Result Loose TreeFault → Type 0
 JoinsFew bytes old new left right result =
-    KeepsWord new → Each IsStub left.stubs → Each IsStub right.stubs → IfOk result (λ both. AreFewJoined old new bytes left right (sheaf_in both))
+    KeepsWord new → Each IsStub left.stubs → Each IsStub right.stubs
+    → IfOk result (λ both. AreFewJoined old new bytes left right (sheaf_in both))
 
--- A part in front is all that there is, or it takes two thirds of a page, or a third where one page more has room for the rest.
+-- A part in front is all that there is, or it takes two thirds of a page, or a third where one page
+-- more has room for the rest.
 abbrev pub IsFullPart : List Stub → ℕ → Type 0
 IsFullPart stubs at = (length stubs ≤ at)
-    ⊎ ((4080 < stubs_size stubs) × ((2720 ≤ stubs_size (take at stubs)) ⊎ ((1360 ≤ stubs_size (take at stubs)) × (stubs_size stubs ≤ 5440))))
+    ⊎ ((4080 < stubs_size stubs)
+    × ((2720 ≤ stubs_size (take at stubs))
+    ⊎ ((1360 ≤ stubs_size (take at stubs)) × (stubs_size stubs ≤ 5440))))
 
 -- One page was made, and this stands for it.
 pub record IsOnePage (old new : Store) (stubs : List Stub) (above : Stub) : Type 0 where
@@ -112,7 +124,8 @@ pub record AreFewPages (old new : Store) (bytes : ℕ) (above : List Stub) : Typ
   pub children : Each (λ s. IsChild s.load) above
   pub small : Each IsStub above
 
--- What is left to write up to the root has 2,720 bytes, doubled so often; with what was made it takes so many pages at most.
+-- What is left to write up to the root has 2,720 bytes, doubled so often; with what was made it
+-- takes so many pages at most.
 pub record IsFewTop (old new : Store) (most : ℕ) (top : Sheaf) : Type 0 where
   pub halvings : ℕ
   pub pages : ℕ

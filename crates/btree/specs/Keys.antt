@@ -1,5 +1,6 @@
 -- Keys are lists of bytes in rising order, where what has ended is below what goes on.
-use Rattle.std.specs.Prelude.{◌≡◌, ℕ, ◌+◌, ⊤, Bool, true, not, ◌&&◌, List, [], ◌∷◌, ◌++◌, Option, Some, None, ◌==◌, if◌then◌else◌}
+use Rattle.std.specs.Prelude.{◌≡◌, ℕ, ◌+◌, ⊤, Bool, true, not, ◌&&◌, List, [], ◌∷◌, ◌++◌, Option}
+use Rattle.std.specs.Prelude.{Some, None, ◌==◌, if◌then◌else◌}
 use Rattle.std.specs.declared.cmp.Ordering.{Ordering}
 use Rattle.std.specs.declared.cmp.Ordering.TheVariants.{Less}
 use Rattle.std.specs.Ordering.{nat_cmp, is_lt, is_eq}
@@ -100,7 +101,8 @@ is_within (Some high) key = is_lt (key_cmp key high)
 
 abbrev pub window : List ℕ → Option (List ℕ) → List Entry → List Entry
 window from to [] = []
-window from to (x ∷ xs) = keep_if (not (is_lt (key_cmp x.key from)) && is_within to x.key) x (window from to xs)
+window from to (x ∷ xs) =
+    keep_if (not (is_lt (key_cmp x.key from)) && is_within to x.key) x (window from to xs)
 
 -- they rise strictly
 abbrev pub Rises : List (List ℕ) → Type 0

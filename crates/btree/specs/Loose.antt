@@ -1,8 +1,10 @@
 -- Cells and children that were taken out of their pages, and stand in none yet.
-use Rattle.std.specs.Prelude.{◌≡◌, ℕ, zero, suc, ◌+◌, ◌^◌, ◌<◌, ◌≤◌, ◌⊎◌, ⊤, Bool, false, List, [], ◌∷◌, map, take, length, Option, Some, None}
+use Rattle.std.specs.Prelude.{◌≡◌, ℕ, zero, suc, ◌+◌, ◌^◌, ◌<◌, ◌≤◌, ◌⊎◌, ⊤, Bool, false, List, []}
+use Rattle.std.specs.Prelude.{◌∷◌, map, take, length, Option, Some, None}
 use Rattle.page.specs.Content.{Place, Item, Arm, IsPlace, place_size}
 use Rattle.btree.specs.Keys.{Pair, Each, IsUnder, Rises, IsBetween}
-use Rattle.btree.specs.Tree.{with_low, Twig, Body, IsFan, IsWhole, IsSound, arm_of, item_of, pair_keys, twig_keys}
+use Rattle.btree.specs.Tree.{with_low, Twig, Body, IsFan, IsWhole, IsSound, arm_of, item_of}
+use Rattle.btree.specs.Tree.{pair_keys, twig_keys}
 
 -- what stands beside a key: a value's place, or a page
 pub data Load : Type 0 where
@@ -66,7 +68,8 @@ IsOver (Some last) key = IsUnder last key
 abbrev pub GoBehind : Option (List ℕ) → ℕ → List Stub → Type 0
 GoBehind last used [] = ⊤
 GoBehind last used (s ∷ ss) =
-    IsStub s × IsOver last s.key × (used + stub_size s ≤ 4080) × GoBehind (Some s.key) (used + stub_size s) ss
+    IsStub s × IsOver last s.key × (used + stub_size s ≤ 4080)
+    × GoBehind (Some s.key) (used + stub_size s) ss
 
 -- ---- order
 
@@ -74,13 +77,15 @@ GoBehind last used (s ∷ ss) =
 abbrev pub IsSpread : (d : ℕ) → List ℕ → Option (List ℕ) → Body d → Type 0
 IsSpread zero low high pairs = Rises (pair_keys pairs) × Each (IsBetween low high) (pair_keys pairs)
 IsSpread (suc d) low high twigs =
-    IsFan (λ from to body. IsWhole d body × IsSound d from to body) high twigs × Rises (twig_keys twigs) × Each (IsBetween low high) (twig_keys twigs)
+    IsFan (λ from to body. IsWhole d body × IsSound d from to body) high twigs
+    × Rises (twig_keys twigs) × Each (IsBetween low high) (twig_keys twigs)
 
--- A part in front that goes into a page. Where the pages needn't be filled, it holds two cells or more, and so does
--- what is behind it, if there is anything.
+-- A part in front that goes into a page. Where the pages needn't be filled, it holds two cells or
+-- more, and so does what is behind it, if there is anything.
 pub record IsPart (fills : Bool) (stubs : List Stub) (at : ℕ) : Type 0 where
   pub room : stubs_size (take at stubs) ≤ 4080
-  pub many : fills ≡ false → 2 ≤ length stubs → (2 ≤ at) × ((at ≡ length stubs) ⊎ (at + 2 ≤ length stubs))
+  pub many : fills ≡ false → 2 ≤ length stubs
+      → (2 ≤ at) × ((at ≡ length stubs) ⊎ (at + 2 ≤ length stubs))
 
 -- the first key, or a bound where there is none
 abbrev pub first_or : Option (List ℕ) → List Stub → Option (List ℕ)

@@ -14,7 +14,8 @@ entry_in e = record { key = e.key.items; value = e.value.items }
 
 -- these entries, and those of the range among them
 abbrev pub Holds : ℕ → List Entry → Batch → Type 0
-Holds limit all batch = IsBatch limit all (map entry_in batch.entries.items) (option_map (λ v. v.items) batch.next)
+Holds limit all batch =
+    IsBatch limit all (map entry_in batch.entries.items) (option_map (λ v. v.items) batch.next)
 
 abbrev pub within : Range → List Entry → List Entry
 within range entries = window range.from.now (option_map (λ b. b.now) range.to) entries

@@ -1,7 +1,9 @@
 -- Places of keys among those of a page.
-use Rattle.std.specs.Prelude.{◌≡◌, ℕ, ◌+◌, ◌<◌, ◌≤◌, ⊤, List, [], ◌∷◌, ◌++◌, length, Option, Some, slice_index_or}
+use Rattle.std.specs.Prelude.{◌≡◌, ℕ, ◌+◌, ◌<◌, ◌≤◌, ⊤, List, [], ◌∷◌, ◌++◌, length, Option, Some}
+use Rattle.std.specs.Prelude.{slice_index_or}
 use Rattle.btree.specs.Keys.{Each, IsUnder, IsNotUnder, IsBetween}
-use Rattle.page.specs.Content.{Item, Arm, Content, leaf, branch, chain, free_list, item_keys, arm_keys}
+use Rattle.page.specs.Content.{Item, Arm, Content, leaf, branch, chain, free_list, item_keys}
+use Rattle.page.specs.Content.{arm_keys}
 
 -- what stands before this place is below the key, and what stands at it isn't
 pub record IsPlace (items : List Item) (key : List ℕ) (at : ℕ) : Type 0 where
@@ -18,14 +20,16 @@ pub record IsGap (items : List Item) (key : List ℕ) (at : ℕ) : Type 0 where
   pub under : Each (λ (it : Item). IsUnder it.key key) front
   pub over : Each (λ (it : Item). IsUnder key it.key) back
 
--- what stands at this place isn't above the key, unless it is the first, and what stands behind it is
+-- what stands at this place isn't above the key, unless it is the first, and what stands behind it
+-- is
 pub record IsChildPlace (arms : List Arm) (key : List ℕ) (at : ℕ) : Type 0 where
   pub within : at < length arms
   pub below : (d : Arm) → 0 < at → IsNotUnder key (slice_index_or arms at d).key
   pub above : (d : Arm) → at + 1 < length arms → IsUnder key (slice_index_or arms (at + 1) d).key
 
 -- the bounds of the child at this place
-pub record AreBounds (low : List ℕ) (high : Option (List ℕ)) (arms : List Arm) (at : ℕ) (from : List ℕ) (to : Option (List ℕ)) : Type 0 where
+pub record AreBounds (low : List ℕ) (high : Option (List ℕ)) (arms : List Arm) (at : ℕ)
+    (from : List ℕ) (to : Option (List ℕ)) : Type 0 where
   pub first : at ≡ 0 → from ≡ low
   pub later : (d : Arm) → 0 < at → from ≡ (slice_index_or arms at d).key
   pub last : length arms ≤ at + 1 → to ≡ high

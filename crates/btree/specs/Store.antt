@@ -1,5 +1,6 @@
 -- Pages by their numbers, as the calls of a tree see them.
-use Rattle.std.specs.Prelude.{◌≡◌, ℕ, ◌+◌, ◌<◌, ◌≤◌, Bool, true, IsTrue, ◌⊎◌, List, [], ◌∷◌, ◌++◌, if◌then◌else◌}
+use Rattle.std.specs.Prelude.{◌≡◌, ℕ, ◌+◌, ◌<◌, ◌≤◌, Bool, true, IsTrue, ◌⊎◌, List, [], ◌∷◌, ◌++◌}
+use Rattle.std.specs.Prelude.{if◌then◌else◌}
 use Rattle.page.specs.Content.{Content}
 use Rattle.page.specs.Crash.{ReadsOnly}
 use Rattle.page.specs.History.{History}
@@ -7,9 +8,10 @@ use Rattle.btree.specs.declared.pages.TreeFault.{TreeFault}
 use Rattle.btree.specs.declared.pages.TreeFault.TheVariants as faults
 use Rattle.btree.specs.Keys.{times}
 
--- Each moment of the device that keeps the pages; numbers that say what was there when a turn began; the content of each page; the
--- pages that may not be given out, as something still reaches them; the pages that calls have given out and retired so far, the
--- last one first; how often no page was free, as far as a u64 counts.
+-- Each moment of the device that keeps the pages; numbers that say what was there when a turn
+-- began; the content of each page; the pages that may not be given out, as something still reaches
+-- them; the pages that calls have given out and retired so far, the last one first; how often no
+-- page was free, as far as a u64 counts.
 pub record Store : Type 0 where
   pub history : History
   pub base : List ℕ
@@ -32,7 +34,8 @@ no_device = record {
 abbrev pub KeepsWord : Store → Type 0
 KeepsWord s = IsTrue s.history.keeps_word
 
--- What no call changes, whether the device keeps its word or not: the device is only read, and the numbers of the beginning stay.
+-- What no call changes, whether the device keeps its word or not: the device is only read, and the
+-- numbers of the beginning stay.
 pub record Stays (old new : Store) : Type 0 where
   pub base : new.base ≡ old.base
   pub reads : ReadsOnly old.history new.history
@@ -65,8 +68,8 @@ pub record Grows (old new : Store) : Type 0 where
 abbrev pub HasNoPage : Store → Store → Type 0
 HasNoPage old new = (old.full_takes < new.full_takes) ⊎ (new.full_takes ≡ 18446744073709551615)
 
--- A fault has its cause: the device failed, or no page was free, or memory ran out. The others are those of pages that
--- are no tree.
+-- A fault has its cause: the device failed, or no page was free, or memory ran out. The others are
+-- those of pages that are no tree.
 abbrev pub HasCause : Store → Store → TreeFault → Type 0
 HasCause old new faults.Memory = Unit {0}
 HasCause old new faults.Device = old.history.failures < new.history.failures

@@ -1,12 +1,14 @@
 -- What a tree of pages is, and what it stands for.
 --
--- A tree is a value apart from any store: `Body d` is what stands d levels above the leaves. That all leaves stand at
--- one depth is its type. What it means and its order are functions of that value alone, so
--- the only fact that speaks of a store is `Shows`.
-use Rattle.std.specs.Prelude.{◌≡◌, ℕ, zero, suc, ◌<◌, ⊤, List, [], ◌∷◌, length, map, take, drop, Option, Some, None}
+-- A tree is a value apart from any store: `Body d` is what stands d levels above the leaves. That
+-- all leaves stand at one depth is its type. What it means and its order are functions of that
+-- value alone, so the only fact that speaks of a store is `Shows`.
+use Rattle.std.specs.Prelude.{◌≡◌, ℕ, zero, suc, ◌<◌, ⊤, List, [], ◌∷◌, length, map, take, drop}
+use Rattle.std.specs.Prelude.{Option, Some, None}
 use Rattle.std.specs.List.{flat_map}
 use Rattle.btree.specs.Keys.{Pair, Entry, entry_of, Each, Rises, IsWithin, IsBetween}
-use Rattle.page.specs.Content.{Place, inline, spilled, Item, Arm, Content, leaf, branch, chain, IsLeaf, IsBranch}
+use Rattle.page.specs.Content.{Place, inline, spilled, Item, Arm, Content, leaf, branch, chain}
+use Rattle.page.specs.Content.{IsLeaf, IsBranch}
 use Rattle.btree.specs.Store.{Store, IsAt}
 
 -- a child with its low key and its page
@@ -56,7 +58,8 @@ high_of high [] = high
 high_of high (w ∷ ws) = Some w.key
 
 -- each child lies from its own key up to the next child's
-abbrev pub IsFan : {B : Type 0} → (List ℕ → Option (List ℕ) → B → Type 0) → Option (List ℕ) → List (Twig B) → Type 0
+abbrev pub IsFan : {B : Type 0} → (List ℕ → Option (List ℕ) → B → Type 0) → Option (List ℕ)
+    → List (Twig B) → Type 0
 IsFan Lies high [] = ⊤
 IsFan Lies high (w ∷ ws) = Lies w.key (high_of high ws) w.body × IsFan Lies high ws
 
@@ -81,7 +84,8 @@ abbrev pub IsSound : (d : ℕ) → List ℕ → Option (List ℕ) → Body d →
 IsSound zero low high pairs = Rises (pair_keys pairs) × Each (IsBetween low high) (pair_keys pairs)
 IsSound (suc d) low high twigs =
     let ws = with_low low twigs in
-    IsFan (λ from to body. IsWhole d body × IsSound d from to body) high ws × Rises (twig_keys ws) × Each (IsWithin high) (twig_keys ws)
+    IsFan (λ from to body. IsWhole d body × IsSound d from to body) high ws × Rises (twig_keys ws)
+    × Each (IsWithin high) (twig_keys ws)
 
 -- ---- a store holds the pages below a body
 
@@ -92,7 +96,8 @@ next_of (page ∷ pages) = page
 abbrev pub HasLinks : Store → List ℕ → List ℕ → Type 0
 HasLinks s [] bytes = bytes ≡ []
 HasLinks s (page ∷ pages) bytes =
-    (0 < length bytes) × IsAt s page (chain (next_of pages) (take 4076 bytes)) × HasLinks s pages (drop 4076 bytes)
+    (0 < length bytes) × IsAt s page (chain (next_of pages) (take 4076 bytes))
+    × HasLinks s pages (drop 4076 bytes)
 
 abbrev pub HasChain : Store → Pair → Type 0
 HasChain s x = 0 < length x.links → HasLinks s x.links x.value

@@ -1,5 +1,5 @@
 -- The texts that a range of entries tells of an index are those of its documents.
-use Rattle.std.proofs.Common.{◌≡◌, ℕ, suc, ◌+◌, ◌<◌, ◌≤◌, ◌^◌, Bool, true, false, not, ◌&&◌, List, [], ◌∷◌, ◌++◌, length, map, take, drop, Option, Some, None, ◌⊎◌, inl, inr, refl, sym, ap, subst, ◌∙◌, arith, append_assoc, append-nil}
+use Rattle.std.proofs.Common.{◌≡◌, ℕ, suc, ◌+◌, ◌<◌, ◌≤◌, ◌^◌, Bool, true, false, not, ◌&&◌, List, [], ◌∷◌, ◌++◌, length, map, take, drop, Option, Some, None, ◌⊎◌, inl, inr, ⊎_elim, refl, sym, ap, subst, ◌∙◌, arith, append_assoc, append-nil}
 use Rattle.std.specs.Prelude.{Result, Ok, Err, nat_eq, if◌then◌else◌, is_some, Contains}
 use Rattle.std.specs.Int.{w32, to_be_bytes}
 use Rattle.std.specs.List.{flat_map, starts_with}
@@ -14,6 +14,7 @@ use Rattle.std.proofs.Math.Seq.{drop-append_seam}
 use Rattle.bson.specs.Tree.{Pairs}
 use Rattle.value_order.specs.KeyText.{tree_text}
 use Rattle.btree.specs.Keys.{Each, Entry, IsUnder, Rises, is_within, key_cmp, window}
+use Rattle.btree.specs.Calls.{IsBatch}
 use Rattle.btree.specs.Scan.{entry_in, within}
 use Rattle.btree.specs.declared.scanning.Batch.{Batch}
 use Rattle.btree.specs.declared.scanning.Entry.{Entry as OwnEntry}
@@ -32,12 +33,11 @@ use Rattle.index.proofs.FrontLemmas.{starts_so, starts_there}
 use Rattle.index.proofs.FoundLawLemmas.{found_collection}
 use Rattle.index.proofs.HomeLemmas.{listed_of, number_fits}
 use Rattle.index.proofs.ListingLaws.{lists_index}
-use Rattle.index.proofs.MemberLemmas.{Among, among_each, among_flat, among_image, among_map, among_of, contains_of}
+use Rattle.index.proofs.MemberLemmas.{Among, among_append, among_each, among_flat, among_front, among_image, among_map, among_of, contains_of}
 use Rattle.index.proofs.WindowLemmas.{among_window, inside_there, is_inside, under_cmp, window_among, window_rises}
-use Rattle.collections.specs.IndexTexts.{AreTextsBetween, Indexed, IsEntryText, IsNumberedIndex, LiesBetween, text_behind, texts_behind}
+use Rattle.collections.specs.IndexTexts.{AreFirstTexts, AreTextsBetween, Indexed, IsEntryText, IsNumberedIndex, LiesBetween, text_behind, texts_behind}
 use Rattle.path.specs.declared.refusal.Refusal.{Refusal}
 use Rattle.collections.specs.Reading.{IsBatchOf, IsInTree}
-use Rattle.collections.proofs.FoundLemmas.{whole_batch}
 use Rattle.collections.proofs.ReadingLemmas.{next_same}
 
 -- ---- texts behind a front
@@ -135,13 +135,45 @@ within_end front last text (Some high) ends up = by (key_cmp (take (length last)
         ap (λ (k : List ℕ). is_lt (key_cmp k high)) (ap (λ (t : List ℕ). front ++ t) is ∙ sym (append_assoc front last rest)) ∙ under_high rest
     by Greater e f = absurd cc
 
+-- ---- the front of a range
+
+-- These entries stand at the front of all, which are these alone where no more are told.
+record IsFront (all entries : List Entry) (more : Bool) : Type 0 where
+  rest : List Entry
+  is : all ≡ entries ++ rest
+  whole : more ≡ false → rest ≡ []
+
+front_of : (limit : ℕ) (all entries : List Entry) (next : Option (List ℕ)) → IsBatch limit all entries next → IsFront all entries (is_some next)
+front_of limit all entries None h = record { rest = []; is = sym h.0 ∙ sym (append-nil entries); whole = λ e. refl }
+front_of limit all entries (Some key) h = record { rest = h.next ∷ h.others; is = h.is; whole = λ e. absurd cc }
+
+each_front : (P : List ℕ → Type 0) (xs ys : List Entry) → Each P (entry_keys (xs ++ ys)) → Each P (entry_keys xs)
+each_front P [] ys h = tt
+each_front P (x ∷ xs) ys h = (h.0, each_front P xs ys h.1)
+
+rises_front : (xs ys : List Entry) → Rises (entry_keys (xs ++ ys)) → Rises (entry_keys xs)
+rises_front [] ys h = tt
+rises_front (x ∷ xs) ys h = (each_front (IsUnder x.key) xs ys h.0, rises_front xs ys h.1)
+
+each_back : (P : List ℕ → Type 0) (xs ys : List Entry) (y : Entry) → Each P (entry_keys (xs ++ ys)) → Among y ys → P y.key
+each_back P [] (z ∷ ys) y h (inl e) = subst (λ (x : Entry). P x.key) (sym e) h.0
+each_back P [] (z ∷ ys) y h (inr g) = each_back P [] ys y h.1 g
+each_back P [] [] y h g = absurd g
+each_back P (x ∷ xs) ys y h g = each_back P xs ys y h.1 g
+
+-- one at the front is below one behind it
+front_below : (xs ys : List Entry) (x y : Entry) → Rises (entry_keys (xs ++ ys)) → Among x xs → Among y ys → IsUnder x.key y.key
+front_below [] ys x y h g k = absurd g
+front_below (z ∷ xs) ys x y h (inl e) k = subst (λ (w : Entry). IsUnder w.key y.key) (sym e) (each_back (IsUnder z.key) xs ys y h.0 k)
+front_below (z ∷ xs) ys x y h (inr g) k = front_below xs ys x y h.1 g k
+
 -- ---- what a range of entries tells
 
 front_rest : (m n : ℕ) (rest : List ℕ) → key_under m n [] ++ rest ≡ key_under m n rest
 front_rest m n rest =
     append_assoc (to_be_bytes w32 m) (to_be_bytes w32 n ++ []) rest ∙ ap (λ (l : List ℕ). to_be_bytes w32 m ++ l) (append_assoc (to_be_bytes w32 n) [] rest)
 
-module _ (now : List Collection) (at : Indexed) (first last : List ℕ) (range : Range) (batch : Batch) (end : is_some batch.next ≡ false) (p : IsInTree (IsBatchOf range) now batch)
+module _ (now : List Collection) (at : Indexed) (first last : List ℕ) (range : Range) (batch : Batch) (p : IsInTree (IsBatchOf range) now batch)
     (place : IsNumberedIndex at.collection.number at.definition.number now at) (from : range.from.now ≡ key_under at.collection.number at.definition.number first)
     (ends : IsEndOf (key_under at.collection.number at.definition.number last) (option_map (λ b. b.now) range.to)) where
   abbrev c : Collection
@@ -159,8 +191,8 @@ module _ (now : List Collection) (at : Indexed) (first last : List ℕ) (range :
   abbrev read : List Entry
   read = map entry_in batch.entries.items
 
-  all_read : read ≡ window range.from.now to p.entries
-  all_read = whole_batch range.limit (within range p.entries) read (option_map (λ v. v.items) batch.next) (next_same batch.next ∙ end) p.right
+  at_front : IsFront (window range.from.now to p.entries) read (is_some (option_map (λ v. v.items) batch.next))
+  at_front = front_of range.limit (within range p.entries) read (option_map (λ v. v.items) batch.next) p.right
 
   kept : IsKept c
   kept = (found_collection now c.name c p.state place.numbered.found).0
@@ -221,32 +253,67 @@ module _ (now : List Collection) (at : Indexed) (first last : List ℕ) (range :
           ap (is_within to) (sym (front_rest c.number i.number text))
           ∙ within_end front last text to (subst (λ (k : List ℕ). IsEndOf k to) (sym (front_rest c.number i.number last)) ends) lies.1
 
-  pub texts_right : AreTextsBetween first last at (texts_behind front read)
+  -- the keys in the range rise
+  up : Rises (entry_keys (read ++ at_front.rest))
+  up = subst (λ (xs : List Entry). Rises (entry_keys xs)) at_front.is (window_rises range.from.now to p.entries p.spells.rises)
+
+  -- one that lies between the ends was read, or stands behind what was read
+  either_place : (text : List ℕ) → IsEntryText c.documents i text → LiesBetween first last text
+      → (x : Entry) × (x.key ≡ key_under c.number i.number text) × (Among x read ⊎ Among x at_front.rest)
+  either_place text h lies =
+      let x = entry_of text h in
+      let inside : is_inside range.from.now to x.0.key ≡ true = ap (is_inside range.from.now to) x.2 ∙ in_range text lies in
+      (x.0, x.2, among_append x.0 read at_front.rest (subst (λ (xs : List Entry). Among x.0 xs) at_front.is (window_among range.from.now to p.entries x.0 (in_tree x.0 x.1) inside)))
+
+  there_by : (text : List ℕ) (x : Entry) → x.key ≡ key_under c.number i.number text → Among x read → Contains (texts_behind front read) text
+  there_by text x is there = contains_of (texts_behind front read) text (texts_there front read x text there (is ∙ sym (front_rest c.number i.number text)))
+
+  pub texts_right : AreFirstTexts first last at (not (is_some (option_map (λ v. v.items) batch.next))) (texts_behind front read)
   texts_right = record {
-    rise = texts_rise front read (subst (λ (xs : List Entry). Rises (entry_keys xs)) (sym all_read) (window_rises range.from.now to p.entries p.spells.rises));
+    rise = texts_rise front read (rises_front read at_front.rest up);
     given = λ text h.
         let x = texts_told front read text (among_of (texts_behind front read) text h) in
-        let there = among_window range.from.now to p.entries x.0 (subst (λ (xs : List Entry). Among x.0 xs) all_read x.1) in
+        let there = among_window range.from.now to p.entries x.0 (subst (λ (xs : List Entry). Among x.0 xs) (sym at_front.is) (among_front x.0 read at_front.rest x.1)) in
         let is : x.0.key ≡ key_under c.number i.number text = x.2 ∙ front_rest c.number i.number text in
         text_of x.0 text is (listed x.0 there.0 text is);
-    all = λ text h lies.
-        let x = entry_of text h in
-        let inside : is_inside range.from.now to x.0.key ≡ true = ap (is_inside range.from.now to) x.2 ∙ in_range text lies in
-        let there : Among x.0 read = subst (λ (xs : List Entry). Among x.0 xs) (sym all_read) (window_among range.from.now to p.entries x.0 (in_tree x.0 x.1) inside) in
-        contains_of (texts_behind front read) text (texts_there front read x.0 text there (x.2 ∙ sym (front_rest c.number i.number text)));
+    above = λ text other h lies g.
+        let x = either_place text h lies in
+        let y = texts_told front read other (among_of (texts_behind front read) other g) in
+        ⊎_elim (λ there. inl (there_by text x.0 x.1 there))
+        (λ behind. inr (sym (same_front front other text) ∙ (λ t. key_cmp (sym y.2 t) (sym (x.1 ∙ sym (front_rest c.number i.number text)) t)) ∙ front_below read at_front.rest y.0 x.0 up y.1 behind))
+        x.2;
+    all = λ whole text h lies.
+        let x = either_place text h lies in
+        ⊎_elim (λ there. there_by text x.0 x.1 there)
+        (λ behind. absurd (subst (λ (xs : List Entry). Among x.0 xs) (at_front.whole (is_not (is_some (option_map (λ v. v.items) batch.next)) whole)) behind))
+        x.2;
   }
+    where
+      is_not : (b : Bool) → not b ≡ true → b ≡ false
+      is_not true e = absurd cc
+      is_not false e = refl
+
+not_not : (b : Bool) → not (not b) ≡ b
+not_not true = refl
+not_not false = refl
 
 -- by the numbers that are asked for
-pub texts_asked : (now : List Collection) (at : Indexed) (number index : ℕ) (first last : List ℕ) (range : Range) (batch : Batch) (under : List ℕ) (es : List OwnEntry) (texts : List (List ℕ)) → is_some batch.next ≡ false
+pub texts_asked : (now : List Collection) (at : Indexed) (number index : ℕ) (first last : List ℕ) (range : Range) (batch : Batch) (under : List ℕ) (es : List OwnEntry) (texts : List (List ℕ)) (are_all : Bool) → is_some batch.next ≡ not are_all
     → IsInTree (IsBatchOf range) now batch → IsNumberedIndex number index now at → range.from.now ≡ key_under number index first
     → IsEndOf (key_under number index last) (option_map (λ b. b.now) range.to) → under ≡ key_under number index [] → es ≡ batch.entries.items
-    → texts ≡ texts_behind under (map entry_in es) → AreTextsBetween first last at texts
-texts_asked now at number index first last range batch under es texts end p place from ends front_is es_is texts_is =
+    → texts ≡ texts_behind under (map entry_in es) → AreFirstTexts first last at are_all texts
+texts_asked now at number index first last range batch under es texts are_all end p place from ends front_is es_is texts_is =
     let numbers : number ≡ at.collection.number = sym place.numbered.same in
     let indexes : index ≡ at.definition.number = sym place.same in
     let own : IsNumberedIndex at.collection.number at.definition.number now at =
     record { numbered = record { found = place.numbered.found; same = refl }; listed = place.listed; same = refl } in
-    let right = texts_right now at first last range batch end p own (from ∙ (λ t. key_under (numbers t) (indexes t) first))
+    let right = texts_right now at first last range batch p own (from ∙ (λ t. key_under (numbers t) (indexes t) first))
     (subst (λ (k : List ℕ). IsEndOf k (option_map (λ b. b.now) range.to)) (λ t. key_under (numbers t) (indexes t) last) ends) in
-    subst (AreTextsBetween first last at)
-    (sym (texts_is ∙ (λ t. texts_behind ((front_is ∙ (λ s. key_under (numbers s) (indexes s) [])) t) (map entry_in (es_is t))))) right
+    let known : not (is_some (option_map (λ v. v.items) batch.next)) ≡ are_all = ap not (next_same batch.next ∙ end) ∙ not_not are_all in
+    subst (λ (b : Bool). AreFirstTexts first last at b texts) known
+    (subst (AreFirstTexts first last at (not (is_some (option_map (λ v. v.items) batch.next))))
+    (sym (texts_is ∙ (λ t. texts_behind ((front_is ∙ (λ s. key_under (numbers s) (indexes s) [])) t) (map entry_in (es_is t))))) right)
+
+-- where they are all
+pub all_texts : (first last : List ℕ) (at : Indexed) (are_all : Bool) (texts : List (List ℕ)) → are_all ≡ true → AreFirstTexts first last at are_all texts → AreTextsBetween first last at texts
+all_texts first last at are_all texts whole h = record { rise = h.rise; given = h.given; all = h.all whole }

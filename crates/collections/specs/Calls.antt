@@ -1,5 +1,6 @@
 -- What calls of the collections give, and why they refuse.
-use Rattle.std.specs.Prelude.{◌≡◌, ◌⊎◌, ◌<◌, ◌≤◌, true, List, [], length, Result, IfErr, OnErr, MatchResult}
+use Rattle.std.specs.Prelude.{◌≡◌, ◌⊎◌, ◌<◌, ◌≤◌, true, List, [], length, Result, IfErr, OnErr}
+use Rattle.std.specs.Prelude.{MatchResult}
 use Rattle.page.specs.History.{History, KeepsWord}
 use Rattle.btree.specs.Keys.{Entry, Edit}
 use Rattle.btree.specs.Store.{Grows, HasNoPage}
@@ -21,7 +22,8 @@ abbrev pub HasFailed : {D : Type 0} → (D → History) → State D → State D 
 HasFailed history old new = (is_stopped old ≡ true)
     ⊎ ((disk_history history old).failures < (disk_history history new).failures)
 
--- Why a call was refused that isn't refused by what it asks for: memory ran out, the device failed, or no page was free.
+-- Why a call was refused that isn't refused by what it asks for: memory ran out, the device failed,
+-- or no page was free.
 abbrev pub HasCause : {D : Type 0} → (D → History) → State D → State D
     → Refusal → Type 0
 HasCause history old new e = (e ≡ refusals.OutOfMemory)
@@ -30,8 +32,8 @@ HasCause history old new e = (e ≡ refusals.OutOfMemory)
 
 -- ---- reading
 
--- A call that reads: nothing of the turn changes, and while the disk keeps its word, the answer is right for the
--- collections, or the refusal has its cause.
+-- A call that reads: nothing of the turn changes, and while the disk keeps its word, the answer is
+-- right for the collections, or the refusal has its cause.
 pub record Reads {D X : Type 0} (history : D → History) (IsRight : List Collection → X → Type 0)
     (result : Result X Refusal) (old new : State D) : Type 0 where
   pub on : GoesFrom history old new
@@ -59,7 +61,8 @@ abbrev pub HasWriteCause : {D : Type 0} → (D → History) → List Collection
 HasWriteCause history after old new e =
     HasCause history old new e ⊎ ((e ≡ refusals.Full) × IsTooLarge after)
 
--- These edits, which lead from the collections to others, were put into the tree, or nothing of them.
+-- These edits, which lead from the collections to others, were put into the tree, or nothing of
+-- them.
 pub record Applies {D : Type 0} (history : D → History) (edits : List Edit)
     (result : Result (Unit {0}) Refusal) (old new : State D) : Type 0 where
   pub on : GoesFrom history old new

@@ -11,8 +11,9 @@ use Rattle.collections.specs.Holding.{Holds}
 use Rattle.collections.specs.Standing.{HasState}
 use Rattle.collections.specs.View.{disk_history, generation, is_changed, is_stopped, pages_of}
 
--- Where nothing had failed, a crash at any moment of the call leaves the collections as they were when the turn began, or as
--- they are now; at Ok as they are now, and the next turn begins with them.
+-- Where nothing had failed, a crash at any moment of the call leaves the collections as they were
+-- when the turn began, or as they are now; at Ok as they are now, and the next turn begins with
+-- them.
 pub record Moves {D : Type 0} (history : D → History) (start now : List Collection)
     (result : Result (Unit {0}) CommitFault) (old new : State D) : Type 0 where
   pub any_moment : LeavesOnly (disk_history history old) (disk_history history new)

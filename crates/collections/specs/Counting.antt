@@ -15,13 +15,15 @@ use Rattle.collections.specs.Standing.{HasState}
 use Rattle.collections.specs.State.{State}
 use Rattle.collections.specs.View.{disk_history, is_changed}
 
--- The image holds these collections, and these are the counts of its root, by the pages that its tree reaches.
+-- The image holds these collections, and these are the counts of its root, by the pages that its
+-- tree reaches.
 pub record HasCounts (image : ℕ → List ℕ) (collections : List Collection)
     (counts : PageCounts) : Type 0 where
   pub holds : Holds image collections
   pub are : AreCounts holds.stands.root holds.stands.pages counts
 
--- Why the pages of a file that holds collections weren't counted: the device failed, or memory ran out.
+-- Why the pages of a file that holds collections weren't counted: the device failed, or memory ran
+-- out.
 abbrev pub HasCountCause : {D : Type 0} → (D → History) → State D → State D → OpenFault → Type 0
 HasCountCause history old new faults.Device = HasFailed history old new
 HasCountCause history old new faults.Memory = Unit {0}
@@ -29,9 +31,9 @@ HasCountCause history old new faults.Damaged = ⊥
 HasCountCause history old new faults.NotADatabase = ⊥
 HasCountCause history old new faults.NewerFormat = ⊥
 
--- Nothing of the turn changes, and its tree stays. While the disk keeps its word, what it reads has a tree of the committed root,
--- of which these are the counts; where the turn began with collections, they are those of the file that holds them, or the fault
--- has its cause.
+-- Nothing of the turn changes, and its tree stays. While the disk keeps its word, what it reads has
+-- a tree of the committed root, of which these are the counts; where the turn began with
+-- collections, they are those of the file that holds them, or the fault has its cause.
 pub record CountsPages {D : Type 0} (history : D → History) (result : Result PageCounts OpenFault)
     (old new : State D) : Type 0 where
   pub on : GoesFrom history old new

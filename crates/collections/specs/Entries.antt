@@ -1,5 +1,6 @@
 -- The entries of a turn's tree, whatever they spell.
-use Rattle.std.specs.Prelude.{◌≡◌, ◌≤◌, ℕ, List, [], ◌++◌, length, map, Option, Some, None, Result, MatchResult}
+use Rattle.std.specs.Prelude.{◌≡◌, ◌≤◌, ℕ, List, [], ◌++◌, length, map, Option, Some, None, Result}
+use Rattle.std.specs.Prelude.{MatchResult}
 use Rattle.std.specs.Option.{option_map}
 use Rattle.std.specs.Global.{Vec}
 use Rattle.page.specs.History.{History, KeepsWord}
@@ -16,13 +17,15 @@ use Rattle.collections.specs.State.{State}
 use Rattle.collections.specs.View.{disk_history, is_changed, pages_of}
 
 -- the turn's tree has these
-pub record HasEntries {D : Type 0} (history : D → History) (c : State D) (entries : List Entry) : Type 0 where
+pub record HasEntries {D : Type 0} (history : D → History) (c : State D)
+    (entries : List Entry) : Type 0 where
   pub pages : List ℕ
   pub map : HasMap (pages_of history c) c.root pages entries
 
--- All entries were read: nothing of the turn changes, and while the disk keeps its word, they are those that the tree has, or
--- the refusal has its cause.
-pub record ReadsEntries {D : Type 0} (history : D → History) (result : Result (Vec OwnEntry) Refusal)
+-- All entries were read: nothing of the turn changes, and while the disk keeps its word, they are
+-- those that the tree has, or the refusal has its cause.
+pub record ReadsEntries {D : Type 0} (history : D → History)
+    (result : Result (Vec OwnEntry) Refusal)
     (old new : State D) : Type 0 where
   pub on : GoesFrom history old new
   pub unchanged : is_changed new ≡ is_changed old
@@ -40,14 +43,15 @@ entries_from None entries = []
 entries_from (Some key) entries = window key None entries
 
 -- A batch of the entries from a key on, at most so many; the others stand from its next key on.
-pub record AreNextEntries (from : List ℕ) (limit : ℕ) (entries : List Entry) (batch : Batch) : Type 0 where
+pub record AreNextEntries (from : List ℕ) (limit : ℕ) (entries : List Entry)
+    (batch : Batch) : Type 0 where
   pub is : entries_from (Some from) entries
       ≡ map entry_in batch.entries.items
       ++ entries_from (option_map (λ v. v.items) batch.next) entries
   pub most : length batch.entries.items ≤ limit
 
--- Entries were read: nothing of the turn changes, its tree stays, and while the disk keeps its word, the answer is right for the
--- entries that the tree has, or the refusal has its cause.
+-- Entries were read: nothing of the turn changes, its tree stays, and while the disk keeps its
+-- word, the answer is right for the entries that the tree has, or the refusal has its cause.
 pub record ReadsTree {D X : Type 0} (history : D → History) (IsRight : List Entry → X → Type 0)
     (result : Result X Refusal) (old new : State D) : Type 0 where
   pub on : GoesFrom history old new

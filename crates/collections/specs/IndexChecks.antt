@@ -1,5 +1,7 @@
--- Whether the entries of a document's keys stand in the indexes of its collection, told by the entries of a tree.
-use Rattle.std.specs.Prelude.{ℕ, Bool, true, false, not, ◌&&◌, ◌||◌, List, [], ◌∷◌, Option, Some, None}
+-- Whether the entries of a document's keys stand in the indexes of its collection, told by the
+-- entries of a tree.
+use Rattle.std.specs.Prelude.{ℕ, Bool, true, false, not, ◌&&◌, ◌||◌, List, [], ◌∷◌, Option, Some}
+use Rattle.std.specs.Prelude.{None}
 use Rattle.btree.specs.Keys.{Entry, value_at}
 use Rattle.index.specs.Definition.{Definition}
 use Rattle.index.specs.KeyTexts.{entry_key}
@@ -16,7 +18,8 @@ abbrev pub has_entry : ℕ → ℕ → List ℕ → List ℕ → List Entry → 
 has_entry number index key id entries =
     is_empty_at (value_at (entry_key number index key id) entries)
 
--- An index has no entry for an encoded key and the `_id` of this text, or a unique one has one for the key and another `_id`.
+-- An index has no entry for an encoded key and the `_id` of this text, or a unique one has one for
+-- the key and another `_id`.
 abbrev pub lacks_key : ℕ → Definition → List ℕ → List ℕ → List Entry → Bool
 lacks_key number i id key entries = not (has_entry number i.number key id entries)
     || (i.is_unique && has_other_key number i.number key id entries)

@@ -1,8 +1,11 @@
--- What the entries of an index tell: their texts, each an encoded key and behind it the text of an `_id`.
-use Rattle.std.specs.Prelude.{◌≡◌, ℕ, nat_eq, false, if◌then◌else◌, Option, Some, None, List, ◌++◌, length, drop, take, Contains}
+-- What the entries of an index tell: their texts, each an encoded key and behind it the text of an
+-- `_id`.
+use Rattle.std.specs.Prelude.{◌≡◌, ◌⊎◌, ℕ, nat_eq, Bool, true, false, if◌then◌else◌, Option, Some}
+use Rattle.std.specs.Prelude.{None, List, ◌++◌, length, drop, take, Contains}
 use Rattle.std.specs.List.{flat_map, starts_with}
 use Rattle.std.specs.Option.{option_to_list}
 use Rattle.std.specs.Ordering.{is_gt, is_lt}
+use Rattle.std.specs.declared.cmp.Ordering.TheVariants.{Less}
 use Rattle.bson.specs.Tree.{Pairs}
 use Rattle.value_order.specs.KeyText.{tree_text}
 use Rattle.btree.specs.Keys.{Entry, Rises, key_cmp}
@@ -46,8 +49,24 @@ abbrev pub LiesBetween : List ℕ → List ℕ → List ℕ → Type 0
 LiesBetween first last text =
     (is_lt (key_cmp text first) ≡ false) × (is_gt (key_cmp (take (length last) text) last) ≡ false)
 
--- Texts of entries of documents, each once and ascending; all that lie between these two are among them.
-pub record AreTextsBetween (first last : List ℕ) (at : Indexed) (texts : List (List ℕ)) : Type 0 where
+-- Texts of entries of documents, each once and ascending; another one that lies between these two
+-- is above all of them, and there is no other where these are all.
+pub record AreFirstTexts (first last : List ℕ) (at : Indexed) (are_all : Bool)
+    (texts : List (List ℕ)) : Type 0 where
+  pub rise : Rises texts
+  pub given : (text : List ℕ) → Contains texts text
+      → IsEntryText at.collection.documents at.definition text
+  pub above : (text other : List ℕ) → IsEntryText at.collection.documents at.definition text
+      → LiesBetween first last text → Contains texts other
+      → Contains texts text ⊎ (key_cmp other text ≡ Less)
+  pub all : are_all ≡ true → (text : List ℕ)
+      → IsEntryText at.collection.documents at.definition text
+      → LiesBetween first last text → Contains texts text
+
+-- Texts of entries of documents, each once and ascending; all that lie between these two are among
+-- them.
+pub record AreTextsBetween (first last : List ℕ) (at : Indexed)
+    (texts : List (List ℕ)) : Type 0 where
   pub rise : Rises texts
   pub given : (text : List ℕ) → Contains texts text
       → IsEntryText at.collection.documents at.definition text

@@ -35,7 +35,8 @@ pub record IsOpened {D : Type 0} (history : D → History) (disk : D)
   -- and from then on every image holds that alone
   pub alone : (collections : List Collection) → Holds (reads (now (history disk))) collections
       → LeavesNow (disk_history history c) (λ image. Holds image collections)
-  -- where reads give one of the images, those during the call and after it are among those from before
+  -- where reads give one of the images, those during the call and after it are among those from
+  -- before
   pub any_moment : IsImage (now (history disk)) (reads (now (history disk)))
       → LeavesOnly (history disk) (disk_history history c) (IsImage (now (history disk)))
 

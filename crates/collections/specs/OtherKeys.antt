@@ -7,8 +7,8 @@ use Rattle.index.specs.State.{Collection}
 use Rattle.index.specs.StateEntries.{key_under}
 use Rattle.collections.specs.Reading.{IsInTree}
 
--- Right for the map that the edits make of the one which spells the collections: an entry of the index stands in it for this encoded key, and for
--- another `_id` than the one of this text.
+-- Right for the map that the edits make of the one which spells the collections: an entry of the
+-- index stands in it for this encoded key, and for another `_id` than the one of this text.
 abbrev pub TellsOtherKey : List Edit → ℕ → ℕ → List ℕ → List ℕ → List Collection → Bool → Type 0
 TellsOtherKey edits number index key id =
     IsInTree (λ entries found. found ≡ has_other_key number index key id (change edits entries))
@@ -16,7 +16,8 @@ TellsOtherKey edits number index key id =
 -- Right for that map: it has a document for the `_id` of this text in the collection of a number.
 abbrev pub TellsDocument : List Edit → ℕ → List ℕ → List Collection → Bool → Type 0
 TellsDocument edits number id =
-    IsInTree (λ entries found. found ≡ is_some (value_at (key_under number 0 id) (change edits entries)))
+    IsInTree (λ entries found. found
+    ≡ is_some (value_at (key_under number 0 id) (change edits entries)))
 
 -- ---- several keys
 
@@ -31,7 +32,8 @@ abbrev pub is_taken : ℕ → List ℕ → List Definition → List (List (List 
 is_taken number id [] all entries = false
 is_taken number id (i ∷ is) [] entries = false
 is_taken number id (i ∷ is) (keys ∷ all) entries =
-    (i.is_unique && any_other_key number i.number id keys entries) || is_taken number id is all entries
+    (i.is_unique && any_other_key number i.number id keys entries)
+    || is_taken number id is all entries
 
 -- right for that map
 abbrev pub TellsOf : (List Entry → Bool) → List Edit → List Collection → Bool → Type 0

@@ -1,5 +1,6 @@
 -- What calls give that read collections and documents.
-use Rattle.std.specs.Prelude.{◌≡◌, ◌≤◌, ℕ, length, ⊤, All, List, [], ◌∷◌, Option, Some, Result, MatchResult, string_bytes}
+use Rattle.std.specs.Prelude.{◌≡◌, ◌≤◌, ℕ, length, ⊤, All, List, [], ◌∷◌, Option, Some, Result}
+use Rattle.std.specs.Prelude.{MatchResult, string_bytes}
 use Rattle.std.specs.Option.{option_map}
 use Rattle.std.specs.Global.{Vec}
 use Rattle.page.specs.History.{History, KeepsWord}
@@ -35,7 +36,8 @@ use Rattle.collections.specs.View.{disk_history, is_changed}
 
 -- ---- what the tree has
 
--- Something was looked up in the tree below a root page, and this is right for its entries, whichever these are.
+-- Something was looked up in the tree below a root page, and this is right for its entries,
+-- whichever these are.
 pub record LooksUp {D X : Type 0} (history : D → History) (root : ℕ)
     (IsRight : List Entry → X → Type 0) (result : Result X TreeFault)
     (old new : PagerState D) : Type 0 where
@@ -111,8 +113,8 @@ IsNameOf name c = name_of name ≡ name_in c
 
 -- ---- reading of what not all collections have
 
--- A call that reads: nothing of the turn changes, and while the disk keeps its word and this is so of what was asked for, the
--- answer is right, or the refusal has its cause.
+-- A call that reads: nothing of the turn changes, and while the disk keeps its word and this is so
+-- of what was asked for, the answer is right, or the refusal has its cause.
 pub record ReadsOf {D A X : Type 0} (history : D → History) (Is : List Collection → A → Type 0)
     (IsRight : List Collection → A → X → Type 0) (result : Result X Refusal)
     (old new : State D) : Type 0 where
@@ -130,7 +132,8 @@ pub record Place : Type 0 where
   pub id : Tree
 
 -- The number is that of the place's collection, and the text that of its `_id`.
-pub record IsPlaceOf (number : ℕ) (text : List ℕ) (now : List Collection) (place : Place) : Type 0 where
+pub record IsPlaceOf (number : ℕ) (text : List ℕ) (now : List Collection)
+    (place : Place) : Type 0 where
   pub numbered : IsNumbered now place.collection number
   pub key : IsKey (value place.id)
   pub spelled : text ≡ tree_text place.id

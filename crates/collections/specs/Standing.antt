@@ -26,7 +26,8 @@ pub record IsTurnOf {D : Type 0} (history : D → History) (c : State D)
   pub spells_now : Spells after now
   pub now_state : IsLawfulState now
 
--- While nothing has failed and the disk keeps its word: the collections as the turn began, and as they are now.
+-- While nothing has failed and the disk keeps its word: the collections as the turn began, and as
+-- they are now.
 abbrev pub HasState : {D : Type 0} → (D → History) → State D
     → List Collection → List Collection → Type 0
 HasState history c start now =

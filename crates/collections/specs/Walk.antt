@@ -1,5 +1,6 @@
 -- A walk through the documents of a collection.
-use Rattle.std.specs.Prelude.{◌≡◌, ℕ, ◌≤◌, ⊤, false, List, [], ◌++◌, length, drop, take, Option, Some, None}
+use Rattle.std.specs.Prelude.{◌≡◌, ℕ, ◌≤◌, ⊤, false, List, [], ◌++◌, length, drop, take, Option}
+use Rattle.std.specs.Prelude.{Some, None}
 use Rattle.std.specs.Option.{option_map}
 use Rattle.bson.specs.Tree.{Pairs}
 use Rattle.btree.specs.Keys.{Each, IsNotUnder, IsUnder}
@@ -20,7 +21,8 @@ next_key walk = option_map (λ v. v.items) walk.next
 -- the keys of these documents are below this one, or there is none
 abbrev pub AreBehind : ℕ → Option (List ℕ) → List Pairs → Type 0
 AreBehind number None documents = ⊤
-AreBehind number (Some key) documents = Each (λ d. IsUnder (document_entry number d).key key) documents
+AreBehind number (Some key) documents =
+    Each (λ d. IsUnder (document_entry number d).key key) documents
 
 -- They are not below it, and where there is none, there are no documents.
 abbrev pub AreAhead : ℕ → Option (List ℕ) → List Pairs → Type 0
@@ -64,6 +66,7 @@ HasNext limit walk now rest entries =
 
 -- Whatever becomes of the documents behind it, a walk goes on with those that are still to come.
 abbrev pub GoesOnWalking : Type 0
-GoesOnWalking = (before after : List Collection) (walk : Walk) (rest done : List Pairs) (c : Collection)
+GoesOnWalking =
+    (before after : List Collection) (walk : Walk) (rest done : List Pairs) (c : Collection)
     → IsWalk before walk rest → IsNumbered after c walk.number → c.documents ≡ done ++ rest
     → AreBehind walk.number (next_key walk) done → IsWalk after walk rest

@@ -4,7 +4,7 @@ ghost use Rattle.std.specs.Prelude.{◌≡◌, ◌++◌, IfSome, OnOk, map, opti
 ghost use Rattle.std.specs.Option.{option_to_list};
 ghost use Rattle.btree.specs.Scan.{entry_in};
 ghost use Rattle.index.specs.View.{texts_of};
-ghost use Rattle.collections.specs.IndexTexts.{AreTextsBetween, IsNumberedIndex, text_behind, texts_behind};
+ghost use Rattle.collections.specs.IndexTexts.{AreFirstTexts, AreTextsBetween, IsNumberedIndex, text_behind, texts_behind};
 ghost use Rattle.collections.specs.Reading.{OrMemory, ReadsOf};
 
 use crate::collections::Collections;
@@ -51,9 +51,46 @@ fn texts_behind(alloc: Global, front: &[u8], entries: &[Entry]) -> Result<Vec<Ve
     Ok(texts)
 }
 
+/// Texts of entries of an index, in ascending order, and whether these are all that were asked for.
+#[derive(Debug, Drop)]
+pub struct FirstTexts {
+    pub texts: Vec<Vec<u8>>,
+    pub are_all: bool,
+}
+
 impl<D: Disk> Collections<D> {
-    /// The texts of the entries of an index from one text up to another and all that goes on from it, in ascending order, where there are
-    /// at most so many of these. Texts behind them may be among them.
+    /// The texts of the entries of an index from one text up to another and all that goes on from it, in ascending order: the first ones,
+    /// at most so many. Texts behind them may be among them.
+    pub fn first_texts(
+        &mut self,
+        number: u32,
+        index: u32,
+        first: &[u8],
+        last: &[u8],
+        most: usize,
+    ) -> Result<FirstTexts, Refusal>
+        ensures { ReadsOf D.history (IsNumberedIndex number index)
+            (λ now at found.
+            AreFirstTexts first.now last.now at found.are_all (texts_of found.texts.items))
+            result self.old self.new }
+    {
+        let from = index_key(self.alloc, number, index, first)?;
+        let until = index_key(self.alloc, number, index, last)?;
+        let to = end_of(self.alloc, &until)?;
+        let front = first_key(self.alloc, number, index)?;
+        let batch = self.entries_in(Range {
+            from: &from,
+            to: to.as_deref(),
+            limit: most,
+        })?;
+        let texts = texts_behind(self.alloc, &front, &batch.entries)?;
+        Ok(FirstTexts {
+            texts,
+            are_all: batch.next.is_none(),
+        })
+    }
+
+    /// All of these, where there are at most so many.
     pub fn index_texts(
         &mut self,
         number: u32,
@@ -67,19 +104,10 @@ impl<D: Disk> Collections<D> {
             (λ texts. AreTextsBetween first.now last.now at (texts_of texts.items)))
             result self.old self.new }
     {
-        let from = index_key(self.alloc, number, index, first)?;
-        let until = index_key(self.alloc, number, index, last)?;
-        let to = end_of(self.alloc, &until)?;
-        let front = first_key(self.alloc, number, index)?;
-        let batch = self.entries_in(Range {
-            from: &from,
-            to: to.as_deref(),
-            limit: most,
-        })?;
-        if batch.next.is_some() {
+        let found = self.first_texts(number, index, first, last, most)?;
+        if !found.are_all {
             return Ok(None);
         }
-        let texts = texts_behind(self.alloc, &front, &batch.entries)?;
-        Ok(Some(texts))
+        Ok(Some(found.texts))
     }
 }

@@ -13,6 +13,7 @@ mod reading;
 mod walk;
 
 pub use collections::Collections;
+pub use index_texts::FirstTexts;
 pub use mark::Mark;
 pub use reading::Name;
 pub use walk::{Walk, goes_on_walking};

@@ -1,3 +1,4 @@
 mod Readings
 mod NewIndexLemmas
 mod IndexCommandRows
+mod ExplainRows

@@ -1,5 +1,6 @@
--- The command that a body spells, or its first refusal. The body's first name says which command it is: an unknown one goes
--- first, then the value of that name, then the fields in the order written, then a missing field, then the namespace.
+-- The command that a body spells, or its first refusal. The body's first name says which command it
+-- is: an unknown one goes first, then the value of that name, then the fields in the order written,
+-- then a missing field, then the namespace.
 use Rattle.std.specs.Prelude.{◌≤◌, if◌then◌else◌, All, codes, length, Result, Ok, Err}
 use Rattle.std.specs.Str.{bytes_eq}
 use Rattle.bson.specs.Tree.{Pairs, no_pairs, pair}
@@ -22,6 +23,7 @@ use Rattle.commands.specs.CreateIndexes.{CreateIndexes, read_create_indexes}
 use Rattle.commands.specs.NewIndex.{IsShortNewIndex}
 use Rattle.commands.specs.DropIndexes.{DropIndexes, read_drop_indexes}
 use Rattle.commands.specs.ListIndexes.{ListIndexes, read_list_indexes}
+use Rattle.commands.specs.Explain.{Explain, read_explain}
 use Rattle.commands.specs.Update.{UpdateStatement, Update, read_update_command, IsRead}
 
 pub data Command : Type 0 where
@@ -41,6 +43,7 @@ pub data Command : Type 0 where
   create_indexes : CreateIndexes → Command
   drop_indexes : DropIndexes → Command
   list_indexes : ListIndexes → Command
+  explain : Explain → Command
 
 -- what was read, as a command
 abbrev pub as_command : {X : Type 0} → (X → Command) → Result X Refusal → Result Command Refusal
@@ -55,7 +58,8 @@ command_of (pair name t ps) =
     if bytes_eq name (codes "insert") then as_command insert (read_insert t ps) else
     if bytes_eq name (codes "find") then as_command find (read_find t ps) else
     if bytes_eq name (codes "getMore") then as_command get_more (read_get_more t ps) else
-    if bytes_eq name (codes "killCursors") then as_command kill_cursors (read_kill_cursors t ps) else
+    if bytes_eq name (codes "killCursors")
+    then as_command kill_cursors (read_kill_cursors t ps) else
     if bytes_eq name (codes "count") then as_command count (read_count t ps) else
     if bytes_eq name (codes "delete") then as_command delete (read_delete t ps) else
     if bytes_eq name (codes "update") then as_command update (read_update_command t ps) else
@@ -70,10 +74,11 @@ command_of (pair name t ps) =
     then as_command drop_indexes (read_drop_indexes t ps) else
     if bytes_eq name (codes "listIndexes")
     then as_command list_indexes (read_list_indexes t ps) else
+    if bytes_eq name (codes "explain") then as_command explain (read_explain t ps) else
     Err refusals.CommandNotFound
 
--- What a command that was read keeps: a namespace of at most 255 bytes, and from 1 to 1,000 documents, statements, cursors or
--- indexes, of which each is within its limits.
+-- What a command that was read keeps: a namespace of at most 255 bytes, and from 1 to 1,000
+-- documents, statements, cursors or indexes, of which each is within its limits.
 abbrev pub IsBounded : Command → Type 0
 IsBounded ping = Unit {0}
 IsBounded hello = Unit {0}
@@ -95,3 +100,4 @@ IsBounded (create_indexes c) =
     (length c.namespace ≤ 255) × (1 ≤ length c.indexes) × All IsShortNewIndex c.indexes
 IsBounded (drop_indexes c) = length c.namespace ≤ 255
 IsBounded (list_indexes c) = length c.namespace ≤ 255
+IsBounded (explain c) = Unit {0}

@@ -1,5 +1,7 @@
 -- A command that was read has a namespace and documents within their limits.
-use Rattle.std.proofs.Common.{◌≡◌, ℕ, ℤ, ◌+◌, ◌≤◌, Bool, true, false, List, [], ◌∷◌, ◌++◌, length, Option, Some, None, Result, Ok, Err, refl, ap, subst, arith, length-append}
+use Rattle.std.proofs.Common.{◌≡◌, ℕ, ℤ, ◌+◌, ◌≤◌, Bool, true, false, List, [], ◌∷◌, ◌++◌, length}
+use Rattle.std.proofs.Common.{Option, Some, None, Result, Ok, Err, refl, ap, subst, arith}
+use Rattle.std.proofs.Common.{length-append}
 use Rattle.std.specs.Prelude.{◌||◌, ◌&&◌, All, ◌==◌, nat_lt, if◌then◌else◌, codes, IfOk}
 use Rattle.std.specs.Str.{bytes_eq}
 use Rattle.std.specs.List.{list_any}
@@ -19,55 +21,84 @@ use Rattle.commands.specs.FieldsLaws.{each_has, fields_keep, first_false, later_
 use Rattle.commands.specs.Values.{text_in, bool_in, items_of, document_in, spelled_in, id_in}
 use Rattle.commands.specs.Fields.{CommonFields, read_fields, common_field, no_common}
 use Rattle.commands.specs.Statements.{statements_in, some_in, each_of}
-use Rattle.commands.specs.Names.{is_bad_byte, is_bad_database, is_bad_collection, is_too_long, namespace_of}
+use Rattle.commands.specs.Names.{is_bad_byte, is_bad_database, is_bad_collection, is_too_long}
+use Rattle.commands.specs.Names.{namespace_of}
 use Rattle.commands.specs.Ping.{read_ping}
 use Rattle.commands.specs.Hello.{read_hello}
-use Rattle.commands.specs.Insert.{Insert, InsertFields, no_insert_fields, documents_in, insert_field, read_insert}
+use Rattle.commands.specs.Insert.{Insert, InsertFields, no_insert_fields, documents_in}
+use Rattle.commands.specs.Insert.{insert_field, read_insert}
 use Rattle.commands.specs.Find.{Find, no_find_fields, find_field, query_of, read_find}
 use Rattle.commands.specs.GetMore.{GetMore, no_get_more_fields, get_more_field, read_get_more}
-use Rattle.commands.specs.KillCursors.{KillCursors, KillCursorsFields, no_kill_cursors_fields, ids_in, kill_cursors_field, read_kill_cursors}
+use Rattle.commands.specs.KillCursors.{KillCursors, KillCursorsFields, no_kill_cursors_fields}
+use Rattle.commands.specs.KillCursors.{ids_in, kill_cursors_field, read_kill_cursors}
 use Rattle.commands.specs.Count.{read_count}
 use Rattle.commands.specs.Delete.{read_delete}
-use Rattle.commands.specs.Update.{UpdateStatement, UpdateStatementFields, no_statement_fields, statement_field, read_statement, Update, UpdateFields, no_update_fields, update_statements_in, update_field, read_update_command, IsRead}
-use Rattle.commands.specs.Aggregate.{Aggregate, no_aggregate_fields, aggregate_field, read_aggregate}
+use Rattle.commands.specs.Update.{UpdateStatement, UpdateStatementFields, no_statement_fields}
+use Rattle.commands.specs.Update.{statement_field, read_statement, Update, UpdateFields}
+use Rattle.commands.specs.Update.{no_update_fields, update_statements_in, update_field}
+use Rattle.commands.specs.Update.{read_update_command, IsRead}
+use Rattle.commands.specs.Aggregate.{Aggregate, no_aggregate_fields, aggregate_field}
+use Rattle.commands.specs.Aggregate.{read_aggregate}
 use Rattle.commands.specs.Alone.{read_alone}
 use Rattle.commands.specs.Create.{Create, read_create}
 use Rattle.commands.specs.DropCollection.{DropCollection, read_drop}
 use Rattle.commands.specs.ListCollections.{ListCollections, read_list_collections}
 use Rattle.commands.specs.NewIndex.{IsShortNewIndex, NewIndex, read_new_index}
 use Rattle.commands.specs.NewIndexLaws.{new_index_short}
-use Rattle.commands.specs.CreateIndexes.{CreateIndexes, CreateIndexesFields, no_create_indexes_fields, new_indexes_in, create_indexes_field, read_create_indexes}
-use Rattle.commands.specs.DropIndexes.{DropIndexes, dropped_by, no_drop_indexes_fields, drop_indexes_field, read_drop_indexes}
+use Rattle.commands.specs.CreateIndexes.{CreateIndexes, CreateIndexesFields}
+use Rattle.commands.specs.CreateIndexes.{no_create_indexes_fields, new_indexes_in}
+use Rattle.commands.specs.CreateIndexes.{create_indexes_field, read_create_indexes}
+use Rattle.commands.specs.DropIndexes.{DropIndexes, dropped_by, no_drop_indexes_fields}
+use Rattle.commands.specs.DropIndexes.{drop_indexes_field, read_drop_indexes}
 use Rattle.commands.specs.ListIndexes.{ListIndexes, read_list_indexes}
-use Rattle.commands.specs.Command.{Command, ping, insert, find, count, delete, update, aggregate, create, drop, list_collections, create_indexes, drop_indexes, list_indexes, as_command, command_of, IsBounded, get_more, kill_cursors, hello}
+use Rattle.commands.specs.Explain.{read_explain}
+use Rattle.commands.specs.Command.{Command, ping, insert, find, count, delete, update, aggregate}
+use Rattle.commands.specs.Command.{create, drop, list_collections, create_indexes, drop_indexes}
+use Rattle.commands.specs.Command.{list_indexes, explain, as_command, command_of, IsBounded}
+use Rattle.commands.specs.Command.{get_more, kill_cursors, hello}
 
 -- ---- namespaces
 
-short : (database name namespace : List ℕ) → namespace_of database name ≡ Ok namespace → length namespace ≤ 255
+short : (database name namespace : List ℕ) → namespace_of database name ≡ Ok namespace
+    → length namespace ≤ 255
 short database name namespace e =
-    let p = passed (is_bad_database database || is_bad_collection name || is_too_long database name) refusals.InvalidNamespace (Ok (database ++ 46 ∷ name)) namespace e in
-    let few = ltb-false 255 (length database + 1 + length name) (later_false (is_bad_database database || is_bad_collection name) (is_too_long database name) p.0) in
+    let p = passed
+    (is_bad_database database || is_bad_collection name
+    || is_too_long database name) refusals.InvalidNamespace
+    (Ok (database ++ 46 ∷ name)) namespace e in
+    let few = ltb-false 255 (length database + 1 + length name)
+    (later_false (is_bad_database database || is_bad_collection name)
+    (is_too_long database name) p.0) in
     let same : database ++ 46 ∷ name ≡ namespace = cc in
     omega (arith, few, length-append database (46 ∷ name), ap length same)
 
 -- ---- documents
 
-as_many : {X : Type 0} (read : Tree → Result X Refusal) (ts : Items) (xs : List X) → each_of read ts ≡ Ok xs → length xs ≡ items_len ts
+as_many : {X : Type 0} (read : Tree → Result X Refusal) (ts : Items) (xs : List X)
+    → each_of read ts ≡ Ok xs → length xs ≡ items_len ts
 as_many read no_items xs e = let none : xs ≡ [] = cc in ap length none
 as_many {X} read (item t ts) xs e =
-    let s = step_of (read t) (λ x. each_of read ts >>= (λ others. let r : Result (List X) Refusal = Ok (x ∷ others) in r)) xs e in
+    let s = step_of (read t)
+    (λ x. each_of read ts >>= (λ others. let r : Result (List X) Refusal = Ok (x ∷ others) in r))
+    xs e in
     let more : List X → Result (List X) Refusal = λ others. Ok (s.0 ∷ others) in
     let o = step_of (each_of read ts) more xs s.2 in
     let same : s.0 ∷ o.0 ≡ xs = cc in
     omega (arith, as_many read ts o.0 o.1, ap length same)
 
-few_items : (t : Tree) (ts : Items) → statements_in t ≡ Ok ts → (items_len ts ≤ 1000) × (1 ≤ items_len ts)
+few_items : (t : Tree) (ts : Items) → statements_in t ≡ Ok ts
+    → (items_len ts ≤ 1000) × (1 ≤ items_len ts)
 few_items t ts e =
-    let s = step_of (or_refused (items_of t) refusals.TypeMismatch) (λ us. unless (nat_lt 1000 (items_len us)) refusals.TooMany (unless (items_len us == 0) refusals.BadValue (Ok us))) ts e in
-    let p = passed (nat_lt 1000 (items_len s.0)) refusals.TooMany (unless (items_len s.0 == 0) refusals.BadValue (Ok s.0)) ts s.2 in
+    let s = step_of (or_refused (items_of t) refusals.TypeMismatch)
+    (λ us. unless (nat_lt 1000 (items_len us)) refusals.TooMany
+    (unless (items_len us == 0) refusals.BadValue (Ok us))) ts e in
+    let p = passed (nat_lt 1000 (items_len s.0)) refusals.TooMany
+    (unless (items_len s.0 == 0) refusals.BadValue (Ok s.0)) ts s.2 in
     let q = passed (items_len s.0 == 0) refusals.BadValue (Ok s.0) ts p.1 in
-    let same : s.0 ≡ ts = cc in
-    (omega (arith, ap items_len same, ltb-false 1000 (items_len s.0) p.0), omega (arith, ap items_len same, eqb-false (items_len s.0) 0 q.0))
+    let same : s.0 ≡ ts = cc in (
+      omega (arith, ap items_len same, ltb-false 1000 (items_len s.0) p.0),
+      omega (arith, ap items_len same, eqb-false (items_len s.0) 0 q.0),
+    )
 
 -- some documents, and not too many
 abbrev AreFew : List Pairs → Type 0
@@ -76,35 +107,53 @@ AreFew ds = (length ds ≤ 1000) × (1 ≤ length ds)
 few : (t : Tree) (ds : List Pairs) → documents_in t ≡ Ok ds → AreFew ds
 few t ds e =
     let s = step_of (statements_in t) (each_of document_in) ds e in
-    let items = few_items t s.0 s.1 in
-    (omega (arith, as_many document_in s.0 ds s.2, items.0), omega (arith, as_many document_in s.0 ds s.2, items.1))
+    let items = few_items t s.0 s.1 in (
+      omega (arith, as_many document_in s.0 ds s.2, items.0),
+      omega (arith, as_many document_in s.0 ds s.2, items.1),
+    )
 
 abbrev FewAt : Option (List Pairs) → Type 0
 FewAt None = Unit {0}
 FewAt (Some ds) = AreFew ds
 
-few_field : (found next : InsertFields) (name : List ℕ) (t : Tree) → FewAt found.documents → insert_field found name t ≡ Ok next → FewAt next.documents
+few_field : (found next : InsertFields) (name : List ℕ) (t : Tree) → FewAt found.documents
+    → insert_field found name t ≡ Ok next → FewAt next.documents
 few_field found next name t h e = at (bytes_eq name (codes "documents")) e
   where
-    put : (r : Result (List Pairs) Refusal) → documents_in t ≡ r → (r >>= (λ ds. let x : Result InsertFields Refusal = Ok (record found { documents = Some ds }) in x)) ≡ Ok next → FewAt next.documents
+    put : (r : Result (List Pairs) Refusal) → documents_in t ≡ r
+        → (r >>= (λ ds. let x : Result InsertFields Refusal =
+        Ok (record found { documents = Some ds }) in x)) ≡ Ok next → FewAt next.documents
     put (Err f) is e = absurd cc
-    put (Ok ds) is e = let same : record found { documents = Some ds } ≡ next = cc in subst (λ (f : InsertFields). FewAt f.documents) same (few t ds is)
+    put (Ok ds) is e = let same : record found { documents = Some ds } ≡ next = cc in
+        subst (λ (f : InsertFields). FewAt f.documents) same (few t ds is)
 
-    keep : (r : Result CommonFields Refusal) → (r >>= (λ c. let x : Result InsertFields Refusal = Ok (record found { common = c }) in x)) ≡ Ok next → FewAt next.documents
+    keep : (r : Result CommonFields Refusal)
+        → (r >>= (λ c. let x : Result InsertFields Refusal = Ok (record found { common = c }) in
+        x)) ≡ Ok next → FewAt next.documents
     keep (Err f) e = absurd cc
-    keep (Ok c) e = let same : record found { common = c } ≡ next = cc in subst (λ (f : InsertFields). FewAt f.documents) same h
+    keep (Ok c) e = let same : record found { common = c } ≡ next = cc in
+        subst (λ (f : InsertFields). FewAt f.documents) same h
 
-    at : (b : Bool) → (if b then (documents_in t >>= (λ ds. let x : Result InsertFields Refusal = Ok (record found { documents = Some ds }) in x)) else (common_field found.common name t >>= (λ c. let x : Result InsertFields Refusal = Ok (record found { common = c }) in x))) ≡ Ok next → FewAt next.documents
+    at : (b : Bool)
+        → (if b then
+        (documents_in t >>= (λ ds. let x : Result InsertFields Refusal =
+        Ok (record found { documents = Some ds }) in x))
+        else (common_field found.common name t >>=
+        (λ c. let x : Result InsertFields Refusal = Ok (record found { common = c }) in x)))
+        ≡ Ok next → FewAt next.documents
     at true e = put (documents_in t) refl e
     at false e = keep (common_field found.common name t) e
 
-few_fields : (ps : Pairs) (found next : InsertFields) → FewAt found.documents → read_fields insert_field found ps ≡ Ok next → FewAt next.documents
-few_fields no_pairs found next h e = let same : found ≡ next = cc in subst (λ (f : InsertFields). FewAt f.documents) same h
+few_fields : (ps : Pairs) (found next : InsertFields) → FewAt found.documents
+    → read_fields insert_field found ps ≡ Ok next → FewAt next.documents
+few_fields no_pairs found next h e = let same : found ≡ next = cc in
+    subst (λ (f : InsertFields). FewAt f.documents) same h
 few_fields (pair name t ps) found next h e =
     let s = step_of (insert_field found name t) (λ mid. read_fields insert_field mid ps) next e in
     few_fields ps s.0 next (few_field found s.0 name t h s.1) s.2
 
-few_there : (o : Option (List Pairs)) (ds : List Pairs) → FewAt o → or_refused o refusals.FailedToParse ≡ Ok ds → AreFew ds
+few_there : (o : Option (List Pairs)) (ds : List Pairs) → FewAt o
+    → or_refused o refusals.FailedToParse ≡ Ok ds → AreFew ds
 few_there None ds h e = absurd cc
 few_there (Some es) ds h e = let same : es ≡ ds = cc in subst AreFew same h
 
@@ -128,7 +177,11 @@ module _ (found next : UpdateStatementFields) (t : Tree) (h : ReadAt found.chang
   with_multi multi = Ok (record found { multi = multi })
 
   read_by_field : (is_q is_u is_upsert is_multi : Bool)
-      → (if is_q then (spelled_in read_filter t >>= with_filter) else (if is_u then (spelled_in read_update t >>= with_change) else (if is_upsert then (bool_in t >>= with_upsert) else (if is_multi then (bool_in t >>= with_multi) else Err refusals.FailedToParse)))) ≡ Ok next
+      → (if is_q then (spelled_in read_filter t >>= with_filter)
+      else (if is_u then (spelled_in read_update t >>= with_change)
+      else (if is_upsert then (bool_in t >>= with_upsert)
+      else (if is_multi then (bool_in t >>= with_multi) else Err refusals.FailedToParse))))
+      ≡ Ok next
       → ReadAt next.change
   read_by_field true is_u is_upsert is_multi e =
       let s = step_of (spelled_in read_filter t) with_filter next e in
@@ -138,7 +191,8 @@ module _ (found next : UpdateStatementFields) (t : Tree) (h : ReadAt found.chang
       let s = step_of (spelled_in read_update t) with_change next e in
       let d = step_of (document_in t) read_update s.0 s.1 in
       let same : record found { change = Some s.0 } ≡ next = cc in
-      subst (λ (f : UpdateStatementFields). ReadAt f.change) same (record { source = d.0; reads = d.2 })
+      subst (λ (f : UpdateStatementFields). ReadAt f.change) same
+      (record { source = d.0; reads = d.2 })
   read_by_field false false true is_multi e =
       let s = step_of (bool_in t) with_upsert next e in
       let same : record found { upsert = s.0 } ≡ next = cc in
@@ -154,13 +208,16 @@ statement_read ps s e =
     let f = step_of (read_fields statement_field no_statement_fields ps) _ s e in
     let q = step_of (or_refused f.0.filter refusals.FailedToParse) _ s f.2 in
     let u = step_of (or_refused f.0.change refusals.FailedToParse) _ s q.2 in
-    let made : UpdateStatement = record { filter = q.0; change = u.0; upsert = f.0.upsert; multi = f.0.multi } in
+    let made : UpdateStatement = record
+    { filter = q.0; change = u.0; upsert = f.0.upsert; multi = f.0.multi } in
     let p = passed (is_replacement u.0 && f.0.multi) refusals.FailedToParse (Ok made) s u.2 in
     let same : made ≡ s = cc in
     let read = fields_keep (λ f. ReadAt f.change) statement_field
-    (λ found next name t h e. read_by_field found next t h (bytes_eq name (codes "q")) (bytes_eq name (codes "u")) (bytes_eq name (codes "upsert")) (bytes_eq name (codes "multi")) e)
+    (λ found next name t h e. read_by_field found next t h (bytes_eq name (codes "q"))
+    (bytes_eq name (codes "u")) (bytes_eq name (codes "upsert")) (bytes_eq name (codes "multi")) e)
     ps no_statement_fields f.0 tt f.1 in
-    subst (λ (x : UpdateStatement). IsRead x.change) same (subst ReadAt (there f.0.change u.0 u.1) read)
+    subst (λ (x : UpdateStatement). IsRead x.change) same
+    (subst ReadAt (there f.0.change u.0 u.1) read)
 
 -- some statements, not too many, each with an update that was read
 pub record AreRead (ss : List UpdateStatement) : Type 0 where
@@ -174,7 +231,8 @@ are_read t ss e =
     record {
       few = omega (arith, as_many (spelled_in read_statement) s.0 ss s.2, items.0);
       each = each_has (λ (s : UpdateStatement). IsRead s.change) (spelled_in read_statement)
-          (λ t s e. let d = step_of (document_in t) read_statement s e in statement_read d.0 s d.2) s.0 ss s.2;
+          (λ t s e. let d = step_of (document_in t) read_statement s e in
+          statement_read d.0 s d.2) s.0 ss s.2;
     }
 
 abbrev ReadsAt : Option (List UpdateStatement) → Type 0
@@ -188,7 +246,9 @@ module _ (found next : UpdateFields) (name : List ℕ) (t : Tree) (h : ReadsAt f
   abbrev with_common : CommonFields → Result UpdateFields Refusal
   with_common common = Ok (record found { common = common })
 
-  reads_by_field : (b : Bool) → (if b then (update_statements_in t >>= with_statements) else (common_field found.common name t >>= with_common)) ≡ Ok next → ReadsAt next.statements
+  reads_by_field : (b : Bool)
+      → (if b then (update_statements_in t >>= with_statements)
+      else (common_field found.common name t >>= with_common)) ≡ Ok next → ReadsAt next.statements
   reads_by_field true e =
       let s = step_of (update_statements_in t) with_statements next e in
       let same : record found { statements = Some s.0 } ≡ next = cc in
@@ -209,14 +269,17 @@ few_ids t ids e =
     let s = step_of (statements_in t) (each_of id_in) ids e in
     omega (arith, as_many id_in s.0 ids s.2, (few_items t s.0 s.1).0)
 
-module _ (found next : KillCursorsFields) (name : List ℕ) (t : Tree) (h : FewIds found.cursors) where
+module _ (found next : KillCursorsFields) (name : List ℕ) (t : Tree)
+    (h : FewIds found.cursors) where
   abbrev with_ids : List ℤ → Result KillCursorsFields Refusal
   with_ids ids = Ok (record found { cursors = Some ids })
 
   abbrev with_common_of : CommonFields → Result KillCursorsFields Refusal
   with_common_of common = Ok (record found { common = common })
 
-  few_by_field : (b : Bool) → (if b then (ids_in t >>= with_ids) else (common_field found.common name t >>= with_common_of)) ≡ Ok next → FewIds next.cursors
+  few_by_field : (b : Bool)
+      → (if b then (ids_in t >>= with_ids)
+      else (common_field found.common name t >>= with_common_of)) ≡ Ok next → FewIds next.cursors
   few_by_field true e =
       let s = step_of (ids_in t) with_ids next e in
       let same : record found { cursors = Some s.0 } ≡ next = cc in
@@ -233,7 +296,8 @@ SomeIndexes is = (1 ≤ length is) × All IsShortNewIndex is
 
 some_items : (t : Tree) (ts : Items) → some_in t ≡ Ok ts → 1 ≤ items_len ts
 some_items t ts e =
-    let s = step_of (or_refused (items_of t) refusals.TypeMismatch) (λ us. unless (items_len us == 0) refusals.BadValue (Ok us)) ts e in
+    let s = step_of (or_refused (items_of t) refusals.TypeMismatch)
+    (λ us. unless (items_len us == 0) refusals.BadValue (Ok us)) ts e in
     let q = passed (items_len s.0 == 0) refusals.BadValue (Ok s.0) ts s.2 in
     let same : s.0 ≡ ts = cc in
     omega (arith, ap items_len same, eqb-false (items_len s.0) 0 q.0)
@@ -246,17 +310,23 @@ some_indexes : (t : Tree) (is : List NewIndex) → new_indexes_in t ≡ Ok is �
 some_indexes t is e =
     let s = step_of (some_in t) (each_of (spelled_in read_new_index)) is e in (
       omega (arith, as_many (spelled_in read_new_index) s.0 is s.2, some_items t s.0 s.1),
-      each_has IsShortNewIndex (spelled_in read_new_index) (λ t i e. let d = step_of (document_in t) read_new_index i e in new_index_short d.0 i d.2) s.0 is s.2,
+      each_has IsShortNewIndex (spelled_in read_new_index)
+          (λ t i e. let d = step_of (document_in t) read_new_index i e in
+          new_index_short d.0 i d.2) s.0 is s.2,
     )
 
-module _ (found next : CreateIndexesFields) (name : List ℕ) (t : Tree) (h : SomeIndexesAt found.indexes) where
+module _ (found next : CreateIndexesFields) (name : List ℕ) (t : Tree)
+    (h : SomeIndexesAt found.indexes) where
   abbrev with_indexes : List NewIndex → Result CreateIndexesFields Refusal
   with_indexes indexes = Ok (record found { indexes = Some indexes })
 
   abbrev with_common_fields : CommonFields → Result CreateIndexesFields Refusal
   with_common_fields common = Ok (record found { common = common })
 
-  some_indexes_by_field : (b : Bool) → (if b then (new_indexes_in t >>= with_indexes) else (common_field found.common name t >>= with_common_fields)) ≡ Ok next → SomeIndexesAt next.indexes
+  some_indexes_by_field : (b : Bool)
+      → (if b then (new_indexes_in t >>= with_indexes)
+      else (common_field found.common name t >>= with_common_fields)) ≡ Ok next
+      → SomeIndexesAt next.indexes
   some_indexes_by_field true e =
       let s = step_of (new_indexes_in t) with_indexes next e in
       let same : record found { indexes = Some s.0 } ≡ next = cc in
@@ -268,7 +338,8 @@ module _ (found next : CreateIndexesFields) (name : List ℕ) (t : Tree) (h : So
 
 -- ---- commands
 
-pub insert_bounded : (t : Tree) (ps : Pairs) (c : Insert) → read_insert t ps ≡ Ok c → (length c.namespace ≤ 255) × (length c.documents ≤ 1000) × (1 ≤ length c.documents)
+pub insert_bounded : (t : Tree) (ps : Pairs) (c : Insert) → read_insert t ps ≡ Ok c
+    → (length c.namespace ≤ 255) × (length c.documents ≤ 1000) × (1 ≤ length c.documents)
 insert_bounded t ps c e =
     let n = step_of (text_in t) _ c e in
     let s = step_of (read_fields insert_field no_insert_fields ps) _ c n.2 in
@@ -278,19 +349,23 @@ insert_bounded t ps c e =
     let made : Insert = record { namespace = m.0; documents = d.0 } in
     let same : made ≡ c = cc in
     let some = few_there s.0.documents d.0 (few_fields ps no_insert_fields s.0 tt s.1) d.1 in
-    subst (λ (x : Insert). (length x.namespace ≤ 255) × (length x.documents ≤ 1000) × (1 ≤ length x.documents)) same (short b.0 n.0 m.0 m.1, some.0, some.1)
+    subst (λ (x : Insert). (length x.namespace ≤ 255) × (length x.documents ≤ 1000)
+    × (1 ≤ length x.documents)) same (short b.0 n.0 m.0 m.1, some.0, some.1)
 
-pub find_bounded : (t : Tree) (ps : Pairs) (c : Find) → read_find t ps ≡ Ok c → length c.namespace ≤ 255
+pub find_bounded : (t : Tree) (ps : Pairs) (c : Find) → read_find t ps ≡ Ok c
+    → length c.namespace ≤ 255
 find_bounded t ps c e =
     let n = step_of (text_in t) _ c e in
     let s = step_of (read_fields find_field no_find_fields ps) _ c n.2 in
     let b = step_of (or_refused s.0.common.database refusals.FailedToParse) _ c s.2 in
     let m = step_of (namespace_of b.0 n.0) _ c b.2 in
-    let made : Find = record { namespace = m.0; query = query_of s.0; batch_size = s.0.batch_size } in
+    let made : Find = record { namespace = m.0; query = query_of s.0; batch_size = s.0.batch_size }
+    in
     let same : made ≡ c = cc in
     subst (λ (x : Find). length x.namespace ≤ 255) same (short b.0 n.0 m.0 m.1)
 
-pub get_more_bounded : (t : Tree) (ps : Pairs) (c : GetMore) → read_get_more t ps ≡ Ok c → length c.namespace ≤ 255
+pub get_more_bounded : (t : Tree) (ps : Pairs) (c : GetMore) → read_get_more t ps ≡ Ok c
+    → length c.namespace ≤ 255
 get_more_bounded t ps c e =
     let i = step_of (id_in t) _ c e in
     let s = step_of (read_fields get_more_field no_get_more_fields ps) _ c i.2 in
@@ -301,7 +376,8 @@ get_more_bounded t ps c e =
     let same : made ≡ c = cc in
     subst (λ (x : GetMore). length x.namespace ≤ 255) same (short b.0 n.0 m.0 m.1)
 
-pub kill_cursors_bounded : (t : Tree) (ps : Pairs) (c : KillCursors) → read_kill_cursors t ps ≡ Ok c → length c.cursors ≤ 1000
+pub kill_cursors_bounded : (t : Tree) (ps : Pairs) (c : KillCursors)
+    → read_kill_cursors t ps ≡ Ok c → length c.cursors ≤ 1000
 kill_cursors_bounded t ps c e =
     let n = step_of (text_in t) _ c e in
     let s = step_of (read_fields kill_cursors_field no_kill_cursors_fields ps) _ c n.2 in
@@ -311,10 +387,13 @@ kill_cursors_bounded t ps c e =
     let made : KillCursors = record { namespace = m.0; cursors = d.0 } in
     let same : made ≡ c = cc in
     let few = fields_keep (λ (f : KillCursorsFields). FewIds f.cursors) kill_cursors_field
-    (λ found next name t h e. few_by_field found next name t h (bytes_eq name (codes "cursors")) e) ps no_kill_cursors_fields s.0 tt s.1 in
-    subst (λ (x : KillCursors). length x.cursors ≤ 1000) same (subst FewIds (there s.0.cursors d.0 d.1) few)
+    (λ found next name t h e. few_by_field found next name t h (bytes_eq name (codes "cursors")) e)
+    ps no_kill_cursors_fields s.0 tt s.1 in
+    subst (λ (x : KillCursors). length x.cursors ≤ 1000) same
+    (subst FewIds (there s.0.cursors d.0 d.1) few)
 
-pub update_bounded : (t : Tree) (ps : Pairs) (c : Update) → read_update_command t ps ≡ Ok c → IsBounded (update c)
+pub update_bounded : (t : Tree) (ps : Pairs) (c : Update) → read_update_command t ps ≡ Ok c
+    → IsBounded (update c)
 update_bounded t ps c e =
     let n = step_of (text_in t) _ c e in
     let s = step_of (read_fields update_field no_update_fields ps) _ c n.2 in
@@ -324,11 +403,13 @@ update_bounded t ps c e =
     let made : Update = record { namespace = m.0; statements = d.0 } in
     let same : made ≡ c = cc in
     let read = fields_keep (λ (f : UpdateFields). ReadsAt f.statements) update_field
-    (λ found next name t h e. reads_by_field found next name t h (bytes_eq name (codes "updates")) e) ps no_update_fields s.0 tt s.1 in
+    (λ found next name t h e. reads_by_field found next name t h
+    (bytes_eq name (codes "updates")) e) ps no_update_fields s.0 tt s.1 in
     let all : AreRead d.0 = subst ReadsAt (there s.0.statements d.0 d.1) read in
     subst (λ (x : Update). IsBounded (update x)) same (short b.0 n.0 m.0 m.1, all.few, all.each)
 
-pub aggregate_bounded : (t : Tree) (ps : Pairs) (c : Aggregate) → read_aggregate t ps ≡ Ok c → length c.namespace ≤ 255
+pub aggregate_bounded : (t : Tree) (ps : Pairs) (c : Aggregate) → read_aggregate t ps ≡ Ok c
+    → length c.namespace ≤ 255
 aggregate_bounded t ps c e =
     let n = step_of (text_in t) _ c e in
     let s = step_of (read_fields aggregate_field no_aggregate_fields ps) _ c n.2 in
@@ -336,42 +417,50 @@ aggregate_bounded t ps c e =
     let p = step_of (or_refused s.0.pipeline refusals.FailedToParse) _ c b.2 in
     let q = step_of (or_refused s.0.cursor refusals.FailedToParse) _ c p.2 in
     let m = step_of (namespace_of b.0 n.0) _ c q.2 in
-    let made : Aggregate = record { namespace = m.0; pipeline = p.0; batch_size = q.0.batch_size } in
+    let made : Aggregate = record { namespace = m.0; pipeline = p.0; batch_size = q.0.batch_size }
+    in
     let same : made ≡ c = cc in
     subst (λ (x : Aggregate). length x.namespace ≤ 255) same (short b.0 n.0 m.0 m.1)
 
-alone_bounded : (t : Tree) (ps : Pairs) (namespace : List ℕ) → read_alone t ps ≡ Ok namespace → length namespace ≤ 255
+alone_bounded : (t : Tree) (ps : Pairs) (namespace : List ℕ) → read_alone t ps ≡ Ok namespace
+    → length namespace ≤ 255
 alone_bounded t ps namespace e =
     let n = step_of (text_in t) _ namespace e in
     let s = step_of (read_fields common_field no_common ps) _ namespace n.2 in
     let b = step_of (or_refused s.0.database refusals.FailedToParse) _ namespace s.2 in
     short b.0 n.0 namespace b.2
 
-pub create_bounded : (t : Tree) (ps : Pairs) (c : Create) → read_create t ps ≡ Ok c → length c.namespace ≤ 255
+pub create_bounded : (t : Tree) (ps : Pairs) (c : Create) → read_create t ps ≡ Ok c
+    → length c.namespace ≤ 255
 create_bounded t ps c e =
     let r = step_of (read_alone t ps) _ c e in
     let made : Create = record { namespace = r.0 } in
     let same : made ≡ c = cc in
     subst (λ (x : Create). length x.namespace ≤ 255) same (alone_bounded t ps r.0 r.1)
 
-pub drop_bounded : (t : Tree) (ps : Pairs) (c : DropCollection) → read_drop t ps ≡ Ok c → length c.namespace ≤ 255
+pub drop_bounded : (t : Tree) (ps : Pairs) (c : DropCollection) → read_drop t ps ≡ Ok c
+    → length c.namespace ≤ 255
 drop_bounded t ps c e =
     let r = step_of (read_alone t ps) _ c e in
     let made : DropCollection = record { namespace = r.0 } in
     let same : made ≡ c = cc in
     subst (λ (x : DropCollection). length x.namespace ≤ 255) same (alone_bounded t ps r.0 r.1)
 
-pub list_collections_bounded : (t : Tree) (ps : Pairs) (c : ListCollections) → read_list_collections t ps ≡ Ok c → length c.database ≤ 63
+pub list_collections_bounded : (t : Tree) (ps : Pairs) (c : ListCollections)
+    → read_list_collections t ps ≡ Ok c → length c.database ≤ 63
 list_collections_bounded t ps c e =
     let s = step_of (read_fields common_field no_common ps) _ c e in
     let b = step_of (or_refused s.0.database refusals.FailedToParse) _ c s.2 in
     let made : ListCollections = record { database = b.0 } in
     let p = passed (is_bad_database b.0) refusals.InvalidNamespace (Ok made) c b.2 in
     let same : made ≡ c = cc in
-    let few = ltb-false 63 (length b.0) (later_false (length b.0 == 0) (nat_lt 63 (length b.0)) (first_false (length b.0 == 0 || nat_lt 63 (length b.0)) (list_any is_bad_byte b.0) p.0)) in
+    let few = ltb-false 63 (length b.0)
+    (later_false (length b.0 == 0) (nat_lt 63 (length b.0))
+    (first_false (length b.0 == 0 || nat_lt 63 (length b.0)) (list_any is_bad_byte b.0) p.0)) in
     subst (λ (x : ListCollections). length x.database ≤ 63) same few
 
-pub create_indexes_bounded : (t : Tree) (ps : Pairs) (c : CreateIndexes) → read_create_indexes t ps ≡ Ok c → IsBounded (create_indexes c)
+pub create_indexes_bounded : (t : Tree) (ps : Pairs) (c : CreateIndexes)
+    → read_create_indexes t ps ≡ Ok c → IsBounded (create_indexes c)
 create_indexes_bounded t ps c e =
     let n = step_of (text_in t) _ c e in
     let s = step_of (read_fields create_indexes_field no_create_indexes_fields ps) _ c n.2 in
@@ -380,12 +469,16 @@ create_indexes_bounded t ps c e =
     let m = step_of (namespace_of b.0 n.0) _ c d.2 in
     let made : CreateIndexes = record { namespace = m.0; indexes = d.0 } in
     let same : made ≡ c = cc in
-    let few = fields_keep (λ (f : CreateIndexesFields). SomeIndexesAt f.indexes) create_indexes_field
-    (λ found next name t h e. some_indexes_by_field found next name t h (bytes_eq name (codes "indexes")) e) ps no_create_indexes_fields s.0 tt s.1 in
+    let few = fields_keep
+    (λ (f : CreateIndexesFields). SomeIndexesAt f.indexes) create_indexes_field
+    (λ found next name t h e. some_indexes_by_field found next name t h
+    (bytes_eq name (codes "indexes")) e) ps no_create_indexes_fields s.0 tt s.1 in
     let some : SomeIndexes d.0 = subst SomeIndexesAt (there s.0.indexes d.0 d.1) few in
-    subst (λ (x : CreateIndexes). IsBounded (create_indexes x)) same (short b.0 n.0 m.0 m.1, some.0, some.1)
+    subst (λ (x : CreateIndexes). IsBounded (create_indexes x)) same
+    (short b.0 n.0 m.0 m.1, some.0, some.1)
 
-pub drop_indexes_bounded : (t : Tree) (ps : Pairs) (c : DropIndexes) → read_drop_indexes t ps ≡ Ok c → length c.namespace ≤ 255
+pub drop_indexes_bounded : (t : Tree) (ps : Pairs) (c : DropIndexes)
+    → read_drop_indexes t ps ≡ Ok c → length c.namespace ≤ 255
 drop_indexes_bounded t ps c e =
     let n = step_of (text_in t) _ c e in
     let s = step_of (read_fields drop_indexes_field no_drop_indexes_fields ps) _ c n.2 in
@@ -396,7 +489,8 @@ drop_indexes_bounded t ps c e =
     let same : made ≡ c = cc in
     subst (λ (x : DropIndexes). length x.namespace ≤ 255) same (short b.0 n.0 m.0 m.1)
 
-pub list_indexes_bounded : (t : Tree) (ps : Pairs) (c : ListIndexes) → read_list_indexes t ps ≡ Ok c → length c.namespace ≤ 255
+pub list_indexes_bounded : (t : Tree) (ps : Pairs) (c : ListIndexes)
+    → read_list_indexes t ps ≡ Ok c → length c.namespace ≤ 255
 list_indexes_bounded t ps c e =
     let r = step_of (read_alone t ps) _ c e in
     let made : ListIndexes = record { namespace = r.0 } in
@@ -404,7 +498,8 @@ list_indexes_bounded t ps c e =
     subst (λ (x : ListIndexes). length x.namespace ≤ 255) same (alone_bounded t ps r.0 r.1)
 
 -- what was read is bounded, so the command is
-made_bounded : {X : Type 0} (make : X → Command) (read : Result X Refusal) (c : Command) → ((x : X) → read ≡ Ok x → IsBounded (make x)) → as_command make read ≡ Ok c → IsBounded c
+made_bounded : {X : Type 0} (make : X → Command) (read : Result X Refusal) (c : Command)
+    → ((x : X) → read ≡ Ok x → IsBounded (make x)) → as_command make read ≡ Ok c → IsBounded c
 made_bounded {X} make read c keeps e =
     let last : X → Result Command Refusal = λ x. Ok (make x) in
     let s = step_of read last c e in
@@ -412,7 +507,9 @@ made_bounded {X} make read c keeps e =
     subst IsBounded same (keeps s.0 s.1)
 
 -- what is so of one reading and of another is so of the one that a name chooses
-chosen_bounded : (b : Bool) (one other : Result Command Refusal) (c : Command) → (one ≡ Ok c → IsBounded c) → (other ≡ Ok c → IsBounded c) → (if b then one else other) ≡ Ok c → IsBounded c
+chosen_bounded : (b : Bool) (one other : Result Command Refusal) (c : Command)
+    → (one ≡ Ok c → IsBounded c) → (other ≡ Ok c → IsBounded c) → (if b then one else other) ≡ Ok c
+    → IsBounded c
 chosen_bounded true one other c first second e = first e
 chosen_bounded false one other c first second e = second e
 
@@ -420,25 +517,45 @@ pub bounded : (ps : Pairs) (c : Command) → command_of ps ≡ Ok c → IsBounde
 unfolding command_of
 bounded no_pairs c e = absurd cc
 bounded (pair name t ps) c e =
-    chosen_bounded (bytes_eq name (codes "ping")) _ _ c (made_bounded (λ _. ping) (read_ping t ps) c (λ x h. tt))
-    (chosen_bounded (bytes_eq name (codes "hello")) _ _ c (made_bounded (λ _. hello) (read_hello t ps) c (λ x h. tt))
-    (chosen_bounded (bytes_eq name (codes "insert")) _ _ c (made_bounded insert (read_insert t ps) c (insert_bounded t ps))
-    (chosen_bounded (bytes_eq name (codes "find")) _ _ c (made_bounded find (read_find t ps) c (find_bounded t ps))
-    (chosen_bounded (bytes_eq name (codes "getMore")) _ _ c (made_bounded get_more (read_get_more t ps) c (get_more_bounded t ps))
-    (chosen_bounded (bytes_eq name (codes "killCursors")) _ _ c (made_bounded kill_cursors (read_kill_cursors t ps) c (kill_cursors_bounded t ps))
-    (chosen_bounded (bytes_eq name (codes "count")) _ _ c (made_bounded count (read_count t ps) c (λ x h. tt))
-    (chosen_bounded (bytes_eq name (codes "delete")) _ _ c (made_bounded delete (read_delete t ps) c (λ x h. tt))
-    (chosen_bounded (bytes_eq name (codes "update")) _ _ c (made_bounded update (read_update_command t ps) c (update_bounded t ps))
-    (chosen_bounded (bytes_eq name (codes "aggregate")) _ _ c (made_bounded aggregate (read_aggregate t ps) c (aggregate_bounded t ps))
-    (chosen_bounded (bytes_eq name (codes "create")) _ _ c (made_bounded create (read_create t ps) c (create_bounded t ps))
-    (chosen_bounded (bytes_eq name (codes "drop")) _ _ c (made_bounded drop (read_drop t ps) c (drop_bounded t ps))
-    (chosen_bounded (bytes_eq name (codes "listCollections")) _ _ c (made_bounded list_collections (read_list_collections t ps) c (list_collections_bounded t ps))
-    (chosen_bounded (bytes_eq name (codes "createIndexes")) _ _ c (made_bounded create_indexes (read_create_indexes t ps) c (create_indexes_bounded t ps))
-    (chosen_bounded (bytes_eq name (codes "dropIndexes")) _ _ c (made_bounded drop_indexes (read_drop_indexes t ps) c (drop_indexes_bounded t ps))
-    (chosen_bounded (bytes_eq name (codes "listIndexes")) _ _ c (made_bounded list_indexes (read_list_indexes t ps) c (list_indexes_bounded t ps))
-    (λ f. absurd cc)))))))))))))))) e
+    chosen_bounded (bytes_eq name (codes "ping")) _ _ c
+    (made_bounded (λ _. ping) (read_ping t ps) c (λ x h. tt))
+    (chosen_bounded (bytes_eq name (codes "hello")) _ _ c
+    (made_bounded (λ _. hello) (read_hello t ps) c (λ x h. tt))
+    (chosen_bounded (bytes_eq name (codes "insert")) _ _ c
+    (made_bounded insert (read_insert t ps) c (insert_bounded t ps))
+    (chosen_bounded (bytes_eq name (codes "find")) _ _ c
+    (made_bounded find (read_find t ps) c (find_bounded t ps))
+    (chosen_bounded (bytes_eq name (codes "getMore")) _ _ c
+    (made_bounded get_more (read_get_more t ps) c (get_more_bounded t ps))
+    (chosen_bounded (bytes_eq name (codes "killCursors")) _ _ c
+    (made_bounded kill_cursors (read_kill_cursors t ps) c (kill_cursors_bounded t ps))
+    (chosen_bounded (bytes_eq name (codes "count")) _ _ c
+    (made_bounded count (read_count t ps) c (λ x h. tt))
+    (chosen_bounded (bytes_eq name (codes "delete")) _ _ c
+    (made_bounded delete (read_delete t ps) c (λ x h. tt))
+    (chosen_bounded (bytes_eq name (codes "update")) _ _ c
+    (made_bounded update (read_update_command t ps) c (update_bounded t ps))
+    (chosen_bounded (bytes_eq name (codes "aggregate")) _ _ c
+    (made_bounded aggregate (read_aggregate t ps) c (aggregate_bounded t ps))
+    (chosen_bounded (bytes_eq name (codes "create")) _ _ c
+    (made_bounded create (read_create t ps) c (create_bounded t ps))
+    (chosen_bounded (bytes_eq name (codes "drop")) _ _ c
+    (made_bounded drop (read_drop t ps) c (drop_bounded t ps))
+    (chosen_bounded (bytes_eq name (codes "listCollections")) _ _ c
+    (made_bounded list_collections (read_list_collections t ps) c (list_collections_bounded t ps))
+    (chosen_bounded (bytes_eq name (codes "createIndexes")) _ _ c
+    (made_bounded create_indexes (read_create_indexes t ps) c (create_indexes_bounded t ps))
+    (chosen_bounded (bytes_eq name (codes "dropIndexes")) _ _ c
+    (made_bounded drop_indexes (read_drop_indexes t ps) c (drop_indexes_bounded t ps))
+    (chosen_bounded (bytes_eq name (codes "listIndexes")) _ _ c
+    (made_bounded list_indexes (read_list_indexes t ps) c (list_indexes_bounded t ps))
+    (chosen_bounded (bytes_eq name (codes "explain")) _ _ c
+    (made_bounded explain (read_explain t ps) c (λ x h. tt))
+    (λ f. absurd cc))))))))))))))))) e
 
 -- a reader that gives what was planned gives a bounded command
-pub gives-bounded : {X : Type 0} (view : X → Command) (planned : Result Command Refusal) (r : Result X Refusal) → Gives refusals.OutOfMemory view r planned → ((c : Command) → planned ≡ Ok c → IsBounded c) → IfOk r (λ x. IsBounded (view x))
+pub gives-bounded : {X : Type 0} (view : X → Command) (planned : Result Command Refusal)
+    (r : Result X Refusal) → Gives refusals.OutOfMemory view r planned
+    → ((c : Command) → planned ≡ Ok c → IsBounded c) → IfOk r (λ x. IsBounded (view x))
 gives-bounded view planned (Ok x) h keeps = keeps (view x) h
 gives-bounded view planned (Err e) h keeps = tt

@@ -1,5 +1,6 @@
 -- `find` asks for the documents of a collection that match.
-use Rattle.std.specs.Prelude.{ℕ, if◌then◌else◌, List, [], codes, Option, Some, None, Result, Ok, false, unwrap_or}
+use Rattle.std.specs.Prelude.{ℕ, if◌then◌else◌, List, [], codes, Option, Some, None, Result, Ok}
+use Rattle.std.specs.Prelude.{false, unwrap_or}
 use Rattle.std.specs.Str.{bytes_eq}
 use Rattle.bson.specs.Tree.{Tree, Pairs}
 use Rattle.filter.specs.Condition.{Conditions, no_conditions}
@@ -15,8 +16,8 @@ use Rattle.commands.specs.Values.{text_in, count_in, spelled_in}
 use Rattle.commands.specs.Fields.{CommonFields, read_fields, common_field, no_common}
 use Rattle.commands.specs.Names.{namespace_of}
 
--- a filter, the order of what matches, how many of it are left out at the front, how many may come then (0: all), and what is
--- given of each
+-- a filter, the order of what matches, how many of it are left out at the front, how many may come
+-- then (0: all), and what is given of each
 pub record Query : Type 0 where
   pub filter : Conditions
   pub sort : List SortField
@@ -80,7 +81,8 @@ find_field found name t =
     if bytes_eq name (codes "projection") then projection_field found t else
     window_field found name t
 
--- A missing filter is met by all, a missing sort changes no order, and a missing projection leaves all.
+-- A missing filter is met by all, a missing sort changes no order, and a missing projection leaves
+-- all.
 abbrev pub query_of : FindFields → Query
 query_of found = record {
   filter = unwrap_or found.filter no_conditions;

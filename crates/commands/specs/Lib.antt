@@ -21,6 +21,7 @@ pub mod NewIndexCode
 pub mod CreateIndexes
 pub mod DropIndexes
 pub mod ListIndexes
+pub mod Explain
 pub mod Command
 pub mod View
 pub mod OutcomeLaws

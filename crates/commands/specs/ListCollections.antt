@@ -1,4 +1,5 @@
--- `listCollections` asks for the names of a database's collections. It has no fields of its own; its value is read over.
+-- `listCollections` asks for the names of a database's collections. It has no fields of its own;
+-- its value is read over.
 use Rattle.std.specs.Prelude.{ℕ, List, Result, Ok}
 use Rattle.bson.specs.Tree.{Tree, Pairs}
 use Rattle.outcome.specs.Outcome.{◌>>=◌, unless, or_refused}

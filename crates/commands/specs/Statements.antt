@@ -1,5 +1,5 @@
--- The documents or statements of one command: at least one, and at most 1,000, which is judged before any of them is read. Of the
--- indexes of one there is at least one.
+-- The documents or statements of one command: at least one, and at most 1,000, which is judged
+-- before any of them is read. Of the indexes of one there is at least one.
 use Rattle.std.specs.Prelude.{◌==◌, nat_lt, List, [], ◌∷◌, Result, Ok}
 use Rattle.bson.specs.Tree.{Tree, Items, no_items, item}
 use Rattle.bson.specs.Edits.{items_len}

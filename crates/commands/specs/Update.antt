@@ -1,5 +1,6 @@
 -- `update` changes documents of a collection, statement by statement.
-use Rattle.std.specs.Prelude.{◌≡◌, ℕ, Bool, false, ◌&&◌, if◌then◌else◌, List, codes, Option, Some, None, Result, Ok, Err}
+use Rattle.std.specs.Prelude.{◌≡◌, ℕ, Bool, false, ◌&&◌, if◌then◌else◌, List, codes, Option, Some}
+use Rattle.std.specs.Prelude.{None, Result, Ok, Err}
 use Rattle.std.specs.Str.{bytes_eq}
 use Rattle.bson.specs.Tree.{Tree, Pairs}
 use Rattle.filter.specs.Condition.{Conditions}
@@ -14,8 +15,8 @@ use Rattle.commands.specs.Fields.{CommonFields, read_fields, common_field, no_co
 use Rattle.commands.specs.Statements.{statements_in, each_of}
 use Rattle.commands.specs.Names.{namespace_of}
 
--- A statement: a filter, what is made of a document that matches, whether that is done to all of them or to the first, and
--- whether a document is made where none matches.
+-- A statement: a filter, what is made of a document that matches, whether that is done to all of
+-- them or to the first, and whether a document is made where none matches.
 pub record UpdateStatement : Type 0 where
   pub filter : Conditions
   pub change : Change

@@ -1,6 +1,7 @@
 -- The values that fields take.
 use Rattle.std.specs.Prelude.{ℕ, ℤ, pos, negsuc, Bool, List, Option, Some, None, Result, Ok, Err}
-use Rattle.bson.specs.Tree.{Tree, scalar, document, array, text, boolean, int32, int64, Pairs, Items}
+use Rattle.bson.specs.Tree.{Tree, scalar, document, array, text, boolean, int32, int64, Pairs}
+use Rattle.bson.specs.Tree.{Items}
 use Rattle.outcome.specs.Outcome.{◌>>=◌, or_refused}
 use Rattle.path.specs.declared.refusal.Refusal.{Refusal}
 use Rattle.path.specs.declared.refusal.Refusal.TheVariants as refusals

@@ -17,6 +17,7 @@ use Rattle.commands.specs.ListCollections as lists
 use Rattle.commands.specs.CreateIndexes as index_creates
 use Rattle.commands.specs.DropIndexes as index_drops
 use Rattle.commands.specs.ListIndexes as index_lists
+use Rattle.commands.specs.Explain as explains
 use Rattle.aggregate.specs.View.{pipeline_of}
 use Rattle.commands.specs.declared.insert.Insert.{Insert}
 use Rattle.commands.specs.declared.find.Find.{Find}
@@ -34,6 +35,7 @@ use Rattle.commands.specs.declared.drop_indexes.DroppedIndexes.{DroppedIndexes}
 use Rattle.commands.specs.declared.drop_indexes.DroppedIndexes.TheVariants as dropped
 use Rattle.commands.specs.declared.drop_indexes.DropIndexes.{DropIndexes}
 use Rattle.commands.specs.declared.list_indexes.ListIndexes.{ListIndexes}
+use Rattle.commands.specs.declared.explain.Explain.{Explain}
 use Rattle.commands.specs.declared.command.Command.{Command}
 use Rattle.commands.specs.declared.command.Command.TheVariants as cases
 
@@ -101,6 +103,9 @@ drop_indexes_read c =
 abbrev pub list_indexes_read : ListIndexes → index_lists.ListIndexes
 list_indexes_read c = record { namespace = string_bytes c.namespace }
 
+abbrev pub explain_read : Explain → explains.Explain
+explain_read c = record { namespace = string_bytes c.namespace; query = c.query }
+
 abbrev pub command_read : Command → commands.Command
 command_read cases.Ping = commands.ping
 command_read cases.Hello = commands.hello
@@ -118,3 +123,4 @@ command_read (cases.ListCollections c) = commands.list_collections (list_collect
 command_read (cases.CreateIndexes c) = commands.create_indexes (create_indexes_read c)
 command_read (cases.DropIndexes c) = commands.drop_indexes (drop_indexes_read c)
 command_read (cases.ListIndexes c) = commands.list_indexes (list_indexes_read c)
+command_read (cases.Explain c) = commands.explain (explain_read c)

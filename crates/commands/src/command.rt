@@ -14,6 +14,7 @@ use crate::create_indexes::{CreateIndexes, read_create_indexes};
 use crate::delete::{Delete, read_delete};
 use crate::drop_collection::{DropCollection, read_drop};
 use crate::drop_indexes::{DropIndexes, read_drop_indexes};
+use crate::explain::{Explain, read_explain};
 use crate::find::{Find, read_find};
 use crate::get_more::{GetMore, read_get_more};
 use crate::hello::read_hello;
@@ -46,6 +47,7 @@ pub enum Command<'a> {
     CreateIndexes(CreateIndexes),
     DropIndexes(DropIndexes<'a>),
     ListIndexes(ListIndexes),
+    Explain(Explain),
 }
 
 /// The command of this name, read from the value of its name and the fields behind it.
@@ -76,6 +78,7 @@ fn read_named<'a>(
         "createIndexes" => read_create_indexes(alloc, value, fields),
         "dropIndexes" => read_drop_indexes(alloc, value, fields),
         "listIndexes" => read_list_indexes(alloc, value, fields),
+        "explain" => read_explain(alloc, value, fields),
         _ => Err(Refusal::CommandNotFound),
     }
 }
@@ -84,7 +87,7 @@ impl<'a> Command<'a> {
     /// The command that a body spells, which its first name says.
     ///
     /// The first of these refusals: `CommandNotFound`; `TypeMismatch` where the collection's name is no
-    /// string, or the number of a cursor no int64; what is wrong with a field, in the order written; `FailedToParse` where a field
+    /// string, the number of a cursor no int64, or what is explained no document; what is wrong with a field, in the order written; `FailedToParse` where a field
     /// is missing; `InvalidNamespace`.
     #[tactic(auto, unfolding(crate::specs::Command::command_of))]
     pub fn read(alloc: Global, body: &'a Document) -> Result<Command<'a>, Refusal>

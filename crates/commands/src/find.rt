@@ -60,7 +60,7 @@ pub struct Find {
 
 /// The fields of a `find` that were met so far.
 #[derive(Drop)]
-struct FindFields<'a> {
+pub(crate) struct FindFields<'a> {
     common: CommonFields<'a>,
     filter: Option<Filter>,
     sort: Option<Sort>,
@@ -91,7 +91,7 @@ impl<'a> Model for FindFields<'a> {
 }
 
 impl<'a> FindFields<'a> {
-    fn new() -> FindFields<'a>
+    pub(crate) fn new() -> FindFields<'a>
         ensures { result ≡ no_find_fields }
     {
         FindFields {
@@ -107,7 +107,7 @@ impl<'a> FindFields<'a> {
 
     /// What is asked for. A missing filter matches all documents, a missing sort changes no order, and a missing
     /// projection leaves all.
-    fn query(self, alloc: Global) -> Query
+    pub(crate) fn query(self, alloc: Global) -> Query
         ensures { result ≡ query_of self.entry }
     {
         Query {

@@ -23,7 +23,9 @@ use Rattle.commands.specs.DropCollection.{DropCollection}
 use Rattle.commands.specs.ListCollections.{ListCollections}
 use Rattle.commands.specs.ListIndexes.{ListIndexes}
 use Rattle.database_model.specs.ListIndexes.{indexes_reply, run_list_indexes}
-use Rattle.commands.specs.Command.{Command, ping, hello, insert, find, get_more, kill_cursors, count, delete, update, aggregate, create, drop as drop_of, list_collections, create_indexes, drop_indexes, list_indexes, command_of}
+use Rattle.commands.specs.Explain.{Explain}
+use Rattle.database_model.specs.Explain.{run_explain}
+use Rattle.commands.specs.Command.{Command, ping, hello, insert, find, get_more, kill_cursors, count, delete, update, aggregate, create, drop as drop_of, list_collections, create_indexes, drop_indexes, list_indexes, explain, command_of}
 use Rattle.aggregate.specs.Pipeline.{run as after_pipeline}
 use Rattle.database_model.specs.World.{collection_of, World, Cursor, documents_of, with_documents, at_rest, untouched, without_cursors}
 use Rattle.index.specs.State.{Collection, find_collection, put_collection}
@@ -146,11 +148,11 @@ after_rest : (k : ℕ) (cs : List Cursor) (left : List Pairs) → HasLeft k cs l
 after_rest k cs left h = ⊎_elim (λ none. inl (mine-rest k cs ∙ ap (map at_rest) none)) (λ one. inr (at_rest one.0, mine-rest k cs ∙ ap (map at_rest) one.1, one.2)) h
 
 -- the world after an event that gave these documents of the cursor, which had so many left
-record Next (k : ℕ) (batch left : List Pairs) (new : World) : Type 0 where
-  rest : List Pairs
-  whole : batch ++ rest ≡ left
-  is_left : HasLeft k new.cursors rest
-  drawn : k < new.next
+pub record Next (k : ℕ) (batch left : List Pairs) (new : World) : Type 0 where
+  pub rest : List Pairs
+  pub whole : batch ++ rest ≡ left
+  pub is_left : HasLeft k new.cursors rest
+  pub drawn : k < new.next
 
 keeps : (k : ℕ) (left : List Pairs) (new : World) → HasLeft k new.cursors left → k < new.next → Next k [] left new
 keeps k left new h drawn = record { rest = left; whole = refl; is_left = h; drawn = drawn }
@@ -282,6 +284,10 @@ module _ (k : ℕ) (w : World) (connection : ℕ) (left : List Pairs) (drawn : k
       at None = same
       at (Some found) = same
 
+  explained : (c : Explain) → Keeps (run_explain w c)
+  unfolding run_explain
+  explained c = same
+
   batched : (name : List ℕ) (ds : List Pairs) (n : ℕ) → Keeps (first_batch w connection name ds n)
   batched name ds n = at (nat_le (length ds) n) (is_refused connection w.cursors w.next)
     where
@@ -351,6 +357,7 @@ module _ (k : ℕ) (w : World) (connection : ℕ) (left : List Pairs) (drawn : k
   ran (Ok (create_indexes c)) = indexed_so c
   ran (Ok (drop_indexes c)) = unindexed_so c
   ran (Ok (list_indexes c)) = indexes_listed c
+  ran (Ok (explain c)) = explained c
 
   -- ---- one event
 
@@ -358,7 +365,7 @@ module _ (k : ℕ) (w : World) (connection : ℕ) (left : List Pairs) (drawn : k
   stepped (Ok body) = ran (command_of body)
   stepped (Err fault) = same
 
-happens : (k : ℕ) (w : World) (e : Event) (left : List Pairs) → k < w.next → HasLeft k w.cursors left → Next k (given_by k w e) left (after_event w e)
+pub happens : (k : ℕ) (w : World) (e : Event) (left : List Pairs) → k < w.next → HasLeft k w.cursors left → Next k (given_by k w e) left (after_event w e)
 happens k w (command connection body) left drawn h = stepped k w connection left drawn h body
 happens k w committed left drawn h = keeps k left (record w { cursors = map at_rest w.cursors }) (after_rest k w.cursors left h) drawn
 happens k w (undone before) left drawn h = keeps k left (record w { collections = before; cursors = untouched w.cursors }) (after_filter k (λ c. not c.touched) w.cursors left h) drawn

@@ -1,2 +1,2 @@
-mod UndoneCursors
+pub mod UndoneCursors
 pub mod CursorLives

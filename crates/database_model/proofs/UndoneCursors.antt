@@ -1,6 +1,6 @@
 -- What an undone turn leaves of cursors.
-use Rattle.std.proofs.Common.{◌≡◌, ◌⊎◌, ⊎_elim, inl, inr, ℕ, zero, suc, ◌+◌, Bool, true, false, List, [], ◌∷◌, ◌++◌, length, set, remove, drop, Option, Some, None, Result, Ok, Err, refl, sym, ap, ◌∙◌}
-use Rattle.std.specs.Prelude.{◌&&◌, not, is_some, nat_le, if◌then◌else◌, codes, unwrap_or}
+use Rattle.std.proofs.Common.{◌≡◌, ◌⊎◌, ⊎_elim, inl, inr, ℕ, zero, suc, ◌+◌, Bool, true, false, List, [], ◌∷◌, ◌++◌, length, set, remove, drop, Option, Some, None, Result, Ok, Err, refl, sym, ap, subst, ◌∙◌}
+use Rattle.std.specs.Prelude.{◌==◌, ◌&&◌, not, is_some, nat_le, if◌then◌else◌, codes, unwrap_or}
 use Rattle.std.specs.List.{filter, position}
 use Rattle.bson.specs.Tree.{Pairs, pair, no_pairs}
 use Rattle.bson.specs.declared.fault.BsonFault.{BsonFault}
@@ -20,6 +20,8 @@ use Rattle.commands.specs.DropCollection.{DropCollection}
 use Rattle.commands.specs.ListCollections.{ListCollections}
 use Rattle.commands.specs.ListIndexes.{ListIndexes}
 use Rattle.database_model.specs.ListIndexes.{indexes_reply, run_list_indexes}
+use Rattle.commands.specs.Explain.{Explain}
+use Rattle.database_model.specs.Explain.{run_explain}
 use Rattle.database_model.specs.Create.{created, run_create}
 use Rattle.commands.specs.CreateIndexes.{CreateIndexes}
 use Rattle.database_model.specs.CreateIndexes.{create_indexes_reply, indexed, run_create_indexes}
@@ -27,7 +29,7 @@ use Rattle.commands.specs.DropIndexes.{DropIndexes}
 use Rattle.database_model.specs.DropIndexes.{drop_indexes_reply, index_dropped, run_drop_indexes}
 use Rattle.database_model.specs.DropCollection.{drop_reply, dropped, index_count, run_drop}
 use Rattle.database_model.specs.ListCollections.{run_list_collections}
-use Rattle.commands.specs.Command.{Command, ping, hello, insert, find, get_more, kill_cursors, count, delete, update, aggregate, create, drop as drop_of, list_collections, create_indexes, drop_indexes, list_indexes, command_of}
+use Rattle.commands.specs.Command.{Command, ping, hello, insert, find, get_more, kill_cursors, count, delete, update, aggregate, create, drop as drop_of, list_collections, create_indexes, drop_indexes, list_indexes, explain, command_of}
 use Rattle.aggregate.specs.Pipeline.{run as after_pipeline}
 use Rattle.database_model.specs.World.{collection_of, World, Cursor, documents_of, with_documents, untouched, are_untouched}
 use Rattle.index.specs.State.{Collection, find_collection, put_collection}
@@ -46,6 +48,7 @@ use Rattle.database_model.specs.UpdateCommand.{entered_in, run_update, writes_in
 use Rattle.database_model.specs.Aggregate.{run_aggregate}
 use Rattle.database_model.specs.Step.{run, answered, step}
 use Rattle.database_model.specs.CursorLaws.{IsAmong, after_commands, StaysOpen}
+use Rattle.database_model.specs.CursorLife.{HasLeft}
 
 -- ---- cursors of a list
 
@@ -219,6 +222,10 @@ module _ (w : World) (connection : ℕ) where
       at None d rests h = h
       at (Some found) d rests h = h
 
+  explained : (c : Explain) → Comes (run_explain w c)
+  unfolding run_explain
+  explained c d rests h = h
+
   ran : (r : Result Command Refusal) → Comes (r >>= run w connection)
   ran (Err e) d rests h = h
   ran (Ok ping) d rests h = h
@@ -237,6 +244,7 @@ module _ (w : World) (connection : ℕ) where
   ran (Ok (create_indexes c)) d rests h = indexed_so c d rests h
   ran (Ok (drop_indexes c)) d rests h = unindexed_so c d rests h
   ran (Ok (list_indexes c)) d rests h = indexes_listed c d rests h
+  ran (Ok (explain c)) d rests h = explained c d rests h
 
   came : (body : Result Pairs BsonFault) (c : Cursor) → c.touched ≡ false → IsAmong c (step w connection body).0.cursors → IsAmong c w.cursors
   came (Ok body) c rests h = ran (command_of body) c rests h
@@ -278,3 +286,18 @@ left_open c w xs h =
 pub open_left : (c : Cursor) (w : World) (xs : List (ℕ × Result Pairs BsonFault)) → are_untouched w.cursors ≡ true → StaysOpen c w xs → IsAmong c (untouched (after_commands w xs).cursors)
 open_left c w xs rests h =
     among_kept (λ x. not x.touched) c (after_commands w xs).cursors (rests_among c w.cursors rests (first_of c w xs h)) (last_of c w xs h)
+
+-- A cursor that a turn leaves where it is undone has what it had before the turn.
+pub kept_by_undo : (k : ℕ) (w : World) (xs : List (ℕ × Result Pairs BsonFault)) (had left : List Pairs) → HasLeft k w.cursors had
+    → HasLeft k (untouched (after_commands w xs).cursors) left → HasLeft k (untouched (after_commands w xs).cursors) had
+kept_by_undo k w xs had left before (inl none) = inl none
+kept_by_undo k w xs had left before (inr (c, only, rest)) =
+    let after = untouched (after_commands w xs).cursors in
+    let there : IsAmong c (filter (λ (x : Cursor). x.number == k) after) = subst (λ (ds : List Cursor). IsAmong c ds) (sym only) (inl refl) in
+    let was = first_of c w xs (left_open c w xs (among_all (λ (x : Cursor). x.number == k) c after there)) in
+    by before (among_kept (λ (x : Cursor). x.number == k) c w.cursors (passes (λ (x : Cursor). x.number == k) c after there) was)
+  where
+    by : HasLeft k w.cursors had → IsAmong c (filter (λ (x : Cursor). x.number == k) w.cursors) → HasLeft k (untouched (after_commands w xs).cursors) had
+    by (inl none) mine = absurd (subst (λ (ds : List Cursor). IsAmong c ds) none mine)
+    by (inr (d, one, has)) mine =
+        ⊎_elim (λ same. inr (c, only, ap (λ (x : Cursor). x.rest) (sym same) ∙ has)) (λ more. absurd more) (subst (λ (ds : List Cursor). IsAmong c ds) one mine)

@@ -1,4 +1,5 @@
--- `aggregate`: what a pipeline makes of the documents of a collection, as far as it goes into the first batch.
+-- `aggregate`: what a pipeline makes of the documents of a collection, as far as it goes into the
+-- first batch.
 use Rattle.std.specs.Prelude.{◌≡◌, ℕ, None, List, Result, unwrap_or}
 use Rattle.bson.specs.Tree.{Pairs}
 use Rattle.aggregate.specs.Limits.{first_fault}

@@ -1,5 +1,6 @@
 -- `createIndexes`: indexes of a collection are made, all or none (MongoDB manual, "createIndexes").
-use Rattle.std.specs.Prelude.{◌&&◌, ◌||◌, ℕ, Bool, true, false, not, nat_le, if◌then◌else◌, List, [], ◌∷◌, length, map, codes, Result, Ok, is_some}
+use Rattle.std.specs.Prelude.{◌&&◌, ◌||◌, ℕ, Bool, true, false, not, nat_le, if◌then◌else◌, List}
+use Rattle.std.specs.Prelude.{[], ◌∷◌, length, map, codes, Result, Ok, is_some}
 use Rattle.std.specs.Bool.{beq}
 use Rattle.std.specs.List.{list_any}
 use Rattle.std.specs.Str.{bytes_eq}
@@ -36,7 +37,8 @@ is_id_key (f ∷ g ∷ fs) = false
 
 -- the same path in the same direction
 abbrev pub is_same_field : Field → Field → Bool
-is_same_field f g = bytes_eq f.path g.path && beq (is_ascending f.direction) (is_ascending g.direction)
+is_same_field f g =
+    bytes_eq f.path g.path && beq (is_ascending f.direction) (is_ascending g.direction)
 
 -- so each, in order
 abbrev pub are_same_fields : List Field → List Field → Bool
@@ -99,7 +101,8 @@ with_new_indexes c (n ∷ ns) = do
   next ← with_new_index c n
   with_new_indexes next ns
 
--- the collections with these indexes in the one of a name; a missing one is made, where there are not 1,000 yet
+-- the collections with these indexes in the one of a name; a missing one is made, where there are
+-- not 1,000 yet
 abbrev pub indexed : List Collection → List ℕ → List NewIndex → Result (List Collection) Refusal
 indexed cs name ns =
     unless (is_full cs name) refusals.TooMany (do
@@ -111,7 +114,8 @@ indexed cs name ns =
 abbrev pub truth : Bool → Tree
 truth b = scalar (boolean b)
 
--- how many indexes there were, with that on `_id`, how many there are, and whether the collection was made
+-- how many indexes there were, with that on `_id`, how many there are, and whether the collection
+-- was made
 abbrev pub create_indexes_reply : ℕ → ℕ → Bool → Pairs
 create_indexes_reply before after is_new =
     pair (codes "numIndexesBefore") (int before)
@@ -123,6 +127,7 @@ run_create_indexes world c = do
   collections ← indexed world.collections c.namespace c.indexes
   Ok (
     record world { collections = collections },
-    create_indexes_reply (index_count world.collections c.namespace) (index_count collections c.namespace)
+    create_indexes_reply (index_count world.collections c.namespace)
+        (index_count collections c.namespace)
         (not (is_some (find_collection world.collections c.namespace))),
   )

@@ -1,5 +1,6 @@
--- Laws of cursors. What an undone turn leaves of them is said by what each knows of itself, whether the turn touched it; the law
--- ties that to the plain sentence: exactly those stay open that no command of the turn opened, advanced or killed, with what they had.
+-- Laws of cursors. What an undone turn leaves of them is said by what each knows of itself, whether
+-- the turn touched it; the law ties that to the plain sentence: exactly those stay open that no
+-- command of the turn opened, advanced or killed, with what they had.
 use Rattle.std.specs.Prelude.{◌≡◌, ◌⊎◌, ℕ, true, List, [], ◌∷◌, Result}
 use Rattle.bson.specs.Tree.{Pairs}
 use Rattle.bson.specs.declared.fault.BsonFault.{BsonFault}

@@ -1,6 +1,7 @@
--- What a cursor gives over its whole life, whatever comes between: other commands of any connection, commits, undone turns, ends
--- of connections.
-use Rattle.std.specs.Prelude.{◌≡◌, ◌⊎◌, ℕ, suc, ◌<◌, ◌==◌, if◌then◌else◌, Option, Some, None, List, [], ◌∷◌, ◌++◌, take, Result, Ok, Err}
+-- What a cursor gives over its whole life, whatever comes between: other commands of any
+-- connection, commits, undone turns, ends of connections.
+use Rattle.std.specs.Prelude.{◌≡◌, ◌⊎◌, ℕ, suc, ◌<◌, ◌==◌, if◌then◌else◌, Option, Some, None, List}
+use Rattle.std.specs.Prelude.{[], ◌∷◌, ◌++◌, take, Result, Ok, Err}
 use Rattle.std.specs.List.{filter, position}
 use Rattle.bson.specs.Tree.{Pairs}
 use Rattle.bson.specs.declared.fault.BsonFault.{BsonFault}
@@ -47,7 +48,8 @@ batch_of_body number world connection (Ok body) =
     batch_in number world connection (command_of body)
 batch_of_body number world connection (Err fault) = []
 
--- what an event gives of the cursor of a number: the documents of its batch, where it is a `getMore` of it
+-- what an event gives of the cursor of a number: the documents of its batch, where it is a
+-- `getMore` of it
 abbrev pub given_by : ℕ → World → Event → List Pairs
 given_by number world (command connection body) = batch_of_body number world connection body
 given_by number world other = []
@@ -64,7 +66,8 @@ HasLeft number cs left = (filter (λ c. c.number == number) cs ≡ [])
     ⊎ ((c : Cursor) × (filter (λ c. c.number == number) cs ≡ c ∷ []) × (c.rest ≡ left))
 
 -- What was given and what is left are the documents that the cursor had, in their order.
-pub record LivesOn (number : ℕ) (world : World) (events : List Event) (had : List Pairs) : Type 0 where
+pub record LivesOn (number : ℕ) (world : World) (events : List Event)
+    (had : List Pairs) : Type 0 where
   pub left : List Pairs
   pub whole : given number world events ++ left ≡ had
   pub is_left : HasLeft number (after_events world events).cursors left

@@ -1,5 +1,7 @@
 -- Batches of documents, the replies that hold them, and cursors on what a batch leaves.
-use Rattle.std.specs.Prelude.{ℕ, ℤ, pos, zero, suc, ◌+◌, ◌-◌, ◌^◌, Bool, true, false, ◌||◌, ◌&&◌, ◌==◌, nat_le, if◌then◌else◌, List, [], ◌∷◌, ◌++◌, length, take, drop, remove, slice_set, slice_index_or, codes, Result, Ok}
+use Rattle.std.specs.Prelude.{ℕ, ℤ, pos, zero, suc, ◌+◌, ◌-◌, ◌^◌, Bool, true, false, ◌||◌, ◌&&◌}
+use Rattle.std.specs.Prelude.{◌==◌, nat_le, if◌then◌else◌, List, [], ◌∷◌, ◌++◌, length, take, drop}
+use Rattle.std.specs.Prelude.{remove, slice_set, slice_index_or, codes, Result, Ok}
 use Rattle.std.specs.Fmt.{decimal}
 use Rattle.std.specs.Ordering.{int_eq}
 use Rattle.std.specs.Str.{bytes_eq}
@@ -14,8 +16,8 @@ use Rattle.database_model.specs.Refusals.{long, words}
 abbrev pub item_size : ℕ → Pairs → ℕ
 item_size i ps = length (element 3 (decimal i) (frame_of (pairs_bytes ps)))
 
--- How many documents go into a batch, from the one of this index on: the longest front within so many documents and
--- so many bytes, but at least one document where any may go.
+-- How many documents go into a batch, from the one of this index on: the longest front within so
+-- many documents and so many bytes, but at least one document where any may go.
 abbrev pub batch_len : ℕ → ℕ → ℕ → List Pairs → ℕ
 batch_len i most room [] = 0
 batch_len i zero room (ps ∷ rest) = 0

@@ -1,5 +1,6 @@
 -- `delete`: what its statements leave of a list of documents, one after the other.
-use Rattle.std.specs.Prelude.{ℕ, ◌-◌, Bool, not, if◌then◌else◌, List, [], ◌∷◌, length, remove, codes, Option, Some, None, Result, Ok}
+use Rattle.std.specs.Prelude.{ℕ, ◌-◌, Bool, not, if◌then◌else◌, List, [], ◌∷◌, length, remove}
+use Rattle.std.specs.Prelude.{codes, Option, Some, None, Result, Ok}
 use Rattle.std.specs.List.{filter, position}
 use Rattle.bson.specs.Tree.{Pairs, no_pairs, pair}
 use Rattle.filter.specs.Matches.{matches}

@@ -1,5 +1,6 @@
 -- Documents that are stored: what is asked of them, and their order.
-use Rattle.std.specs.Prelude.{nat_lt, true, List, [], ◌∷◌, length, Result, Ok, Err, Option, Some, None, unwrap_or, option_map}
+use Rattle.std.specs.Prelude.{nat_lt, true, List, [], ◌∷◌, length, Result, Ok, Err, Option, Some}
+use Rattle.std.specs.Prelude.{None, unwrap_or, option_map}
 use Rattle.value_order.specs.Order.{compare}
 use Rattle.value_order.specs.KeyText.{tree_text}
 use Rattle.bson.specs.Tree.{Tree, scalar, null, Pairs}

@@ -1,5 +1,6 @@
 -- `dropIndexes`: indexes of a collection are taken away (MongoDB manual, "dropIndexes").
-use Rattle.std.specs.Prelude.{ℕ, Bool, true, not, List, [], codes, Option, Some, None, Result, Ok, Err}
+use Rattle.std.specs.Prelude.{ℕ, Bool, true, not, List, [], codes, Option, Some, None, Result, Ok}
+use Rattle.std.specs.Prelude.{Err}
 use Rattle.std.specs.List.{filter, list_any}
 use Rattle.std.specs.Str.{bytes_eq}
 use Rattle.bson.specs.Tree.{Pairs, no_pairs, pair}
@@ -23,7 +24,8 @@ is_dropped (named name) i = bytes_eq i.name name
 abbrev pub remaining : DroppedIndexes → List Definition → List Definition
 remaining dropped is = filter (λ i. not (is_dropped dropped i)) is
 
--- The indexes that stay. That on `_id` can't be dropped by its name, and one of the name has to be there.
+-- The indexes that stay. That on `_id` can't be dropped by its name, and one of the name has to be
+-- there.
 abbrev pub left_by : DroppedIndexes → List Definition → Result (List Definition) Refusal
 left_by all is = Ok []
 left_by (named name) is =

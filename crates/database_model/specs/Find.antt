@@ -1,6 +1,7 @@
--- `find`: what a query gives of a list of documents, as far as it goes into the first batch. Nothing here knows how the
--- documents are kept or looked up.
-use Rattle.std.specs.Prelude.{◌≡◌, ℕ, zero, suc, ◌<◌, ◌-◌, ◌^◌, List, length, map, take, drop, Result, unwrap_or}
+-- `find`: what a query gives of a list of documents, as far as it goes into the first batch.
+-- Nothing here knows how the documents are kept or looked up.
+use Rattle.std.specs.Prelude.{◌≡◌, ℕ, zero, suc, ◌<◌, ◌-◌, ◌^◌, List, length, map, take, drop}
+use Rattle.std.specs.Prelude.{Result, unwrap_or}
 use Rattle.std.specs.List.{filter}
 use Rattle.bson.specs.Tree.{Pairs}
 use Rattle.filter.specs.Condition.{Conditions}
@@ -38,12 +39,13 @@ run_find world connection c =
     (batch_of (unwrap_or c.batch_size 101)
     (query_result c.query (documents_of world.collections c.namespace)))
 
--- What a query gives of the documents that match, or of so many first ones as are enough.
+-- What a query gives of the documents that match, in their order, or of so many first ones as are
+-- enough.
 abbrev pub given : Query → List Pairs → List Pairs
-given q found = map (project q.projection) (window q.skip q.limit (order q.sort found))
+given q found = map (project q.projection) (window q.skip q.limit found)
 
--- Of the documents that match, the first ones up to this number are enough, unless that is the greatest and they are as many.
+-- Of the documents that match, in their order, the first ones up to this number are enough, unless
+-- that is the greatest and they are as many.
 abbrev pub Suffices : Query → ℕ → Type 0
-Suffices q most =
-    (ds : List Pairs) → length (take most ds) < 2 ^ 64 - 1
-    → window q.skip q.limit (order q.sort (take most ds)) ≡ window q.skip q.limit (order q.sort ds)
+Suffices q most = (ds : List Pairs) → length (take most ds) < 2 ^ 64 - 1
+    → window q.skip q.limit (take most ds) ≡ window q.skip q.limit ds

@@ -9,7 +9,8 @@ use Rattle.commands.specs.GetMore.{GetMore}
 use Rattle.database_model.specs.World.{World, Cursor}
 use Rattle.database_model.specs.Cursors.{batch_of, batch_reply, is_cursor, cursor_at, advanced}
 
--- how many documents of a cursor go into its next batch: without a number they are bounded by their bytes alone
+-- how many documents of a cursor go into its next batch: without a number they are bounded by their
+-- bytes alone
 abbrev pub batch_len_of : Cursor → Option ℕ → ℕ
 batch_len_of cursor batch_size = batch_of (unwrap_or batch_size (length cursor.rest)) cursor.rest
 

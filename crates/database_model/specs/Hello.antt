@@ -1,5 +1,5 @@
--- `hello` tells a client what it has to know of the server: the most bytes of a document and of a message, the most statements of
--- a command, and the number of its connection.
+-- `hello` tells a client what it has to know of the server: the most bytes of a document and of a
+-- message, the most statements of a command, and the number of its connection.
 use Rattle.std.specs.Prelude.{ℕ, true, codes, Result, Ok}
 use Rattle.bson.specs.Tree.{scalar, boolean, Pairs, no_pairs, pair}
 use Rattle.path.specs.declared.refusal.Refusal.{Refusal}

@@ -1,5 +1,6 @@
 -- `killCursors`: cursors of a connection end.
-use Rattle.std.specs.Prelude.{ℕ, ℤ, Bool, true, false, not, ◌&&◌, List, [], ◌∷◌, ◌++◌, codes, Result, Ok}
+use Rattle.std.specs.Prelude.{ℕ, ℤ, Bool, true, false, not, ◌&&◌, List, [], ◌∷◌, ◌++◌, codes}
+use Rattle.std.specs.Prelude.{Result, Ok}
 use Rattle.std.specs.List.{filter, list_any}
 use Rattle.std.specs.Ordering.{int_eq}
 use Rattle.bson.specs.Tree.{scalar, int64, array, Pairs, no_pairs, pair, Items, no_items, item}

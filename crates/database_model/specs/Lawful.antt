@@ -1,5 +1,6 @@
 -- What is kept of stored documents and of collections.
-use Rattle.std.specs.Prelude.{◌≡◌, ℕ, Bool, suc, ◌<◌, ◌≤◌, ◌^◌, Bool, false, List, [], ◌∷◌, length, Some, None, All, IsUtf8, refl}
+use Rattle.std.specs.Prelude.{◌≡◌, ℕ, Bool, suc, ◌<◌, ◌≤◌, ◌^◌, Bool, false, List, [], ◌∷◌, length}
+use Rattle.std.specs.Prelude.{Some, None, All, IsUtf8, refl}
 use Rattle.std.specs.List.{AllByRecursion, AllPairs}
 use Rattle.std.specs.Ordering.{nat_cmp}
 use Rattle.value_order.specs.Order.{compare}
@@ -17,7 +18,8 @@ use Rattle.database_model.specs.World.{World, Cursor, CursorTable}
 use Rattle.database_model.specs.Documents.{key_of}
 use Rattle.update.specs.Stored.{pairs_fault, id_first, id_of}
 
--- A document that may be stored: within the limits, each name good, its `_id` first, with a key text within the limit.
+-- A document that may be stored: within the limits, each name good, its `_id` first, with a key
+-- text within the limit.
 pub record IsStored (ps : Pairs) : Type 0 where
   pub size : length (frame_of (pairs_bytes ps)) ≤ 65535
   pub depth : suc (pairs_levels ps) ≤ 90
@@ -80,7 +82,8 @@ pub record IsOpenCursor (c : Cursor) : Type 0 where
 abbrev pub AreLawfulCursors : List Cursor → Type 0
 AreLawfulCursors cs = All (λ c. All IsWithin c.rest) cs
 
--- What is kept of a world: its collections are lawful, and a cursor holds documents within the limits.
+-- What is kept of a world: its collections are lawful, and a cursor holds documents within the
+-- limits.
 pub record IsLawful (world : World) : Type 0 where
   pub collections : IsLawfulState world.collections
   pub cursors : AreLawfulCursors world.cursors

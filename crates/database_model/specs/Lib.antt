@@ -17,6 +17,7 @@ pub mod DropCollection
 pub mod ListCollections
 pub mod CreateIndexes
 pub mod ListIndexes
+pub mod Explain
 pub mod DropIndexes
 pub mod Step
 pub mod Lawful

@@ -1,5 +1,6 @@
 -- `listCollections`: the names of a database's collections, in their order, all in one batch.
-use Rattle.std.specs.Prelude.{ℕ, nat_eq, if◌then◌else◌, List, [], ◌∷◌, ◌++◌, length, map, drop, codes, Option, Some, None, Result, Ok}
+use Rattle.std.specs.Prelude.{ℕ, nat_eq, if◌then◌else◌, List, [], ◌∷◌, ◌++◌, length, map, drop}
+use Rattle.std.specs.Prelude.{codes, Option, Some, None, Result, Ok}
 use Rattle.std.specs.List.{starts_with}
 use Rattle.bson.specs.Tree.{Pairs, no_pairs, pair}
 use Rattle.path.specs.declared.refusal.Refusal.{Refusal}

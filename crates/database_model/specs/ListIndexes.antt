@@ -1,4 +1,5 @@
--- `listIndexes`: what defines the indexes of a collection, all in one batch (MongoDB manual, "listIndexes").
+-- `listIndexes`: what defines the indexes of a collection, all in one batch (MongoDB manual,
+-- "listIndexes").
 use Rattle.std.specs.Prelude.{ℕ, Bool, true, false, List, [], ◌∷◌, map, codes, Result, Ok}
 use Rattle.bson.specs.Tree.{scalar, boolean, document, Pairs, no_pairs, pair}
 use Rattle.outcome.specs.Outcome.{◌>>=◌, or_refused}

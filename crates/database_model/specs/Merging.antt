@@ -1,5 +1,7 @@
--- The documents that the statements of a command may mean, among all of a collection, and what updates make of a list of documents.
-use Rattle.std.specs.Prelude.{ℕ, suc, Bool, false, not, ◌&&◌, ◌||◌, if◌then◌else◌, List, [], ◌∷◌, ◌++◌, Result, Ok, Err}
+-- The documents that the statements of a command may mean, among all of a collection, and what
+-- updates make of a list of documents.
+use Rattle.std.specs.Prelude.{ℕ, suc, Bool, false, not, ◌&&◌, ◌||◌, if◌then◌else◌, List, [], ◌∷◌}
+use Rattle.std.specs.Prelude.{◌++◌, Result, Ok, Err}
 use Rattle.std.specs.List.{list_any}
 use Rattle.std.specs.Ordering.{is_eq}
 use Rattle.bson.specs.Tree.{document, Pairs, Items, no_items, item, append_items}
@@ -13,7 +15,8 @@ use Rattle.commands.specs.Update.{UpdateStatement}
 use Rattle.index.specs.Documents.{put_document}
 use Rattle.index.specs.State.{Collection, put_collection}
 use Rattle.database_model.specs.Documents.{key_of, place}
-use Rattle.database_model.specs.Update.{counted, Changed, update_from, Updated, upsert_document, upserted_entry}
+use Rattle.database_model.specs.Update.{counted, Changed, update_from, Updated, upsert_document}
+use Rattle.database_model.specs.Update.{upserted_entry}
 
 -- ---- the documents that are meant
 
@@ -56,7 +59,8 @@ abbrev pub put_each : List Pairs → List Pairs → List Pairs
 put_each [] ds = ds
 put_each (new ∷ rest) ds = put_each rest (put_document new ds)
 
--- What the statements have come to so far: the documents, and the counts and the made ones that the reply says.
+-- What the statements have come to so far: the documents, and the counts and the made ones that the
+-- reply says.
 pub record Listed : Type 0 where
   pub documents : List Pairs
   pub matched : ℕ

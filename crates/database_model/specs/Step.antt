@@ -5,7 +5,9 @@ use Rattle.bson.specs.declared.fault.BsonFault.{BsonFault}
 use Rattle.outcome.specs.Outcome.{◌>>=◌}
 use Rattle.path.specs.declared.refusal.Refusal.{Refusal}
 use Rattle.path.specs.declared.refusal.Refusal.TheVariants as refusals
-use Rattle.commands.specs.Command.{Command, ping, insert, find, count, delete, update, aggregate, create, drop, list_collections, create_indexes, drop_indexes, list_indexes, command_of, get_more, kill_cursors, hello}
+use Rattle.commands.specs.Command.{Command, ping, insert, find, count, delete, update, aggregate}
+use Rattle.commands.specs.Command.{create, drop, list_collections, create_indexes, drop_indexes}
+use Rattle.commands.specs.Command.{list_indexes, explain, command_of, get_more, kill_cursors, hello}
 use Rattle.database_model.specs.World.{World}
 use Rattle.database_model.specs.Refusals.{refusal_reply, ok_reply}
 use Rattle.database_model.specs.Hello.{run_hello}
@@ -22,6 +24,7 @@ use Rattle.database_model.specs.DropCollection.{run_drop}
 use Rattle.database_model.specs.DropIndexes.{run_drop_indexes}
 use Rattle.database_model.specs.ListCollections.{run_list_collections}
 use Rattle.database_model.specs.ListIndexes.{run_list_indexes}
+use Rattle.database_model.specs.Explain.{run_explain}
 use Rattle.database_model.specs.Update.{Updated, not_updated, run_statements}
 use Rattle.database_model.specs.UpdateCommand.{run_update}
 
@@ -43,6 +46,7 @@ run world connection (list_collections c) = run_list_collections world c
 run world connection (create_indexes c) = run_create_indexes world c
 run world connection (drop_indexes c) = run_drop_indexes world c
 run world connection (list_indexes c) = run_list_indexes world c
+run world connection (explain c) = run_explain world c
 
 -- a refusal leaves the world as it was
 abbrev pub answered : World → Result (World × Pairs) Refusal → World × Pairs
@@ -59,8 +63,8 @@ abbrev pub step : World → ℕ → Result Pairs BsonFault → World × Pairs
 step world connection (Ok body) = answered world (read_and_run world connection body)
 step world connection (Err fault) = (world, refusal_reply refusals.InvalidBSON)
 
--- A refusal came beside the definition's step, for a cause of its own, which may speak of the world that the step leads to. It
--- leaves the world as it was.
+-- A refusal came beside the definition's step, for a cause of its own, which may speak of the world
+-- that the step leads to. It leaves the world as it was.
 pub record RefusedBeside (beside : World → Refusal → Type 0) (old planned new : World)
     (reply : Pairs) : Type 0 where
   pub refusal : Refusal
@@ -85,7 +89,8 @@ abbrev pub BodyChangesNone : World → Result Pairs BsonFault → Type 0
 BodyChangesNone world (Ok body) = (c : Command) → command_of body ≡ Ok c → ChangesNone world c
 BodyChangesNone world (Err fault) = Unit {0}
 
--- The command wrote nothing: the collections are as they were, and no update changed one on the way there.
+-- The command wrote nothing: the collections are as they were, and no update changed one on the way
+-- there.
 abbrev pub WroteNothing : World → Result Pairs BsonFault → World → Type 0
 WroteNothing old body new =
     (new.collections ≡ old.collections) × BodyChangesNone old body

@@ -1,7 +1,11 @@
--- `update`: what its statements make of the documents of a collection, one statement after the other.
-use Rattle.std.specs.Prelude.{ℕ, suc, ◌-◌, ◌^◌, Bool, true, false, not, ◌&&◌, ◌==◌, nat_le, nat_lt, if◌then◌else◌, List, [], ◌∷◌, ◌++◌, length, codes, is_some, Option, Some, None, Result, Ok}
+-- `update`: what its statements make of the documents of a collection, one statement after the
+-- other.
+use Rattle.std.specs.Prelude.{ℕ, suc, ◌-◌, ◌^◌, Bool, true, false, not, ◌&&◌, ◌==◌, nat_le, nat_lt}
+use Rattle.std.specs.Prelude.{if◌then◌else◌, List, [], ◌∷◌, ◌++◌, length, codes, is_some, Option}
+use Rattle.std.specs.Prelude.{Some, None, Result, Ok}
 use Rattle.std.specs.Str.{bytes_eq}
-use Rattle.bson.specs.Tree.{Tree, document, array, Pairs, no_pairs, pair, Items, no_items, item, append_items}
+use Rattle.bson.specs.Tree.{Tree, document, array, Pairs, no_pairs, pair, Items, no_items, item}
+use Rattle.bson.specs.Tree.{append_items}
 use Rattle.bson.specs.Edits.{items_len}
 use Rattle.bson.specs.Spelling.{frame_of, pairs_bytes}
 use Rattle.filter.specs.Matches.{matches}
@@ -22,8 +26,8 @@ counted n = if nat_lt n (2 ^ 31 - 1) then suc n else n
 
 -- ---- the documents that match
 
--- What a statement has made of the documents so far: those documents, whether one of them matched, and the command's counts
--- of those that matched and of those whose bytes changed.
+-- What a statement has made of the documents so far: those documents, whether one of them matched,
+-- and the command's counts of those that matched and of those whose bytes changed.
 pub record Changed : Type 0 where
   pub documents : List Pairs
   pub found : Bool
@@ -50,7 +54,8 @@ changed_to old new so_far = record {
   modified = modified_by old new so_far.modified;
 }
 
--- The documents one after the other, up to the first that is refused. Without `multi` only the first that matches is changed.
+-- The documents one after the other, up to the first that is refused. Without `multi` only the
+-- first that matches is changed.
 abbrev pub update_from : UpdateStatement → Changed → List Pairs → Result Changed Refusal
 update_from s so_far [] = Ok so_far
 update_from s so_far (d ∷ ds) =
@@ -62,8 +67,9 @@ update_from s so_far (d ∷ ds) =
 
 -- ---- one statement
 
--- What the statements have come to so far: the collections, the counts of documents that matched (or were made) and of
--- documents whose bytes changed, and what the reply says of each document that was made.
+-- What the statements have come to so far: the collections, the counts of documents that matched
+-- (or were made) and of documents whose bytes changed, and what the reply says of each document
+-- that was made.
 pub record Updated : Type 0 where
   pub collections : List Collection
   pub matched : ℕ

@@ -1,11 +1,13 @@
 -- What an engine holds: collections, open cursors, and the number of the next cursor.
-use Rattle.std.specs.Prelude.{ℕ, zero, suc, Bool, false, not, ◌==◌, if◌then◌else◌, List, [], length, map, Option, Some, None}
+use Rattle.std.specs.Prelude.{ℕ, zero, suc, Bool, false, not, ◌==◌, if◌then◌else◌, List, [], length}
+use Rattle.std.specs.Prelude.{map, Option, Some, None}
 use Rattle.std.specs.List.{filter, list_all}
 use Rattle.bson.specs.Tree.{Pairs}
 use Rattle.index.specs.Definition.{Definition}
 use Rattle.index.specs.State.{Collection, find_collection, uses}
 
--- Documents that a connection has not been given yet. A cursor is touched where the running turn opened or advanced it.
+-- Documents that a connection has not been given yet. A cursor is touched where the running turn
+-- opened or advanced it.
 pub record Cursor : Type 0 where
   pub number : ℕ
   pub connection : ℕ
@@ -13,8 +15,8 @@ pub record Cursor : Type 0 where
   pub rest : List Pairs
   pub touched : Bool
 
--- The collections stand in rising order of their namespaces, so that equal states are one list, and the cursors in the order
--- in which they were opened.
+-- The collections stand in rising order of their namespaces, so that equal states are one list, and
+-- the cursors in the order in which they were opened.
 pub record World : Type 0 where
   pub collections : List Collection
   pub cursors : List Cursor
@@ -28,12 +30,14 @@ pub record CursorTable : Type 0 where
 abbrev pub new_world : World
 new_world = record { collections = []; cursors = []; next = 1 }
 
--- the first of the numbers from n on, of which there are so many and one more, that no collection has
+-- the first of the numbers from n on, of which there are so many and one more, that no collection
+-- has
 abbrev pub unused_from : ℕ → ℕ → List Collection → ℕ
 unused_from zero n cs = n
 unused_from (suc more) n cs = if uses cs n then unused_from more (suc n) cs else n
 
--- The least number from 1 on that no collection has. Among one more than there are collections there is one.
+-- The least number from 1 on that no collection has. Among one more than there are collections
+-- there is one.
 abbrev pub unused : List Collection → ℕ
 unused cs = unused_from (length cs) 1 cs
 
@@ -103,8 +107,8 @@ are_untouched cs = list_all (λ c. not c.touched) cs
 abbrev pub after_commit : World → World
 after_commit now = record now { cursors = map at_rest now.cursors }
 
--- A turn that is undone leaves the collections from before it. Cursors that were opened or advanced in it are closed, those that
--- were killed stay closed, and the numbers that were drawn stay drawn.
+-- A turn that is undone leaves the collections from before it. Cursors that were opened or advanced
+-- in it are closed, those that were killed stay closed, and the numbers that were drawn stay drawn.
 abbrev pub after_undo : List Collection → World → World
 after_undo before now =
     record now { collections = before; cursors = untouched now.cursors }

@@ -1,5 +1,7 @@
--- What the statements of an update write: the documents that they change or make, in order, up to the first that is refused.
-use Rattle.std.specs.Prelude.{ℕ, suc, true, false, if◌then◌else◌, List, [], ◌∷◌, ◌++◌, map, take, Result, Ok, Err}
+-- What the statements of an update write: the documents that they change or make, in order, up to
+-- the first that is refused.
+use Rattle.std.specs.Prelude.{ℕ, suc, true, false, if◌then◌else◌, List, [], ◌∷◌, ◌++◌, map, take}
+use Rattle.std.specs.Prelude.{Result, Ok, Err}
 use Rattle.std.specs.List.{filter, list_any}
 use Rattle.std.specs.Str.{bytes_eq}
 use Rattle.bson.specs.Tree.{Pairs}

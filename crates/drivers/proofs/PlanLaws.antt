@@ -1,19 +1,25 @@
 -- What makes no difference to what is kept for the database's reply.
 use Rattle.std.proofs.Common.{◌≡◌, ℕ, Bool, true, false, List, codes, Option, Some, None, refl, ap, subst, ◌∙◌}
 use Rattle.std.specs.Prelude.{if◌then◌else◌, is_none}
+use Rattle.std.specs.Option.{option_or}
 use Rattle.std.specs.Str.{bytes_eq}
 use Rattle.std.proofs.lemmas.Slice.Eq.{bytes_eq-Decides}
 use Rattle.bson.specs.Tree.{Tree, Pairs, no_pairs, pair, Items, append}
 use Rattle.bson.specs.Lookup.{lookup}
-use Rattle.drivers.specs.Answering.{wait_of, kill_wait, collections_wait, is_single, is_true}
-use Rattle.drivers.specs.Cleaning.{kept}
-use Rattle.drivers.specs.Cursors.{ids_of, ids_in, no_kills}
+use Rattle.drivers.specs.Answering.{wait_of, kill_wait, collections_wait, batch_wait, write_wait, other_wait, is_single}
+use Rattle.drivers.specs.Cleaning.{own_rule, is_kept, kept}
+use Rattle.driver_replies.specs.Cursors.{ids_of, ids_in, no_kills}
 use Rattle.drivers.specs.Laws.{IgnoredLeavesThePlan}
-use Rattle.drivers.specs.Listing.{named}
+use Rattle.driver_replies.specs.Listing.{name_in}
 use Rattle.drivers.specs.Rules.{rule_of}
-use Rattle.drivers.specs.Texts.{text_or_none}
-use Rattle.drivers.specs.WriteErrors.{has_one_statement, is_one_in, is_one}
+use Rattle.driver_replies.specs.Texts.{text_or_none}
+use Rattle.driver_replies.specs.Writes.{is_true, write_of, field_of, is_alone, is_ordered_in, batch_of}
+use Rattle.driver_replies.specs.declared.fresh_ids.FreshIds.{FreshIds}
+use Rattle.driver_replies.specs.declared.writes.Write.{Write}
+use Rattle.driver_replies.specs.declared.writes.Write.TheVariants as writes
+use Rattle.drivers.specs.declared.command.Asked.{Asked}
 use Rattle.drivers.specs.declared.command.Asked.TheVariants as askeds
+use Rattle.drivers.specs.declared.rules.Rule.{Rule}
 use Rattle.drivers.specs.declared.plan.Plan.{Plan}
 use Rattle.drivers.specs.declared.plan.Wait.{Wait}
 use Rattle.drivers.specs.declared.plan.Wait.TheVariants as waits
@@ -59,6 +65,15 @@ no_rule_deletes : is_none (rule_of (codes "deletes")) ≡ true
 unfolding rule_of
 no_rule_deletes = refl
 
+no_rule_ordered : is_none (rule_of (codes "ordered")) ≡ true
+unfolding rule_of
+no_rule_ordered = refl
+
+no_rule_statements : (write : Write) → is_none (rule_of (field_of write)) ≡ true
+no_rule_statements writes.Insert = no_rule_documents
+no_rule_statements writes.Update = no_rule_updates
+no_rule_statements writes.Delete = no_rule_deletes
+
 no_rule_filter : is_none (rule_of (codes "filter")) ≡ true
 unfolding rule_of
 no_rule_filter = refl
@@ -66,7 +81,7 @@ no_rule_filter = refl
 -- two commands in which what stands under a name without a rule is the same, and so are the fields that are kept
 record AreAlike (ps qs : Pairs) : Type 0 where
   found : (other : List ℕ) → is_none (rule_of other) ≡ true → lookup ps other ≡ lookup qs other
-  left : kept askeds.KillCursors ps ≡ kept askeds.KillCursors qs
+  left : (asked : Asked) → kept asked ps ≡ kept asked qs
 
 ids-alike : (ps qs : Pairs) → AreAlike ps qs → ids_of ps ≡ ids_of qs
 ids-alike ps qs h = ap ids_in (h.found (codes "cursors") no_rule_cursors)
@@ -76,30 +91,39 @@ kill-alike ps qs h = ap (kill_wait ps) (ids-alike ps qs h) ∙ at (ids_of qs)
   where
     at : (ids : Option Items) → kill_wait ps ids ≡ kill_wait qs ids
     at None = refl
-    at (Some ids) = ap (λ (left : Pairs). waits.Kill (no_kills left ids)) h.left
+    at (Some ids) = ap (λ (left : Pairs). waits.Kill (no_kills left ids)) (h.left askeds.KillCursors)
 
-one-alike : (ps qs : Pairs) (name : List ℕ) → AreAlike ps qs → has_one_statement name ps ≡ has_one_statement name qs
-one-alike ps qs name h = at (bytes_eq name (codes "insert")) (bytes_eq name (codes "update")) (bytes_eq name (codes "delete"))
+-- what has a rule whatever the command is, isn't kept
+dropped : (asked : Asked) (name : List ℕ) → is_none (rule_of name) ≡ false → is_kept asked name ≡ false
+dropped asked name has = at (own_rule asked name)
   where
-    field : Bool → Bool → Bool → Option (List ℕ)
-    field insert update delete = if insert then Some (codes "documents") else if update then Some (codes "updates") else if delete then Some (codes "deletes") else None
+    at : (own : Option Rule) → is_none (option_or own (rule_of name)) ≡ false
+    at None = has
+    at (Some rule) = refl
 
-    at : (insert update delete : Bool) → is_one_in ps (field insert update delete) ≡ is_one_in qs (field insert update delete)
-    at true update delete = ap is_one (h.found (codes "documents") no_rule_documents)
-    at false true delete = ap is_one (h.found (codes "updates") no_rule_updates)
-    at false false true = ap is_one (h.found (codes "deletes") no_rule_deletes)
-    at false false false = refl
+write-alike : (ids : FreshIds) (ps qs : Pairs) (write : Write) → AreAlike ps qs → write_wait ids ps write ≡ write_wait ids qs write
+write-alike ids ps qs write h =
+    ap (λ (x : Option Tree). wait x (lookup ps (codes "ordered")) (kept askeds.Write ps)) (h.found (field_of write) (no_rule_statements write))
+    ∙ ap (λ (x : Option Tree). wait (lookup qs (field_of write)) x (kept askeds.Write ps)) (h.found (codes "ordered") no_rule_ordered)
+    ∙ ap (wait (lookup qs (field_of write)) (lookup qs (codes "ordered"))) (h.left askeds.Write)
+  where
+    wait : Option Tree → Option Tree → Pairs → Wait
+    wait statements ordered left = if is_alone write statements then waits.Write else batch_wait (batch_of write (is_ordered_in ordered) ids left)
+
+other-alike : (ids : FreshIds) (ps qs : Pairs) (write : Option Write) → AreAlike ps qs → other_wait ids ps write ≡ other_wait ids qs write
+other-alike ids ps qs None h = refl
+other-alike ids ps qs (Some write) h = write-alike ids ps qs write h
 
 single-alike : (command : List ℕ) (t : Tree) (ps qs : Pairs) → AreAlike (pair command t ps) (pair command t qs) → is_single (pair command t ps) ≡ is_single (pair command t qs)
 single-alike command t ps qs h =
     ap (λ (x : Option Tree). if bytes_eq command (codes "find") then is_true x else false) (h.found (codes "singleBatch") no_rule_single)
 
-wait-alike : (command : List ℕ) (t : Tree) (ps qs : Pairs) → AreAlike (pair command t ps) (pair command t qs) → wait_of (pair command t ps) ≡ wait_of (pair command t qs)
-wait-alike command t ps qs h =
-    ap (λ (w : Wait). choose w (collections_wait whole) (is_single whole) (has_one_statement command whole)) (kill-alike whole other h)
-    ∙ ap (λ (x : Option Tree). choose (kill_wait other (ids_of other)) (waits.Collections (named x)) (is_single whole) (has_one_statement command whole)) (h.found (codes "filter") no_rule_filter)
-    ∙ ap (λ (b : Bool). choose (kill_wait other (ids_of other)) (collections_wait other) b (has_one_statement command whole)) (single-alike command t ps qs h)
-    ∙ ap (choose (kill_wait other (ids_of other)) (collections_wait other) (is_single other)) (one-alike whole other command h)
+wait-alike : (ids : FreshIds) (command : List ℕ) (t : Tree) (ps qs : Pairs) → AreAlike (pair command t ps) (pair command t qs) → wait_of ids (pair command t ps) ≡ wait_of ids (pair command t qs)
+wait-alike ids command t ps qs h =
+    ap (λ (w : Wait). choose w (collections_wait whole) (is_single whole) (other_wait ids whole (write_of command))) (kill-alike whole other h)
+    ∙ ap (λ (x : Option Tree). choose (kill_wait other (ids_of other)) (waits.Collections (name_in x)) (is_single whole) (other_wait ids whole (write_of command))) (h.found (codes "filter") no_rule_filter)
+    ∙ ap (λ (b : Bool). choose (kill_wait other (ids_of other)) (collections_wait other) b (other_wait ids whole (write_of command))) (single-alike command t ps qs h)
+    ∙ ap (choose (kill_wait other (ids_of other)) (collections_wait other) (is_single other)) (other-alike ids whole other (write_of command) h)
   where
     whole : Pairs
     whole = pair command t ps
@@ -107,18 +131,18 @@ wait-alike command t ps qs h =
     other : Pairs
     other = pair command t qs
 
-    choose : Wait → Wait → Bool → Bool → Wait
-    choose kill listed single one = if bytes_eq command (codes "killCursors") then kill else if bytes_eq command (codes "listCollections") then listed else if single then waits.Single else if one then waits.Write else waits.Plain
+    choose : Wait → Wait → Bool → Wait → Wait
+    choose kill listed single rest = if bytes_eq command (codes "killCursors") then kill else if bytes_eq command (codes "listCollections") then listed else if bytes_eq command (codes "dropDatabase") then waits.Listed else if bytes_eq command (codes "explain") then waits.Explained else if single then waits.Single else rest
 
 pub ignored_leaves_the_plan : IgnoredLeavesThePlan
-ignored_leaves_the_plan more command value before name t behind has =
+ignored_leaves_the_plan ids more command value before name t behind has =
     let whole = pair command value before in
     let alike : AreAlike (append whole (pair name t behind)) (append whole behind) = record {
       found = λ other hasnt. found-without whole name t behind other (differs name other has hasnt);
-      left = kept-without askeds.KillCursors whole name t behind has;
+      left = λ asked. kept-without asked whole name t behind (dropped asked name has);
     } in
-    ap (λ (database : Option Tree). plan-of (text_or_none database) (wait_of (append whole (pair name t behind)))) (alike.found (codes "$db") no_rule_database)
-    ∙ ap (λ (w : Wait). plan-of (text_or_none (lookup (append whole behind) (codes "$db"))) w) (wait-alike command value (append before (pair name t behind)) (append before behind) alike)
+    ap (λ (database : Option Tree). plan-of (text_or_none database) (wait_of ids (append whole (pair name t behind)))) (alike.found (codes "$db") no_rule_database)
+    ∙ ap (λ (w : Wait). plan-of (text_or_none (lookup (append whole behind) (codes "$db"))) w) (wait-alike ids command value (append before (pair name t behind)) (append before behind) alike)
   where
     plan-of : List ℕ → Wait → Plan
     plan-of database wait = record {

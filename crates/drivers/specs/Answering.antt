@@ -1,20 +1,31 @@
--- What a driver is answered where the database was asked. `ok` becomes an int64, so that no frame has under 36 bytes, which one driver
--- takes for cut. Two refusals are told by drivers and programs from their texts: that a collection isn't there, and that a key is
--- there already (MongoDB manual, error codes).
-use Rattle.std.specs.Prelude.{ℕ, ℤ, pos, negsuc, Bool, false, ◌==◌, if◌then◌else◌, List, ◌++◌, codes, Option, Some, None, Result, Ok, Err}
-use Rattle.bson.specs.Tree.{Tree, scalar, document, array, boolean, int32, int64, Pairs, no_pairs, pair, append, Items, no_items, item}
+-- What a driver is answered where the database was asked. `ok` becomes an int64, so that no frame
+-- has under 36 bytes, which one driver takes for cut. Two refusals are told by drivers and programs
+-- from their texts: that a collection isn't there, and that a key is there already (MongoDB manual,
+-- error codes).
+use Rattle.std.specs.Prelude.{ℕ, ℤ, pos, negsuc, Bool, false, ◌==◌, if◌then◌else◌, List, ◌++◌}
+use Rattle.std.specs.Prelude.{codes, Option, Some, None, Result, Ok, Err}
+use Rattle.bson.specs.Tree.{Tree, scalar, document, array, int32, int64, Pairs, no_pairs, pair}
+use Rattle.bson.specs.Tree.{append, Items, no_items, item}
 use Rattle.bson.specs.Lookup.{lookup}
-use Rattle.bson.specs.Edits.{put, cut}
+use Rattle.bson.specs.Edits.{put, cut, items_len, without_item}
 use Rattle.std.specs.Str.{bytes_eq}
-use Rattle.drivers.specs.Handshake.{words}
+use Rattle.driver_replies.specs.Fields.{words}
 use Rattle.drivers.specs.Rules.{is_zero}
-use Rattle.drivers.specs.Texts.{text_or_none, collection_of}
-use Rattle.drivers.specs.WriteErrors.{has_one_statement, refused_statement, error_reply}
+use Rattle.driver_replies.specs.Texts.{text_or_none, collection_of}
+use Rattle.driver_replies.specs.WriteErrors.{refused_statement}
+use Rattle.driver_replies.specs.Tallies.{no_tally, with_reply, write_reply}
+use Rattle.driver_replies.specs.Writes.{is_true, write_of, field_of, is_alone, is_ordered_in}
+use Rattle.driver_replies.specs.Writes.{batch_of, next_command, after_reply, batch_reply}
 use Rattle.drivers.specs.Cleaning.{kept}
-use Rattle.drivers.specs.Cursors.{ids_of, first_id, kill_one, no_kills, after, kill_reply}
+use Rattle.driver_replies.specs.Cursors.{ids_of, first_id, kill_one, no_kills, after, kill_reply}
 use Rattle.drivers.specs.declared.command.Asked.TheVariants as askeds
-use Rattle.drivers.specs.declared.kills.Kills.{Kills}
-use Rattle.drivers.specs.Listing.{named, batch_in, retold}
+use Rattle.driver_replies.specs.declared.kills.Kills.{Kills}
+use Rattle.driver_replies.specs.declared.batch.Batch.{Batch}
+use Rattle.driver_replies.specs.declared.fresh_ids.FreshIds.{FreshIds}
+use Rattle.driver_replies.specs.declared.writes.Write.{Write}
+use Rattle.driver_replies.specs.Dropping.{drop_command, is_gone, dropped_reply}
+use Rattle.driver_replies.specs.Listing.{name_in, batch_in, retold}
+use Rattle.drivers.specs.Explaining.{explained}
 use Rattle.drivers.specs.Starting.{name_of, unheard}
 use Rattle.drivers.specs.declared.message.BodyFault.{BodyFault}
 use Rattle.drivers.specs.declared.message.Message.{Message}
@@ -26,10 +37,6 @@ use Rattle.drivers.specs.declared.step.Step.TheVariants as steps
 
 -- ---- a plan: what is kept of a message until the database has answered
 
-abbrev pub is_true : Option Tree → Bool
-is_true (Some (scalar (boolean b))) = b
-is_true other = false
-
 -- what is kept of the cursors that a killCursors names
 abbrev pub kill_wait : Pairs → Option Items → Wait
 kill_wait body None = waits.Plain
@@ -37,37 +44,54 @@ kill_wait body (Some ids) = waits.Kill (no_kills (kept askeds.KillCursors body) 
 
 -- what is kept of the collections that a listCollections asks for
 abbrev pub collections_wait : Pairs → Wait
-collections_wait body = waits.Collections (named (lookup body (codes "filter")))
+collections_wait body = waits.Collections (name_in (lookup body (codes "filter")))
 
--- A find may say that its first batch is its last (mongodb/specifications, find, getMore and killCursors).
+-- A find may say that its first batch is its last (mongodb/specifications, find, getMore and
+-- killCursors).
 abbrev pub is_single : Pairs → Bool
 is_single body = if bytes_eq (name_of body) (codes "find")
     then is_true (lookup body (codes "singleBatch"))
     else false
 
-abbrev pub wait_of : Pairs → Wait
-wait_of body =
+-- Statements that may be asked one after the other are kept with the command, where there are any.
+abbrev pub batch_wait : Batch → Wait
+batch_wait batch = if items_len batch.left == 0 then waits.Plain else waits.Batch batch
+
+abbrev pub write_wait : FreshIds → Pairs → Write → Wait
+write_wait ids body write =
+    if is_alone write (lookup body (field_of write)) then waits.Write else
+    batch_wait (
+    batch_of write (is_ordered_in (lookup body (codes "ordered"))) ids (kept askeds.Write body)
+    )
+
+abbrev pub other_wait : FreshIds → Pairs → Option Write → Wait
+other_wait ids body None = waits.Plain
+other_wait ids body (Some write) = write_wait ids body write
+
+abbrev pub wait_of : FreshIds → Pairs → Wait
+wait_of ids body =
     if bytes_eq (name_of body) (codes "killCursors") then kill_wait body (ids_of body) else
     if bytes_eq (name_of body) (codes "listCollections") then collections_wait body else
+    if bytes_eq (name_of body) (codes "dropDatabase") then waits.Listed else
+    if bytes_eq (name_of body) (codes "explain") then waits.Explained else
     if is_single body then waits.Single else
-    if has_one_statement (name_of body) body then waits.Write else
-    waits.Plain
+    other_wait ids body (write_of (name_of body))
 
-abbrev pub plan_for : Bool → Pairs → Plan
-plan_for more body = record {
+abbrev pub plan_for : FreshIds → Bool → Pairs → Plan
+plan_for ids more body = record {
   more_to_come = more;
   database = text_or_none (lookup body (codes "$db"));
   collection = collection_of body;
   is_update = bytes_eq (name_of body) (codes "update");
-  wait = wait_of body;
+  wait = wait_of ids body;
 }
 
-abbrev pub plan_in : Bool → Result Pairs BodyFault → Plan
-plan_in more (Ok body) = plan_for more body
-plan_in more (Err fault) = plan_for more no_pairs
+abbrev pub plan_in : FreshIds → Bool → Result Pairs BodyFault → Plan
+plan_in ids more (Ok body) = plan_for ids more body
+plan_in ids more (Err fault) = plan_for ids more no_pairs
 
-abbrev pub plan_of : Message → Plan
-plan_of message = plan_in message.more_to_come message.body
+abbrev pub plan_of : FreshIds → Message → Plan
+plan_of ids message = plan_in ids message.more_to_come message.body
 
 -- ---- the answer
 
@@ -83,7 +107,8 @@ abbrev pub known_text : ℤ → List ℕ → List ℕ → Option (List ℕ)
 known_text (pos n) database collection =
     if n == 26 then Some (codes "ns not found") else
     if n == 11000
-    then Some (((codes "E11000 duplicate key error collection: " ++ database) ++ codes ".") ++ collection)
+    then Some (((codes "E11000 duplicate key error collection: " ++ database) ++ codes ".")
+    ++ collection)
     else None
 known_text (negsuc n) database collection = None
 
@@ -157,7 +182,8 @@ kill_next (Some z) plan kills =
 -- A refusal ends it.
 abbrev pub killed : Option Tree → Plan → Kills → Pairs → Plan × Step
 killed None plan kills reply = (record plan { wait = waits.Plain }, final plan reply)
-killed (Some t) plan kills reply = kill_next (first_id (after kills reply).left) plan (after kills reply)
+killed (Some t) plan kills reply =
+    kill_next (first_id (after kills reply).left) plan (after kills reply)
 
 -- ---- a write of one statement
 
@@ -165,10 +191,51 @@ killed (Some t) plan kills reply = kill_next (first_id (after kills reply).left)
 abbrev pub error_step : Option ℤ → Plan → Pairs → Step
 error_step None plan reply = final plan reply
 error_step (Some z) plan reply = unheard plan.more_to_come (steps.Reply (
-    error_reply plan.is_update z (
-    text_or_none (lookup (reworded plan.database plan.collection reply) (codes "errmsg"))
-    )
+    write_reply plan.is_update
+    (with_reply (pos 0) (reworded plan.database plan.collection reply) no_tally)
     ))
+
+-- ---- a write of several statements
+
+-- the next one is asked, or all are answered
+abbrev pub next_statement : Option Pairs → Plan → Batch → Plan × Step
+next_statement None plan batch = (
+  record plan { wait = waits.Plain },
+  unheard plan.more_to_come (steps.Reply (batch_reply batch)),
+)
+next_statement (Some command) plan batch =
+    (record plan { wait = waits.Statement batch }, steps.Ask command)
+
+-- Where the whole was refused by a statement, each is asked by itself.
+abbrev pub whole_step : Option ℤ → Plan → Batch → Pairs → Plan × Step
+whole_step None plan batch reply = (record plan { wait = waits.Plain }, final plan reply)
+whole_step (Some z) plan batch reply = next_statement (next_command batch.left batch) plan batch
+
+abbrev pub statement_step : Plan → Batch → Plan × Step
+statement_step plan batch = next_statement (next_command batch.left batch) plan batch
+
+-- ---- a database that is dropped
+
+-- the next collection is dropped, or all are
+abbrev pub drop_next : Option Pairs → Plan → Items → Plan × Step
+drop_next None plan ts = (
+  record plan { wait = waits.Plain },
+  unheard plan.more_to_come (steps.Reply (dropped_reply plan.database)),
+)
+drop_next (Some command) plan ts = (record plan { wait = waits.Drops ts }, steps.Ask command)
+
+abbrev pub drop_step : Plan → Items → Plan × Step
+drop_step plan ts = drop_next (drop_command plan.database ts) plan ts
+
+abbrev pub drop_listed : Option Items → Plan → Pairs → Plan × Step
+drop_listed None plan reply = (record plan { wait = waits.Plain }, final plan reply)
+drop_listed (Some ts) plan reply = drop_step plan ts
+
+-- A refusal ends it, but for that of a collection that isn't there any more.
+abbrev pub drop_on : Plan → Items → Pairs → Plan × Step
+drop_on plan ts reply =
+    if is_gone reply then drop_step plan (without_item ts 0) else
+    (record plan { wait = waits.Plain }, final plan reply)
 
 -- What is done where the database was asked and answered so, and what is kept then.
 abbrev pub answered_by : Wait → Plan → Pairs → Plan × Step
@@ -180,11 +247,22 @@ answered_by waits.Write plan reply = (
   record plan { wait = waits.Plain },
   error_step (refused_statement (lookup reply (codes "code"))) plan reply,
 )
+answered_by (waits.Batch batch) plan reply =
+    whole_step (refused_statement (lookup reply (codes "code"))) plan batch reply
+answered_by (waits.Statement batch) plan reply =
+    statement_step plan (after_reply batch (reworded plan.database plan.collection reply))
+answered_by waits.Listed plan reply =
+    drop_listed (batch_in (lookup reply (codes "cursor"))) plan reply
+answered_by (waits.Drops ts) plan reply = drop_on plan ts reply
 answered_by (waits.Kill kills) plan reply =
     killed (lookup reply (codes "cursorsKilled")) plan kills reply
 answered_by (waits.Collections wanted) plan reply = (
   record plan { wait = waits.Plain },
   final plan (retold wanted plan.database (batch_in (lookup reply (codes "cursor"))) reply),
+)
+answered_by waits.Explained plan reply = (
+  record plan { wait = waits.Plain },
+  final plan (explained (lookup reply (codes "plan")) reply),
 )
 
 abbrev pub answered : Plan → Pairs → Plan × Step

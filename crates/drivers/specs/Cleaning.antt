@@ -1,6 +1,7 @@
--- A command without the fields that the database doesn't have, or the first of its fields by which it is refused. A field without a
--- rule is left to the database.
-use Rattle.std.specs.Prelude.{ℕ, Bool, if◌then◌else◌, List, [], ◌∷◌, codes, Option, Some, None, is_none}
+-- A command without the fields that the database doesn't have, or the first of its fields by which
+-- it is refused. A field without a rule is left to the database.
+use Rattle.std.specs.Prelude.{ℕ, Bool, if◌then◌else◌, List, [], ◌∷◌, codes, Option, Some, None}
+use Rattle.std.specs.Prelude.{is_none}
 use Rattle.std.specs.Option.{option_or, option_map, option_and_then}
 use Rattle.std.specs.Str.{bytes_eq}
 use Rattle.bson.specs.Tree.{Tree, Pairs, no_pairs, pair}
@@ -25,8 +26,9 @@ listing_rule name =
     if bytes_eq name (codes "filter") then Some rules.NameFilter else
     read_over (codes "cursor" ∷ codes "nameOnly" ∷ []) name
 
--- The rule of a field that this command alone has. A write is done as a whole or refused as a whole, so the order of its statements
--- makes no difference. How many batches a find gives, its plan sees to.
+-- The rule of a field that this command alone has. A write is done as a whole or refused as a
+-- whole, so the order of its statements makes no difference. How many batches a find gives, its
+-- plan sees to.
 abbrev pub own_rule : Asked → List ℕ → Option Rule
 own_rule askeds.Plain name = None
 own_rule askeds.Write name = truth (codes "ordered") name
@@ -35,6 +37,8 @@ own_rule askeds.GetMore name = None
 own_rule askeds.KillCursors name = None
 own_rule askeds.ListCollections name = listing_rule name
 own_rule askeds.ListIndexes name = read_over (codes "cursor" ∷ []) name
+own_rule askeds.DropDatabase name = None
+own_rule askeds.Explain name = read_over (codes "verbosity" ∷ []) name
 
 abbrev pub rule_in : Asked → List ℕ → Option Rule
 rule_in asked name = option_or (own_rule asked name) (rule_of name)

@@ -1,4 +1,5 @@
--- The types of BSON 1.1 (bsonspec.org) that the database doesn't have, by their bytes, and by their names (MongoDB manual, BSON types).
+-- The types of BSON 1.1 (bsonspec.org) that the database doesn't have, by their bytes, and by their
+-- names (MongoDB manual, BSON types).
 use Rattle.std.specs.Prelude.{ℕ, ◌==◌, if◌then◌else◌, List, codes, Option, Some, None}
 use Rattle.drivers.specs.declared.foreign.ForeignType.{ForeignType}
 use Rattle.drivers.specs.declared.foreign.ForeignType.TheVariants as types

@@ -1,5 +1,6 @@
--- The frame of an answer (MongoDB wire protocol): an OP_MSG to an OP_MSG, an OP_REPLY to an OP_QUERY. An OP_REPLY is the header with the
--- opcode 1, 32 flags, the number of a cursor, the place of the first document, the number of documents, and the documents.
+-- The frame of an answer (MongoDB wire protocol): an OP_MSG to an OP_MSG, an OP_REPLY to an
+-- OP_QUERY. An OP_REPLY is the header with the opcode 1, 32 flags, the number of a cursor, the
+-- place of the first document, the number of documents, and the documents.
 use Rattle.std.specs.Prelude.{ℕ, ◌+◌, ◌≤◌, List, ◌++◌, length, Option, Some, None}
 use Rattle.std.specs.Int.{w64, to_le_bytes}
 use Rattle.bson.specs.Tree.{Pairs}

@@ -1,28 +1,18 @@
--- What a server answers to a driver's handshake (MongoDB manual, `hello`; mongodb/specifications, mongodb-handshake), to
--- `buildInfo` (MongoDB manual) and to the commands that end or keep sessions (mongodb/specifications, sessions).
-use Rattle.std.specs.Prelude.{ℕ, ℤ, pos, true, false, Bool, List, codes}
-use Rattle.bson.specs.Tree.{Tree, scalar, text, boolean, date, int32, int64, Pairs, no_pairs, pair}
+-- What a server answers to a driver's handshake (MongoDB manual, `hello`; mongodb/specifications,
+-- mongodb-handshake), to `buildInfo` (MongoDB manual) and to the commands that end or keep sessions
+-- (mongodb/specifications, sessions).
+use Rattle.std.specs.Prelude.{ℕ, pos, true, false, Bool, List, codes}
+use Rattle.bson.specs.Tree.{scalar, date, Pairs, pair}
+use Rattle.driver_replies.specs.Fields.{truth, int, words, ok}
 use Rattle.drivers.specs.declared.server_info.ServerInfo.{ServerInfo}
-
-abbrev pub truth : Bool → Tree
-truth b = scalar (boolean b)
-
-abbrev pub int : ℤ → Tree
-int z = scalar (int32 z)
-
-abbrev pub words : List ℕ → Tree
-words bytes = scalar (text bytes)
-
--- What ends a reply of a command that was done.
-abbrev pub ok : Pairs
-ok = pair (codes "ok") (scalar (int64 (pos 1))) no_pairs
 
 -- The name under which the handshake says that the server takes writes.
 abbrev pub role : Bool → List ℕ
 role true = codes "isWritablePrimary"
 role false = codes "ismaster"
 
--- Wire versions 0 to 8: sessions are told of, streamed replies are not asked for, and counting is by an aggregation.
+-- Wire versions 0 to 8: sessions are told of, streamed replies are not asked for, and counting is
+-- by an aggregation.
 abbrev pub handshake_reply : Bool → ServerInfo → Pairs
 handshake_reply is_hello info =
     pair (codes "helloOk") (truth true)

@@ -1,6 +1,9 @@
--- The message at the front of a socket's bytes: an OP_MSG, or an OP_QUERY (MongoDB wire protocol; the header is int32 length, number of the
--- request, number of what it answers, opcode). A wrong length and another opcode are faults as soon as the header is there.
-use Rattle.std.specs.Prelude.{◌≡◌, ℕ, Bool, true, false, not, ◌&&◌, ◌==◌, nat_lt, if◌then◌else◌, List, [], length, take, drop, codes, Option, Some, None, Result, Ok, Err}
+-- The message at the front of a socket's bytes: an OP_MSG, or an OP_QUERY (MongoDB wire protocol;
+-- the header is int32 length, number of the request, number of what it answers, opcode). A wrong
+-- length and another opcode are faults as soon as the header is there.
+use Rattle.std.specs.Prelude.{◌≡◌, ℕ, Bool, true, false, not, ◌&&◌, ◌==◌, nat_lt, if◌then◌else◌}
+use Rattle.std.specs.Prelude.{List, [], length, take, drop, codes, Option, Some, None, Result, Ok}
+use Rattle.std.specs.Prelude.{Err}
 use Rattle.std.specs.Str.{bytes_eq}
 use Rattle.outcome.specs.Outcome.{◌>>=◌, unless, Fails}
 use Rattle.bson.specs.Tree.{Pairs}
@@ -40,7 +43,8 @@ is_waiting (Ok None) = false
 is_waiting (Ok (Some len)) = true
 is_waiting (Err fault) = true
 
--- ---- a message's document, or why it has none: where a type is wrong, the first one from the left that the database doesn't have
+-- ---- a message's document, or why it has none: where a type is wrong, the first one from the left
+-- that the database doesn't have
 
 abbrev pub named_or_invalid : Option Foreign → BodyFault
 named_or_invalid (Some foreign) = bodies.Foreign foreign
@@ -74,7 +78,8 @@ message_or_fault whole (Err fault) = Err (faults.Frame fault)
 abbrev pub read_message : List ℕ → Result Message StreamFault
 read_message whole = message_or_fault whole (front whole)
 
--- ---- OP_QUERY: after the header 32 flags, which are read over, the name of a collection that a zero ends, two numbers and a document
+-- ---- OP_QUERY: after the header 32 flags, which are read over, the name of a collection that a
+-- zero ends, two numbers and a document
 
 abbrev pub form_of : List ℕ → Form
 form_of name = if bytes_eq name (codes "admin.$cmd") then forms.Command else forms.Query
@@ -110,7 +115,8 @@ cut bytes (Some len) = do
 abbrev pub next_message : List ℕ → Result (Option (Message × List ℕ)) StreamFault
 next_message bytes = whole_at bytes >>= cut bytes
 
--- What a call of `next` answers, by what stands at the front, and what is left then. Nothing has changed where memory ran out.
+-- What a call of `next` answers, by what stands at the front, and what is left then. Nothing has
+-- changed where memory ran out.
 abbrev pub IsNext : Result (Option (Message × List ℕ)) StreamFault → List ℕ
     → Result (Option Message) StreamFault → List ℕ → Type 0
 IsNext planned old (Ok (Some message)) new = planned ≡ Ok (Some (message, new))

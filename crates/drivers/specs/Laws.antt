@@ -6,6 +6,7 @@ use Rattle.drivers.specs.Starting.{ask, do_command, name_of}
 use Rattle.drivers.specs.Answering.{plan_for}
 use Rattle.drivers.specs.Rules.{rule_of}
 use Rattle.drivers.specs.Commands.{command_of}
+use Rattle.driver_replies.specs.declared.fresh_ids.FreshIds.{FreshIds}
 use Rattle.drivers.specs.declared.server_info.ServerInfo.{ServerInfo}
 use Rattle.drivers.specs.declared.command.Asked.{Asked}
 use Rattle.drivers.specs.declared.command.Command.TheVariants as commands
@@ -24,8 +25,8 @@ asked_by (steps.Reply reply) = None
 asked_by (steps.Fail reply) = None
 asked_by steps.Silent = None
 
--- Something is asked of the database only if the command is one for it and no field of it is refused. It is the command without the fields that
--- the database doesn't have.
+-- Something is asked of the database only if the command is one for it and no field of it is
+-- refused. It is the command without the fields that the database doesn't have.
 pub record Asks (body question : Pairs) : Type 0 where
   pub asked : Asked
   pub command : command_of (name_of body) ≡ Some (commands.Forwarded asked)
@@ -36,7 +37,8 @@ abbrev pub AsksOwnFields : Type 0
 AsksOwnFields = (info : ServerInfo) (body question : Pairs)
     → asked_by (done info body) ≡ Some question → Asks body question
 
--- A field behind the command's name that has a rule and isn't refused makes no difference to what is done first.
+-- A field behind the command's name that has a rule and isn't refused makes no difference to what
+-- is done first.
 abbrev pub IgnoredMakesNoDifference : Type 0
 IgnoredMakesNoDifference = (info : ServerInfo) (command : List ℕ) (value : Tree) (before : Pairs)
     (name : List ℕ) (t : Tree) (behind : Pairs)
@@ -44,11 +46,12 @@ IgnoredMakesNoDifference = (info : ServerInfo) (command : List ℕ) (value : Tre
     → done info (pair command value (append before (pair name t behind)))
     ≡ done info (pair command value (append before behind))
 
--- A field behind the command's name that has a rule whatever the command is makes no difference to what is kept for the database's reply,
--- and so none to the answer.
+-- A field behind the command's name that has a rule whatever the command is makes no difference to
+-- what is kept for the database's reply, and so none to the answer.
 abbrev pub IgnoredLeavesThePlan : Type 0
-IgnoredLeavesThePlan = (more : Bool) (command : List ℕ) (value : Tree) (before : Pairs)
+IgnoredLeavesThePlan =
+    (ids : FreshIds) (more : Bool) (command : List ℕ) (value : Tree) (before : Pairs)
     (name : List ℕ) (t : Tree) (behind : Pairs)
     → is_none (rule_of name) ≡ false
-    → plan_for more (pair command value (append before (pair name t behind)))
-    ≡ plan_for more (pair command value (append before behind))
+    → plan_for ids more (pair command value (append before (pair name t behind)))
+    ≡ plan_for ids more (pair command value (append before behind))

@@ -1,14 +1,15 @@
--- Why a message is refused before anything is asked of the database: of each reason its number and its name (MongoDB manual, error
--- codes) and what the reply says, which may name what it is about.
+-- Why a message is refused before anything is asked of the database: of each reason its number and
+-- its name (MongoDB manual, error codes) and what the reply says, which may name what it is about.
 use Rattle.std.specs.Prelude.{ℕ, ℤ, pos, List, ◌++◌, codes, Option, Some, None}
 use Rattle.bson.specs.Tree.{scalar, int64, Pairs, no_pairs, pair}
-use Rattle.drivers.specs.Handshake.{int, words}
+use Rattle.driver_replies.specs.Fields.{int, words}
 use Rattle.drivers.specs.ForeignTypes.{type_name}
 use Rattle.drivers.specs.declared.foreign.ForeignType.{ForeignType}
 use Rattle.drivers.specs.declared.reason.Reason.{Reason}
 use Rattle.drivers.specs.declared.reason.Reason.TheVariants as reasons
 
--- the number, the name, and the text: what stands before a name, and what stands behind it, if one is named
+-- the number, the name, and the text: what stands before a name, and what stands behind it, if one
+-- is named
 pub record Row : Type 0 where
   pub code : ℕ
   pub name : List ℕ

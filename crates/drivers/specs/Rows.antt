@@ -1,8 +1,11 @@
--- Messages worked by hand: what stands at the front of their bytes, where a foreign type stands in them, and what is done first with commands.
-use Rattle.std.specs.Prelude.{◌≡◌, ℕ, pos, true, false, List, [], ◌∷◌, ◌++◌, codes, Option, Some, None, Result, Ok, Err}
-use Rattle.bson.specs.Tree.{Tree, scalar, document, array, null, int64, Pairs, no_pairs, pair}
+-- Messages worked by hand: what stands at the front of their bytes, where a foreign type stands in
+-- them, and what is done first with commands.
+use Rattle.std.specs.Prelude.{◌≡◌, ℕ, pos, true, false, List, [], ◌∷◌, ◌++◌, codes, Option, Some}
+use Rattle.std.specs.Prelude.{None, Result, Ok, Err}
+use Rattle.bson.specs.Tree.{Tree, scalar, document, null, boolean, int64, Pairs, no_pairs, pair}
 use Rattle.op_msg.specs.Request.{le_32}
-use Rattle.drivers.specs.Handshake.{handshake_reply, int, words}
+use Rattle.driver_replies.specs.Fields.{int, words}
+use Rattle.drivers.specs.Handshake.{handshake_reply}
 use Rattle.drivers.specs.Reasons.{refusal_document}
 use Rattle.drivers.specs.Seeking.{foreign_in}
 use Rattle.drivers.specs.Incoming.{next_message}
@@ -73,21 +76,34 @@ without command = pair command (int (pos 1)) (pair (codes "$db") (words (codes "
 abbrev pub one : List ℕ → Tree → Tree
 one name t = document (pair name t no_pairs)
 
+-- {explain: {find: "c", field}, verbosity: "queryPlanner", $db: "t"}
+abbrev pub explains : List ℕ → Tree → Pairs
+explains name t =
+    pair (codes "explain")
+    (document (pair (codes "find") (words (codes "c")) (pair name t no_pairs)))
+    (pair (codes "verbosity") (words (codes "queryPlanner"))
+    (pair (codes "$db") (words (codes "t")) no_pairs))
+
 pub record StepRows : Type 0 where
   pub hello : (info : ServerInfo) → done info (without (codes "hello"))
       ≡ steps.Reply (handshake_reply true info)
-  pub session : (info : ServerInfo) → done info (with (codes "ping") (codes "lsid") (document no_pairs))
+  pub session : (info : ServerInfo)
+      → done info (with (codes "ping") (codes "lsid") (document no_pairs))
       ≡ steps.Ask (without (codes "ping"))
   pub majority : (info : ServerInfo)
-      → done info (with (codes "ping") (codes "writeConcern") (one (codes "w") (words (codes "majority"))))
+      → done info (with (codes "ping") (codes "writeConcern")
+      (one (codes "w") (words (codes "majority"))))
       ≡ steps.Ask (without (codes "ping"))
   pub two_servers : (info : ServerInfo)
       → done info (with (codes "ping") (codes "writeConcern") (one (codes "w") (int (pos 2))))
-      ≡ steps.Reply (refusal_document (pos 2) (codes "BadValue") (codes "docpage is one server: w is 0 or 1"))
+      ≡ steps.Reply
+      (refusal_document (pos 2) (codes "BadValue") (codes "docpage is one server: w is 0 or 1"))
   pub snapshot : (info : ServerInfo)
-      → done info (with (codes "ping") (codes "readConcern") (one (codes "level") (words (codes "snapshot"))))
+      → done info (with (codes "ping") (codes "readConcern")
+      (one (codes "level") (words (codes "snapshot"))))
       ≡ steps.Reply (
-      refusal_document (pos 72) (codes "InvalidOptions") (codes "field 'readConcern': not supported by docpage")
+      refusal_document (pos 72) (codes "InvalidOptions")
+      (codes "field 'readConcern': not supported by docpage")
       )
   pub transaction : (info : ServerInfo)
       → done info (with (codes "insert") (codes "txnNumber") (scalar (int64 (pos 1))))
@@ -97,13 +113,28 @@ pub record StepRows : Type 0 where
       )
   pub no_hint : (info : ServerInfo) → done info (with (codes "count") (codes "hint") (scalar null))
       ≡ steps.Ask (without (codes "count"))
-  pub hint : (info : ServerInfo) → done info (with (codes "count") (codes "hint") (words (codes "a_1")))
+  pub hint : (info : ServerInfo)
+      → done info (with (codes "count") (codes "hint") (words (codes "a_1")))
       ≡ steps.Reply (
-      refusal_document (pos 72) (codes "InvalidOptions") (codes "field 'hint': not supported by docpage")
+      refusal_document (pos 72) (codes "InvalidOptions")
+      (codes "field 'hint': not supported by docpage")
       )
   pub unknown : (info : ServerInfo) → done info (without (codes "distinct"))
       ≡ steps.Reply (
-      refusal_document (pos 59) (codes "CommandNotFound") (codes "docpage has no command 'distinct'")
+      refusal_document (pos 59) (codes "CommandNotFound")
+      (codes "docpage has no command 'distinct'")
+      )
+  pub explain : (info : ServerInfo)
+      → done info (explains (codes "singleBatch") (scalar (boolean true)))
+      ≡ steps.Ask (
+      pair (codes "explain") (one (codes "find") (words (codes "c")))
+      (pair (codes "$db") (words (codes "t")) no_pairs)
+      )
+  pub explain_hint : (info : ServerInfo)
+      → done info (explains (codes "hint") (words (codes "a_1")))
+      ≡ steps.Reply (
+      refusal_document (pos 72) (codes "InvalidOptions")
+      (codes "field 'hint': not supported by docpage")
       )
   pub get_more : (info : ServerInfo) → done info (without (codes "getMore"))
       ≡ steps.AskOwner (pos 1) (pair (codes "getMore") (scalar (int64 (pos 1)))

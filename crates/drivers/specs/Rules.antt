@@ -1,13 +1,16 @@
--- Fields that drivers send with any command and that the database doesn't have (MongoDB manual, database commands;
--- mongodb/specifications: sessions, transactions, retryable writes, read and write concern, versioned API), and what is done with each.
-use Rattle.std.specs.Prelude.{ℕ, ℤ, pos, negsuc, Bool, true, false, not, ◌&&◌, ◌||◌, ◌==◌, nat_lt, if◌then◌else◌, List, [], ◌∷◌, ◌++◌, codes, Option, Some, None}
+-- Fields that drivers send with any command and that the database doesn't have (MongoDB manual,
+-- database commands; mongodb/specifications: sessions, transactions, retryable writes, read and
+-- write concern, versioned API), and what is done with each.
+use Rattle.std.specs.Prelude.{ℕ, ℤ, pos, negsuc, Bool, true, false, not, ◌&&◌, ◌||◌, ◌==◌, nat_lt}
+use Rattle.std.specs.Prelude.{if◌then◌else◌, List, [], ◌∷◌, ◌++◌, codes, Option, Some, None}
 use Rattle.std.specs.Option.{option_or, option_map_or}
 use Rattle.std.specs.Str.{bytes_eq}
 use Rattle.std.specs.List.{list_any}
-use Rattle.bson.specs.Tree.{Tree, scalar, document, array, text, boolean, null, int32, int64, Pairs, no_pairs, pair}
+use Rattle.bson.specs.Tree.{Tree, scalar, document, array, text, boolean, null, int32, int64, Pairs}
+use Rattle.bson.specs.Tree.{no_pairs, pair}
 use Rattle.bson.specs.Edits.{pairs_len, items_len}
 use Rattle.bson.specs.Lookup.{lookup}
-use Rattle.drivers.specs.Tables.{each, beside}
+use Rattle.driver_replies.specs.Tables.{each, beside}
 use Rattle.drivers.specs.declared.rules.Rule.{Rule}
 use Rattle.drivers.specs.declared.rules.Rule.TheVariants as rules
 use Rattle.drivers.specs.declared.reason.Reason.{Reason}
@@ -20,7 +23,8 @@ rules_by_name =
     ∷ codes "maxTimeMS" ∷ codes "allowDiskUse" ∷ codes "bypassDocumentValidation"
     ∷ codes "noCursorTimeout" ∷ codes "allowPartialResults" ∷ codes "apiStrict"
     ∷ codes "apiDeprecationErrors" ∷ codes "commitQuorum" ∷ codes "authorizedCollections" ∷ [])
-    ++ each rules.Transaction (codes "txnNumber" ∷ codes "startTransaction" ∷ codes "autocommit" ∷ [])
+    ++ each rules.Transaction
+    (codes "txnNumber" ∷ codes "startTransaction" ∷ codes "autocommit" ∷ [])
     ++ each rules.Unsupported (codes "expireAfterSeconds" ∷ codes "size" ∷ [])
     ++ each rules.UnlessEmpty
     (codes "hint" ∷ codes "let" ∷ codes "min" ∷ codes "max" ∷ codes "arrayFilters"

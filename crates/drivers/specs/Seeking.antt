@@ -1,6 +1,8 @@
--- The first value, from the left, of a type that the database doesn't have (BSON 1.1, bsonspec.org), in bytes that are otherwise a
--- document: into documents and arrays, and over what other values hold.
-use Rattle.std.specs.Prelude.{ℕ, zero, suc, ◌+◌, ◌-◌, ◌==◌, if◌then◌else◌, List, [], ◌∷◌, ◌++◌, length, take, drop, Option, Some, None, Result, Ok, Err}
+-- The first value, from the left, of a type that the database doesn't have (BSON 1.1,
+-- bsonspec.org), in bytes that are otherwise a document: into documents and arrays, and over what
+-- other values hold.
+use Rattle.std.specs.Prelude.{ℕ, zero, suc, ◌+◌, ◌-◌, ◌==◌, if◌then◌else◌, List, [], ◌∷◌, ◌++◌}
+use Rattle.std.specs.Prelude.{length, take, drop, Option, Some, None, Result, Ok, Err}
 use Rattle.std.specs.Option.{option_or, option_map}
 use Rattle.std.specs.Fmt.{decimal}
 use Rattle.bson.specs.Raw.{number_at, len_at}
@@ -55,13 +57,15 @@ abbrev pub past_named : ℕ → Place → Result (List ℕ × List ℕ) BsonFaul
 past_named b place (Ok x) = past_value (foreign_of b) b place x.0 x.1
 past_named b place (Err fault) = Err None
 
--- One step to the right: out of a document or an array at its closing zero, else over a name and into its value or over it.
+-- One step to the right: out of a document or an array at its closing zero, else over a name and
+-- into its value or over it.
 unfoldable pub step : Place → List ℕ → Seek
 step place [] = Err None
 step place (b ∷ bytes) =
     if b == 0 then Ok (outside place, bytes) else past_named b place (name_at bytes)
 
-abbrev pub on : (Place → List ℕ → Option (ForeignType × Place)) → Seek → Option (ForeignType × Place)
+abbrev pub on : (Place → List ℕ → Option (ForeignType × Place)) → Seek
+    → Option (ForeignType × Place)
 on next (Ok x) = next x.0 x.1
 on next (Err end) = end
 

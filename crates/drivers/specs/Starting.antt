@@ -1,14 +1,20 @@
--- What is done first with a message of a driver: the database is asked, or the driver is answered at once. A message that is refused
--- asks nothing. A message that wants no reply gets none (MongoDB wire protocol, OP_MSG, moreToCome).
-use Rattle.std.specs.Prelude.{ℕ, ℤ, pos, Bool, true, false, List, [], codes, Option, Some, None, Result, Ok, Err}
+-- What is done first with a message of a driver: the database is asked, or the driver is answered
+-- at once. A message that is refused asks nothing. A message that wants no reply gets none (MongoDB
+-- wire protocol, OP_MSG, moreToCome).
+use Rattle.std.specs.Prelude.{ℕ, ℤ, pos, Bool, true, false, List, [], codes, Option, Some, None}
+use Rattle.std.specs.Prelude.{Result, Ok, Err}
 use Rattle.std.specs.Option.{option_and_then}
-use Rattle.bson.specs.Tree.{scalar, int64, Pairs, no_pairs, pair}
+use Rattle.bson.specs.Tree.{Tree, scalar, document, int64, Pairs, no_pairs, pair}
+use Rattle.bson.specs.Lookup.{lookup}
 use Rattle.bson.specs.Edits.{put}
-use Rattle.drivers.specs.Handshake.{handshake_reply, build_reply, ok, int, words}
+use Rattle.driver_replies.specs.Dropping.{list_command}
+use Rattle.driver_replies.specs.Texts.{text_or_none}
+use Rattle.driver_replies.specs.Fields.{ok, int, words}
+use Rattle.drivers.specs.Handshake.{handshake_reply, build_reply}
 use Rattle.drivers.specs.Reasons.{refusal_reply, row_of}
 use Rattle.drivers.specs.Cleaning.{first_refused, kept}
 use Rattle.drivers.specs.Commands.{command_of}
-use Rattle.drivers.specs.Cursors.{cursor_of, ids_of, first_id, kill_one}
+use Rattle.driver_replies.specs.Cursors.{cursor_of, ids_of, first_id, kill_one}
 use Rattle.drivers.specs.declared.server_info.ServerInfo.{ServerInfo}
 use Rattle.drivers.specs.declared.message.BodyFault.{BodyFault}
 use Rattle.drivers.specs.declared.message.BodyFault.TheVariants as faults
@@ -35,12 +41,29 @@ abbrev pub kill_first : Option ℤ → Pairs → Step
 kill_first None body = steps.Ask body
 kill_first (Some z) body = steps.AskOwner z (kill_one body z)
 
+-- a database that is to be dropped: its collections are listed first
+abbrev pub list_first : Pairs → Step
+list_first body = steps.Ask (list_command (text_or_none (lookup body (codes "$db"))))
+
+-- What is explained is a find, and is cleaned as one.
+abbrev pub explain_unless : Option (List ℕ × Reason) → Pairs → Pairs → Step
+explain_unless None find body =
+    steps.Ask (put body (codes "explain") (document (kept askeds.Find find)))
+explain_unless (Some x) find body = steps.Reply (refusal_reply x.1 x.0)
+
+abbrev pub ask_explain : Option Tree → Pairs → Step
+ask_explain (Some (document find)) body = explain_unless (first_refused askeds.Find find) find body
+ask_explain other body = steps.Ask body
+
 abbrev pub ask : Asked → Pairs → Step
 ask askeds.GetMore body = ask_owner (cursor_of body) body
 ask askeds.KillCursors body = kill_first (option_and_then first_id (ids_of body)) body
+ask askeds.DropDatabase body = list_first body
+ask askeds.Explain body = ask_explain (lookup body (codes "explain")) body
 ask other body = steps.Ask body
 
--- A command for the database: without the fields that it doesn't have, unless one of them is refused.
+-- A command for the database: without the fields that it doesn't have, unless one of them is
+-- refused.
 abbrev pub ask_unless : Asked → Option (List ℕ × Reason) → Pairs → Step
 ask_unless asked None body = ask asked (kept asked body)
 ask_unless asked (Some x) body = steps.Reply (refusal_reply x.1 x.0)
@@ -71,7 +94,8 @@ failure =
     pair (codes "$err") (words (row_of reasons.UnsupportedQuery).before)
     (pair (codes "code") (int (pos (row_of reasons.UnsupportedQuery).code)) no_pairs)
 
--- An OP_QUERY to `admin.$cmd`, which may be a handshake (mongodb/specifications, mongodb-handshake) and nothing else.
+-- An OP_QUERY to `admin.$cmd`, which may be a handshake (mongodb/specifications, mongodb-handshake)
+-- and nothing else.
 abbrev pub do_query : Option Command → ServerInfo → Step
 do_query (Some (commands.Own owns.Hello)) info = steps.Reply (handshake_reply true info)
 do_query (Some (commands.Own owns.IsMaster)) info = steps.Reply (handshake_reply false info)

@@ -8,8 +8,8 @@ ghost use Rattle.bson.specs.Lookup.{lookup};
 ghost use Rattle.bson.specs.Edits.{cut};
 ghost use Rattle.drivers.specs.Answering.{widened, known_text, text_for, reworded, open_id, id_in, cursor_left, with_cursor, ended, kill_command};
 
-use crate::fields::{add, put, set, text_value};
 use bson::{Array, Document, NoMemory, Text, Value};
+use driver_replies::{add, put, set, text_value};
 use std::alloc::Global;
 
 /// Makes the `ok` of a reply an int64, so that no frame has under 36 bytes, which one driver takes for cut.

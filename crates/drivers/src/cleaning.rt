@@ -52,6 +52,8 @@ fn own_rule(asked: Asked, name: &str) -> Option<Rule>
         Asked::KillCursors => None,
         Asked::ListCollections => listing_rule(name),
         Asked::ListIndexes => read_over(&["cursor"], name),
+        Asked::DropDatabase => None,
+        Asked::Explain => read_over(&["verbosity"], name),
     }
 }
 

@@ -3,7 +3,7 @@
 ghost use Rattle.std.specs.Prelude.{◌≡◌};
 ghost use Rattle.drivers.specs.Commands.{command_of};
 
-use crate::tables::named;
+use driver_replies::named;
 
 /// A command that the database isn't asked.
 #[derive(Clone, Copy, Debug, PartialEq, Eq)]
@@ -37,6 +37,10 @@ pub(crate) enum Asked {
     ListCollections,
     /// A `listIndexes`.
     ListIndexes,
+    /// A `dropDatabase`, which drops one collection after the other.
+    DropDatabase,
+    /// An `explain`, which holds a `find`.
+    Explain,
 }
 
 /// What is done with a command.
@@ -49,7 +53,7 @@ pub(crate) enum Command {
 }
 
 /// The commands by their names.
-const COMMANDS: [(&str, Command); 26] = [
+const COMMANDS: [(&str, Command); 28] = [
     ("hello", Command::Own(Own::Hello)),
     ("isMaster", Command::Own(Own::IsMaster)),
     ("ismaster", Command::Own(Own::IsMaster)),
@@ -79,6 +83,8 @@ const COMMANDS: [(&str, Command); 26] = [
         Command::Forwarded(Asked::ListCollections),
     ),
     ("listIndexes", Command::Forwarded(Asked::ListIndexes)),
+    ("dropDatabase", Command::Forwarded(Asked::DropDatabase)),
+    ("explain", Command::Forwarded(Asked::Explain)),
 ];
 
 /// What is done with a command of this name; nothing where it is unknown.

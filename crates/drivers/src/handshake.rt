@@ -1,11 +1,12 @@
 //! Replies that tell a driver what it has to know of the server.
 
 ghost use Rattle.std.specs.Prelude.{◌≡◌, IfOk};
-ghost use Rattle.drivers.specs.Handshake.{ok, role, handshake_reply, build_reply};
+ghost use Rattle.driver_replies.specs.Fields.{ok};
+ghost use Rattle.drivers.specs.Handshake.{role, handshake_reply, build_reply};
 
-use crate::fields::{Fact, document_of};
 use crate::server_info::ServerInfo;
 use bson::{Document, NoMemory};
+use driver_replies::{Fact, document_of};
 use std::alloc::Global;
 
 /// The most statements of one command.

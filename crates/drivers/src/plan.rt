@@ -3,25 +3,28 @@
 ghost use Rattle.std.specs.Prelude.{◌≡◌, IfOk, option_map, codes};
 ghost use Rattle.bson.specs.View.{tree};
 ghost use Rattle.bson.specs.Lookup.{lookup};
-ghost use Rattle.drivers.specs.WriteErrors.{refused_statement};
-ghost use Rattle.drivers.specs.Cursors.{ids_of, first_id};
-ghost use Rattle.drivers.specs.Starting.{started};
-ghost use Rattle.drivers.specs.Listing.{batch_in, retold};
+ghost use Rattle.driver_replies.specs.WriteErrors.{refused_statement};
+ghost use Rattle.driver_replies.specs.Writes.{write_of, after_reply};
+ghost use Rattle.driver_replies.specs.Cursors.{ids_of, first_id};
+ghost use Rattle.drivers.specs.Starting.{name_of, started};
+ghost use Rattle.driver_replies.specs.Listing.{batch_in, retold};
 ghost use Rattle.drivers.specs.declared.plan.Wait.TheVariants as waits;
-ghost use Rattle.drivers.specs.Answering.{is_true, is_single, kill_wait, collections_wait, wait_of, plan_for, plan_in, plan_of, final, error_step, end_cursor, cursor_left, kill_next, killed, answered_by, answered};
+ghost use Rattle.drivers.specs.Answering.{is_single, kill_wait, collections_wait, batch_wait, write_wait, other_wait, wait_of, plan_for, plan_in, plan_of, final, reworded, error_step, drop_next, drop_step, drop_listed, drop_on, next_statement, whole_step, statement_step, end_cursor, cursor_left, kill_next, killed, answered_by, answered};
 
 use crate::answering::{cursor_left, end, kill_command, reword, widen};
 use crate::cleaning::kept;
 use crate::command::Asked;
-use crate::kills::{Kills, first_id, ids_of};
-use crate::listing::{named, retold};
+use crate::explaining::explained;
 use crate::message::Message;
 use crate::server_info::ServerInfo;
 use crate::starting::{name_of, start, unheard};
 use crate::step::Step;
-use crate::texts::{collection_of, text_or_none};
-use crate::write_errors::{error_reply, has_one_statement, refused_statement};
-use bson::{Document, NoMemory, Text, Value};
+use bson::{Array, Document, NoMemory, Text};
+use driver_replies::{
+    Batch, FreshIds, Kills, Tally, Write, collection_of, drop_command, drop_first, dropped_reply,
+    first_batch, first_id, ids_of, is_alone, is_gone, is_ordered_in, is_true, name_in,
+    refused_statement, retold, text_or_none, write_of,
+};
 use std::alloc::Global;
 use std::mem;
 
@@ -36,10 +39,20 @@ pub enum Wait {
     Ended(Document),
     /// It makes the answer, in which the refusal of the one statement is told as drivers expect it.
     Write,
+    /// It makes the answer, unless a statement was refused: then each of these is asked by itself.
+    Batch(Batch),
+    /// It is about the first of these statements.
+    Statement(Batch),
     /// It is about the first of these cursors.
     Kill(Kills),
+    /// It lists the collections that are to be dropped.
+    Listed,
+    /// It is about the first of these collections, each of which is dropped.
+    Drops(Array),
     /// It makes the answer, with the collection of this name alone, if there is one.
     Collections(Option<Text>),
+    /// It says a plan, and makes the answer.
+    Explained,
 }
 
 /// What is kept of a message until the database has answered: whether the driver wants no reply, the database and the collection
@@ -51,15 +64,6 @@ pub struct Plan {
     pub collection: Text,
     pub is_update: bool,
     pub wait: Wait,
-}
-
-fn is_true(value: Option<&Value>) -> bool
-    ensures { result ≡ is_true (option_map (λ v. tree v.now) value.entry) }
-{
-    match value {
-        Some(Value::Bool(truth)) => *truth,
-        _ => false,
-    }
 }
 
 /// What is kept of the cursors that a `killCursors` names.
@@ -77,7 +81,7 @@ fn kill_wait(alloc: Global, body: &Document) -> Result<Wait, NoMemory>
 fn collections_wait(alloc: Global, body: &Document) -> Result<Wait, NoMemory>
     ensures { IfOk result (λ w. w ≡ collections_wait body.now) }
 {
-    match named(body.get("filter")) {
+    match name_in(body.get("filter")) {
         Some(name) => Ok(Wait::Collections(Some(Text::from_str(alloc, name)?))),
         None => Ok(Wait::Collections(None)),
     }
@@ -93,9 +97,41 @@ fn is_single(body: &Document) -> bool
     false
 }
 
+/// What is kept of statements that may be asked one after the other, where there are any.
+fn batch_wait(batch: Batch) -> Wait
+    ensures { result ≡ batch_wait batch }
+{
+    if batch.left.is_empty() {
+        return Wait::Plain;
+    }
+    Wait::Batch(batch)
+}
+
+/// What the first reply to a write is to.
+fn write_wait(alloc: Global, ids: FreshIds, body: &Document, write: Write) -> Result<Wait, NoMemory>
+    ensures { IfOk result (λ w. w ≡ write_wait ids body.now write) }
+{
+    if is_alone(write, body.get(write.field())) {
+        return Ok(Wait::Write);
+    }
+    let is_ordered = is_ordered_in(body.get("ordered"));
+    let command = kept(Asked::Write, body.copy()?);
+    Ok(batch_wait(Batch::new(alloc, write, is_ordered, ids, command)))
+}
+
+/// What the first reply to a command is to that may be a write.
+fn other_wait(alloc: Global, ids: FreshIds, body: &Document) -> Result<Wait, NoMemory>
+    ensures { IfOk result (λ w. w ≡ other_wait ids body.now (write_of (name_of body.now))) }
+{
+    match write_of(name_of(body)) {
+        Some(write) => write_wait(alloc, ids, body, write),
+        None => Ok(Wait::Plain),
+    }
+}
+
 /// What the first reply to a command is to.
-fn wait_of(alloc: Global, body: &Document) -> Result<Wait, NoMemory>
-    ensures { IfOk result (λ w. w ≡ wait_of body.now) }
+fn wait_of(alloc: Global, ids: FreshIds, body: &Document) -> Result<Wait, NoMemory>
+    ensures { IfOk result (λ w. w ≡ wait_of ids body.now) }
 {
     if name_of(body) == "killCursors" {
         return kill_wait(alloc, body);
@@ -103,21 +139,29 @@ fn wait_of(alloc: Global, body: &Document) -> Result<Wait, NoMemory>
     if name_of(body) == "listCollections" {
         return collections_wait(alloc, body);
     }
+    if name_of(body) == "dropDatabase" {
+        return Ok(Wait::Listed);
+    }
+    if name_of(body) == "explain" {
+        return Ok(Wait::Explained);
+    }
     if is_single(body) {
         return Ok(Wait::Single);
     }
-    if has_one_statement(name_of(body), body) {
-        return Ok(Wait::Write);
-    }
-    Ok(Wait::Plain)
+    other_wait(alloc, ids, body)
 }
 
-fn plan_for(alloc: Global, more_to_come: bool, body: &Document) -> Result<Plan, NoMemory>
-    ensures { IfOk result (λ p. p ≡ plan_for more_to_come body.now) }
+fn plan_for(
+    alloc: Global,
+    ids: FreshIds,
+    more_to_come: bool,
+    body: &Document,
+) -> Result<Plan, NoMemory>
+    ensures { IfOk result (λ p. p ≡ plan_for ids more_to_come body.now) }
 {
     let database = Text::from_str(alloc, text_or_none(body.get("$db")))?;
     let collection = Text::from_str(alloc, collection_of(body))?;
-    let wait = wait_of(alloc, body)?;
+    let wait = wait_of(alloc, ids, body)?;
     Ok(Plan {
         more_to_come,
         database,
@@ -127,12 +171,12 @@ fn plan_for(alloc: Global, more_to_come: bool, body: &Document) -> Result<Plan, 
     })
 }
 
-fn plan_of(alloc: Global, message: &Message) -> Result<Plan, NoMemory>
-    ensures { IfOk result (λ p. p ≡ plan_of message.now) }
+fn plan_of(alloc: Global, ids: FreshIds, message: &Message) -> Result<Plan, NoMemory>
+    ensures { IfOk result (λ p. p ≡ plan_of ids message.now) }
 {
     match &message.body {
-        Ok(body) => plan_for(alloc, message.more_to_come, body),
-        Err(_) => plan_for(alloc, message.more_to_come, &Document::new(alloc)),
+        Ok(body) => plan_for(alloc, ids, message.more_to_come, body),
+        Err(_) => plan_for(alloc, ids, message.more_to_come, &Document::new(alloc)),
     }
 }
 
@@ -144,9 +188,9 @@ impl Plan {
         message: Message,
     ) -> Result<(Plan, Step), NoMemory>
         ensures { IfOk result
-            (λ x. (x.0 ≡ plan_of message) × (x.1 ≡ started info.now message)) }
+            (λ x. (x.0 ≡ plan_of info.now.ids message) × (x.1 ≡ started info.now message)) }
     {
-        let plan = plan_of(alloc, &message)?;
+        let plan = plan_of(alloc, info.ids, &message)?;
         let step = start(alloc, info, message)?;
         Ok((plan, step))
     }
@@ -180,14 +224,57 @@ impl Plan {
         ensures { IfOk result (λ s. s
             ≡ error_step (refused_statement (lookup reply (codes "code"))) self.now reply) }
     {
-        let Some(code) = refused_statement(reply.get("code")) else {
+        if refused_statement(reply.get("code")).is_none() {
             return self.final_step(alloc, reply);
-        };
+        }
         let database = self.database.as_str();
         reword(alloc, &mut reply, database, self.collection.as_str())?;
-        let text = text_or_none(reply.get("errmsg"));
-        let answer = error_reply(alloc, self.is_update, code, text)?;
+        let mut tally = Tally::new(alloc);
+        tally.take(alloc, 0, &reply)?;
+        let answer = tally.reply(alloc, self.is_update)?;
         Ok(unheard(self.more_to_come, Step::Reply(answer)))
+    }
+
+    /// Asks the next statement, or gives the answer for all.
+    fn next_statement(&mut self, alloc: Global, batch: Batch) -> Result<Step, NoMemory>
+        requires { self.old.wait ≡ waits.Plain }
+        ensures { IfOk result (λ s. (self.new, s) ≡ statement_step self.old batch) }
+    {
+        let Some(command) = batch.command(alloc)? else {
+            let reply = batch.reply(alloc)?;
+            return Ok(unheard(self.more_to_come, Step::Reply(reply)));
+        };
+        self.wait = Wait::Statement(batch);
+        Ok(Step::Ask(command))
+    }
+
+    /// Takes the reply to a write as a whole.
+    fn whole(&mut self, alloc: Global, batch: Batch, reply: Document) -> Result<Step, NoMemory>
+        requires { self.old.wait ≡ waits.Plain }
+        ensures { IfOk result (λ s. (self.new, s)
+            ≡ whole_step (refused_statement (lookup reply (codes "code"))) self.old batch reply) }
+    {
+        if refused_statement(reply.get("code")).is_none() {
+            return self.final_step(alloc, reply);
+        }
+        self.next_statement(alloc, batch)
+    }
+
+    /// Takes the reply to a statement.
+    fn statement(
+        &mut self,
+        alloc: Global,
+        mut batch: Batch,
+        mut reply: Document,
+    ) -> Result<Step, NoMemory>
+        requires { self.old.wait ≡ waits.Plain }
+        ensures { IfOk result (λ s. (self.new, s) ≡ statement_step self.old
+            (after_reply batch (reworded self.old.database self.old.collection reply))) }
+    {
+        let database = self.database.as_str();
+        reword(alloc, &mut reply, database, self.collection.as_str())?;
+        batch.take(alloc, &reply)?;
+        self.next_statement(alloc, batch)
     }
 
     /// Goes on with the next cursor, or gives the answer for all.
@@ -218,6 +305,48 @@ impl Plan {
         self.kill_next(alloc, kills)
     }
 
+    /// Drops the next collection, or gives the answer for all.
+    fn drop_next(&mut self, alloc: Global, collections: Array) -> Result<Step, NoMemory>
+        requires { self.old.wait ≡ waits.Plain }
+        ensures { IfOk result (λ s. (self.new, s) ≡ drop_step self.old collections) }
+    {
+        let Some(command) = drop_command(alloc, self.database.as_str(), &collections)? else {
+            let reply = dropped_reply(alloc, self.database.as_str())?;
+            return Ok(unheard(self.more_to_come, Step::Reply(reply)));
+        };
+        self.wait = Wait::Drops(collections);
+        Ok(Step::Ask(command))
+    }
+
+    /// Takes the list of the collections that are to be dropped.
+    fn drop_listed(&mut self, alloc: Global, reply: Document) -> Result<Step, NoMemory>
+        requires { self.old.wait ≡ waits.Plain }
+        ensures { IfOk result (λ s. (self.new, s)
+            ≡ drop_listed (batch_in (lookup reply (codes "cursor"))) self.old reply) }
+    {
+        let Some(collections) = first_batch(&reply)? else {
+            return self.final_step(alloc, reply);
+        };
+        self.drop_next(alloc, collections)
+    }
+
+    /// Takes the answer for a collection that was to be dropped.
+    fn drop_on(
+        &mut self,
+        alloc: Global,
+        mut collections: Array,
+        reply: Document,
+    ) -> Result<Step, NoMemory>
+        requires { self.old.wait ≡ waits.Plain }
+        ensures { IfOk result (λ s. (self.new, s) ≡ drop_on self.old collections reply) }
+    {
+        if !is_gone(&reply) {
+            return self.final_step(alloc, reply);
+        }
+        drop_first(&mut collections);
+        self.drop_next(alloc, collections)
+    }
+
     /// The answer that lists collections.
     fn retell(
         &self,
@@ -241,8 +370,13 @@ impl Plan {
             Wait::Single => self.end_cursor(alloc, reply),
             Wait::Ended(answer) => self.final_step(alloc, answer),
             Wait::Write => self.error_step(alloc, reply),
+            Wait::Batch(batch) => self.whole(alloc, batch, reply),
+            Wait::Statement(batch) => self.statement(alloc, batch, reply),
+            Wait::Listed => self.drop_listed(alloc, reply),
+            Wait::Drops(collections) => self.drop_on(alloc, collections, reply),
             Wait::Kill(kills) => self.killed(alloc, kills, reply),
             Wait::Collections(wanted) => self.retell(alloc, &wanted, reply),
+            Wait::Explained => self.final_step(alloc, explained(alloc, reply)?),
         }
     }
 }

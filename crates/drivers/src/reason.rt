@@ -3,9 +3,9 @@
 ghost use Rattle.std.specs.Prelude.{◌≡◌, IfOk, pos, option_map, string_bytes};
 ghost use Rattle.drivers.specs.Reasons.{row_of, text_of, refusal_document, refusal_reply};
 
-use crate::fields::{Fact, document_of};
 use crate::foreign::ForeignType;
 use bson::{Document, NoMemory};
+use driver_replies::{Fact, document_of};
 use std::alloc::Global;
 
 /// Why a message is refused. Each has a number, a name and a text, which may say what it is about.

@@ -3,7 +3,7 @@
 ghost use Rattle.std.specs.Prelude.{◌≡◌};
 ghost use Rattle.drivers.specs.Rules.{rule_of};
 
-use crate::tables::named;
+use driver_replies::named;
 
 /// What is done with a field that the database doesn't have.
 #[derive(Clone, Copy, Debug, PartialEq, Eq)]

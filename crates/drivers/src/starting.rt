@@ -1,23 +1,25 @@
 //! What is done first with a message.
 
-ghost use Rattle.std.specs.Prelude.{◌≡◌, IfOk};
+ghost use Rattle.std.specs.Prelude.{◌≡◌, IfOk, codes};
+ghost use Rattle.bson.specs.Lookup.{lookup};
 ghost use Rattle.bson.specs.View.{tree};
 ghost use Rattle.std.specs.Option.{option_and_then};
-ghost use Rattle.drivers.specs.Cursors.{cursor_of, first_id, ids_of};
-ghost use Rattle.drivers.specs.Starting.{ask_owner, kill_first, name_of, ask_unless, own_reply, do_command, do_query, do_fault, do_message, failure, unheard, started};
+ghost use Rattle.driver_replies.specs.Cursors.{cursor_of, first_id, ids_of};
+ghost use Rattle.drivers.specs.Starting.{ask_owner, kill_first, list_first, ask_explain, name_of, ask_unless, own_reply, do_command, do_query, do_fault, do_message, failure, unheard, started};
 ghost use Rattle.drivers.specs.Commands.{command_of};
 ghost use Rattle.drivers.specs.Cleaning.{first_refused};
 
 use crate::cleaning::{first_refused, kept};
 use crate::command::{Asked, Command, Own, command_of};
-use crate::fields::{Fact, document_of, set};
 use crate::handshake::{build_reply, handshake_reply, ok_reply};
-use crate::kills::{cursor_of, first_id, ids_of, kill_one};
 use crate::message::{BodyFault, Form, Message};
 use crate::reason::{Reason, refusal_reply};
 use crate::server_info::ServerInfo;
 use crate::step::Step;
 use bson::{Document, NoMemory, Value};
+use driver_replies::{
+    Fact, cursor_of, document_of, first_id, ids_of, kill_one, list_command, set, text_or_none,
+};
 use std::alloc::Global;
 
 /// What a failed query is answered with.
@@ -69,6 +71,30 @@ fn kill_first(alloc: Global, mut body: Document) -> Result<Step, NoMemory>
     Ok(Step::AskOwner(cursor, body))
 }
 
+/// What is asked first of a database that is to be dropped.
+fn list_first(alloc: Global, body: &Document) -> Result<Step, NoMemory>
+    ensures { IfOk result (λ s. s ≡ list_first body.now) }
+{
+    let database = text_or_none(body.get("$db"));
+    Ok(Step::Ask(list_command(alloc, database)?))
+}
+
+/// An `explain`, whose find is without the fields that the database doesn't have, or why that is refused.
+fn ask_explain(alloc: Global, mut body: Document) -> Result<Step, NoMemory>
+    ensures { IfOk result (λ s. s ≡ ask_explain (lookup body (codes "explain")) body) }
+{
+    let Some(Value::Document(find)) = body.get("explain") else {
+        return Ok(Step::Ask(body));
+    };
+    if let Some((name, reason)) = first_refused(Asked::Find, find.pairs()) {
+        return Ok(Step::Reply(refusal_reply(alloc, reason, name)?));
+    }
+    let find = kept(Asked::Find, find.copy()?);
+    let _levels = body.levels();
+    set(&mut body, "explain", Value::Document(find))?;
+    Ok(Step::Ask(body))
+}
+
 /// A command for the database, without the fields that it doesn't have, or why it is refused.
 fn ask(alloc: Global, asked: Asked, body: Document) -> Result<Step, NoMemory>
     ensures { IfOk result (λ s. s ≡ ask_unless asked (first_refused asked body) body) }
@@ -80,6 +106,8 @@ fn ask(alloc: Global, asked: Asked, body: Document) -> Result<Step, NoMemory>
     match asked {
         Asked::GetMore => ask_owner(body),
         Asked::KillCursors => kill_first(alloc, body),
+        Asked::DropDatabase => list_first(alloc, &body),
+        Asked::Explain => ask_explain(alloc, body),
         _ => Ok(Step::Ask(body)),
     }
 }

@@ -35,7 +35,7 @@ use Rattle.engine.specs.declared.engine.Engine.{Engine}
 use Rattle.engine.proofs.LookingLemmas.{performs_memory}
 use Rattle.engine.proofs.MakingLemmas.{lawful_now, leads_planned, makes_behind, makes_none, makes_written, performs_done, performs_refused, planned_is, with_reply}
 use Rattle.engine.proofs.NewCollections.{IsNumberOf}
-use Rattle.engine.proofs.NewIndexLemmas.{with_new_indexes_more}
+use Rattle.index_list.proofs.NewIndexLemmas.{with_new_indexes_more}
 use Rattle.engine.proofs.OnlyReading.{cause_from, now_same, reads_none, reads_on, word_before}
 use Rattle.engine.proofs.StoringLemmas.{it_is}
 

@@ -40,7 +40,7 @@ use Rattle.database_model.specs.World.{World, indexes_or_none}
 use Rattle.engine.specs.Writing.{Makes, planned_or, Writes}
 use Rattle.engine.specs.declared.engine.Engine.{Engine}
 use Rattle.engine.proofs.CataloguedLemmas.{IsCatalogueOf, has_home, not_catalogued, some_same}
-use Rattle.engine.proofs.DroppedIndexLemmas.{all_remain, dropped_there, fewer_remain, remain_without}
+use Rattle.index_list.proofs.DroppedIndexLemmas.{all_remain, dropped_there, fewer_remain, remain_without}
 use Rattle.engine.proofs.LookingLemmas.{performs_memory}
 use Rattle.engine.proofs.MakingLemmas.{lawful_now, leads_planned, makes_behind, makes_none, makes_written, performs_done, performs_refused, planned_is, with_reply}
 use Rattle.engine.proofs.OnlyReading.{cause_from, now_same, reads_none, reads_on, word_before}

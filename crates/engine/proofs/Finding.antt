@@ -16,30 +16,11 @@ use Rattle.filter.specs.Matches.{matches}
 use Rattle.filter.specs.Projection.{Projection, project}
 use Rattle.filter.specs.ProjectionLaws.{project_no_larger}
 use Rattle.database_model.specs.Lawful.{IsStored, IsWithin}
-use Rattle.filter.specs.Sort.{SortField, compare_by, insert_in_order, put_before, sorted, order}
+use Rattle.filter.specs.Sort.{SortField, compare_by, order}
 use Rattle.replies.proofs.Steps.{drop_step}
+use Rattle.queries.proofs.OrderingLemmas.{sorted_kept}
 use Rattle.commands.specs.Find.{Query}
 use Rattle.database_model.specs.Find.{matching, limited, window, selection, query_result, given, Suffices}
-
-module _ (P : Pairs → Type 0) (cmp : Pairs → Pairs → Ordering) where
-  head_of : (x : Pairs) (xs : List Pairs) → All P (x ∷ xs) → P x
-  head_of x xs h = h 0 x (omega arith)
-
-  tail_of : (x : Pairs) (xs : List Pairs) → All P (x ∷ xs) → All P xs
-  tail_of x xs h = λ k d below. h (suc k) d (omega arith)
-
-  inserted_kept : (x : Pairs) (ys : List Pairs) → P x → All P ys → All P (insert_in_order cmp x ys)
-  inserted_kept x [] one h = All-cons P x [] one h
-  inserted_kept x (y ∷ ys) one h = at (cmp x y) (inserted_kept x ys one (tail_of y ys h))
-    where
-      at : (o : Ordering) → All P (insert_in_order cmp x ys) → All P (put_before o x y (insert_in_order cmp x ys) ys)
-      at Greater later = All-cons P y (insert_in_order cmp x ys) (head_of y ys h) later
-      at Less later = All-cons P x (y ∷ ys) one h
-      at Equal later = All-cons P x (y ∷ ys) one h
-
-  sorted_kept : (xs : List Pairs) → All P xs → All P (sorted cmp xs)
-  sorted_kept [] h = h
-  sorted_kept (x ∷ xs) h = inserted_kept x (sorted cmp xs) (head_of x xs h) (sorted_kept xs (tail_of x xs h))
 
 limited_kept : {X : Type 0} (P : X → Type 0) (limit : ℕ) (xs : List X) → All P xs → All P (limited limit xs)
 limited_kept P zero xs h = h
@@ -120,27 +101,15 @@ passed_none {X} p all i x passed within is fails h =
 pub passed_all : {X : Type 0} (p : X → Bool) (all : List X) (i : ℕ) (passed : List X) → length all ≤ i → ArePassed p all i passed → passed ≡ filter p all
 passed_all {X} p all i passed whole h = sym (append-nil passed) ∙ ap (λ (ys : List X). passed ++ filter p ys) (sym (drop_all i all whole)) ∙ h
 
--- ---- a sort by nothing, and the front of a list
-
-by_nothing : (x : Pairs) (xs : List Pairs) → insert_in_order (compare_by []) x xs ≡ x ∷ xs
-by_nothing x [] = refl
-by_nothing x (y ∷ ys) = refl
-
-pub unsorted : (ds : List Pairs) → order [] ds ≡ ds
-unsorted [] = refl
-unsorted (d ∷ ds) = ap (insert_in_order (compare_by []) d) (unsorted ds) ∙ by_nothing d ds
-
-pub no_sort : (sort : List SortField) (ds : List Pairs) → (length sort == 0) ≡ true → order sort ds ≡ ds
-no_sort [] ds e = unsorted ds
-no_sort (field ∷ fields) ds e = absurd (omega (arith, eqb-true (length (field ∷ fields)) 0 e))
+-- ---- the front of a list
 
 -- a window doesn't reach past its limit
 window-front : {X : Type 0} (skip limit : ℕ) (xs : List X) → limit ≢ 0 → window skip limit (take (skip + limit) xs) ≡ window skip limit xs
 window-front skip zero xs some = absurd (some refl)
 window-front {X} skip (suc n) xs some = ap (λ (ys : List X). take (suc n) ys) (drop-take skip (suc n) xs) ∙ take_all (suc n) (take (suc n) (drop skip xs)) (omega (arith, length-take (suc n) (drop skip xs)))
 
-all_taken : (q : Query) (most : ℕ) (ds : List Pairs) → length ds ≤ most → window q.skip q.limit (order q.sort (take most ds)) ≡ window q.skip q.limit (order q.sort ds)
-all_taken q most ds few = ap (λ (es : List Pairs). window q.skip q.limit (order q.sort es)) (take_all most ds few)
+all_taken : (q : Query) (most : ℕ) (ds : List Pairs) → length ds ≤ most → window q.skip q.limit (take most ds) ≡ window q.skip q.limit ds
+all_taken q most ds few = ap (λ (es : List Pairs). window q.skip q.limit es) (take_all most ds few)
 
 -- a list of which fewer than so many were taken has no more
 taken_fewer : (most : ℕ) (ds : List Pairs) → length (take most ds) < most → length ds ≤ most
@@ -149,30 +118,27 @@ taken_fewer most ds few = omega (arith, length-take most ds, few)
 pub all_suffice : (q : Query) → Suffices q (2 ^ 64 - 1)
 all_suffice q ds few = all_taken q (2 ^ 64 - 1) ds (taken_fewer (2 ^ 64 - 1) ds few)
 
-pub front_suffices : (q : Query) (most : ℕ) → q.limit ≢ 0 → (length q.sort == 0) ≡ true → most ≡ min (q.skip + q.limit) (2 ^ 64 - 1) → Suffices q most
-front_suffices q most some unordered is ds few = at (nat_le (q.skip + q.limit) (2 ^ 64 - 1)) refl
+pub front_suffices : (q : Query) (most : ℕ) → q.limit ≢ 0 → most ≡ min (q.skip + q.limit) (2 ^ 64 - 1) → Suffices q most
+front_suffices q most some is ds few = at (nat_le (q.skip + q.limit) (2 ^ 64 - 1)) refl
   where
-    plain : (es : List Pairs) → window q.skip q.limit (order q.sort es) ≡ window q.skip q.limit es
-    plain es = ap (λ (xs : List Pairs). window q.skip q.limit xs) (no_sort q.sort es unordered)
-
-    at : (b : Bool) → nat_le (q.skip + q.limit) (2 ^ 64 - 1) ≡ b → window q.skip q.limit (order q.sort (take most ds)) ≡ window q.skip q.limit (order q.sort ds)
+    at : (b : Bool) → nat_le (q.skip + q.limit) (2 ^ 64 - 1) ≡ b → window q.skip q.limit (take most ds) ≡ window q.skip q.limit ds
     at true e =
         let fits : q.skip + q.limit ≤ 2 ^ 64 - 1 = grind (arith, nat_tests) in
         let same : most ≡ q.skip + q.limit = omega (arith, is, fits) in
-        plain (take most ds) ∙ ap (λ (n : ℕ). window q.skip q.limit (take n ds)) same ∙ window-front q.skip q.limit ds some ∙ sym (plain ds)
+        ap (λ (n : ℕ). window q.skip q.limit (take n ds)) same ∙ window-front q.skip q.limit ds some
     at false e =
         let over : 2 ^ 64 - 1 < q.skip + q.limit = grind (arith, nat_tests) in
         let greatest : most ≡ 2 ^ 64 - 1 = omega (arith, is, over) in
         all_taken q most ds (taken_fewer most ds (omega (arith, few, greatest)))
 
 -- what was found is enough
-pub given_enough : (q : Query) (most : ℕ) (ds found_so : List Pairs) → Suffices q most → found_so ≡ take most (matching q.filter ds) → length found_so < 2 ^ 64 - 1 → given q found_so ≡ query_result q ds
+pub given_enough : (q : Query) (most : ℕ) (ds found_so : List Pairs) → Suffices q most → found_so ≡ take most (order q.sort (matching q.filter ds)) → length found_so < 2 ^ 64 - 1 → given q found_so ≡ query_result q ds
 given_enough q most ds found_so suffices is few =
-    ap (map (project q.projection)) (ap (λ (es : List Pairs). window q.skip q.limit (order q.sort es)) is ∙ suffices (matching q.filter ds) (omega (arith, ap length is, few)))
+    ap (map (project q.projection)) (ap (λ (es : List Pairs). window q.skip q.limit es) is ∙ suffices (order q.sort (matching q.filter ds)) (omega (arith, ap length is, few)))
 
 -- and within the limits
 pub given_within_limits : (q : Query) (found_so : List Pairs) → All IsWithin found_so → All IsWithin (given q found_so)
-given_within_limits q found_so h = given_within q.projection (window q.skip q.limit (order q.sort found_so)) (window_kept IsWithin q.skip q.limit (order q.sort found_so) (sorted_kept IsWithin _ found_so h))
+given_within_limits q found_so h = given_within q.projection (window q.skip q.limit found_so) (window_kept IsWithin q.skip q.limit found_so h)
 
 -- the first that pass, up to so many
 pub passed_front : {X : Type 0} (p : X → Bool) (all : List X) (i : ℕ) (passed : List X) → ArePassed p all i passed → passed ≡ take (length passed) (filter p all)

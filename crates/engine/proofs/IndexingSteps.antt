@@ -25,7 +25,7 @@ use Rattle.engine.specs.Trying.{TriesOf}
 use Rattle.engine.specs.View.{world}
 use Rattle.engine.specs.declared.engine.Engine.{Engine}
 use Rattle.engine.proofs.MakingLemmas.{lawful_now}
-use Rattle.engine.proofs.NewIndexLemmas.{fresh_number, planned_conflict, planned_full, planned_made, planned_there, with_new_index_more}
+use Rattle.index_list.proofs.NewIndexLemmas.{fresh_number, planned_conflict, planned_full, planned_made, planned_there, with_new_index_more}
 use Rattle.engine.proofs.NotingEach.{Plan}
 use Rattle.engine.proofs.OnlyReading.{reads_none, word_before}
 

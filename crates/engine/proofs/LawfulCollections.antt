@@ -39,7 +39,7 @@ use Rattle.commands.specs.ListCollections.{ListCollections}
 use Rattle.database_model.specs.Create.{created, run_create}
 use Rattle.commands.specs.NewIndex.{IsShortNewIndex, NewIndex}
 use Rattle.database_model.specs.CreateIndexes.{create_indexes_reply, indexed, run_create_indexes, with_new_indexes}
-use Rattle.engine.proofs.NewIndexLemmas.{with_new_indexes_more, with_new_indexes_short}
+use Rattle.index_list.proofs.NewIndexLemmas.{with_new_indexes_more, with_new_indexes_short}
 use Rattle.commands.specs.DropIndexes.{DroppedIndexes}
 use Rattle.database_model.specs.DropIndexes.{drop_indexes_reply, dropped_in, index_dropped, left_by, run_drop_indexes, without_indexes}
 use Rattle.database_model.specs.DropCollection.{drop_reply, dropped, index_count, run_drop}

@@ -39,18 +39,22 @@ use Rattle.commands.specs.ListCollections.{ListCollections}
 use Rattle.database_model.specs.Create.{created, run_create}
 use Rattle.commands.specs.NewIndex.{IsShortNewIndex, NewIndex}
 use Rattle.database_model.specs.CreateIndexes.{create_indexes_reply, indexed, run_create_indexes, with_new_indexes}
-use Rattle.engine.proofs.NewIndexLemmas.{with_new_indexes_more, with_new_indexes_short}
+use Rattle.index_list.proofs.NewIndexLemmas.{with_new_indexes_more, with_new_indexes_short}
 use Rattle.commands.specs.DropIndexes.{DroppedIndexes}
 use Rattle.database_model.specs.DropIndexes.{drop_indexes_reply, dropped_in, index_dropped, left_by, run_drop_indexes, without_indexes}
 use Rattle.database_model.specs.DropCollection.{drop_reply, dropped, index_count, run_drop}
 use Rattle.database_model.specs.ListCollections.{names_in, listed, run_list_collections}
 use Rattle.database_model.specs.ListIndexes.{indexes_reply, run_list_indexes}
+use Rattle.commands.specs.Explain.{Explain}
+use Rattle.planner.specs.Explaining.{explain_text}
+use Rattle.database_model.specs.Explain.{explain_reply, plan_in, run_explain}
+use Rattle.engine.proofs.ExplainingLemmas.{plan_short}
 use Rattle.engine.proofs.Creating.{dropped_lawful}
 use Rattle.engine.proofs.Listing.{go_into_one}
 use Rattle.engine.proofs.ListingIndexes.{indexes-sendable}
 use Rattle.statements.proofs.ShortIndexes.{short_at}
 use Rattle.database_model.specs.Refusals.{int, total, words, ok_reply}
-use Rattle.commands.specs.Command.{Command, ping, insert as insert_of, find as find_of, count as count_of_all, delete, update, aggregate, create as create_of, drop as drop_of, list_collections, create_indexes, drop_indexes, list_indexes, command_of, IsBounded, get_more, kill_cursors, hello}
+use Rattle.commands.specs.Command.{Command, ping, insert as insert_of, find as find_of, count as count_of_all, delete, update, aggregate, create as create_of, drop as drop_of, list_collections, create_indexes, drop_indexes, list_indexes, explain, command_of, IsBounded, get_more, kill_cursors, hello}
 use Rattle.database_model.specs.Lawful.{IsStored, IsWithin, IsKept, IsLawfulState, IsLawful, AreLawfulCursors}
 use Rattle.index.specs.LawfulState.{AreNamedApart, AreNumberedApart, IsRising}
 use Rattle.statements.specs.Places.{collection_at, no_collection}
@@ -76,7 +80,7 @@ use Rattle.engine.proofs.Finding.{found_within}
 use Rattle.statements.proofs.Ordered.{Rises, rises_insert, All-inserted, missing, found, added, replaced}
 use Rattle.statements.proofs.Numbers.{found_kept, unused_unused, number_bounds, numbers_set, numbers_insert}
 use Rattle.statements.proofs.NamesApart.{apart_set}
-use Rattle.replies.proofs.SpelledSizes.{create_indexes-sendable, drop_indexes-sendable, ping-sendable, insert-sendable, drop-sendable, refusal-sendable, batch_items, cursor-sendable, kill-sendable, told_few, hello-sendable}
+use Rattle.replies.proofs.SpelledSizes.{create_indexes-sendable, drop_indexes-sendable, ping-sendable, insert-sendable, drop-sendable, explain-sendable, refusal-sendable, batch_items, cursor-sendable, kill-sendable, told_few, hello-sendable}
 use Rattle.engine.proofs.LawfulCollections.{index_dropped_lawful, indexed_lawful, put_kept, room}
 
 -- ---- one command
@@ -314,6 +318,13 @@ good_list_indexes w name h short = at (find_collection w.collections name) refl
     at None e = λ x f. absurd cc
     at (Some c) e = good_one w (indexes_reply name c.indexes) h (indexes-sendable c.indexes (found_kept w.collections name c h.collections.kept e).indexes name short)
 
+good_explain : (w : World) (c : Explain) → IsLawful w → Good (run_explain w c)
+unfolding run_explain
+good_explain w c h =
+    let found = find_collection w.collections c.namespace in
+    let text = explain_text (plan_in c.query found) in
+    good_one w (explain_reply text) h (explain-sendable text (plan_short c.query found (short_at w.collections c.namespace h.collections.kept).each))
+
 -- ---- updates
 
 -- what is written to a collection leaves lawful ones
@@ -380,6 +391,7 @@ good_run w connection (list_collections c) h b = good_list_collections w c h b
 good_run w connection (create_indexes c) h b = good_create_indexes w c.namespace c.indexes h b.0 b.2
 good_run w connection (drop_indexes c) h b = good_drop_indexes w c.namespace c.indexes h b
 good_run w connection (list_indexes c) h b = good_list_indexes w c.namespace h b
+good_run w connection (explain c) h b = good_explain w c h
 
 -- the world after a step, and its reply
 pub record Steps (x : World × Pairs) : Type 0 where

@@ -14,6 +14,7 @@ pub mod EmptyImage
 pub mod Creating
 pub mod Listing
 pub mod ListingIndexes
+pub mod ExplainingLemmas
 pub mod ResultLemmas
 pub mod OpeningLemmas
 pub mod LookingLemmas
@@ -38,13 +39,11 @@ pub mod UpdateLemmas
 pub mod MeantLemmas
 pub mod EnteringLemmas
 pub mod EnteringSteps
-pub mod NewIndexLemmas
 pub mod NotingEach
 pub mod IndexingLemmas
 pub mod IndexingSteps
 pub mod CreatingIndexes
 pub mod Dumping
 pub mod FileCounts
-pub mod DroppedIndexLemmas
 pub mod UnindexingLemmas
 pub mod DroppingIndexes

@@ -1,5 +1,5 @@
 -- What is looked up of a collection by its name.
-use Rattle.std.proofs.Common.{◌≡◌, ℕ, List, [], Option, Some, None, Result, Ok, refl, sym, subst, ◌∙◌}
+use Rattle.std.proofs.Common.{◌≡◌, ℕ, List, [], Option, Some, None, Result, Ok, refl, sym, subst}
 use Rattle.std.specs.Option.{option_map}
 use Rattle.bson.specs.Tree.{Pairs}
 use Rattle.page.specs.History.{History}
@@ -44,34 +44,8 @@ found_so now name number is = by_found (find_collection now name) refl is
       };
     }
 
-pub none_so : (now : List Collection) (name : List ℕ) → None ≡ option_map (λ c. c.number) (find_collection now name) → documents_of now name ≡ []
-none_so now name is = by_found (find_collection now name) refl is
-  where
-    by_found : (o : Option Collection) → find_collection now name ≡ o → None ≡ option_map (λ c. c.number) o → documents_of now name ≡ []
-    by_found None at e = rw at refl
-    by_found (Some c) at e = absurd cc
-
 pub documents_found : (now : List Collection) (name : List ℕ) (c : Collection) → find_collection now name ≡ Some c → documents_of now name ≡ c.documents
 documents_found now name c at = rw at refl
-
--- ---- of a collection by its name
-
-module _ {D Y : Type 0} (history : D → History) (name : List ℕ) (a b : Engine D) (Q : List Pairs → Y → Type 0) (x : Option ℕ)
-    (first : Looks history (λ now found. found ≡ option_map (λ c. c.number) (find_collection now name)) (Ok x) a b) where
-  -- what was looked up of the collection of its number
-  pub of_name : (c : Engine D) (number : ℕ) → x ≡ Some number → (r : Result Y Refusal) → LooksOf history (λ now of. IsNumbered now of number) (λ now of (y : Y). Q of.documents y) r b c → Looks history (λ now (y : Y). Q (documents_of now name) y) r a c
-  of_name c number is r second =
-      looks_behind history (λ now found. found ≡ option_map (λ c. c.number) (find_collection now name)) (λ now of. IsNumbered now of number) (λ now of (y : Y). Q of.documents y) (λ now (y : Y). Q (documents_of now name) y)
-      a b c x r first second (λ p.
-      let now = (world a).collections in
-      let f : IsFound now name number = found_so now name number (sym is ∙ p) in
-      record { asked = f.c; is = f.numbered; right = λ y right. subst (λ (ds : List Pairs). Q ds y) (sym (documents_found now name f.c f.found)) right })
-
-  -- there is none
-  pub of_none : x ≡ None → (y : Y) → Q [] y → Looks history (λ now (y : Y). Q (documents_of now name) y) (Ok y) a b
-  of_none is y right =
-      looks_made history (λ now found. found ≡ option_map (λ c. c.number) (find_collection now name)) a b (λ now (y : Y). Q (documents_of now name) y) x y first
-      (λ p. subst (λ (ds : List Pairs). Q ds y) (sym (none_so (world a).collections name (sym is ∙ p))) right)
 
 -- ---- of a collection as the catalogue has it
 

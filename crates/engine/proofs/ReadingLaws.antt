@@ -14,8 +14,10 @@ use Rattle.database_model.specs.Aggregate.{run_aggregate}
 use Rattle.commands.specs.ListCollections.{ListCollections}
 use Rattle.commands.specs.ListIndexes.{ListIndexes}
 use Rattle.database_model.specs.ListIndexes.{indexes_reply, run_list_indexes}
+use Rattle.commands.specs.Explain.{Explain}
+use Rattle.database_model.specs.Explain.{run_explain}
 use Rattle.database_model.specs.ListCollections.{run_list_collections}
-use Rattle.commands.specs.Command.{Command, ping, insert, find, count, delete, update, aggregate, create, drop as drop_of, list_collections, create_indexes, drop_indexes, list_indexes, command_of, get_more, kill_cursors, hello}
+use Rattle.commands.specs.Command.{Command, ping, insert, find, count, delete, update, aggregate, create, drop as drop_of, list_collections, create_indexes, drop_indexes, list_indexes, explain, command_of, get_more, kill_cursors, hello}
 use Rattle.index.specs.State.{Collection, find_collection}
 use Rattle.database_model.specs.World.{World, documents_of}
 use Rattle.database_model.specs.Cursors.{batch_of, batch_reply, open_cursor, is_refused, new_cursor, first_batch, is_cursor}
@@ -91,6 +93,10 @@ module _ (w : World) (connection : ℕ) where
       at None = refl
       at (Some found) = refl
 
+  explained : (c : Explain) → Leaves (run_explain w c)
+  unfolding run_explain
+  explained c = refl
+
   ran : (r : Result Command Refusal) → OnlyReads r → Leaves (r >>= run w connection)
   ran (Err e) h = refl
   ran (Ok ping) h = refl
@@ -104,6 +110,7 @@ module _ (w : World) (connection : ℕ) where
   ran (Ok (create_indexes c)) h = absurd h
   ran (Ok (drop_indexes c)) h = absurd h
   ran (Ok (list_indexes c)) h = indexes_listed c
+  ran (Ok (explain c)) h = explained c
   ran (Ok (count c)) h = counted c
   ran (Ok (find c)) h = found c
   ran (Ok (get_more c)) h = given c

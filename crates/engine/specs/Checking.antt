@@ -19,16 +19,16 @@ pub record AreCountsOf (now : List Collection) (counts : Counts) : Type 0 where
   pub documents : counts.documents ≡ total_documents now
   pub indexes : counts.indexes ≡ total_indexes now
 
--- The counts of a file, whose image holds the collections that were committed last: the number of that commit, what there is now,
--- and how many pages the image has.
+-- The counts of a file, whose image holds the collections that were committed last: the number of
+-- that commit, what there is now, and how many pages the image has.
 pub record AreCountsIn (image : ℕ → List ℕ) (last : ℕ) (start now : List Collection)
     (counts : Counts) : Type 0 where
   pub last_is : counts.generation ≡ last
   pub held : AreCountsOf now counts
   pub pages : HasCounts image start (record { pages = counts.pages; free = counts.free })
 
--- The file was looked through. While the disk keeps its word, the counts are its own, or the fault has its cause: it is never that
--- the file is damaged.
+-- The file was looked through. While the disk keeps its word, the counts are its own, or the fault
+-- has its cause: it is never that the file is damaged.
 pub record ChecksFile {D : Type 0} (history : D → History) (result : Result Counts CheckFault)
     (old new : Engine D) : Type 0 where
   pub only : OnlyReads history old new

@@ -1,12 +1,14 @@
 -- What the commit of a turn does to an engine.
-use Rattle.std.specs.Prelude.{◌≡◌, ◌≢◌, ◌⊎◌, ◌<◌, ◌+◌, ◌-◌, ◌^◌, true, false, ◌&&◌, if◌then◌else◌, Result, Ok, Err, is_ok, OnOk, OnErr}
+use Rattle.std.specs.Prelude.{◌≡◌, ◌≢◌, ◌⊎◌, ◌<◌, ◌+◌, ◌-◌, ◌^◌, true, false, ◌&&◌, if◌then◌else◌}
+use Rattle.std.specs.Prelude.{Result, Ok, Err, is_ok, OnOk, OnErr}
 use Rattle.page.specs.History.{History, KeepsWord}
 use Rattle.page.specs.Crash.{GoesOn, LeavesOnly, LeavesNow}
 use Rattle.roots.specs.declared.store.CommitFault.{CommitFault}
 use Rattle.roots.specs.declared.store.CommitFault.TheVariants as faults
 use Rattle.database_model.specs.World.{are_untouched, after_commit, after_undo}
 use Rattle.engine.specs.View.{world, turn_start}
-use Rattle.engine.specs.Durable.{disk_history, file_of, full_takes_of, generation, has_changes, is_stopped, IsRunning, IsSound}
+use Rattle.engine.specs.Durable.{disk_history, file_of, full_takes_of, generation, has_changes}
+use Rattle.engine.specs.Durable.{is_stopped, IsRunning, IsSound}
 use Rattle.opening.specs.Holding.{Holds}
 use Rattle.engine.specs.declared.engine.Engine.{Engine}
 
@@ -29,7 +31,8 @@ pub record Commits {D : Type 0} (history : D → History) (result : Result (Unit
   -- no page is asked for
   pub takes : full_takes_of history new ≡ full_takes_of history old
   pub running : result ≢ Err faults.Device → is_stopped new ≡ is_stopped old
-  -- a crash at any moment of the call leaves the collections as they were before the turn or as they are after it
+  -- a crash at any moment of the call leaves the collections as they were before the turn or as
+  -- they are after it
   pub any_moment : IsRunning old → LeavesOnly (disk_history history old) (disk_history history new)
       (λ image. Holds image (turn_start old) ⊎ Holds image (world old).collections)
   -- where the turn is undone, it leaves them as they were before, at every moment

@@ -1,4 +1,5 @@
--- Documents that are noted as removed from the file, batch after batch, until their collection has none.
+-- Documents that are noted as removed from the file, batch after batch, until their collection has
+-- none.
 use Rattle.std.specs.Prelude.{◌≡◌, Bool, false, List, [], All}
 use Rattle.bson.specs.Tree.{Pairs}
 use Rattle.btree.specs.Keys.{Edit}
@@ -22,12 +23,14 @@ pub record Emptied : Type 0 where
   pub rest : List Pairs
 
 -- The catalogue has this of it, and the edits leave all its documents.
-pub record IsFilled (home : Catalogued) (edits : List Edit) (now : List Collection) (c : Collection) : Type 0 where
+pub record IsFilled (home : Catalogued) (edits : List Edit) (now : List Collection)
+    (c : Collection) : Type 0 where
   pub catalogued : IsHome now c home
   pub leads : IsLeft now c edits c.documents
 
 -- The edits leave those documents that are still to come in a walk.
-pub record IsEmptying (home : Catalogued) (walk : Walk) (edits : List Edit) (now : List Collection) (x : Emptied)
+pub record IsEmptying (home : Catalogued) (walk : Walk) (edits : List Edit) (now : List Collection)
+    (x : Emptied)
     : Type 0 where
   pub catalogued : IsHome now x.collection home
   pub walks : IsWalk now walk x.rest
@@ -35,7 +38,8 @@ pub record IsEmptying (home : Catalogued) (walk : Walk) (edits : List Edit) (now
   pub leads : IsLeft now x.collection edits x.rest
 
 -- so of fewer documents, and of none where there was no batch
-pub record HasStepped (home : Catalogued) (walk : Walk) (edits : List Edit) (now : List Collection) (x : Emptied)
+pub record HasStepped (home : Catalogued) (walk : Walk) (edits : List Edit) (now : List Collection)
+    (x : Emptied)
     (more : Bool) : Type 0 where
   pub rest : List Pairs
   pub emptying : IsEmptying home walk edits now (record { collection = x.collection; rest = rest })

@@ -1,4 +1,5 @@
--- What a dump is given: the documents of a collection, in ascending order of `_id`, a batch at a time.
+-- What a dump is given: the documents of a collection, in ascending order of `_id`, a batch at a
+-- time.
 use Rattle.std.specs.Prelude.{◌≡◌, ⊤, ℕ, List, Some, None, Result, MatchResult}
 use Rattle.std.specs.Global.{Vec}
 use Rattle.bson.specs.Tree.{Pairs}
@@ -14,10 +15,12 @@ use Rattle.engine.specs.declared.check_fault.CheckFault.{CheckFault}
 use Rattle.engine.specs.declared.check_fault.CheckFault.TheVariants as faults
 use Rattle.engine.specs.declared.engine.Engine.{Engine}
 
--- Why reading ended early: the device failed in the call or before, or what was asked for is missing. Memory may always run out.
+-- Why reading ended early: the device failed in the call or before, or what was asked for is
+-- missing. Memory may always run out.
 abbrev pub HasFaultCause : {D : Type 0} → (D → History) → Type 0 → Engine D → Engine D
     → CheckFault → Type 0
-HasFaultCause history IsMissing old new faults.Device = HasFailed history (file_of old) (file_of new)
+HasFaultCause history IsMissing old new faults.Device =
+    HasFailed history (file_of old) (file_of new)
 HasFaultCause history IsMissing old new faults.Memory = ⊤
 HasFaultCause history IsMissing old new faults.Damaged = ⊥
 HasFaultCause history IsMissing old new faults.NamespaceNotFound = IsMissing
@@ -28,7 +31,8 @@ pub record WalksThrough (now : List Collection) (name : List ℕ) (walk : Walk) 
   pub found : find_collection now name ≡ Some collection
   pub all : IsWalk now walk collection.documents
 
--- A walk through the collection of that name was begun. The fault `NamespaceNotFound` says that there is none.
+-- A walk through the collection of that name was begun. The fault `NamespaceNotFound` says that
+-- there is none.
 pub record BeginsDump {D : Type 0} (history : D → History) (name : List ℕ)
     (result : Result Walk CheckFault) (old new : Engine D) : Type 0 where
   pub reads : OnlyReads history old new
@@ -36,7 +40,8 @@ pub record BeginsDump {D : Type 0} (history : D → History) (name : List ℕ)
       → MatchResult result (WalksThrough (world old).collections name)
       (HasFaultCause history (find_collection (world old).collections name ≡ None) old new)
 
--- Of the documents that are still to come the next ones were given, at most 64, and none only where none is to come.
+-- Of the documents that are still to come the next ones were given, at most 64, and none only where
+-- none is to come.
 pub record GoesOnDumping {D : Type 0} (history : D → History) (walk after : Walk)
     (result : Result (Vec Pairs) CheckFault) (old new : Engine D) : Type 0 where
   pub reads : OnlyReads history old new

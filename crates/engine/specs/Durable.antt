@@ -35,7 +35,8 @@ generation engine = views.generation (file_of engine)
 abbrev pub full_takes_of : {D : Type 0} → (D → History) → Engine D → ℕ
 full_takes_of history engine = (views.pages_of history (file_of engine)).full_takes
 
--- Until it stops, its file has the collections as they were at the beginning of the turn, and a tree of those of now.
+-- Until it stops, its file has the collections as they were at the beginning of the turn, and a
+-- tree of those of now.
 pub record IsSound {D : Type 0} (history : D → History) (engine : Engine D) : Type 0 where
   pub lawful : IsLawfulState (world engine).collections
   pub cursors : AreLawfulCursors (world engine).cursors

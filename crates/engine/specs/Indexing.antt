@@ -1,5 +1,7 @@
--- Documents of a collection that enter a new index, batch after batch, and indexes that are noted as edits of the file.
-use Rattle.std.specs.Prelude.{◌≡◌, ◌⊎◌, ℕ, Bool, false, not, is_some, List, [], ◌++◌, length, Ok, Err}
+-- Documents of a collection that enter a new index, batch after batch, and indexes that are noted
+-- as edits of the file.
+use Rattle.std.specs.Prelude.{◌≡◌, ◌⊎◌, ℕ, Bool, false, not, is_some, List, [], ◌++◌, length, Ok}
+use Rattle.std.specs.Prelude.{Err}
 use Rattle.bson.specs.Tree.{Pairs}
 use Rattle.collections.specs.Walk.{IsWalk}
 use Rattle.collections.specs.declared.walk.Walk.{Walk}
@@ -43,20 +45,23 @@ pub record Indexed : Type 0 where
   pub rest : List Pairs
 
 -- none has entered yet, and they are the documents of this name
-pub record IsUnbegun (name : List ℕ) (made : NewEntries) (now : List Collection) (x : Indexed) : Type 0 where
+pub record IsUnbegun (name : List ℕ) (made : NewEntries) (now : List Collection)
+    (x : Indexed) : Type 0 where
   pub documents : x.collection.documents ≡ documents_of now name
   pub kept : states.IsKept x.collection
   pub has : HasEntries x.collection x.index [] made
 
 -- the others are still to come in the walk
-pub record IsIndexing (walk : Walk) (made : NewEntries) (now : List Collection) (x : Indexed) : Type 0 where
+pub record IsIndexing (walk : Walk) (made : NewEntries) (now : List Collection)
+    (x : Indexed) : Type 0 where
   pub walks : IsWalk now walk x.rest
   pub all : x.collection.documents ≡ x.done ++ x.rest
   pub kept : states.IsKept x.collection
   pub has : HasEntries x.collection x.index x.done made
 
 -- so of fewer, and of none where there was no batch
-pub record HasIndexed (walk : Walk) (made : NewEntries) (now : List Collection) (x : Indexed) (more : Bool)
+pub record HasIndexed (walk : Walk) (made : NewEntries) (now : List Collection) (x : Indexed)
+    (more : Bool)
     : Type 0 where
   pub done : List Pairs
   pub rest : List Pairs
@@ -76,8 +81,10 @@ IsUnindexable x e = with_index x.collection x.index ≡ Err e
 abbrev pub HasDocumentsOf : List Collection → List ℕ → Collection → Type 0
 HasDocumentsOf cs name c = c.documents ≡ documents_of cs name
 
--- What a `createIndexes` makes: edits that lead to the collection with its indexes, and how many these were and are.
-pub record ArePlanned (cs : List Collection) (name : List ℕ) (ns : List NewIndex) (p : PlannedIndexes) : Type 0 where
+-- What a `createIndexes` makes: edits that lead to the collection with its indexes, and how many
+-- these were and are.
+pub record ArePlanned (cs : List Collection) (name : List ℕ) (ns : List NewIndex)
+    (p : PlannedIndexes) : Type 0 where
   pub next : Collection
   pub is : with_new_indexes (collection_of cs name) ns ≡ Ok next
   pub room : is_full cs name ≡ false

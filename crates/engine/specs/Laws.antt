@@ -8,7 +8,9 @@ use Rattle.collections.specs.Calls.{IsOfFile}
 use Rattle.database_model.specs.Lawful.{IsLawful}
 use Rattle.opening.specs.Holding.{Holds}
 use Rattle.path.specs.declared.refusal.Refusal.{Refusal}
-use Rattle.commands.specs.Command.{Command, ping, insert, find, count, delete, update, aggregate, create, drop, list_collections, create_indexes, drop_indexes, list_indexes, command_of, get_more, kill_cursors, hello}
+use Rattle.commands.specs.Command.{Command, ping, insert, find, count, delete, update, aggregate}
+use Rattle.commands.specs.Command.{create, drop, list_collections, create_indexes, drop_indexes}
+use Rattle.commands.specs.Command.{list_indexes, explain, command_of, get_more, kill_cursors, hello}
 use Rattle.database_model.specs.Step.{step, Answers}
 use Rattle.replies.specs.View.{IsSendable}
 
@@ -18,7 +20,8 @@ BeginsLawful = IsLawful new_world
 
 -- a lawful world steps to a lawful world, whatever it is told
 abbrev pub StaysLawful : Type 0
-StaysLawful = (world : World) (connection : ℕ) (body : Result Pairs BsonFault) → IsLawful world → IsLawful (step world connection body).0
+StaysLawful = (world : World) (connection : ℕ) (body : Result Pairs BsonFault) → IsLawful world
+    → IsLawful (step world connection body).0
 
 -- an image whose root sectors are zeros holds no collection
 abbrev pub ZerosHoldNothing : Type 0
@@ -40,6 +43,7 @@ OnlyReads (Ok (count c)) = Unit {0}
 OnlyReads (Ok (aggregate c)) = Unit {0}
 OnlyReads (Ok (list_collections c)) = Unit {0}
 OnlyReads (Ok (list_indexes c)) = Unit {0}
+OnlyReads (Ok (explain c)) = Unit {0}
 OnlyReads (Ok (insert c)) = ⊥
 OnlyReads (Ok (delete c)) = ⊥
 OnlyReads (Ok (update c)) = ⊥
@@ -56,9 +60,12 @@ BodyOnlyReads (Err fault) = Unit {0}
 -- however such a command is answered, the collections stay as they are
 abbrev pub ReadsChangeNothing : Type 0
 ReadsChangeNothing =
-    (world new : World) (connection : ℕ) (body : Result Pairs BsonFault) (reply : Pairs) → BodyOnlyReads body
-    → Answers (λ planned. IsOfFile) world connection body new reply → new.collections ≡ world.collections
+    (world new : World) (connection : ℕ) (body : Result Pairs BsonFault) (reply : Pairs)
+    → BodyOnlyReads body
+    → Answers (λ planned. IsOfFile) world connection body new reply
+    → new.collections ≡ world.collections
 
 -- what a lawful world replies is within the limit of replies
 abbrev pub RepliesSendable : Type 0
-RepliesSendable = (world : World) (connection : ℕ) (body : Result Pairs BsonFault) → IsLawful world → IsSendable (step world connection body).1
+RepliesSendable = (world : World) (connection : ℕ) (body : Result Pairs BsonFault) → IsLawful world
+    → IsSendable (step world connection body).1

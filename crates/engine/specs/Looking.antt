@@ -16,7 +16,8 @@ pub record OnlyReads {D : Type 0} (history : D → History) (old new : Engine D)
   pub cursors : new.cursors ≡ old.cursors
   pub changes : has_changes new ≡ has_changes old
 
--- Something was looked up. While the disk keeps its word, the answer is right for the collections, or the refusal has its cause.
+-- Something was looked up. While the disk keeps its word, the answer is right for the collections,
+-- or the refusal has its cause.
 pub record Looks {D X : Type 0} (history : D → History) (IsRight : List Collection → X → Type 0)
     (result : Result X Refusal) (old new : Engine D) : Type 0 where
   pub reads : OnlyReads history old new
@@ -24,7 +25,8 @@ pub record Looks {D X : Type 0} (history : D → History) (IsRight : List Collec
       → MatchResult result (IsRight (world old).collections)
       (HasCause history (file_of old) (file_of new))
 
--- The same of what not all collections have: the answer is right for what was asked for, where this is so of it.
+-- The same of what not all collections have: the answer is right for what was asked for, where this
+-- is so of it.
 pub record LooksOf {D A X : Type 0} (history : D → History) (Is : List Collection → A → Type 0)
     (IsRight : List Collection → A → X → Type 0) (result : Result X Refusal)
     (old new : Engine D) : Type 0 where

@@ -21,6 +21,7 @@ pub record IsOpened {D : Type 0} (history : D → History) (disk : D)
       → Holds (reads (now (history disk))) (world engine).collections
   pub alone : LeavesNow (disk_history history engine)
       (λ image. Holds image (world engine).collections)
-  -- where reads give one of the images, the images during the call and after it are among those from before
+  -- where reads give one of the images, the images during the call and after it are among those
+  -- from before
   pub any_moment : IsImage (now (history disk)) (reads (now (history disk)))
       → LeavesOnly (history disk) (disk_history history engine) (IsImage (now (history disk)))

@@ -1,6 +1,7 @@
 -- What running a command does to an engine.
 use Rattle.std.specs.Prelude.{◌≡◌, ◌⊎◌, Result, Ok, Err, OnErr}
 use Rattle.bson.specs.Tree.{Pairs}
+use Rattle.commands.specs.Command as commands
 use Rattle.page.specs.History.{History, KeepsWord}
 use Rattle.path.specs.declared.refusal.Refusal.{Refusal}
 use Rattle.collections.specs.Calls.{GoesFrom}
@@ -12,7 +13,20 @@ use Rattle.database_model.specs.World.{World}
 use Rattle.engine.specs.Writing.{FileCause}
 use Rattle.engine.specs.declared.engine.Engine.{Engine}
 
--- The command did what was planned, or was refused as planned, or by a cause of its own. A refusal leaves the world as it was.
+-- It asks for no document: it is about the server, its collections or their indexes.
+abbrev pub IsAdministrative : commands.Command → Type 0
+IsAdministrative (commands.insert c) = ⊥
+IsAdministrative (commands.find c) = ⊥
+IsAdministrative (commands.get_more c) = ⊥
+IsAdministrative (commands.kill_cursors c) = ⊥
+IsAdministrative (commands.count c) = ⊥
+IsAdministrative (commands.delete c) = ⊥
+IsAdministrative (commands.update c) = ⊥
+IsAdministrative (commands.aggregate c) = ⊥
+IsAdministrative other = Unit {0}
+
+-- The command did what was planned, or was refused as planned, or by a cause of its own. A refusal
+-- leaves the world as it was.
 abbrev pub DoesPlanned : {D : Type 0} → (D → History) → Result (World × Pairs) Refusal
     → Result Pairs Refusal → Engine D → Engine D → Type 0
 DoesPlanned history planned (Ok reply) old new = with_ok planned ≡ Ok (world new, reply)

@@ -1,5 +1,6 @@
 -- What an update puts into the file: clauses of private functions.
-use Rattle.std.specs.Prelude.{◌≡◌, ◌⊎◌, ◌≤◌, ◌<◌, ℕ, Bool, true, false, not, is_some, List, [], ◌∷◌, length, map, Option, Some, None, Result, Ok, Err, MatchResult}
+use Rattle.std.specs.Prelude.{◌≡◌, ◌⊎◌, ◌≤◌, ◌<◌, ℕ, Bool, true, false, not, is_some, List, [], ◌∷◌}
+use Rattle.std.specs.Prelude.{length, map, Option, Some, None, Result, Ok, Err, MatchResult}
 use Rattle.std.specs.List.{filter}
 use Rattle.bson.specs.Tree.{Pairs, no_items}
 use Rattle.page.specs.History.{History, KeepsWord}
@@ -18,7 +19,8 @@ use Rattle.engine.specs.Looking.{OnlyReads}
 use Rattle.database_model.specs.Merging.{is_meant, makes_any}
 use Rattle.database_model.specs.Refusals.{ok_reply}
 use Rattle.engine.specs.Storing.{IsReplacedIn}
-use Rattle.database_model.specs.Update.{Updated, counts_reply, not_updated, run_all, run_statements, spelled, update_reply}
+use Rattle.database_model.specs.Update.{Updated, counts_reply, not_updated, run_all, run_statements}
+use Rattle.database_model.specs.Update.{spelled, update_reply}
 use Rattle.database_model.specs.UpdateCommand.{writes_in, written_in}
 use Rattle.statements.specs.Updating.{seen}
 use Rattle.engine.specs.View.{world}
@@ -35,7 +37,8 @@ HasNumber is_new number = is_new ≡ true → (1 ≤ number) × (number ≤ 1000
 
 -- ---- the documents that are meant
 
--- These are the documents that the statements may mean in a collection that is there, or in one that is missing.
+-- These are the documents that the statements may mean in a collection that is there, or in one
+-- that is missing.
 abbrev pub MeansIn : Option Collection → List Collection → List UpdateStatement → Meant → Type 0
 MeansIn (Some c) now ss m = (m.is_new ≡ false) × (c.number ≡ m.number)
     × (m.documents.items ≡ filter (is_meant ss) c.documents)
@@ -70,20 +73,23 @@ abbrev pub says : Tally → Pairs
 says t = ok_reply (counts_reply t.matched t.modified t.upserted)
 
 -- The statements came to these counts, and where none was changed or made, nothing is written.
-pub record ComesTo (now : List Collection) (name : List ℕ) (ss : List UpdateStatement) (ws : List Write)
+pub record ComesTo (now : List Collection) (name : List ℕ) (ss : List UpdateStatement)
+    (ws : List Write)
     (t : Tally) : Type 0 where
   pub after : Updated
   pub planned : run_statements name 0 ss (not_updated now) ≡ Ok after
   pub counts : update_reply after ≡ counts_reply t.matched t.modified t.upserted
   pub quiet : after.modified ≡ 0 → after.upserted ≡ no_items → ws ≡ []
 
-abbrev pub EndsIn : List Collection → List ℕ → List UpdateStatement → List Write → Result Tally Refusal
+abbrev pub EndsIn : List Collection → List ℕ → List UpdateStatement → List Write
+    → Result Tally Refusal
     → Type 0
 EndsIn now name ss ws (Ok t) = ComesTo now name ss ws t
 EndsIn now name ss ws (Err e) = run_all name ss now ≡ Err e
 
 -- What an update writes, and what it comes to, are those that are planned.
-pub record IsUpdate (now : List Collection) (name : List ℕ) (ss : List UpdateStatement) (x : Ran) : Type 0 where
+pub record IsUpdate (now : List Collection) (name : List ℕ) (ss : List UpdateStatement)
+    (x : Ran) : Type 0 where
   pub planned : map seen x.writes.items ≡ writes_in name ss now
   pub writes : AreWritesOf (documents_of now name) x.writes.items
   pub end : EndsIn now name ss x.writes.items x.end
@@ -98,19 +104,22 @@ RepliesTo (Ok t) (Err e) = (e ≡ refusals.OutOfMemory)
 -- ---- edits
 
 -- The edits lead to the collections that are planned.
-pub record ArePlanned (edits : List Edit) (cs : List Collection) (planned : Result (List Collection) Refusal)
+pub record ArePlanned (edits : List Edit) (cs : List Collection)
+    (planned : Result (List Collection) Refusal)
     : Type 0 where
   pub next : List Collection
   pub is : planned ≡ Ok next
   pub leads : states.IsLawfulState cs → Leads edits cs next × states.IsLawfulState next
 
--- While the disk keeps its word: where these are writes of the collection of the name, the edits that write them are made, or the
--- refusal was planned, or it has its cause.
+-- While the disk keeps its word: where these are writes of the collection of the name, the edits
+-- that write them are made, or the refusal was planned, or it has its cause.
 pub record NotesWrites {D : Type 0} (history : D → History) (name : List ℕ) (ws : List Write)
     (result : Result (List Edit) Refusal) (old new : Engine D) : Type 0 where
   pub reads : OnlyReads history old new
-  pub answers : KeepsWord (disk_history history new) → AreWritesOf (documents_of (world old).collections name) ws
+  pub answers : KeepsWord (disk_history history new)
+      → AreWritesOf (documents_of (world old).collections name) ws
       → MatchResult result
-      (λ edits. ArePlanned edits (world old).collections (written_in name (map seen ws) (world old).collections))
+      (λ edits. ArePlanned edits (world old).collections
+      (written_in name (map seen ws) (world old).collections))
       (λ e. (written_in name (map seen ws) (world old).collections ≡ Err e)
       ⊎ HasCause history (file_of old) (file_of new) e)

@@ -7,7 +7,8 @@ use Rattle.statements.specs.Redoing.{all_taken}
 use Rattle.database_model.specs.World.{documents_of}
 use Rattle.engine.specs.declared.delete.Taken.{Taken}
 
--- The documents are those that the statements take, and the number and the indexes are those of their collection.
+-- The documents are those that the statements take, and the number and the indexes are those of
+-- their collection.
 pub record IsTaken (now : List Collection) (name : List ℕ) (deletions : List Deletion) (t : Taken)
     : Type 0 where
   pub removed : t.removed.items ≡ all_taken deletions (documents_of now name)

@@ -1,5 +1,6 @@
 -- Documents that are noted as edits of the file, to be stored in a collection.
-use Rattle.std.specs.Prelude.{◌≡◌, ◌⊎◌, Bool, true, false, not, is_some, ℕ, List, Option, Some, None, Result, Ok, Err, MatchResult}
+use Rattle.std.specs.Prelude.{◌≡◌, ◌⊎◌, Bool, true, false, not, is_some, ℕ, List, Option, Some}
+use Rattle.std.specs.Prelude.{None, Result, Ok, Err, MatchResult}
 use Rattle.std.specs.List.{list_any}
 use Rattle.bson.specs.Tree.{Pairs}
 use Rattle.page.specs.History.{History, KeepsWord}
@@ -27,7 +28,8 @@ use Rattle.engine.specs.declared.engine.Engine.{Engine}
 abbrev pub IsFull : List Collection → List ℕ → Refusal → Type 0
 IsFull cs name e = (e ≡ refusals.TooMany) × (is_full cs name ≡ true)
 
--- The edits lead to the collections with this one, whose number and indexes are known, and for which there is room.
+-- The edits lead to the collections with this one, whose number and indexes are known, and for
+-- which there is room.
 pub record AreNoted (cs : List Collection) (name : List ℕ) (home : Catalogued) (edits : List Edit)
     (c : Collection) : Type 0 where
   pub named : c.name ≡ name
@@ -44,10 +46,11 @@ pub record HasNoted (cs : List Collection) (name : List ℕ) (home : Catalogued)
   pub is : planned ≡ Ok next
   pub noted : AreNoted cs name home edits next
 
--- While the disk keeps its word: where a collection is noted of which this is so, then so is what is planned of it, or the refusal was
--- planned, or it has its cause.
+-- While the disk keeps its word: where a collection is noted of which this is so, then so is what
+-- is planned of it, or the refusal was planned, or it has its cause.
 pub record Notes {D : Type 0} (history : D → History) (name : List ℕ) (Is : Collection → Type 0)
-    (planned : Collection → Result Collection Refusal) (home home_after : Catalogued) (before after : List Edit)
+    (planned : Collection → Result Collection Refusal) (home home_after : Catalogued)
+    (before after : List Edit)
     (result : Result (Unit {0}) Refusal) (old new : Engine D) : Type 0 where
   pub reads : OnlyReads history old new
   pub answers : KeepsWord (disk_history history new) → (c : Collection)
@@ -87,7 +90,8 @@ pub record Beside : Type 0 where
   pub collection : Collection
 
 -- The text is that of the document's `_id`, and it has these keys.
-pub record IsBeside (home : Catalogued) (edits : List Edit) (text : List ℕ) (keyed : Keyed) (cs : List Collection)
+pub record IsBeside (home : Catalogued) (edits : List Edit) (text : List ℕ) (keyed : Keyed)
+    (cs : List Collection)
     (x : Beside) : Type 0 where
   pub noted : AreNoted cs x.name home edits x.collection
   pub storable : IsStorable keyed.document.now
@@ -95,11 +99,15 @@ pub record IsBeside (home : Catalogued) (edits : List Edit) (text : List ℕ) (k
   pub keys : AreKeyed home.indexes.items keyed
 
 -- It is told whether it is a duplicate there, and that the collections are lawful.
-pub record TellsDuplicate (is_new : Bool) (keyed : Keyed) (cs : List Collection) (x : Beside) (found : Bool) : Type 0 where
-  pub told : found ≡ is_duplicate x.collection (record { is_new = is_new; document = keyed.document.now })
+pub record TellsDuplicate (is_new : Bool) (keyed : Keyed) (cs : List Collection) (x : Beside)
+    (found : Bool) : Type 0 where
+  pub told : found
+      ≡ is_duplicate x.collection (record { is_new = is_new; document = keyed.document.now })
   pub lawful : states.IsLawfulState cs
 
 -- so whether one of its keys in a unique index is another document's
-pub record TellsTaken (keyed : Keyed) (cs : List Collection) (x : Beside) (found : Bool) : Type 0 where
-  pub told : found ≡ list_any (clashes x.collection.documents keyed.document.now) x.collection.indexes
+pub record TellsTaken (keyed : Keyed) (cs : List Collection) (x : Beside)
+    (found : Bool) : Type 0 where
+  pub told : found
+      ≡ list_any (clashes x.collection.documents keyed.document.now) x.collection.indexes
   pub lawful : states.IsLawfulState cs

@@ -1,4 +1,5 @@
--- Documents that are noted as removed from the file, with their entries in the indexes of their collection.
+-- Documents that are noted as removed from the file, with their entries in the indexes of their
+-- collection.
 use Rattle.std.specs.Prelude.{◌≡◌, ⊤, ℕ, List, [], ◌∷◌, map, Some, Ok, All, Result, MatchResult}
 use Rattle.bson.specs.Tree.{Pairs}
 use Rattle.btree.specs.Keys.{Edit}
@@ -29,7 +30,8 @@ pub record HasHome (now : List Collection) (name : List ℕ) (home : Catalogued)
 
 -- ---- documents
 
--- They are documents of the list, each once: the first is found by its `_id`, and the others are without it.
+-- They are documents of the list, each once: the first is found by its `_id`, and the others are
+-- without it.
 abbrev pub AreThere : List Pairs → List Pairs → Type 0
 AreThere [] ds = ⊤
 AreThere (d ∷ rest) ds =
@@ -40,17 +42,20 @@ pub record IsIndexable (indexes : List Definition) (d : Pairs) : Type 0 where
   pub storable : IsStorable d
   pub keyed : keys_in_all indexes d ≡ Ok (map (λ i. encoded_keys i.fields d) indexes)
 
--- Wherever the old edits lead to a lawful state with a collection of this number and of these indexes, which has these documents, the new ones
--- lead to the state without them.
+-- Wherever the old edits lead to a lawful state with a collection of this number and of these
+-- indexes, which has these documents, the new ones lead to the state without them.
 abbrev pub TakesOut : List Edit → List Edit → ℕ → List Definition → List Pairs → Type 0
 TakesOut old new number indexes gone =
     (a b : List Collection) (c : Collection) → Leads old a b → IsLawfulState b
     → find_collection b c.name ≡ Some c → c.number ≡ number → c.indexes ≡ indexes
     → AreThere gone c.documents
-    → let after = with_documents c (without_each gone c.documents) b in Leads new a after × IsLawfulState after
+    → let after = with_documents c (without_each gone c.documents) b in
+    Leads new a after × IsLawfulState after
 
--- Documents of a collection were noted as removed behind other edits, or memory ran out, if the indexes refuse none of them.
-abbrev pub Removes : Catalogued → List Pairs → Result (Unit {0}) Refusal → List Edit → List Edit → Type 0
+-- Documents of a collection were noted as removed behind other edits, or memory ran out, if the
+-- indexes refuse none of them.
+abbrev pub Removes : Catalogued → List Pairs → Result (Unit {0}) Refusal → List Edit → List Edit
+    → Type 0
 Removes home documents result before after = MatchResult result
     (λ _. TakesOut before after home.number home.indexes.items documents)
     (λ e. All (IsIndexable home.indexes.items) documents → e ≡ refusals.OutOfMemory)

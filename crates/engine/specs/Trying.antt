@@ -9,15 +9,18 @@ use Rattle.engine.specs.Looking.{OnlyReads}
 use Rattle.engine.specs.View.{world}
 use Rattle.engine.specs.declared.engine.Engine.{Engine}
 
--- The file was read, and nothing else was done. While the disk keeps its word, the answer is right, or the refusal is, or it has
--- its cause.
-pub record Tries {D X : Type 0} (history : D → History) (IsRight : X → Type 0) (IsRefused : Refusal → Type 0)
+-- The file was read, and nothing else was done. While the disk keeps its word, the answer is right,
+-- or the refusal is, or it has its cause.
+pub record Tries {D X : Type 0} (history : D → History) (IsRight : X → Type 0) (IsRefused : Refusal
+    → Type 0)
     (result : Result X Refusal) (old new : Engine D) : Type 0 where
   pub reads : OnlyReads history old new
   pub answers : KeepsWord (disk_history history new)
-      → MatchResult result IsRight (λ e. IsRefused e ⊎ HasCause history (file_of old) (file_of new) e)
+      → MatchResult result IsRight
+      (λ e. IsRefused e ⊎ HasCause history (file_of old) (file_of new) e)
 
--- The same of what not all collections have: the answer is right for what was asked for, or the refusal is, where this is so of it.
+-- The same of what not all collections have: the answer is right for what was asked for, or the
+-- refusal is, where this is so of it.
 pub record TriesOf {D A X : Type 0} (history : D → History) (Is : List Collection → A → Type 0)
     (IsRight : List Collection → A → X → Type 0) (IsRefused : A → Refusal → Type 0)
     (result : Result X Refusal) (old new : Engine D) : Type 0 where

@@ -1,4 +1,5 @@
--- Documents of a collection whose entries are removed from an index, batch after batch, and indexes that are noted as dropped.
+-- Documents of a collection whose entries are removed from an index, batch after batch, and indexes
+-- that are noted as dropped.
 use Rattle.std.specs.Prelude.{◌≡◌, ℕ, Bool, false, List, [], ◌++◌, Some, Ok, All, Result}
 use Rattle.bson.specs.Tree.{Pairs}
 use Rattle.btree.specs.Keys.{Edit}
@@ -30,7 +31,8 @@ pub record IsUnindexing (i : Definition) (walk : Walk) (now : List Collection) (
   pub walks : IsWalk now walk rest
   pub keyed : All (HasKeysIn i) rest
 
--- The entries of the first of them were removed, and the others are still to come: none where there was no batch.
+-- The entries of the first of them were removed, and the others are still to come: none where there
+-- was no batch.
 pub record HasUnindexed (number : ℕ) (i : Definition) (before after : List Edit) (walk : Walk)
     (now : List Collection) (rest : List Pairs) (more : Bool) : Type 0 where
   pub batch : List Pairs

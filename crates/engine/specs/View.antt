@@ -21,7 +21,7 @@ world_of known cursors =
 abbrev pub world : {D : Type 0} → Engine D → World
 world engine = world_of engine.told.value engine.cursors
 
--- The collections as they were at the beginning of the turn. That is all of the start that is kept: what a turn did to cursors
--- is taken back by what they know of themselves.
+-- The collections as they were at the beginning of the turn. That is all of the start that is kept:
+-- what a turn did to cursors is taken back by what they know of themselves.
 abbrev pub turn_start : {D : Type 0} → Engine D → List Collection
 turn_start engine = engine.told.value.start

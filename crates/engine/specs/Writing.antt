@@ -12,11 +12,13 @@ use Rattle.engine.specs.View.{world, turn_start}
 use Rattle.database_model.specs.World.{World}
 use Rattle.engine.specs.declared.engine.Engine.{Engine}
 
--- Why a command was refused that leads to this world and isn't refused by its definition: memory ran out; or, while the disk
--- keeps its word, the device failed, no page was free, or the tree would have 2^32 entries or more.
+-- Why a command was refused that leads to this world and isn't refused by its definition: memory
+-- ran out; or, while the disk keeps its word, the device failed, no page was free, or the tree
+-- would have 2^32 entries or more.
 abbrev pub FileCause : {D : Type 0} → (D → History) → State D → State D → World → Refusal → Type 0
 FileCause history old new planned e =
-    IsOfFile e × (KeepsWord (disk_history history new) → HasWriteCause history planned.collections old new e)
+    IsOfFile e × (KeepsWord (disk_history history new)
+    → HasWriteCause history planned.collections old new e)
 
 -- Edits that make these collections of those of now were put into the file, or nothing of them.
 pub record Writes {D : Type 0} (history : D → History) (after : List Collection)
@@ -37,15 +39,18 @@ abbrev pub planned_or : List Collection → Result (List Collection) Refusal →
 planned_or before (Ok after) = after
 planned_or before (Err e) = before
 
--- The collections became those that were planned, or stayed as they were: the refusal was planned, or it has its cause.
+-- The collections became those that were planned, or stayed as they were: the refusal was planned,
+-- or it has its cause.
 abbrev pub Becomes : {D : Type 0} → (D → History) → Result (List Collection) Refusal
     → Result (Unit {0}) Refusal → Engine D → Engine D → Type 0
 Becomes history planned (Ok _) old new = planned ≡ Ok (world new).collections
 Becomes history planned (Err e) old new = ((world new).collections ≡ (world old).collections)
     × ((planned ≡ Err e)
-    ⊎ HasWriteCause history (planned_or (world old).collections planned) (file_of old) (file_of new) e)
+    ⊎ HasWriteCause history (planned_or (world old).collections planned) (file_of old)
+    (file_of new) e)
 
--- The collections were changed. While the disk keeps its word, they became those that were planned, or the change was refused.
+-- The collections were changed. While the disk keeps its word, they became those that were planned,
+-- or the change was refused.
 pub record Makes {D : Type 0} (history : D → History) (planned : Result (List Collection) Refusal)
     (result : Result (Unit {0}) Refusal) (old new : Engine D) : Type 0 where
   pub sound : IsSound history new

@@ -83,10 +83,10 @@ impl<D: Disk> Engine<D> {
             result self.old self.new }
         ensures within { IfOk result (λ few. All IsWithin few.items) }
     {
-        let Some(number) = self.number_of(namespace)? else {
+        let Some(home) = self.catalogued(namespace)? else {
             return Ok(Vec::new(self.alloc));
         };
-        needed_in(self.alloc, &mut self.file, number, pipeline)
+        needed_in(self.alloc, &mut self.file, &home, pipeline)
     }
 
     /// Gives a first batch of what a pipeline makes of a collection's documents. Where others are left, it opens a cursor on

@@ -36,10 +36,10 @@ impl<D: Disk> Engine<D> {
             ≡ length (matching filter.now (documents_of now namespace.now)))
             result self.old self.new }
     {
-        let Some(number) = self.number_of(namespace)? else {
+        let Some(home) = self.catalogued(namespace)? else {
             return Ok(0);
         };
-        count_in(self.alloc, &mut self.file, number, filter)
+        count_in(self.alloc, &mut self.file, &home, filter)
     }
 
     /// Counts the documents that match a filter, after those that are skipped and up to the limit.

@@ -1,12 +1,11 @@
 //! `delete`: what its statements leave of a collection.
 
-ghost use Rattle.std.specs.Prelude.{◌≡◌, [], ◌++◌, IfErr, IfOk, Ok, OnOk};
-ghost use Rattle.std.specs.List.{filter as list_filter, position};
-ghost use Rattle.filter.specs.Matches.{matches};
-ghost use Rattle.database_model.specs.Delete.{without_first, after_deletion, after_deletions, run_delete};
+ghost use Rattle.std.specs.Prelude.{◌≡◌, true, [], IfOk, Ok, OnOk};
+ghost use Rattle.database_model.specs.Delete.{run_delete};
 ghost use Rattle.engine.specs.Looking.{Looks};
 ghost use Rattle.database_model.specs.Merging.{is_deleted};
-ghost use Rattle.statements.specs.Redoing.{first_taken, taken, all_taken};
+ghost use Rattle.index.specs.View.{texts_of};
+ghost use Rattle.queries.specs.ById.{ArePut, TellIds};
 ghost use Rattle.page.specs.History.{KeepsWord};
 ghost use Rattle.engine.specs.Durable.{disk_history, has_changes, IsSound};
 ghost use Rattle.engine.specs.Performing.{Performs};
@@ -17,140 +16,33 @@ ghost use Rattle.engine.specs.View.{world};
 
 use crate::engine::Engine;
 use crate::removing::note_removed;
-use bson::{Document, NoMemory, RawDoc, Value};
+use bson::{Document, NoMemory, RawDoc};
 use commands::Deletion;
 use filter::Filter;
 use index::{Catalogued, Edits};
 use page::Disk;
 use path::Refusal;
-use queries::{Selects, asked_id};
+use queries::{Selects, put_ids};
 use replies::{SharedDocument, total_reply};
-use statements::matches;
+use statements::{after_deletions, is_deleted, matches};
 use std::alloc::Global;
 
-/// Where the first document stands that matches a filter.
-fn first_match(filter: &Filter, documents: &[SharedDocument]) -> Option<usize>
-    ensures { result ≡ position (matches filter.now) documents.now }
-{
-    documents
-        .iter()
-        .position(|document| matches(filter, document.document()))
-}
-
-/// The first document that matches a filter moves from the documents to those that are removed.
-fn delete_first(
-    filter: &Filter,
-    documents: &mut Vec<SharedDocument>,
-    removed: &mut Vec<SharedDocument>,
-) -> Result<(), NoMemory>
-    ensures left { OnOk result
-        (documents.new.items ≡ without_first (matches filter.now) documents.old.items) }
-    ensures removed { OnOk result (removed.new.items
-        ≡ removed.old.items ++ first_taken (matches filter.now) documents.old.items) }
-{
-    if let Some(place) = first_match(filter, documents) {
-        removed.push(documents.remove(place))?;
-    }
-    Ok(())
-}
-
-/// Shares the documents that match a filter with those that are removed.
-fn share_matches(
-    filter: &Filter,
-    documents: &[SharedDocument],
-    removed: &mut Vec<SharedDocument>,
-) -> Result<(), NoMemory>
-    ensures { OnOk result
-        (removed.new.items ≡ removed.old.items ++ list_filter (matches filter.now) documents.now) }
-{
-    'documents: for document in documents {
-        if matches(filter, document.document()) {
-            removed.push(document.share()?)?;
-        }
-    }
-    Ok(())
-}
-
-/// The documents that a statement means move to those that are removed.
-fn run_deletion(
-    deletion: &Deletion,
-    documents: &mut Vec<SharedDocument>,
-    removed: &mut Vec<SharedDocument>,
-) -> Result<(), NoMemory>
-    ensures left { OnOk result
-        (documents.new.items ≡ after_deletion deletion.now documents.old.items) }
-    ensures removed { OnOk result
-        (removed.new.items ≡ removed.old.items ++ taken deletion.now documents.old.items) }
-{
-    if deletion.only_first {
-        return delete_first(&deletion.filter, documents, removed);
-    }
-    share_matches(&deletion.filter, documents, removed)?;
-    documents.retain(|document| !matches(&deletion.filter, document.document()));
-    Ok(())
-}
-
-/// Runs one statement after the other.
-fn run_deletions(
-    deletions: &[Deletion],
-    documents: &mut Vec<SharedDocument>,
-    removed: &mut Vec<SharedDocument>,
-) -> Result<(), NoMemory>
-    ensures left { OnOk result
-        (documents.new.items ≡ after_deletions deletions.now documents.old.items) }
-    ensures removed { OnOk result
-        (removed.new.items ≡ removed.old.items ++ all_taken deletions.now documents.old.items) }
-{
-    'deletions: for deletion in deletions {
-        run_deletion(deletion, documents, removed)?;
-    }
-    Ok(())
-}
-
-/// What a delete leaves of documents, and those that it removes, in the order of its statements.
-#[derive(Drop)]
-pub(crate) struct Left {
-    pub(crate) documents: Vec<SharedDocument>,
-    pub(crate) removed: Vec<SharedDocument>,
-}
-
-/// The documents that statements leave, one statement after the other.
-pub(crate) fn after_deletions(
+/// Puts the key texts of the `_id`s that statements ask for behind others; false where one of them asks for none.
+fn put_deleted(
     alloc: Global,
-    documents: &[SharedDocument],
+    ids: &mut Vec<Vec<u8>>,
     deletions: &[Deletion],
-) -> Result<Left, NoMemory>
-    ensures left { IfOk result
-        (λ l. l.documents.items ≡ after_deletions deletions.now documents.now) }
-    ensures removed { IfOk result
-        (λ l. l.removed.items ≡ all_taken deletions.now documents.now) }
-{
-    let mut rest = Vec::with_capacity(alloc, documents.len())?;
-    'documents: for document in documents {
-        rest.push(document.share()?)?;
-    }
-    let mut removed = Vec::new(alloc);
-    run_deletions(deletions, &mut rest, &mut removed)?;
-    Ok(Left {
-        documents: rest,
-        removed,
-    })
-}
-
-/// Whether a statement matches a document that stays its bytes.
-fn is_deleted(
-    alloc: Global,
-    deletions: &[Deletion],
-    document: &RawDoc<'_>,
 ) -> Result<bool, NoMemory>
-    ensures { IfOk result (λ answer. answer ≡ is_deleted deletions.now document.now) }
+    ensures put { OnOk result (ArePut (texts_of ids.old.items) (texts_of ids.new.items)) }
+    ensures tells { IfOk result (λ told. told ≡ true
+        → TellIds (is_deleted deletions.now) (texts_of ids.new.items)) }
 {
     'deletions: for deletion in deletions {
-        if deletion.filter.matches_raw(alloc, document)? {
-            return Ok(true);
+        if !put_ids(alloc, ids, &deletion.filter)? {
+            return Ok(false);
         }
     }
-    Ok(false)
+    Ok(true)
 }
 
 /// The documents that a statement of a delete matches.
@@ -172,11 +64,8 @@ impl Selects for Matched<'_> {
         is_deleted(alloc, self.deletions, document)
     }
 
-    fn asked_id(&self) -> Option<&Value> {
-        match self.deletions {
-            [only] => asked_id(&only.filter),
-            _ => None,
-        }
+    fn put_ids(&self, alloc: Global, ids: &mut Vec<Vec<u8>>) -> Result<bool, NoMemory> {
+        put_deleted(alloc, ids, self.deletions)
     }
 
     fn asked_filter(&self) -> Option<&Filter> {

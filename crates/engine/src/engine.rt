@@ -7,7 +7,7 @@ ghost use Rattle.collections.specs.Marks.{Undoes};
 ghost use Rattle.engine.specs.Committing.{Commits};
 ghost use Rattle.engine.specs.Opening.{IsOpened};
 ghost use Rattle.opening.specs.Refusing.{IsRefused};
-ghost use Rattle.engine.specs.Performing.{Performs};
+ghost use Rattle.engine.specs.Performing.{IsAdministrative, Performs};
 ghost use Rattle.database_model.specs.World.{are_untouched, after_commit, after_undo, forget};
 ghost use Rattle.replies.specs.View.{answer_of, outcome_of, IsSendable};
 ghost use Rattle.engine.specs.View.{world, turn_start, reply_of};
@@ -93,8 +93,10 @@ impl<D: Disk> Engine<D> {
             → has_changes self.new ≡ has_changes self.old }
         ensures sendable { IfOk result (λ a. IsSendable (answer_of a)) }
     {
-        let command = Command::read(self.alloc, body)?;
-        self.perform(connection, &command)
+        match Command::read(self.alloc, body) {
+            Ok(command) => self.perform(connection, &command),
+            Err(refusal) => Err(refusal),
+        }
     }
 
     /// Runs a command.
@@ -111,8 +113,6 @@ impl<D: Disk> Engine<D> {
         ensures sendable { IfOk result (λ a. IsSendable (answer_of a)) }
     {
         match command {
-            Command::Ping => Ok(Answer::Built(ping_reply(self.alloc)?)),
-            Command::Hello => built(self.hello(connection)),
             Command::Insert(c) => built(self.insert(c.namespace.as_str(), &c.documents)),
             Command::Find(c) => {
                 let most = c.batch_size.unwrap_or(FIRST_BATCH);
@@ -133,6 +133,26 @@ impl<D: Disk> Engine<D> {
                 let most = c.batch_size.unwrap_or(FIRST_BATCH);
                 spelled(self.aggregate(connection, c.namespace.as_str(), &c.pipeline, most))
             }
+            _ => self.administer(connection, command),
+        }
+    }
+
+    /// Runs a command that asks for no document: one about the server, its collections or their indexes.
+    fn administer(&mut self, connection: ConnId, command: &Command<'_>) -> Result<Answer, Refusal>
+        requires bounded { IsBounded (command_read command.now) }
+        requires administrative { IsAdministrative (command_read command.now) }
+        requires sound { IsSound D.history self.old }
+        ensures performs { Performs D.history
+            (run (world self.old) connection (command_read command.now))
+            (outcome_of result) self.old self.new }
+        ensures has_changes { KeepsWord (disk_history D.history self.new)
+            → (world self.new).collections ≡ (world self.old).collections
+            → has_changes self.new ≡ has_changes self.old }
+        ensures sendable { IfOk result (λ a. IsSendable (answer_of a)) }
+    {
+        match command {
+            Command::Ping => Ok(Answer::Built(ping_reply(self.alloc)?)),
+            Command::Hello => built(self.hello(connection)),
             Command::Create(c) => built(self.create(c.namespace.as_str())),
             Command::Drop(c) => built(self.drop_collection(c.namespace.as_str())),
             Command::ListCollections(c) => spelled(self.list_collections(c.database)),
@@ -143,6 +163,8 @@ impl<D: Disk> Engine<D> {
                 built(self.drop_indexes(c.namespace.as_str(), &c.indexes))
             }
             Command::ListIndexes(c) => spelled(self.list_indexes(c.namespace.as_str())),
+            Command::Explain(c) => built(self.explain(c.namespace.as_str(), &c.query)),
+            _ => unreachable!(),
         }
     }
 

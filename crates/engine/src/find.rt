@@ -1,9 +1,7 @@
 //! `find`: which documents, in which order, and what is given of each.
 
 ghost use Rattle.std.specs.Prelude.{◌≡◌, ◌≢◌, ◌≤◌, ◌<◌, Some, IfOk, IfErr, All, length, map, take};
-ghost use Rattle.filter.specs.Matches.{matches};
 ghost use Rattle.filter.specs.Projection.{project};
-ghost use Rattle.filter.specs.Sort.{order};
 ghost use Rattle.commands.specs.View.{documents_at};
 ghost use Rattle.database_model.specs.Cursors.{batch_of, first_batch};
 ghost use Rattle.engine.specs.Durable.{has_changes, IsSound};
@@ -19,6 +17,7 @@ use commands::Query;
 use filter::Projection;
 use page::Disk;
 use path::Refusal;
+use queries::share_all;
 use replies::{ConnId, SharedDocument};
 use std::alloc::Global;
 
@@ -34,48 +33,28 @@ fn window<T>(items: &[T], skip: usize, limit: usize) -> &[T]
     }
 }
 
-/// Those of ordered documents that are not skipped and within the limit.
-fn selected<'s, 'a>(query: &Query, ordered: &'s [&'a SharedDocument]) -> &'s [&'a SharedDocument]
-    ensures { documents_at result.now
-        ≡ window query.now.skip query.now.limit (documents_at ordered.now) }
+/// Those of the documents that were found which are not skipped and within the limit.
+fn selected<'a>(
+    alloc: Global,
+    query: &Query,
+    found: &'a [SharedDocument],
+) -> Result<Vec<&'a SharedDocument>, NoMemory>
+    ensures { IfOk result
+        (λ v. documents_at v.items ≡ window query.now.skip query.now.limit found.now) }
 {
-    window(ordered, query.skip, query.limit)
+    let asked = window(found, query.skip, query.limit);
+    let lent = asked.iter().collect(alloc)?;
+    Ok(lent)
 }
 
-/// So many of the documents that match are enough: all, or none past the limit where nothing is sorted.
+/// So many of the documents that match, in their order, are enough: all, or none past the limit.
 fn enough(query: &Query) -> usize
     ensures { Suffices query.now result }
 {
-    if query.limit == 0 || !query.sort.is_empty() {
+    if query.limit == 0 {
         return usize::MAX;
     }
     query.skip.saturating_add(query.limit)
-}
-
-/// Documents in the order of the sort.
-fn ordered<'a>(
-    alloc: Global,
-    query: &Query,
-    documents: &'a [SharedDocument],
-) -> Result<Vec<&'a SharedDocument>, NoMemory>
-    ensures { IfOk result (λ v. documents_at v.items ≡ order query.now.sort documents.now) }
-{
-    let lent = documents.iter().collect(alloc)?;
-    if query.sort.is_empty() {
-        return Ok(lent);
-    }
-    query.sort.order_shared(lent)
-}
-
-/// The documents, with one owner more.
-fn share_all(alloc: Global, documents: &[&SharedDocument]) -> Result<Vec<SharedDocument>, NoMemory>
-    ensures { IfOk result (λ v. v.items ≡ documents_at documents.now) }
-{
-    let mut shared = Vec::with_capacity(alloc, documents.len())?;
-    'documents: for document in documents {
-        shared.push(document.share()?)?;
-    }
-    Ok(shared)
 }
 
 impl<D: Disk> Engine<D> {
@@ -97,12 +76,11 @@ impl<D: Disk> Engine<D> {
         ensures has_changes { has_changes self.new ≡ has_changes self.old }
         ensures sendable { IfOk result (λ d. IsSendable d) }
     {
-        let found = self.matching(namespace, &query.filter, enough(query))?;
+        let found = self.found(namespace, query, enough(query))?;
         self.give_found(connection, namespace, query, &found, most)
     }
 
-    /// Gives a first batch of the documents that match, in the order of the sort and as far as they are asked for, and opens
-    /// a cursor on the others.
+    /// Gives a first batch of the documents that were found, as far as they are asked for, and opens a cursor on the others.
     fn give_found(
         &mut self,
         connection: ConnId,
@@ -122,9 +100,8 @@ impl<D: Disk> Engine<D> {
             (world self.new) result }
         ensures sendable { IfOk result (λ d. IsSendable d) }
     {
-        let ordered = ordered(self.alloc, query, found)?;
-        let selected = selected(query, &ordered);
-        self.give_shared(connection, namespace, &query.projection, selected, most)
+        let selected = selected(self.alloc, query, found)?;
+        self.give_shared(connection, namespace, &query.projection, &selected, most)
     }
 
     /// Gives a first batch of documents of which a projection is given, and opens a cursor on the others.

@@ -11,11 +11,11 @@ ghost use Rattle.engine.specs.View.{world};
 
 use crate::MOST_INDEXES;
 use crate::engine::Engine;
-use crate::new_indexes::{is_in_conflict, is_there, unused_number};
 use bson::Document;
 use collections::Walk;
 use commands::NewIndex;
 use index::{Catalogued, Edits, NewEntries};
+use index_list::{is_in_conflict, is_there, unused_number};
 use page::Disk;
 use path::Refusal;
 use queries::BATCH;

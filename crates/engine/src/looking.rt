@@ -4,6 +4,7 @@ ghost use Rattle.std.specs.Prelude.{◌≡◌, All, IfOk, IfSome, take};
 ghost use Rattle.std.specs.List.{filter};
 ghost use Rattle.std.specs.Option.{option_map};
 ghost use Rattle.collections.specs.Reading.{IsWithinLimits, catalogued_in, catalogued_of};
+ghost use Rattle.filter.specs.Sort.{order};
 ghost use Rattle.index.specs.State.{find_collection};
 ghost use Rattle.engine.specs.Durable.{IsSound};
 ghost use Rattle.database_model.specs.Find.{matching};
@@ -13,11 +14,11 @@ ghost use Rattle.engine.specs.TakingOut.{IsHome};
 ghost use Rattle.database_model.specs.World.{documents_of};
 
 use crate::engine::Engine;
-use filter::Filter;
+use commands::Query;
 use index::Catalogued;
 use page::Disk;
 use path::Refusal;
-use queries::{Selects, selected_in};
+use queries::{Selects, ordered_in, selected_in};
 use replies::SharedDocument;
 
 impl<D: Disk> Engine<D> {
@@ -58,24 +59,47 @@ impl<D: Disk> Engine<D> {
         selected_in(self.alloc, &mut self.file, home, which, most)
     }
 
-    /// The documents of a collection that match, in ascending order of `_id`: the first ones, up to so many. A missing
-    /// collection reads as empty.
-    pub(crate) fn matching(
+    /// The documents of a collection that match a query, in its order: the first ones, up to so many.
+    fn ordered(
+        &mut self,
+        home: &Catalogued,
+        query: &Query,
+        most: usize,
+    ) -> Result<Vec<SharedDocument>, Refusal>
+        requires { IsSound D.history self.old }
+        ensures looks { LooksOf D.history (λ now c. IsHome now c home.now)
+            (λ now c found. found.items
+            ≡ take most (order query.now.sort (matching query.now.filter c.documents)))
+            result self.old self.new }
+        ensures within { IfOk result (λ found. All IsWithin found.items) }
+    {
+        ordered_in(
+            self.alloc,
+            &mut self.file,
+            home,
+            &query.filter,
+            &query.sort,
+            most,
+        )
+    }
+
+    /// The same of the collection of a name. A missing one reads as empty.
+    pub(crate) fn found(
         &mut self,
         namespace: &str,
-        condition: &Filter,
+        query: &Query,
         most: usize,
     ) -> Result<Vec<SharedDocument>, Refusal>
         requires { IsSound D.history self.old }
         ensures looks { Looks D.history
-            (λ now found. found.items
-            ≡ take most (matching condition.now (documents_of now namespace.now)))
+            (λ now found. found.items ≡ take most
+            (order query.now.sort (matching query.now.filter (documents_of now namespace.now))))
             result self.old self.new }
         ensures within { IfOk result (λ found. All IsWithin found.items) }
     {
         let Some(home) = self.catalogued(namespace)? else {
             return Ok(Vec::new(self.alloc));
         };
-        self.selected(&home, condition, most)
+        self.ordered(&home, query, most)
     }
 }

@@ -12,12 +12,12 @@ ghost use Rattle.engine.specs.Storing.{Notes};
 ghost use Rattle.engine.specs.Unindexing.{HasKeysIn, HasOtherIndexes, HasUnindexed, IsIndexedBy, IsUnindexed, IsUnindexing, drop_at, drop_each};
 ghost use Rattle.engine.specs.View.{world};
 
-use crate::drop_indexes::first_dropped;
 use crate::engine::Engine;
 use bson::Document;
 use collections::Walk;
 use commands::DroppedIndexes;
 use index::{Catalogued, Edits, IndexSpec};
+use index_list::first_dropped;
 use page::Disk;
 use path::Refusal;
 use queries::BATCH;

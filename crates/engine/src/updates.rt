@@ -1,9 +1,7 @@
 //! `update`: documents are changed and made, statement by statement; all statements are done, or none.
 
 ghost use Rattle.std.specs.Prelude.{◌≡◌, ◌≢◌, ◌≤◌, ◌++◌, [], false, true, IfErr, IfOk, None, OnOk, All, length, map};
-ghost use Rattle.std.specs.List.{list_all};
 ghost use Rattle.std.specs.Ordering.{is_eq};
-ghost use Rattle.bson.specs.View.{tree};
 ghost use Rattle.value_order.specs.Order.{compare};
 ghost use Rattle.page.specs.History.{KeepsWord};
 ghost use Rattle.collections.specs.Reading.{IsWithinLimits};
@@ -18,6 +16,8 @@ ghost use Rattle.engine.specs.Putting.{AreWritesOf, HasNumber, IsFullFor, IsFull
 ghost use Rattle.database_model.specs.Step.{ChangesNone};
 ghost use Rattle.engine.specs.Storing.{MayEnter, Notes, entering};
 ghost use Rattle.engine.specs.Trying.{Tries};
+ghost use Rattle.index.specs.View.{texts_of};
+ghost use Rattle.queries.specs.ById.{ArePut, TellIds};
 ghost use Rattle.index.specs.Entering.{enter_each};
 ghost use Rattle.database_model.specs.UpdateCommand.{run_update};
 ghost use Rattle.statements.specs.Updating.{MayBePut, news_of, seen};
@@ -25,16 +25,16 @@ ghost use Rattle.replies.specs.View.{IsSendable};
 ghost use Rattle.engine.specs.View.{world};
 
 use crate::engine::Engine;
-use bson::{Document, NoMemory, RawDoc, Value};
+use bson::{Document, NoMemory, RawDoc};
 use commands::UpdateStatement;
 use filter::Filter;
 use index::{Catalogued, Edits};
 use page::Disk;
 use path::Refusal;
-use queries::{Selects, asked_id};
+use queries::{Selects, put_id, put_ids};
 use replies::{REPLY_LIMIT, SharedDocument};
 use statements::{
-    Ran, Tally, Write, compare_id, compare_ids, matches, read_id, run_on, unless_memory,
+    ID, Ran, Tally, Write, compare_id, compare_ids, matches, read_id, run_on, unless_memory,
     update_reply, upsert_document,
 };
 use std::alloc::Global;
@@ -143,11 +143,53 @@ fn has_id_of_raw(
     )
 }
 
-/// Whether all of these have an `_id` equal to this.
-fn all_have(made: &[Document], id: &Value) -> bool
-    ensures { result ≡ list_all (λ d. is_eq (compare (key_of d) (tree id.now))) made.now }
+/// Puts the key texts of the `_id`s that statements ask for behind others; false where one of them asks for none.
+fn put_updated(
+    alloc: Global,
+    ids: &mut Vec<Vec<u8>>,
+    statements: &[UpdateStatement],
+) -> Result<bool, NoMemory>
+    ensures put { OnOk result (ArePut (texts_of ids.old.items) (texts_of ids.new.items)) }
+    ensures tells { IfOk result (λ told. told ≡ true
+        → TellIds (is_updated statements.now) (texts_of ids.new.items)) }
 {
-    made.iter().all(|document| compare_id(document, id).is_eq())
+    'statements: for statement in statements {
+        if !put_ids(alloc, ids, &statement.filter)? {
+            return Ok(false);
+        }
+    }
+    Ok(true)
+}
+
+/// Puts the key text of a document's `_id` behind others; false where it has none, or a longer one than a stored document's.
+fn put_id_of(alloc: Global, ids: &mut Vec<Vec<u8>>, document: &Document) -> Result<bool, NoMemory>
+    ensures put { OnOk result (ArePut (texts_of ids.old.items) (texts_of ids.new.items)) }
+    ensures tells { IfOk result (λ told. told ≡ true
+        → TellIds (λ d. is_eq (compare (key_of document.now) (key_of d)))
+        (texts_of ids.new.items)) }
+{
+    match document.get(ID) {
+        Some(id) => put_id(alloc, ids, id),
+        None => Ok(false),
+    }
+}
+
+/// Puts the key texts of the `_id`s of documents behind others.
+fn put_ids_of(
+    alloc: Global,
+    ids: &mut Vec<Vec<u8>>,
+    documents: &[Document],
+) -> Result<bool, NoMemory>
+    ensures put { OnOk result (ArePut (texts_of ids.old.items) (texts_of ids.new.items)) }
+    ensures tells { IfOk result (λ told. told ≡ true
+        → TellIds (has_key_of documents.now) (texts_of ids.new.items)) }
+{
+    'documents: for document in documents {
+        if !put_id_of(alloc, ids, document)? {
+            return Ok(false);
+        }
+    }
+    Ok(true)
 }
 
 /// The documents that a statement matches, and those that have the `_id` of one that is made.
@@ -171,16 +213,11 @@ impl Selects for Meaning<'_> {
         has_id_of_raw(alloc, self.made, document)
     }
 
-    fn asked_id(&self) -> Option<&Value> {
-        let [only] = self.statements else {
-            return None;
-        };
-        let id = asked_id(&only.filter)?;
-        if all_have(self.made, id) {
-            Some(id)
-        } else {
-            None
+    fn put_ids(&self, alloc: Global, ids: &mut Vec<Vec<u8>>) -> Result<bool, NoMemory> {
+        if !put_updated(alloc, ids, self.statements)? {
+            return Ok(false);
         }
+        put_ids_of(alloc, ids, self.made)
     }
 
     fn asked_filter(&self) -> Option<&Filter> {

@@ -1,5 +1,7 @@
--- Dates as texts of ISO 8601, in the form of RFC 3339 with milliseconds at most, by the calendar of ISO 8601 (the Gregorian one).
-use Rattle.std.specs.Prelude.{ℕ, zero, suc, ◌+◌, ◌-◌, ◌/◌, ◌%◌, ◌==◌, ◌&&◌, ◌||◌, nat_lt, Bool, not, if◌then◌else◌, List, [], ◌∷◌, ◌++◌}
+-- Dates as texts of ISO 8601, in the form of RFC 3339 with milliseconds at most, by the calendar of
+-- ISO 8601 (the Gregorian one).
+use Rattle.std.specs.Prelude.{ℕ, zero, suc, ◌+◌, ◌-◌, ◌/◌, ◌%◌, ◌==◌, ◌&&◌, ◌||◌, nat_lt, Bool, not}
+use Rattle.std.specs.Prelude.{if◌then◌else◌, List, [], ◌∷◌, ◌++◌}
 use Rattle.ext_json.specs.declared.calendar.Moment.{Moment}
 
 abbrev pub is_leap : ℕ → Bool
@@ -14,11 +16,13 @@ month_len year month =
     if month == 2 then (if is_leap year then 29 else 28)
     else (if (month == 4) || (month == 6) || (month == 9) || (month == 11) then 30 else 31)
 
--- The year in which so many days from the first day of a year on lead, and how many days of it are before. The first number bounds the years.
+-- The year in which so many days from the first day of a year on lead, and how many days of it are
+-- before. The first number bounds the years.
 unfoldable pub year_from : ℕ → ℕ → ℕ → ℕ × ℕ
 year_from zero year days = (year, days)
 year_from (suc most) year days =
-    if nat_lt days (year_len year) then (year, days) else year_from most (year + 1) (days - year_len year)
+    if nat_lt days (year_len year) then (year, days)
+    else year_from most (year + 1) (days - year_len year)
 
 -- likewise the month in a year
 unfoldable pub month_from : ℕ → ℕ → ℕ → ℕ → ℕ × ℕ

@@ -1,5 +1,8 @@
--- Moments from texts: a date, a time with milliseconds at most, and `Z` or an offset (RFC 3339, section 5.6).
-use Rattle.std.specs.Prelude.{ℕ, zero, suc, ℤ, pos, neg_ℤ, ◌-ℤ◌, ◌*ℤ◌, ◌≤ℤ◌, ◌+◌, ◌-◌, ◌*◌, ◌/◌, ◌<◌, ◌==◌, ◌&&◌, nat_lt, nat_le, Bool, if◌then◌else◌, Option, Some, None, option_and_then, option_map, List, [], ◌∷◌, length, Result}
+-- Moments from texts: a date, a time with milliseconds at most, and `Z` or an offset (RFC 3339,
+-- section 5.6).
+use Rattle.std.specs.Prelude.{ℕ, zero, suc, ℤ, pos, neg_ℤ, ◌-ℤ◌, ◌*ℤ◌, ◌≤ℤ◌, ◌+◌, ◌-◌, ◌*◌, ◌/◌}
+use Rattle.std.specs.Prelude.{◌<◌, ◌==◌, ◌&&◌, nat_lt, nat_le, Bool, if◌then◌else◌, Option, Some}
+use Rattle.std.specs.Prelude.{None, option_and_then, option_map, List, [], ◌∷◌, length, Result}
 use Rattle.std.specs.Char.{is_ascii_digit}
 use Rattle.outcome.specs.Outcome.{or_refused}
 use Rattle.ext_json.specs.Calendar.{month_len}
@@ -20,7 +23,8 @@ byte_at b [] = None
 byte_at b (c ∷ s) = if c == b then Some s else None
 
 abbrev pub two_at : Part ℕ
-two_at s = option_and_then (λ a. option_map (λ b. (10 * a.0 + b.0, b.1)) (digit_at a.1)) (digit_at s)
+two_at s = option_and_then (λ a. option_map (λ b. (10 * a.0 + b.0, b.1)) (digit_at a.1))
+    (digit_at s)
 
 abbrev pub four_at : Part ℕ
 four_at s = option_and_then (λ a. option_map (λ b. (100 * a.0 + b.0, b.1)) (two_at a.1)) (two_at s)
@@ -96,7 +100,8 @@ zone_in (c ∷ s) = zone_by c s
 -- the calendar has the moment; there are no leap seconds
 abbrev pub is_moment : Moment → Bool
 is_moment m =
-    nat_le 1 m.month && (nat_le m.month 12 && (nat_le 1 m.day && (nat_le m.day (month_len m.year m.month)
+    nat_le 1 m.month
+    && (nat_le m.month 12 && (nat_le 1 m.day && (nat_le m.day (month_len m.year m.month)
     && (nat_lt m.hour 24 && (nat_lt m.minute 60 && nat_lt m.second 60)))))
 
 -- how many days so many months of a year have
@@ -104,7 +109,8 @@ unfoldable pub months_len : ℕ → ℕ → ℕ
 months_len year zero = 0
 months_len year (suc months) = months_len year months + month_len year (months + 1)
 
--- how many days there are before a year, from the beginning of the year 0 on: 365 for each, and one for each leap year
+-- how many days there are before a year, from the beginning of the year 0 on: 365 for each, and one
+-- for each leap year
 abbrev pub years_len : ℕ → ℕ
 years_len year = 365 * year + (year + 3) / 4 + (year + 399) / 400 - (year + 99) / 100
 
@@ -123,7 +129,8 @@ moment_by_zone m zone = if is_moment m
     then Some (since_1970 (millis_of m) zone) else None
 
 unfoldable pub moment_in : List ℕ → Option ℤ
-moment_in s = option_and_then (λ m. option_and_then (moment_by_zone m.0) (zone_in m.1)) (moment_at s)
+moment_in s =
+    option_and_then (λ m. option_and_then (moment_by_zone m.0) (zone_in m.1)) (moment_at s)
 
 -- the milliseconds since 1970 of a text in a wrapper
 unfoldable pub date_in : List ℕ → Result ℤ ExtJsonFault

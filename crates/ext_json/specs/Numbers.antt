@@ -1,5 +1,6 @@
 -- Whole numbers in decimal.
-use Rattle.std.specs.Prelude.{ℕ, ℤ, pos, neg_ℤ, ◌^◌, ◌==◌, ◌&&◌, nat_lt, Bool, false, not, if◌then◌else◌, List, [], ◌∷◌, length, Result, Ok}
+use Rattle.std.specs.Prelude.{ℕ, ℤ, pos, neg_ℤ, ◌^◌, ◌==◌, ◌&&◌, nat_lt, Bool, false, not}
+use Rattle.std.specs.Prelude.{if◌then◌else◌, List, [], ◌∷◌, length, Result, Ok}
 use Rattle.std.specs.List.{list_all}
 use Rattle.std.specs.Char.{is_ascii_digit}
 use Rattle.std.specs.Str.Parse.{digits_value}
@@ -21,7 +22,8 @@ is_whole (c ∷ cs) = if c == 45 then are_digits cs else are_digits (c ∷ cs)
 -- the number that they write
 unfoldable pub whole_value : List ℕ → ℤ
 whole_value [] = pos 0
-whole_value (c ∷ cs) = if c == 45 then neg_ℤ (pos (digits_value 10 cs)) else pos (digits_value 10 (c ∷ cs))
+whole_value (c ∷ cs) =
+    if c == 45 then neg_ℤ (pos (digits_value 10 cs)) else pos (digits_value 10 (c ∷ cs))
 
 abbrev pub is_int64 : ℤ → Bool
 is_int64 z = is_within (2 ^ 63) z
@@ -29,7 +31,8 @@ is_int64 z = is_within (2 ^ 63) z
 -- the number that a text is, of those that pass a test, or else this fault where it is none
 abbrev pub whole_in : (ℤ → Bool) → ExtJsonFault → List ℕ → Result ℤ ExtJsonFault
 whole_in fits fault s =
-    unless (not (is_whole s)) fault (unless (not (fits (whole_value s))) faults.Range (Ok (whole_value s)))
+    unless (not (is_whole s)) fault
+    (unless (not (fits (whole_value s))) faults.Range (Ok (whole_value s)))
 
 unfoldable pub int64_in : ExtJsonFault → List ℕ → Result ℤ ExtJsonFault
 int64_in fault s = whole_in is_int64 fault s

@@ -1,12 +1,14 @@
 -- Reading documents from tokens, from the left up to the first fault.
-use Rattle.std.specs.Prelude.{◌≡◌, ℕ, zero, suc, ◌-◌, ◌^◌, ◌==◌, ◌||◌, Bool, true, false, if◌then◌else◌, Option, Some, None, List, [], ◌∷◌, Result, Ok, Err}
+use Rattle.std.specs.Prelude.{◌≡◌, ℕ, zero, suc, ◌-◌, ◌^◌, ◌==◌, ◌||◌, Bool, true, false}
+use Rattle.std.specs.Prelude.{if◌then◌else◌, Option, Some, None, List, [], ◌∷◌, Result, Ok, Err}
 use Rattle.std.specs.List.{list_any}
 use Rattle.std.specs.Str.{bytes_eq}
 use Rattle.json.specs.Token as json
 use Rattle.json.specs.Token.{Token}
 use Rattle.json.specs.Lex.{tokens}
 use Rattle.outcome.specs.Outcome.{◌>>=◌, unless, Fails}
-use Rattle.bson.specs.Tree.{text, boolean, null, Tree, scalar, document, array, Pairs, no_pairs, pair, append, Items, no_items, item, append_items}
+use Rattle.bson.specs.Tree.{text, boolean, null, Tree, scalar, document, array, Pairs, no_pairs}
+use Rattle.bson.specs.Tree.{pair, append, Items, no_items, item, append_items}
 use Rattle.ext_json.specs.Tokens.{Parse, first, rest, key_at}
 use Rattle.ext_json.specs.Numbers.{number_tree}
 use Rattle.ext_json.specs.Wrappers.{wrapper_in}
@@ -35,7 +37,8 @@ new_name stood name =
 abbrev pub pair_by : ParseValue → Pairs → List ℕ → Parse Tree
 pair_by value done name ts = new_name (has_name done) name >>= λ _. value (first ts) (rest ts)
 
--- The pairs from this name on, or the end of the document, behind those that are done. The number bounds the turns.
+-- The pairs from this name on, or the end of the document, behind those that are done. The number
+-- bounds the turns.
 unfoldable pub pairs_by : ParseValue → ℕ → Pairs → Option (List ℕ) → Parse Pairs
 pairs_by value zero done name ts = Err faults.Syntax
 pairs_by value (suc turns) done None ts = Ok (done, ts)
@@ -60,7 +63,8 @@ unfoldable pub items_by : ParseValue → ℕ → Items → Parse Items
 items_by value zero done ts = Err faults.Syntax
 items_by value (suc turns) done ts =
     if is_end (first ts) then Ok (done, rest ts)
-    else value (first ts) (rest ts) >>= λ v. items_by value turns (append_items done (item v.0 no_items)) v.1
+    else value (first ts) (rest ts) >>= λ v. items_by value turns
+    (append_items done (item v.0 no_items)) v.1
 
 -- more turns than a text has tokens
 unfoldable pub most_turns : ℕ
@@ -92,10 +96,12 @@ value_by pairs items (json.boolean b) ts = Ok (scalar (boolean b), ts)
 value_by pairs items json.null ts = Ok (scalar null, ts)
 value_by pairs items json.bad ts = Err faults.Syntax
 
-abbrev pub as_document : Result (Pairs × List Token) ExtJsonFault → Result (Tree × List Token) ExtJsonFault
+abbrev pub as_document : Result (Pairs × List Token) ExtJsonFault
+    → Result (Tree × List Token) ExtJsonFault
 as_document read = read >>= λ p. Ok (document p.0, p.1)
 
-abbrev pub as_array : Result (Items × List Token) ExtJsonFault → Result (Tree × List Token) ExtJsonFault
+abbrev pub as_array : Result (Items × List Token) ExtJsonFault
+    → Result (Tree × List Token) ExtJsonFault
 as_array read = read >>= λ p. Ok (array p.0, p.1)
 
 -- a value where this many more levels are allowed

@@ -1,6 +1,7 @@
 -- What the law of reading back asks of a document.
 use Rattle.std.specs.Prelude.{◌≡◌, ℕ, ◌<◌, ◌^◌, Option, Some, None, List, length, Ok}
-use Rattle.bson.specs.Tree.{Tree, scalar, document, array, Pairs, no_pairs, pair, Items, no_items, item}
+use Rattle.bson.specs.Tree.{Tree, scalar, document, array, Pairs, no_pairs, pair, Items, no_items}
+use Rattle.bson.specs.Tree.{item}
 use Rattle.bson.specs.Lawful.{IsDocument}
 use Rattle.ext_json.specs.Wrappers.{wrapper_in}
 use Rattle.ext_json.specs.Written.{document_tokens, canonical_text}
@@ -26,8 +27,8 @@ abbrev mutual
   ItemsHaveNoWrapper no_items = Unit {0}
   ItemsHaveNoWrapper (item t ts) = HasNoWrapper t × ItemsHaveNoWrapper ts
 
--- Reading what canonical writing wrote gives the document back, where no document in it begins as a wrapper does, and the
--- text has fewer tokens than memory has bytes.
+-- Reading what canonical writing wrote gives the document back, where no document in it begins as a
+-- wrapper does, and the text has fewer tokens than memory has bytes.
 abbrev pub CanonicalReadsBack : Type 0
 CanonicalReadsBack = (ps : Pairs) → IsDocument ps → PairsHaveNoWrapper ps
     → length (document_tokens Canonical ps) < 2 ^ 64 → document_at (canonical_text ps) ≡ Ok ps

@@ -1,6 +1,7 @@
 -- What stands at the front of tokens.
 use Rattle.std.specs.Prelude.{ℕ, Option, Some, None, List, [], ◌∷◌, Result, Ok, Err}
-use Rattle.json.specs.Token.{Token, begin_object, end_object, begin_array, end_array, key, string, number, boolean, null, bad}
+use Rattle.json.specs.Token.{Token, begin_object, end_object, begin_array, end_array, key, string}
+use Rattle.json.specs.Token.{number, boolean, null, bad}
 use Rattle.outcome.specs.Outcome.{◌>>=◌}
 use Rattle.ext_json.specs.declared.fault.ExtJsonFault.{ExtJsonFault}
 use Rattle.ext_json.specs.declared.fault.ExtJsonFault.TheVariants as faults
@@ -18,7 +19,8 @@ abbrev pub rest : List Token → List Token
 rest [] = []
 rest (t ∷ ts) = ts
 
--- why a token can't stand where a wrapper has a value of another form: it begins no value, or one of another form
+-- why a token can't stand where a wrapper has a value of another form: it begins no value, or one
+-- of another form
 abbrev pub unfit : Token → ExtJsonFault
 unfit begin_object = faults.Wrapper
 unfit end_object = faults.Syntax

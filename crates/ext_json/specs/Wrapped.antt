@@ -1,11 +1,14 @@
 -- What stands in a wrapper (MongoDB Extended JSON v2, "Conversion table"), behind its name.
-use Rattle.std.specs.Prelude.{ℕ, ℤ, ◌+◌, ◌*◌, ◌^◌, ◌&&◌, not, if◌then◌else◌, List, codes, Result, Ok, Err}
+use Rattle.std.specs.Prelude.{ℕ, ℤ, ◌+◌, ◌*◌, ◌^◌, ◌&&◌, not, if◌then◌else◌, List, codes, Result}
+use Rattle.std.specs.Prelude.{Ok, Err}
 use Rattle.std.specs.Str.{bytes_eq}
 use Rattle.json.specs.Token as json
 use Rattle.json.specs.Token.{Token}
 use Rattle.outcome.specs.Outcome.{◌>>=◌, unless}
-use Rattle.bson.specs.Tree.{Scalar, binary, object_id, date, int32, timestamp, int64, min_key, max_key, Tree, scalar}
-use Rattle.ext_json.specs.Tokens.{Parse, first, rest, unfit, text_in, number_in, text_at, name_at, open_at, end_at}
+use Rattle.bson.specs.Tree.{Scalar, binary, object_id, date, int32, timestamp, int64, min_key}
+use Rattle.bson.specs.Tree.{max_key, Tree, scalar}
+use Rattle.ext_json.specs.Tokens.{Parse, first, rest, unfit, text_in, number_in, text_at, name_at}
+use Rattle.ext_json.specs.Tokens.{open_at, end_at}
 use Rattle.ext_json.specs.Numbers.{int32_in, int64_in, half_in}
 use Rattle.ext_json.specs.Encoded.{object_id_in, uuid_binary, binary_in}
 use Rattle.ext_json.specs.Moments.{date_in}
@@ -74,7 +77,8 @@ leaf s ts = Ok (scalar s, ts)
 unfoldable pub content_at : Wrapper → Parse Tree
 content_at wrappers.NumberInt ts = text_at ts >>= λ s. int32_in s.0 >>= λ z. leaf (int32 z) s.1
 content_at wrappers.NumberLong ts = long_at ts >>= λ z. leaf (int64 z.0) z.1
-content_at wrappers.ObjectId ts = text_at ts >>= λ s. object_id_in s.0 >>= λ id. leaf (object_id id) s.1
+content_at wrappers.ObjectId ts =
+    text_at ts >>= λ s. object_id_in s.0 >>= λ id. leaf (object_id id) s.1
 content_at wrappers.Date ts = date_at ts >>= λ z. leaf (date z.0) z.1
 content_at wrappers.Binary ts = binary_at ts >>= λ b. leaf (binary b.0.0 b.0.1) b.1
 content_at wrappers.Uuid ts = text_at ts >>= λ s. uuid_binary s.0 >>= λ b. leaf (binary b.0 b.1) s.1

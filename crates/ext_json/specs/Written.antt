@@ -1,5 +1,7 @@
--- The tokens of a document as MongoDB Extended JSON v2 (mongodb/specifications, source/extended-json), in its two forms.
-use Rattle.std.specs.Prelude.{◌≡◌, ℕ, ℤ, pos, negsuc, ◌/◌, ◌%◌, ◌^◌, nat_lt, nat_le, Bool, if◌then◌else◌, List, [], ◌∷◌, ◌++◌, codes, decimal, Result, OnOk, ⊤}
+-- The tokens of a document as MongoDB Extended JSON v2 (mongodb/specifications,
+-- source/extended-json), in its two forms.
+use Rattle.std.specs.Prelude.{◌≡◌, ℕ, ℤ, pos, negsuc, ◌/◌, ◌%◌, ◌^◌, nat_lt, nat_le, Bool}
+use Rattle.std.specs.Prelude.{if◌then◌else◌, List, [], ◌∷◌, ◌++◌, codes, decimal, Result, OnOk, ⊤}
 use Rattle.std.specs.Fmt.{signed_decimal}
 use Rattle.json.specs.Token as json
 use Rattle.json.specs.Token.{Token}
@@ -8,7 +10,9 @@ use Rattle.json.specs.Written.{Written}
 use Rattle.hex.specs.Hex.{encode_lower}
 use Rattle.base64.specs.GeneralPurpose.{encode_of}
 use Rattle.base64.specs.Engines.{standard}
-use Rattle.bson.specs.Tree.{Scalar, text, binary, object_id, boolean, date, null, int32, timestamp, int64, min_key, max_key, Tree, scalar, document, array, Pairs, no_pairs, pair, Items, no_items, item}
+use Rattle.bson.specs.Tree.{Scalar, text, binary, object_id, boolean, date, null, int32, timestamp}
+use Rattle.bson.specs.Tree.{int64, min_key, max_key, Tree, scalar, document, array, Pairs, no_pairs}
+use Rattle.bson.specs.Tree.{pair, Items, no_items, item}
 use Rattle.ext_json.specs.Calendar.{moment_of, moment_text}
 use Rattle.ext_json.specs.declared.form.Form.{Form}
 use Rattle.ext_json.specs.declared.form.Form.TheVariants.{Canonical, Relaxed}
@@ -72,7 +76,8 @@ date_tokens Relaxed z = relaxed_date z
 abbrev pub scalar_tokens : Form → Scalar → List Token
 scalar_tokens form (text s) = json.string s ∷ []
 scalar_tokens form (binary subtype bytes) = binary_tokens subtype bytes
-scalar_tokens form (object_id bytes) = wrapped (codes "$oid") (json.string (encode_lower bytes) ∷ [])
+scalar_tokens form (object_id bytes) =
+    wrapped (codes "$oid") (json.string (encode_lower bytes) ∷ [])
 scalar_tokens form (boolean b) = json.boolean b ∷ []
 scalar_tokens form (date z) = date_tokens form z
 scalar_tokens form null = json.null ∷ []
@@ -85,7 +90,8 @@ scalar_tokens form max_key = wrapped (codes "$maxKey") (json.number (codes "1") 
 unfoldable mutual
   pub tree_tokens : Form → Tree → List Token
   tree_tokens form (scalar s) = scalar_tokens form s
-  tree_tokens form (document ps) = json.begin_object ∷ (pairs_tokens form ps ++ json.end_object ∷ [])
+  tree_tokens form (document ps) =
+      json.begin_object ∷ (pairs_tokens form ps ++ json.end_object ∷ [])
   tree_tokens form (array ts) = json.begin_array ∷ (items_tokens form ts ++ json.end_array ∷ [])
 
   pub pairs_tokens : Form → Pairs → List Token
@@ -114,6 +120,7 @@ CanWrite [] = ⊤
 CanWrite (t ∷ ts) = IsPrintable t × CanWrite ts
 
 -- the tokens were put at the end of what a writer wrote
-pub record Puts {E : Type 0} (r : Result (Unit {0}) E) (old new : Written) (ts : List Token) : Type 0 where
+pub record Puts {E : Type 0} (r : Result (Unit {0}) E) (old new : Written)
+    (ts : List Token) : Type 0 where
   pub ok : OnOk r (new.tokens ≡ old.tokens ++ ts)
   pub before : new.before ≡ old.before

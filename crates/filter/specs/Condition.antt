@@ -1,5 +1,5 @@
--- A filter as it was read: conditions, each of which asks something of a document, of what a path reaches in it, or of one
--- element of an array.
+-- A filter as it was read: conditions, each of which asks something of a document, of what a path
+-- reaches in it, or of one element of an array.
 use Rattle.std.specs.Prelude.{ℕ, suc, ◌+◌, List, length}
 use Rattle.bson.specs.Tree.{Tree, Items, no_items, item}
 use Rattle.filter.specs.declared.condition.Comparison.{Comparison}
@@ -24,7 +24,8 @@ mutual
     at : List (List ℕ) → Conditions → Condition
     -- a reached value passes the predicate
     is : Predicate → Condition
-    -- a reached value is an array with one element of which the conditions hold; the second looks at documents alone
+    -- a reached value is an array with one element of which the conditions hold; the second looks
+    -- at documents alone
     element : Conditions → Condition
     element_document : Conditions → Condition
 

@@ -6,7 +6,9 @@ use base.Stored.{Gv, gnil, gnum, gcons}
 use Rattle.bson.specs.TreeCode.{coded_tree}
 use Rattle.filter.specs.declared.condition.Comparison.{Comparison}
 use Rattle.filter.specs.declared.condition.Comparison.TheVariants as comparisons
-use Rattle.filter.specs.Condition.{Predicate, equal, ordered, there, of_kinds, size, Condition, all, any, not_all, not_any, at, is, element, element_document, Conditions, no_conditions, condition}
+use Rattle.filter.specs.Condition.{Predicate, equal, ordered, there, of_kinds, size, Condition, all}
+use Rattle.filter.specs.Condition.{any, not_all, not_any, at, is, element, element_document}
+use Rattle.filter.specs.Condition.{Conditions, no_conditions, condition}
 
 abbrev head : Gv → Gv
 head gnil = gnil

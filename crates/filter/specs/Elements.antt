@@ -6,8 +6,8 @@ use Rattle.filter.specs.Condition.{Condition, is, equal, element, element_docume
 use Rattle.filter.specs.Matches.{alone, all_hold, of_document}
 use Rattle.filter.specs.Reading.{just, read_element}
 
--- an operator document, which looks at the element as it stands; another document, a filter that looks at elements
--- that are documents; or a value to be equal to
+-- an operator document, which looks at the element as it stands; another document, a filter that
+-- looks at elements that are documents; or a value to be equal to
 abbrev pub read_element_condition : Tree → Result Condition Refusal
 read_element_condition (document ps) = read_element (document ps)
 read_element_condition (array ts) = Ok (element (just (is (equal (array ts)))))

@@ -1,6 +1,8 @@
--- Whether a filter holds of a document: by cases over its conditions, from what its paths reach, from the candidates of what
--- is reached, and from the order of values. The negations are plain "not".
-use Rattle.std.specs.Prelude.{ℕ, ◌==◌, ◌&&◌, ◌||◌, not, Bool, true, false, Option, Some, None, List, [], ◌∷◌}
+-- Whether a filter holds of a document: by cases over its conditions, from what its paths reach,
+-- from the candidates of what is reached, and from the order of values. The negations are plain
+-- "not".
+use Rattle.std.specs.Prelude.{ℕ, ◌==◌, ◌&&◌, ◌||◌, not, Bool, true, false, Option, Some, None, List}
+use Rattle.std.specs.Prelude.{[], ◌∷◌}
 use Rattle.std.specs.List.{list_any}
 use Rattle.std.specs.declared.cmp.Ordering.{Ordering}
 use Rattle.std.specs.declared.cmp.Ordering.TheVariants.{Less, Equal, Greater}
@@ -9,7 +11,9 @@ use Rattle.bson.specs.Kinds.{kind, kind_byte}
 use Rattle.bson.specs.Edits.{items_len}
 use Rattle.value_order.specs.Order.{class, compare}
 use Rattle.path.specs.Reach.{Reached, reach, items_list, candidates}
-use Rattle.filter.specs.Condition.{Predicate, equal, ordered, there, of_kinds, size, Condition, all, any, not_all, not_any, at, is, element, element_document, Conditions, no_conditions, condition}
+use Rattle.filter.specs.Condition.{Predicate, equal, ordered, there, of_kinds, size, Condition, all}
+use Rattle.filter.specs.Condition.{any, not_all, not_any, at, is, element, element_document}
+use Rattle.filter.specs.Condition.{Conditions, no_conditions, condition}
 use Rattle.filter.specs.declared.condition.Comparison.{Comparison}
 use Rattle.filter.specs.declared.condition.Comparison.TheVariants as comparisons
 

@@ -5,7 +5,8 @@ use Rattle.std.specs.Option.{option_map}
 use Rattle.bson.specs.Tree.{Tree}
 use Rattle.bson.specs.View.{tree}
 use Rattle.path.specs.Reach.{Reached, reach, onwards}
-use Rattle.filter.specs.Matches.{passes, Subject, whole, along, alone, some_element, of_document, all_hold}
+use Rattle.filter.specs.Matches.{passes, Subject, whole, along, alone, some_element, of_document}
+use Rattle.filter.specs.Matches.{all_hold}
 use Rattle.filter.specs.View.{predicate_of}
 use Rattle.filter.specs.declared.matching.Subject.{Subject as Asked}
 use Rattle.filter.specs.declared.matching.Subject.TheVariants as subjects
@@ -24,7 +25,8 @@ probe_passes (probes.Element filter) one r = some_element (λ t. all_hold filter
 probe_passes (probes.ElementDocument filter) one r =
     some_element (of_document (all_hold filter.now)) r
 
--- one of what a document's field leads to passes, or Missing does where it lacks the field and isn't passed over
+-- one of what a document's field leads to passes, or Missing does where it lacks the field and
+-- isn't passed over
 abbrev pub field_passes : (Reached → Bool) → (Tree → List Reached) → Option Tree → Bool → Bool
 field_passes pass go found passes_over =
     list_any pass (onwards go found (if passes_over then [] else None ∷ []))

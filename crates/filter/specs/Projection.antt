@@ -1,8 +1,10 @@
 -- Projections: what one is, and what it leaves of a document.
-use Rattle.std.specs.Prelude.{ℕ, not, Bool, ◌&&◌, true, false, if◌then◌else◌, Option, Some, None, List, [], ◌∷◌}
+use Rattle.std.specs.Prelude.{ℕ, not, Bool, ◌&&◌, true, false, if◌then◌else◌, Option, Some, None}
+use Rattle.std.specs.Prelude.{List, [], ◌∷◌}
 use Rattle.std.specs.List.{list_any}
 use Rattle.std.specs.Str.{bytes_eq}
-use Rattle.bson.specs.Tree.{Tree, scalar, document, array, Pairs, no_pairs, pair, Items, no_items, item}
+use Rattle.bson.specs.Tree.{Tree, scalar, document, array, Pairs, no_pairs, pair, Items, no_items}
+use Rattle.bson.specs.Tree.{item}
 
 abbrev pub Path : Type 0
 Path = List (List ℕ)
@@ -29,8 +31,8 @@ is_none (path ∷ paths) = false
 abbrev pub only : Bool → Tree → Option Tree
 only b t = if b then Some t else None
 
--- Where no path says anything of a value, an inclusion drops it; where one ends there, it keeps it whole; else a part of
--- it stays. An exclusion does the opposite.
+-- Where no path says anything of a value, an inclusion drops it; where one ends there, it keeps it
+-- whole; else a part of it stays. An exclusion does the opposite.
 abbrev pub pick : Bool → List Path → Tree → Option Tree → Option Tree
 pick includes paths whole part = if is_none paths then only (not includes) whole
     else if list_any is_end paths then only includes whole else part
@@ -43,8 +45,8 @@ abbrev pub add_item : Option Tree → Items → Items
 add_item None ts = ts
 add_item (Some t) ts = item t ts
 
--- A value on the way that is no document and no array is dropped by an inclusion and kept by an exclusion. Digits are
--- plain names, and an array is gone through element by element.
+-- A value on the way that is no document and no array is dropped by an inclusion and kept by an
+-- exclusion. Digits are plain names, and an array is gone through element by element.
 module _ (includes : Bool) where
   abbrev mutual
     pub of_tree : List Path → Tree → Option Tree

@@ -1,5 +1,7 @@
 -- The projection that a document spells, or the first misuse from the left.
-use Rattle.std.specs.Prelude.{ℕ, ℤ, pos, negsuc, ◌++◌, ◌==◌, ◌&&◌, not, Bool, true, false, if◌then◌else◌, Option, Some, None, Result, Ok, Err, List, [], ◌∷◌, codes}
+use Rattle.std.specs.Prelude.{ℕ, ℤ, pos, negsuc, ◌++◌, ◌==◌, ◌&&◌, not, Bool, true, false}
+use Rattle.std.specs.Prelude.{if◌then◌else◌, Option, Some, None, Result, Ok, Err, List, [], ◌∷◌}
+use Rattle.std.specs.Prelude.{codes}
 use Rattle.std.specs.List.{list_any}
 use Rattle.std.specs.Str.{bytes_eq}
 use Rattle.bson.specs.Tree.{Tree, scalar, boolean, int32, int64, Pairs, no_pairs, pair}
@@ -32,7 +34,8 @@ abbrev pub begins_with_id : Path → Bool
 begins_with_id [] = false
 begins_with_id (name ∷ rest) = bytes_eq name (codes "_id")
 
--- what was read so far: what the fields but `_id` say, what `_id` says, and the paths of these fields
+-- what was read so far: what the fields but `_id` say, what `_id` says, and the paths of these
+-- fields
 pub record Seen : Type 0 where
   pub fields : Option Bool
   pub id : Option Bool
@@ -83,7 +86,8 @@ mode (Some b) id = b
 mode None (Some b) = b
 mode None None = false
 
--- whether `_id` is one of the paths: an inclusion keeps it, unless it says otherwise or names something in it
+-- whether `_id` is one of the paths: an inclusion keeps it, unless it says otherwise or names
+-- something in it
 abbrev pub names_id : Bool → Option Bool → List Path → Bool
 names_id true (Some b) paths = b
 names_id true None paths = not (list_any begins_with_id paths)

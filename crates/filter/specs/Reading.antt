@@ -1,7 +1,9 @@
 -- The filter that a document spells, or the first misuse from the left.
-use Rattle.std.specs.Prelude.{ℕ, if◌then◌else◌, Bool, true, false, Option, Some, None, Result, Ok, Err, List, map, codes}
+use Rattle.std.specs.Prelude.{ℕ, if◌then◌else◌, Bool, true, false, Option, Some, None, Result, Ok}
+use Rattle.std.specs.Prelude.{Err, List, map, codes}
 use Rattle.std.specs.Str.{bytes_eq}
-use Rattle.bson.specs.Tree.{Tree, scalar, null, boolean, min_key, max_key, document, array, Pairs, no_pairs, pair, Items, no_items, item}
+use Rattle.bson.specs.Tree.{Tree, scalar, null, boolean, min_key, max_key, document, array, Pairs}
+use Rattle.bson.specs.Tree.{no_pairs, pair, Items, no_items, item}
 use Rattle.bson.specs.Kinds.{kind_byte}
 use Rattle.path.specs.declared.fault.PathFault.{PathFault}
 use Rattle.path.specs.declared.refusal.Refusal.{Refusal}
@@ -13,7 +15,9 @@ use Rattle.filter.specs.declared.operator.Operator.{Operator}
 use Rattle.filter.specs.declared.operator.Operator.TheVariants as operators
 use Rattle.filter.specs.declared.condition.Comparison.{Comparison}
 use Rattle.filter.specs.declared.condition.Comparison.TheVariants as comparisons
-use Rattle.filter.specs.Condition.{equal, ordered, there, of_kinds, size, Condition, all, any, not_all, not_any, at, is, element, element_document, Conditions, no_conditions, condition, equals}
+use Rattle.filter.specs.Condition.{equal, ordered, there, of_kinds, size, Condition, all, any}
+use Rattle.filter.specs.Condition.{not_all, not_any, at, is, element, element_document, Conditions}
+use Rattle.filter.specs.Condition.{no_conditions, condition, equals}
 use Rattle.filter.specs.Words.{operator_of, all_kinds, size_in}
 
 -- ---- names and operands

@@ -1,6 +1,10 @@
--- Rows worked by hand: what filters hold of, the order of a sort, what projections leave, and what is refused.
-use Rattle.std.specs.Prelude.{◌≡◌, ℕ, pos, negsuc, zero, Bool, true, false, List, [], ◌∷◌, map, codes, Result, Ok, Err}
-use Rattle.bson.specs.Tree.{Tree, scalar, text, binary, object_id, boolean, date, null, int32, timestamp, int64, min_key, max_key, document, array, Pairs, no_pairs, pair, no_items, item}
+-- Rows worked by hand: what filters hold of, the order of a sort, what projections leave, and what
+-- is refused.
+use Rattle.std.specs.Prelude.{◌≡◌, ℕ, pos, negsuc, zero, Bool, true, false, List, [], ◌∷◌, map}
+use Rattle.std.specs.Prelude.{codes, Result, Ok, Err}
+use Rattle.bson.specs.Tree.{Tree, scalar, text, binary, object_id, boolean, date, null, int32}
+use Rattle.bson.specs.Tree.{timestamp, int64, min_key, max_key, document, array, Pairs, no_pairs}
+use Rattle.bson.specs.Tree.{pair, no_items, item}
 use Rattle.path.specs.declared.refusal.Refusal.{Refusal}
 use Rattle.path.specs.declared.refusal.Refusal.TheVariants as refusals
 use Rattle.path.specs.Edits.{if_ok}
@@ -34,7 +38,9 @@ double t u = array (item t (item u no_items))
 
 -- no field `a`, null, an empty array, an array of null, of 1, and 5
 abbrev pub six : List Pairs
-six = no_pairs ∷ one (codes "a") nothing ∷ one (codes "a") (array no_items) ∷ one (codes "a") (single nothing) ∷ one (codes "a") (single (number 1)) ∷ one (codes "a") (number 5) ∷ []
+six = no_pairs ∷ one (codes "a") nothing ∷ one (codes "a") (array no_items)
+    ∷ one (codes "a") (single nothing) ∷ one (codes "a") (single (number 1))
+    ∷ one (codes "a") (number 5) ∷ []
 
 abbrev pub answers : Pairs → Result (List Bool) Refusal
 answers filter = if_ok (read_filter filter) (λ conditions. Ok (map (matches conditions) six))
@@ -52,11 +58,15 @@ abbrev pub MatchRows : Type 0
 MatchRows =
     (answers (one (codes "a") nothing) ≡ Ok (true ∷ true ∷ false ∷ true ∷ false ∷ false ∷ []))
     × (answers (one (codes "a.b") nothing) ≡ Ok (true ∷ true ∷ false ∷ false ∷ false ∷ true ∷ []))
-    × (answers (one (codes "a") (asks (codes "$exists") (scalar (boolean false)))) ≡ Ok (true ∷ false ∷ false ∷ false ∷ false ∷ false ∷ []))
-    × (answers (one (codes "a") (asks (codes "$ne") nothing)) ≡ Ok (false ∷ false ∷ true ∷ false ∷ true ∷ true ∷ []))
-    × (answers (one (codes "a.b") (asks (codes "$ne") nothing)) ≡ Ok (false ∷ false ∷ true ∷ true ∷ true ∷ false ∷ []))
+    × (answers (one (codes "a") (asks (codes "$exists") (scalar (boolean false))))
+    ≡ Ok (true ∷ false ∷ false ∷ false ∷ false ∷ false ∷ []))
+    × (answers (one (codes "a") (asks (codes "$ne") nothing))
+    ≡ Ok (false ∷ false ∷ true ∷ false ∷ true ∷ true ∷ []))
+    × (answers (one (codes "a.b") (asks (codes "$ne") nothing))
+    ≡ Ok (false ∷ false ∷ true ∷ true ∷ true ∷ false ∷ []))
     × (answer (one (codes "a") between) (one (codes "a") (double (number 0) (number 9))) ≡ Ok true)
-    × (answer (one (codes "a") (asks (codes "$elemMatch") between)) (one (codes "a") (double (number 0) (number 9))) ≡ Ok false)
+    × (answer (one (codes "a") (asks (codes "$elemMatch") between))
+    (one (codes "a") (double (number 0) (number 9))) ≡ Ok false)
 
 abbrev pub refused : Pairs → Refusal → Type 0
 refused filter e = read_filter filter ≡ Err e
@@ -65,7 +75,8 @@ abbrev pub RefusalRows : Type 0
 RefusalRows =
     refused (one (codes "$foo") (number 1)) refusals.DollarPrefixedFieldName
     × refused (one (codes "a") (asks (codes "$foo") (number 1))) refusals.BadValue
-    × refused (one (codes "a") (document (two (codes "$gt") (number 1) (codes "b") (number 2)))) refusals.BadValue
+    × refused (one (codes "a") (document (two (codes "$gt") (number 1) (codes "b") (number 2))))
+    refusals.BadValue
     × refused (one (codes "a") (asks (codes "$gt") nothing)) refusals.BadValue
     × refused (one (codes "$and") (array no_items)) refusals.BadValue
     × refused (one (codes "a..b") (number 1)) refusals.EmptyFieldName
@@ -132,12 +143,16 @@ abbrev pub sixteen : List Pairs
 sixteen = d1 ∷ d2 ∷ d3 ∷ d4 ∷ d5 ∷ d6 ∷ d7 ∷ d8 ∷ d9 ∷ d10 ∷ d11 ∷ d12 ∷ d13 ∷ d14 ∷ d15 ∷ d16 ∷ []
 
 abbrev pub sorted_by : Tree → Result (List Pairs) Refusal
-sorted_by direction = if_ok (read_sort (one (codes "v") direction)) (λ fields. Ok (order fields sixteen))
+sorted_by direction =
+    if_ok (read_sort (one (codes "v") direction)) (λ fields. Ok (order fields sixteen))
 
 abbrev pub SortRows : Type 0
 SortRows =
-    (sorted_by (number 1) ≡ Ok (d13 ∷ d7 ∷ d12 ∷ d14 ∷ d15 ∷ d10 ∷ d11 ∷ d9 ∷ d8 ∷ d16 ∷ d6 ∷ d5 ∷ d4 ∷ d3 ∷ d2 ∷ d1 ∷ []))
-    × (sorted_by (scalar (int32 (negsuc zero))) ≡ Ok (d1 ∷ d2 ∷ d3 ∷ d4 ∷ d5 ∷ d6 ∷ d16 ∷ d8 ∷ d9 ∷ d15 ∷ d10 ∷ d11 ∷ d12 ∷ d14 ∷ d7 ∷ d13 ∷ []))
+    (sorted_by (number 1) ≡ Ok
+    (d13 ∷ d7 ∷ d12 ∷ d14 ∷ d15 ∷ d10 ∷ d11 ∷ d9 ∷ d8 ∷ d16 ∷ d6 ∷ d5 ∷ d4 ∷ d3 ∷ d2 ∷ d1 ∷ []))
+    × (sorted_by (scalar (int32 (negsuc zero)))
+    ≡ Ok (d1 ∷ d2 ∷ d3 ∷ d4 ∷ d5 ∷ d6 ∷ d16 ∷ d8 ∷ d9 ∷ d15 ∷ d10 ∷ d11 ∷ d12 ∷ d14 ∷ d7 ∷ d13
+    ∷ []))
     × (read_sort (one (codes "a") (number 2)) ≡ Err refusals.BadValue)
     × (read_sort (one (codes "a") nothing) ≡ Err refusals.TypeMismatch)
 
@@ -147,7 +162,9 @@ SortRows =
 abbrev pub nested : Pairs
 nested =
     pair (codes "_id") (number 1)
-    (two (codes "a") (array (item (document (two (codes "b") (number 1) (codes "c") (number 2))) (item (number 3) (item (single (document (one (codes "b") (number 4)))) no_items))))
+    (two (codes "a")
+    (array (item (document (two (codes "b") (number 1) (codes "c") (number 2)))
+    (item (number 3) (item (single (document (one (codes "b") (number 4)))) no_items))))
     (codes "d") (number 5))
 
 abbrev pub leaves : Pairs → Result Pairs Refusal
@@ -156,14 +173,20 @@ leaves projection = if_ok (read_projection projection) (λ p. Ok (project p nest
 abbrev pub ProjectionRows : Type 0
 ProjectionRows =
     (leaves (one (codes "a.b") (number 1))
-    ≡ Ok (two (codes "_id") (number 1) (codes "a") (double (document (one (codes "b") (number 1))) (single (document (one (codes "b") (number 4)))))))
+    ≡ Ok (two (codes "_id") (number 1) (codes "a")
+    (double (document (one (codes "b") (number 1)))
+    (single (document (one (codes "b") (number 4)))))))
     × (leaves (one (codes "a.b") (number 0))
     ≡ Ok (pair (codes "_id") (number 1)
-    (two (codes "a") (array (item (document (one (codes "c") (number 2))) (item (number 3) (item (single (document no_pairs)) no_items)))) (codes "d") (number 5))))
+    (two (codes "a")
+    (array (item (document (one (codes "c") (number 2)))
+    (item (number 3) (item (single (document no_pairs)) no_items)))) (codes "d") (number 5))))
     × (leaves no_pairs ≡ Ok nested)
-    × (leaves (two (codes "d") (scalar (boolean true)) (codes "_id") (number 0)) ≡ Ok (one (codes "d") (number 5)))
+    × (leaves (two (codes "d") (scalar (boolean true)) (codes "_id") (number 0))
+    ≡ Ok (one (codes "d") (number 5)))
     × (leaves (one (codes "_id") (number 1)) ≡ Ok (one (codes "_id") (number 1)))
-    × (leaves (two (codes "a") (number 0) (codes "_id") (number 0)) ≡ Ok (one (codes "d") (number 5)))
+    × (leaves (two (codes "a") (number 0) (codes "_id") (number 0))
+    ≡ Ok (one (codes "d") (number 5)))
     × (leaves (two (codes "a") (number 1) (codes "d") (number 0)) ≡ Err refusals.BadValue)
     × (leaves (two (codes "a") (number 1) (codes "a.b") (number 1)) ≡ Err refusals.BadValue)
     × (leaves (one (codes "a") nothing) ≡ Err refusals.TypeMismatch)

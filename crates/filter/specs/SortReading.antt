@@ -1,5 +1,6 @@
 -- The sort that a document spells, or the first misuse from the left.
-use Rattle.std.specs.Prelude.{ℕ, ℤ, pos, negsuc, zero, suc, ◌==◌, Bool, true, false, if◌then◌else◌, Result, Ok, Err, List, [], ◌∷◌}
+use Rattle.std.specs.Prelude.{ℕ, ℤ, pos, negsuc, zero, suc, ◌==◌, Bool, true, false, if◌then◌else◌}
+use Rattle.std.specs.Prelude.{Result, Ok, Err, List, [], ◌∷◌}
 use Rattle.bson.specs.Tree.{Tree, scalar, int32, int64, Pairs, no_pairs, pair}
 use Rattle.path.specs.declared.refusal.Refusal.{Refusal}
 use Rattle.path.specs.declared.refusal.Refusal.TheVariants as refusals

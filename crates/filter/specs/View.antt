@@ -1,9 +1,11 @@
--- What the types of the crate stand for. A `Filter` is its `Conditions`; `condition_of` and `predicate_of` say what a `Condition` and a
--- `Predicate` are.
+-- What the types of the crate stand for. A `Filter` is its `Conditions`; `condition_of` and
+-- `predicate_of` say what a `Condition` and a `Predicate` are.
 use Rattle.std.specs.Prelude.{List, [], ◌∷◌, map}
 use Rattle.bson.specs.Kinds.{kind_byte}
 use Rattle.bson.specs.View.{tree}
-use Rattle.filter.specs.Condition.{Predicate, equal, ordered, there, of_kinds, size, Condition, all, any, not_all, not_any, at, is, element, element_document, Conditions, no_conditions, condition}
+use Rattle.filter.specs.Condition.{Predicate, equal, ordered, there, of_kinds, size, Condition, all}
+use Rattle.filter.specs.Condition.{any, not_all, not_any, at, is, element, element_document}
+use Rattle.filter.specs.Condition.{Conditions, no_conditions, condition}
 use Rattle.filter.specs.declared.condition.Predicate.{Predicate as Asked}
 use Rattle.filter.specs.declared.condition.Predicate.TheVariants as predicates
 use Rattle.filter.specs.declared.condition.Condition.{Condition as Made}

@@ -1,8 +1,12 @@
--- The definition of a free page, and what holds of every book: each page that was retired and isn't free yet is listed once, with its
--- version. So the pages that may be taken are those that the definition calls free.
-use Rattle.std.specs.Prelude.{◌≡◌, ℕ, ◌+◌, ◌<◌, Bool, true, false, not, ◌&&◌, ◌==◌, nat_lt, if◌then◌else◌, List, [], ◌∷◌, length, get_or, Some, None}
+-- The definition of a free page, and what holds of every book: each page that was retired and isn't
+-- free yet is listed once, with its version. So the pages that may be taken are those that the
+-- definition calls free.
+use Rattle.std.specs.Prelude.{◌≡◌, ℕ, ◌+◌, ◌<◌, Bool, true, false, not, ◌&&◌, ◌==◌, nat_lt}
+use Rattle.std.specs.Prelude.{if◌then◌else◌, List, [], ◌∷◌, length, get_or, Some, None}
 use Rattle.std.specs.List.{list_all}
-use Rattle.freelist.specs.Book.{Book, opened, is_free, is_in_use, is_pinned, least_free, retired_in, kept, taken, refused, retired, committed, pinned, unpinned, undone, CanRewind}
+use Rattle.freelist.specs.Book.{Book, opened, is_free, is_in_use, is_pinned, least_free, retired_in}
+use Rattle.freelist.specs.Book.{kept, taken, refused, retired, committed, pinned, unpinned, undone}
+use Rattle.freelist.specs.Book.{CanRewind}
 use Rattle.freelist.specs.declared.states.PageState.{PageState}
 use Rattle.freelist.specs.declared.states.PageState.TheVariants as states
 use Rattle.freelist.specs.declared.turns.Retirement.{Retirement}
@@ -15,7 +19,8 @@ abbrev pub times : ℕ → List Retirement → ℕ
 times page [] = 0
 times page (r ∷ rest) = one_of page r + times page rest
 
--- The running turn retired the page, or an earlier one did at a version not older than the oldest pin.
+-- The running turn retired the page, or an earlier one did at a version not older than the oldest
+-- pin.
 abbrev pub waits : Book → ℕ → Bool
 waits b page =
     nat_lt 0 (times page (retired_in b.turn) + times page (kept b.pins b.waiting))

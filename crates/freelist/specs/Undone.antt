@@ -17,8 +17,8 @@ after [] b = b
 after (take ∷ calls) b = after calls (given (least_free b.states) b)
 after (retire page version ∷ calls) b = after calls (retired page version b)
 
--- Whatever was taken and retired since a mark: undoing to it gives the book of the mark, but for the count of takes that found
--- no page.
+-- Whatever was taken and retired since a mark: undoing to it gives the book of the mark, but for
+-- the count of takes that found no page.
 abbrev pub UndoingLeadsBack : Type 0
 UndoingLeadsBack = (b : Book) (calls : List Call)
     → undone (length b.turn) (after calls b)

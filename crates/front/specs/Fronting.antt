@@ -1,5 +1,6 @@
 -- What a front hands out, of which sockets.
-use Rattle.std.specs.Prelude.{◌≡◌, ℕ, ◌+◌, Bool, if◌then◌else◌, List, [], ◌∷◌, ◌++◌, map, slice_set, slice_index_or, length, ◌<◌, Option, Some, None, Vec}
+use Rattle.std.specs.Prelude.{◌≡◌, ℕ, ◌+◌, Bool, if◌then◌else◌, List, [], ◌∷◌, ◌++◌, map, slice_set}
+use Rattle.std.specs.Prelude.{slice_index_or, length, ◌<◌, Option, Some, None, Vec}
 use Rattle.front.specs.declared.socket.Socket.{Socket}
 use Rattle.front.specs.Serving.{fed, fresh}
 
@@ -24,8 +25,10 @@ closed_from i (s ∷ ss) = closing i s.is_over ++ closed_from (i + 1) ss
 abbrev pub answered : Socket → Socket
 answered s = record s { answer = None }
 
--- A turn hands out the answers that are ready, one of a socket at most and in rising number, and closes the sockets that are to be closed.
-pub record HandsOut (replies : List (ℕ × List ℕ)) (closed : List ℕ) (new : List Socket) : Type 0 where
+-- A turn hands out the answers that are ready, one of a socket at most and in rising number, and
+-- closes the sockets that are to be closed.
+pub record HandsOut (replies : List (ℕ × List ℕ)) (closed : List ℕ)
+    (new : List Socket) : Type 0 where
   pub ready : List Socket
   pub answers : replies ≡ answers_from 0 ready
   pub given : new ≡ map answered ready

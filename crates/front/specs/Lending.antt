@@ -1,5 +1,6 @@
 -- Which connections of a server are lent, and what for. A connection without a loan is at rest.
-use Rattle.std.specs.Prelude.{◌≡◌, ℕ, zero, suc, Bool, ◌==◌, nat_lt, if◌then◌else◌, is_none, ◌⊎◌, List, slice_index_or, Option, Some, None}
+use Rattle.std.specs.Prelude.{◌≡◌, ℕ, zero, suc, Bool, ◌==◌, nat_lt, if◌then◌else◌, is_none, ◌⊎◌}
+use Rattle.std.specs.Prelude.{List, slice_index_or, Option, Some, None}
 use Rattle.front.specs.declared.lending.Loan.{Loan}
 
 -- what a connection is lent for

@@ -1,5 +1,6 @@
 -- What is done with one socket.
-use Rattle.std.specs.Prelude.{◌≡◌, ◌≢◌, ℕ, Bool, false, not, ◌&&◌, ◌||◌, is_some, ◌++◌, List, [], length, slice_index_or, Option, Some, None}
+use Rattle.std.specs.Prelude.{◌≡◌, ◌≢◌, ℕ, Bool, false, not, ◌&&◌, ◌||◌, is_some, ◌++◌, List, []}
+use Rattle.std.specs.Prelude.{length, slice_index_or, Option, Some, None}
 use Rattle.drivers.specs.Incoming.{whole_at, is_waiting}
 use Rattle.front.specs.declared.socket.Socket.{Socket}
 
@@ -16,7 +17,8 @@ fresh = record {
 abbrev pub fed : Socket → List ℕ → Socket
 fed socket bytes = record socket { incoming = socket.incoming ++ bytes }
 
--- a turn would do something with it: a message is worked on, or stands at the front, or a fault does
+-- a turn would do something with it: a message is worked on, or stands at the front, or a fault
+-- does
 abbrev pub waits : Socket → Bool
 waits socket = not socket.is_over && (is_some socket.job || is_waiting (whole_at socket.incoming))
 

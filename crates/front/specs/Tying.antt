@@ -1,5 +1,7 @@
--- That loans and sockets are tied: whoever a connection is lent to waits for the reply, and no socket has two connections.
-use Rattle.std.specs.Prelude.{◌≡◌, ◌<◌, ◌⊎◌, ℕ, Bool, true, false, List, length, slice_set, slice_index_or, Option, Some, None}
+-- That loans and sockets are tied: whoever a connection is lent to waits for the reply, and no
+-- socket has two connections.
+use Rattle.std.specs.Prelude.{◌≡◌, ◌<◌, ◌⊎◌, ℕ, Bool, true, false, List, length, slice_set}
+use Rattle.std.specs.Prelude.{slice_index_or, Option, Some, None}
 use Rattle.front.specs.Lending.{loan_at, borrower}
 use Rattle.front.specs.declared.job.Job.{Job}
 use Rattle.front.specs.declared.job.Stage.{Stage}
@@ -30,7 +32,8 @@ pub record IsLent (socket : Option ℕ) (old new : List (Option Loan)) : Type 0 
   pub rest : loan_at old id ≡ None
   pub lent : new ≡ slice_set old id (Some loan)
 
--- Nothing is lent, and a socket that waits for a reply goes on waiting; or a connection is lent to the socket, which begins to wait.
+-- Nothing is lent, and a socket that waits for a reply goes on waiting; or a connection is lent to
+-- the socket, which begins to wait.
 abbrev pub Asks : ℕ → List (Option Loan) → List (Option Loan) → Socket → Socket → Type 0
 Asks number old new before after =
     ((new ≡ old) × (is_asked before.job ≡ true → is_asked after.job ≡ true))

@@ -11,7 +11,7 @@ use crate::lending::Lending;
 use crate::serving::{end_cursor, serve_socket, take_closed, take_reply};
 use crate::socket::Socket;
 use bson::{MESSAGE_LIMIT, NoMemory};
-use drivers::ServerInfo;
+use drivers::{FreshIds, ServerInfo};
 use engine::ConnId;
 use op_msg::FrameFault;
 use page::Disk;
@@ -27,6 +27,9 @@ const MOST_ENDS: u8 = 16;
 /// The most bytes of a document.
 const MOST_DOCUMENT_BYTES: i32 = 65_535;
 
+/// How many object ids a message may need: one for each of its statements.
+const MOST_IDS: u64 = 1_000;
+
 /// A server with up to 1,024 sockets of drivers before its 64 connections.
 #[derive(Drop)]
 pub struct Front<C: Clock, D: Disk> {
@@ -37,6 +40,8 @@ pub struct Front<C: Clock, D: Disk> {
     cursors: OpenCursors,
     // the socket that is served first in the next turn
     first: usize,
+    // where the object ids of the next message begin
+    next_id: u64,
 }
 
 impl<C: Clock + Drop, D: Disk + Drop> Front<C, D> {
@@ -47,6 +52,7 @@ impl<C: Clock + Drop, D: Disk + Drop> Front<C, D> {
         ensures tied { IfOk result (λ front. AreTied front.lending.loans front.sockets.items) }
     {
         let alloc = core.allocator();
+        let next_id = first_id(&clock);
         Ok(Front {
             clock,
             core,
@@ -54,6 +60,7 @@ impl<C: Clock + Drop, D: Disk + Drop> Front<C, D> {
             lending: Lending::new(),
             cursors: OpenCursors::new(alloc),
             first: 0,
+            next_id,
         })
     }
 
@@ -83,7 +90,7 @@ impl<C: Clock + Drop, D: Disk + Drop> Front<C, D> {
                 self.first = number;
                 return;
             }
-            let info = info(number, time);
+            let info = info(number, time, fresh_ids(&mut self.next_id, time));
             let socket = &mut self.sockets[number];
             serve_socket(
                 &mut self.core,
@@ -235,8 +242,29 @@ fn new_sockets(alloc: Global) -> Result<Vec<Socket>, NoMemory> {
     Ok(sockets)
 }
 
-/// What a handshake on a socket tells of the server.
-fn info(number: usize, time: i64) -> ServerInfo
+/// Where object ids begin: at the nanoseconds since 1970. More of them go by than messages take ids, so a server that is started again
+/// begins behind those that it gave.
+fn first_id<C: Clock>(clock: &C) -> u64 {
+    match clock.since_1970() {
+        Ok(time) => u64::try_from(time.as_millis())
+            .unwrap_or(0)
+            .wrapping_mul(1_000_000),
+        Err(_) => 0,
+    }
+}
+
+/// The object ids of a message.
+fn fresh_ids(next: &mut u64, time: i64) -> FreshIds {
+    let number = *next;
+    *next = number.wrapping_add(MOST_IDS);
+    FreshIds {
+        seconds: u32::try_from(time / 1000).unwrap_or(0),
+        number,
+    }
+}
+
+/// What is to be known of the server for a message of a socket.
+fn info(number: usize, time: i64, ids: FreshIds) -> ServerInfo
     requires { number < 1024 }
 {
     ServerInfo {
@@ -244,6 +272,7 @@ fn info(number: usize, time: i64) -> ServerInfo
         most_message_bytes: MESSAGE_LIMIT as i32,
         connection: number as i32,
         time,
+        ids,
     }
 }
 

@@ -1,5 +1,7 @@
--- A definition as the catalogue keeps it: a document of its number, its name, its key, and whether it is unique and multikey.
-use Rattle.std.specs.Prelude.{ℕ, pos, negsuc, zero, suc, nat_lt, ◌||◌, ◌&&◌, Bool, Option, Some, None, List, [], ◌∷◌, length, codes, if◌then◌else◌, Ok, Err, Result}
+-- A definition as the catalogue keeps it: a document of its number, its name, its key, and whether
+-- it is unique and multikey.
+use Rattle.std.specs.Prelude.{ℕ, pos, negsuc, zero, suc, nat_lt, ◌||◌, ◌&&◌, Bool, Option, Some}
+use Rattle.std.specs.Prelude.{None, List, [], ◌∷◌, length, codes, if◌then◌else◌, Ok, Err, Result}
 use Rattle.std.specs.Option.{option_and_then, option_map}
 use Rattle.std.specs.Str.{bytes_eq}
 use Rattle.bson.specs.Tree.{Tree, scalar, int32, text, boolean, document, Pairs, no_pairs, pair}
@@ -11,8 +13,11 @@ use Rattle.index.specs.Naming.{field_named}
 
 abbrev pub spelled : Definition → Pairs
 spelled d =
-    pair (codes "i") (scalar (int32 (pos d.number))) (pair (codes "name") (scalar (text d.name)) (pair (codes "key") (document (key_document d.fields))
-    (pair (codes "unique") (scalar (boolean d.is_unique)) (pair (codes "multi") (scalar (boolean d.is_multi)) no_pairs))))
+    pair (codes "i") (scalar (int32 (pos d.number)))
+    (pair (codes "name") (scalar (text d.name))
+    (pair (codes "key") (document (key_document d.fields))
+    (pair (codes "unique") (scalar (boolean d.is_unique))
+    (pair (codes "multi") (scalar (boolean d.is_multi)) no_pairs))))
 
 -- ---- the way back
 
@@ -47,7 +52,8 @@ field_in name t = option_and_then (λ way. if_named (field_named name way)) (dir
 
 abbrev pub fields_in : Pairs → Option (List Field)
 fields_in no_pairs = Some []
-fields_in (pair name t ps) = option_and_then (λ f. option_map (λ fs. f ∷ fs) (fields_in ps)) (field_in name t)
+fields_in (pair name t ps) =
+    option_and_then (λ f. option_map (λ fs. f ∷ fs) (fields_in ps)) (field_in name t)
 
 -- one to four fields
 abbrev pub counted : List Field → Option (List Field)
@@ -57,17 +63,21 @@ abbrev pub key_in : Tree → Option (List Field)
 key_in (document ps) = option_and_then counted (fields_in ps)
 key_in t = None
 
-abbrev pub all_of : Option ℕ → Option (List ℕ) → Option (List Field) → Option Bool → Option Bool → Option Definition
+abbrev pub all_of : Option ℕ → Option (List ℕ) → Option (List Field) → Option Bool → Option Bool
+    → Option Definition
 all_of (Some n) (Some s) (Some fs) (Some u) (Some m) =
     Some (record { number = n; name = s; fields = fs; is_unique = u; is_multi = m })
 all_of n s fs u m = None
 
 abbrev pub are_names : List ℕ → List ℕ → List ℕ → List ℕ → List ℕ → Bool
 are_names i n k u m =
-    bytes_eq i (codes "i") && (bytes_eq n (codes "name") && (bytes_eq k (codes "key") && (bytes_eq u (codes "unique") && bytes_eq m (codes "multi"))))
+    bytes_eq i (codes "i")
+    && (bytes_eq n (codes "name")
+    && (bytes_eq k (codes "key") && (bytes_eq u (codes "unique") && bytes_eq m (codes "multi"))))
 
 -- the definition that a document spells, if it spells one
 abbrev pub definition_in : Pairs → Option Definition
 definition_in (pair i t (pair n v (pair k w (pair u x (pair m y no_pairs))))) =
-    if are_names i n k u m then all_of (number_in t) (name_in v) (key_in w) (truth_in x) (truth_in y) else None
+    if are_names i n k u m
+    then all_of (number_in t) (name_in v) (key_in w) (truth_in x) (truth_in y) else None
 definition_in ps = None

@@ -13,4 +13,5 @@ item_in t = None
 -- those that the items of an array spell, if each of them spells one
 abbrev pub definitions_in : Items → Option (List Definition)
 definitions_in no_items = Some []
-definitions_in (item t ts) = option_and_then (λ d. option_map (λ ds. d ∷ ds) (definitions_in ts)) (item_in t)
+definitions_in (item t ts) =
+    option_and_then (λ d. option_map (λ ds. d ∷ ds) (definitions_in ts)) (item_in t)

@@ -12,6 +12,7 @@ IsAscending keys = IsStrictlySortedBy bytes_cmp keys
 abbrev pub is_among : List (List ℕ) → List ℕ → Bool
 is_among keys key = list_any (eq_by_cmp bytes_cmp key) keys
 
--- The keys that are none of the others: those of the old document without the new one's are removed, the other way round they are added.
+-- The keys that are none of the others: those of the old document without the new one's are
+-- removed, the other way round they are added.
 abbrev pub without : List (List ℕ) → List (List ℕ) → List (List ℕ)
 without keys others = filter (λ key. not (is_among others key)) keys

@@ -1,5 +1,6 @@
--- What defines an index (MongoDB manual, "Compound Indexes" and "Multikey Indexes"): its number in the collection, its name, its paths with
--- their directions, whether no two documents may have one key in it, and whether a document with an array on one of its paths was stored.
+-- What defines an index (MongoDB manual, "Compound Indexes" and "Multikey Indexes"): its number in
+-- the collection, its name, its paths with their directions, whether no two documents may have one
+-- key in it, and whether a document with an array on one of its paths was stored.
 use Rattle.std.specs.Prelude.{◌≡◌, ◌≤◌, ℕ, pos, negsuc, Bool, List, [], ◌∷◌, length, Ok, IsUtf8}
 use Rattle.std.specs.List.{AllByRecursion}
 use Rattle.bson.specs.Tree.{Tree, scalar, int32, Pairs, no_pairs, pair}

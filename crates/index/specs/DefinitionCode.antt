@@ -22,13 +22,16 @@ direction_code = code_by Bool coded_bool is_descending direction_by back
 
 abbrev pub field_code : Coded Field
 field_code =
-    code_by (List ℕ × Direction) (coded× (coded_list coded_ℕ) direction_code) (λ f. (f.path, f.direction))
+    code_by (List ℕ × Direction) (coded× (coded_list coded_ℕ) direction_code)
+    (λ f. (f.path, f.direction))
     (λ p. record { path = p.0; direction = p.1 }) (λ _. refl)
 
 abbrev pub definition_code : Coded Definition
 definition_code =
     code_by (ℕ × (List ℕ × (List Field × (Bool × Bool))))
-    (coded× coded_ℕ (coded× (coded_list coded_ℕ) (coded× (coded_list field_code) (coded× coded_bool coded_bool))))
+    (coded× coded_ℕ
+    (coded× (coded_list coded_ℕ) (coded× (coded_list field_code) (coded× coded_bool coded_bool))))
     (λ d. (d.number, (d.name, (d.fields, (d.is_unique, d.is_multi)))))
-    (λ p. record { number = p.0; name = p.1.0; fields = p.1.1.0; is_unique = p.1.1.1.0; is_multi = p.1.1.1.1 })
+    (λ p. record
+    { number = p.0; name = p.1.0; fields = p.1.1.0; is_unique = p.1.1.1.0; is_multi = p.1.1.1.1 })
     (λ _. refl)

@@ -1,10 +1,13 @@
--- What puts and removals of collections make of a state, and those of documents of one without indexes.
-use Rattle.std.specs.Prelude.{◌≡◌, ℕ, ◌<◌, false, if◌then◌else◌, List, [], ◌∷◌, length, Some, None, All}
+-- What puts and removals of collections make of a state, and those of documents of one without
+-- indexes.
+use Rattle.std.specs.Prelude.{◌≡◌, ℕ, ◌<◌, false, if◌then◌else◌, List, [], ◌∷◌, length, Some, None}
+use Rattle.std.specs.Prelude.{All}
 use Rattle.std.specs.Ordering.{is_eq}
 use Rattle.bson.specs.Tree.{Tree, Pairs}
 use Rattle.value_order.specs.Order.{compare}
 use Rattle.btree.specs.Keys.{Edit}
-use Rattle.index.specs.State.{Collection, by_order, key_of, empty_collection, find_collection, uses, put_collection, without_collection}
+use Rattle.index.specs.State.{Collection, by_order, key_of, empty_collection, find_collection, uses}
+use Rattle.index.specs.State.{put_collection, without_collection}
 use Rattle.index.specs.StateEntries.{Leads}
 use Rattle.index.specs.LawfulState.{IsLawfulState}
 
@@ -34,20 +37,22 @@ pub record IsUnindexed (cs : List Collection) : Type 0 where
   pub lawful : IsLawfulState cs
   pub plain : All (λ c. c.indexes ≡ []) cs
 
--- Wherever the old edits lead to such a state with a collection of this number, the new ones lead to such a state with other documents in it.
+-- Wherever the old edits lead to such a state with a collection of this number, the new ones lead
+-- to such a state with other documents in it.
 abbrev pub ChangesDocuments : List Edit → List Edit → ℕ → (List Pairs → List Pairs) → Type 0
 ChangesDocuments old new number f =
     (a b : List Collection) (c : Collection) → Leads old a b → IsUnindexed b
     → find_collection b c.name ≡ Some c → c.number ≡ number
     → let after = with_documents c (f c.documents) b in Leads new a after × IsUnindexed after
 
--- Wherever the old edits lead to a lawful state, the new ones lead to one with an empty collection more, where its name and its number are new
--- and there is room.
+-- Wherever the old edits lead to a lawful state, the new ones lead to one with an empty collection
+-- more, where its name and its number are new and there is room.
 abbrev pub AddsCollection : List Edit → List Edit → List ℕ → ℕ → Type 0
 AddsCollection old new name number =
     (a b : List Collection) → Leads old a b → IsLawfulState b
     → find_collection b name ≡ None → uses b number ≡ false → length b < 1000
-    → let after = put_collection (empty_collection name number) b in Leads new a after × IsLawfulState after
+    → let after = put_collection (empty_collection name number) b in
+    Leads new a after × IsLawfulState after
 
 -- So they lead to one without a collection, where it has no documents.
 abbrev pub RemovesCollection : List Edit → List Edit → List ℕ → Type 0

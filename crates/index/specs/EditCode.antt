@@ -5,5 +5,6 @@ use Rattle.btree.specs.Keys.{Edit}
 
 abbrev pub edit_code : Coded Edit
 edit_code =
-    code_by (List ℕ × Option (List ℕ)) (coded× (coded_list coded_ℕ) (coded_option (coded_list coded_ℕ))) (λ e. (e.key, e.value))
+    code_by (List ℕ × Option (List ℕ))
+    (coded× (coded_list coded_ℕ) (coded_option (coded_list coded_ℕ))) (λ e. (e.key, e.value))
     (λ p. record { key = p.0; value = p.1 }) (λ _. refl)

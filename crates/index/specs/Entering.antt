@@ -1,5 +1,7 @@
--- What becomes of a collection where a document is written to it (MongoDB manual, "Unique Indexes" and "Multikey Indexes").
-use Rattle.std.specs.Prelude.{◌≡◌, ◌≢◌, ◌≤◌, ◌&&◌, ◌||◌, ℕ, Bool, not, Option, Some, is_some, List, [], ◌∷◌, length, map, Result, Ok, All}
+-- What becomes of a collection where a document is written to it (MongoDB manual, "Unique Indexes"
+-- and "Multikey Indexes").
+use Rattle.std.specs.Prelude.{◌≡◌, ◌≢◌, ◌≤◌, ◌&&◌, ◌||◌, ℕ, Bool, not, Option, Some, is_some, List}
+use Rattle.std.specs.Prelude.{[], ◌∷◌, length, map, Result, Ok, All}
 use Rattle.std.specs.List.{AllPairs, list_any}
 use Rattle.std.specs.Ordering.{is_eq}
 use Rattle.bson.specs.Tree.{Pairs}
@@ -52,12 +54,14 @@ is_duplicate c w =
 abbrev pub becomes_multikey : Pairs → Definition → Bool
 becomes_multikey d i = not i.is_multi && is_multikey i.fields d
 
--- the collection with the document, and its indexes multikey where it has an array on one of their paths
+-- the collection with the document, and its indexes multikey where it has an array on one of their
+-- paths
 abbrev pub with_document : Pairs → Collection → Collection
 with_document d c =
     record c { documents = put_document d c.documents; indexes = map (noted d) c.indexes }
 
--- The collection with the document, or the first refusal: a key too long in one of the indexes, parallel arrays in one, a duplicate.
+-- The collection with the document, or the first refusal: a key too long in one of the indexes,
+-- parallel arrays in one, a duplicate.
 abbrev pub entered : Collection → DocumentWrite → Result Collection Refusal
 entered c w = do
   keys ← keys_in_all c.indexes w.document
@@ -82,27 +86,34 @@ pub record AreIndexed (ds : List Pairs) (is : List Definition) : Type 0 where
 -- They stay so with a document that enters.
 abbrev pub StayIndexed : Type 0
 StayIndexed =
-    (c next : Collection) (w : DocumentWrite) → AreIndexed c.documents c.indexes → entered c w ≡ Ok next
+    (c next : Collection) (w : DocumentWrite) → AreIndexed c.documents c.indexes
+    → entered c w ≡ Ok next
     → AreIndexed next.documents next.indexes
 
 -- ---- what is noted of it
 
--- Wherever the old edits lead to a lawful state with a collection of this name, this number and these indexes, which has this document of the
--- same `_id`, or none, and which the new one enters, the new edits lead to the state with what becomes of it.
-abbrev pub Enters : List Edit → List Edit → List ℕ → ℕ → List Definition → Option Pairs → Pairs → Type 0
+-- Wherever the old edits lead to a lawful state with a collection of this name, this number and
+-- these indexes, which has this document of the same `_id`, or none, and which the new one enters,
+-- the new edits lead to the state with what becomes of it.
+abbrev pub Enters : List Edit → List Edit → List ℕ → ℕ → List Definition → Option Pairs → Pairs
+    → Type 0
 Enters old new name number indexes was d =
-    (a b : List Collection) (c next : Collection) → Leads old a b → IsLawfulState b → find_collection b name ≡ Some c
+    (a b : List Collection) (c next : Collection) → Leads old a b → IsLawfulState b
+    → find_collection b name ≡ Some c
     → c.number ≡ number → c.indexes ≡ indexes → find_document c.documents (key_of d) ≡ was
     → entered c (record { is_new = not (is_some was); document = d }) ≡ Ok next
     → Leads new a (put_collection next b) × IsLawfulState (put_collection next b)
 
--- Wherever the old edits lead to a lawful state with such a collection, the new ones lead to the one in which its indexes are noted for a document.
+-- Wherever the old edits lead to a lawful state with such a collection, the new ones lead to the
+-- one in which its indexes are noted for a document.
 abbrev pub NotesArrays : List Edit → List Edit → List ℕ → ℕ → List Definition → Pairs → Type 0
 NotesArrays old new name number indexes d =
-    (a b : List Collection) (c : Collection) → Leads old a b → IsLawfulState b → find_collection b name ≡ Some c
+    (a b : List Collection) (c : Collection) → Leads old a b → IsLawfulState b
+    → find_collection b name ≡ Some c
     → c.number ≡ number → c.indexes ≡ indexes
     → Leads new a (put_collection (record c { indexes = map (noted d) c.indexes }) b)
 
 -- the keys are those of the document in these indexes
 abbrev pub AreKeyed : List Definition → Keyed → Type 0
-AreKeyed indexes k = keys_in_all indexes k.document.now ≡ Ok (map (λ ks. texts_of ks.items) k.keys.items)
+AreKeyed indexes k =
+    keys_in_all indexes k.document.now ≡ Ok (map (λ ks. texts_of ks.items) k.keys.items)

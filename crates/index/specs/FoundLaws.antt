@@ -9,14 +9,16 @@ use Rattle.bson.specs.Spelling.{frame_of, pairs_bytes}
 use Rattle.value_order.specs.KeyText.{tree_text}
 use Rattle.value_order.specs.Laws.{IsKey}
 use Rattle.value_order.specs.Order.{value, compare}
-use Rattle.index.specs.State.{Collection, key_of, find_collection, put_collection, without_collection}
+use Rattle.index.specs.State.{Collection, key_of, find_collection, put_collection}
+use Rattle.index.specs.State.{without_collection}
 use Rattle.index.specs.StateReads.{find_document}
 use Rattle.index.specs.LawfulState.{IsStorable, IsKept, IsLawfulState}
 
 -- A collection that is found is within the limits, and it has the name.
 abbrev pub FoundCollection : Type 0
 FoundCollection =
-    (cs : List Collection) (name : List ℕ) (c : Collection) → IsLawfulState cs → find_collection cs name ≡ Some c
+    (cs : List Collection) (name : List ℕ) (c : Collection) → IsLawfulState cs
+    → find_collection cs name ≡ Some c
     → IsKept c × (c.name ≡ name)
 
 -- A document that is found may be stored, and the order calls its `_id` equal.
@@ -33,7 +35,8 @@ FindsPut =
 -- Put twice it stands once, as it was put last.
 abbrev pub PutTwice : Type 0
 PutTwice =
-    (c d : Collection) (cs : List Collection) → d.name ≡ c.name → put_collection c (put_collection d cs) ≡ put_collection c cs
+    (c d : Collection) (cs : List Collection) → d.name ≡ c.name
+    → put_collection c (put_collection d cs) ≡ put_collection c cs
 
 -- Put and gone it leaves what goes without it.
 abbrev pub WithoutPut : Type 0
@@ -50,7 +53,8 @@ StoredIsKey = (d : Pairs) → IsStorable d → IsKey (value (key_of d))
 -- So is a field of a document that a message has room for.
 abbrev pub FieldIsKey : Type 0
 FieldIsKey =
-    (ps : Pairs) (name : List ℕ) (t : Tree) → IsDocument ps → length (frame_of (pairs_bytes ps)) ≤ message_limit
+    (ps : Pairs) (name : List ℕ) (t : Tree) → IsDocument ps
+    → length (frame_of (pairs_bytes ps)) ≤ message_limit
     → lookup ps name ≡ Some t → IsKey (value t)
 
 -- So is a value with a short key text, as those of all stored `_id`s are.

@@ -1,5 +1,5 @@
--- The keys of a document in an index (MongoDB manual, "Multikey Indexes"): one value for each field, in every combination, where an array
--- gives each of its elements.
+-- The keys of a document in an index (MongoDB manual, "Multikey Indexes"): one value for each
+-- field, in every combination, where an array gives each of its elements.
 use Rattle.std.specs.Prelude.{ℕ, nat_lt, Bool, true, false, Some, None, List, [], ◌∷◌, map}
 use Rattle.std.specs.List.{flat_map, list_any, count_by}
 use Rattle.bson.specs.Tree.{Tree, scalar, null, document, array, Pairs, Items, no_items, item}

@@ -1,4 +1,5 @@
--- What puts and removals of the entries of collections with indexes are, and what they make of a state.
+-- What puts and removals of the entries of collections with indexes are, and what they make of a
+-- state.
 use Rattle.std.specs.Prelude.{◌≡◌, ℕ, List, [], ◌∷◌, ◌++◌, map}
 use Rattle.std.specs.List.{flat_map}
 use Rattle.std.specs.declared.cmp.Ordering.TheVariants.{Equal}
@@ -10,7 +11,8 @@ use Rattle.index.specs.Definition.{Definition}
 use Rattle.index.specs.EditList.{with_edit}
 use Rattle.index.specs.KeyTexts.{entry_key}
 use Rattle.index.specs.State.{Collection, key_of, put_collection}
-use Rattle.index.specs.StateEntries.{catalogue_entry, document_entry, put_of, puts, removals, entry_keys, Leads}
+use Rattle.index.specs.StateEntries.{catalogue_entry, document_entry, put_of, puts, removals}
+use Rattle.index.specs.StateEntries.{entry_keys, Leads}
 use Rattle.index.specs.StateLaws.{MayBecome, own_entries, AreAlike}
 
 -- ---- edits one after the other
@@ -33,7 +35,8 @@ NotesSome old all new = (left : List Edit) × NotesUpTo old all left new
 -- What the new edits make of a map, these make of what the old ones make of it.
 abbrev pub GoesOnBy : List Edit → List Edit → List Edit → Type 0
 GoesOnBy old es new =
-    (entries : List Entry) → Rises (entry_keys entries) → change new entries ≡ change es (change old entries)
+    (entries : List Entry) → Rises (entry_keys entries)
+    → change new entries ≡ change es (change old entries)
 
 -- ---- entries of indexes
 
@@ -49,7 +52,8 @@ entries_at number index id keys = map (entry_at number index id) keys
 abbrev pub entries_in_all : ℕ → List ℕ → List Definition → List (List (List ℕ)) → List Entry
 entries_in_all number id [] all = []
 entries_in_all number id (i ∷ is) [] = []
-entries_in_all number id (i ∷ is) (keys ∷ all) = entries_at number i.number id keys ++ entries_in_all number id is all
+entries_in_all number id (i ∷ is) (keys ∷ all) =
+    entries_at number i.number id keys ++ entries_in_all number id is all
 
 -- of each index the keys that are none of the others
 abbrev pub without_all : List (List (List ℕ)) → List (List (List ℕ)) → List (List (List ℕ))
@@ -59,8 +63,9 @@ without_all (keys ∷ all) (other ∷ others) = without keys other ∷ without_a
 
 -- ---- documents
 
--- Wherever the old edits lead to a state with a collection of this number, these indexes and the documents around this one, in whose place
--- that with this one may stand, the new ones lead to the state with it.
+-- Wherever the old edits lead to a state with a collection of this number, these indexes and the
+-- documents around this one, in whose place that with this one may stand, the new ones lead to the
+-- state with it.
 abbrev pub InsertsInto : List Edit → List Edit → ℕ → List Definition → Pairs → Type 0
 InsertsInto old new number indexes d =
     (a b : List Collection) (c : Collection) (front back : List Pairs) → Leads old a b
@@ -80,12 +85,14 @@ DeletesFrom old new number indexes d =
 abbrev pub ReplacesIn : List Edit → List Edit → ℕ → List Definition → Pairs → Pairs → Type 0
 ReplacesIn old new number indexes was d =
     (a b : List Collection) (c : Collection) (front back : List Pairs) → Leads old a b
-    → c.number ≡ number → c.indexes ≡ indexes → c.documents ≡ front ++ was ∷ back → compare (key_of was) (key_of d) ≡ Equal
+    → c.number ≡ number → c.indexes ≡ indexes → c.documents ≡ front ++ was ∷ back
+    → compare (key_of was) (key_of d) ≡ Equal
     → let now = record c { documents = front ++ d ∷ back } in MayBecome c now b
     → Leads new a (put_collection now b)
 
--- the edits by which one document replaces another of its `_id`: of each index removals of the entries for keys that only the old one has, the
--- put of the new one's entry, and puts of the entries for keys that only the new one has
+-- the edits by which one document replaces another of its `_id`: of each index removals of the
+-- entries for keys that only the old one has, the put of the new one's entry, and puts of the
+-- entries for keys that only the new one has
 abbrev pub replacing_in : ℕ → List Definition → Pairs → Pairs → List Edit
 replacing_in number indexes old new =
     removals (flat_map (own_entries number old new) indexes)
@@ -96,9 +103,11 @@ replacing_in number indexes old new =
 -- the put of what the catalogue says of a collection of this name: its number and its indexes
 abbrev pub catalogue_put : List ℕ → ℕ → List Definition → Edit
 catalogue_put name number indexes =
-    put_of (catalogue_entry (record { name = name; number = number; documents = []; indexes = indexes }))
+    put_of (catalogue_entry
+    (record { name = name; number = number; documents = []; indexes = indexes }))
 
--- So they lead to the state in which the indexes of a collection of this name and number are noted anew.
+-- So they lead to the state in which the indexes of a collection of this name and number are noted
+-- anew.
 abbrev pub NotesIndexesOf : List Edit → List Edit → List ℕ → ℕ → List Definition → Type 0
 NotesIndexesOf old new name number indexes =
     (a b : List Collection) (c : Collection) → Leads old a b

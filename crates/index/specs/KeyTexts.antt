@@ -1,4 +1,5 @@
--- The encoded keys of a document in an index, the entries that they make in the tree, and why a document may not enter.
+-- The encoded keys of a document in an index, the entries that they make in the tree, and why a
+-- document may not enter.
 use Rattle.std.specs.Prelude.{ℕ, nat_lt, Bool, List, [], ◌∷◌, ◌++◌, length, map, Result, Ok}
 use Rattle.std.specs.Int.{w32, to_be_bytes}
 use Rattle.std.specs.List.{list_any}
@@ -40,7 +41,8 @@ encoded_keys fields ps = ascending_set (map (key_bytes fields) (index_keys field
 
 -- one of the keys has more than 500 bytes
 abbrev pub is_too_long : List Field → Pairs → Bool
-is_too_long fields ps = list_any (λ ks. nat_lt 500 (length (key_bytes fields ks))) (index_keys fields ps)
+is_too_long fields ps =
+    list_any (λ ks. nat_lt 500 (length (key_bytes fields ks))) (index_keys fields ps)
 
 -- the encoded keys, or the first refusal
 abbrev pub keys_in : List Field → Pairs → Result (List (List ℕ)) Refusal
@@ -49,15 +51,16 @@ keys_in fields ps =
     (unless (has_parallel_arrays fields ps) refusals.CannotIndexParallelArrays
     (Ok (encoded_keys fields ps)))
 
--- The same in each of a collection's indexes: a key that is too long in any of them is refused before parallel arrays in any.
+-- The same in each of a collection's indexes: a key that is too long in any of them is refused
+-- before parallel arrays in any.
 abbrev pub keys_in_all : List Definition → Pairs → Result (List (List (List ℕ))) Refusal
 keys_in_all ds ps =
     unless (list_any (λ d. is_too_long d.fields ps) ds) refusals.KeyTooLong
     (unless (list_any (λ d. has_parallel_arrays d.fields ps) ds) refusals.CannotIndexParallelArrays
     (Ok (map (λ d. encoded_keys d.fields ps) ds)))
 
--- The key of an entry in the tree: the numbers of the collection and of the index, the encoded key, and the text of the `_id`. Its value is
--- empty.
+-- The key of an entry in the tree: the numbers of the collection and of the index, the encoded key,
+-- and the text of the `_id`. Its value is empty.
 abbrev pub entry_key : ℕ → ℕ → List ℕ → List ℕ → List ℕ
 entry_key collection index key id =
     to_be_bytes w32 collection ++ (to_be_bytes w32 index ++ (key ++ id))

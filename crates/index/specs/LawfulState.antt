@@ -1,5 +1,6 @@
 -- What is kept of a state.
-use Rattle.std.specs.Prelude.{◌≡◌, ◌≢◌, ℕ, suc, ◌≤◌, true, false, List, [], ◌∷◌, length, codes, Some, Ok, All, IsUtf8}
+use Rattle.std.specs.Prelude.{◌≡◌, ◌≢◌, ℕ, suc, ◌≤◌, true, false, List, [], ◌∷◌, length, codes}
+use Rattle.std.specs.Prelude.{Some, Ok, All, IsUtf8}
 use Rattle.std.specs.List.{AllPairs}
 use Rattle.std.specs.Ordering.{nat_cmp}
 use Rattle.std.specs.Cmp.Lexicographic.{slice_cmp}
@@ -16,7 +17,8 @@ use Rattle.index.specs.IndexKeys.{is_multikey}
 use Rattle.index.specs.KeyTexts.{encoded_keys, keys_in}
 use Rattle.index.specs.State.{Collection, key_of, uses}
 
--- A document that may be stored: BSON can spell it, within the limits, and it has an `_id` whose key text is within its limit.
+-- A document that may be stored: BSON can spell it, within the limits, and it has an `_id` whose
+-- key text is within its limit.
 pub record IsStorable (ps : Pairs) : Type 0 where
   pub lawful : IsDocument ps
   pub size : length (frame_of (pairs_bytes ps)) ≤ 65535
@@ -36,8 +38,8 @@ ShareNoKey fields d e =
     (key : List ℕ) → is_among (encoded_keys fields d) key ≡ true
     → is_among (encoded_keys fields e) key ≡ false
 
--- An index of these documents: none of them is refused, a unique index has no key in two of them, and it is multikey where one of them has an
--- array on one of the paths.
+-- An index of these documents: none of them is refused, a unique index has no key in two of them,
+-- and it is multikey where one of them has an array on one of the paths.
 pub record IsIndexOf (documents : List Pairs) (i : Definition) : Type 0 where
   pub lawful : IsDefinition i
   pub keys : All (λ d. keys_in i.fields d ≡ Ok (encoded_keys i.fields d)) documents

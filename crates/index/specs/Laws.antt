@@ -20,7 +20,8 @@ abbrev pub SetAscends : Type 0
 SetAscends =
     (keys : List (List ℕ)) → IsAscending (ascending_set keys)
     × ((key : List ℕ) → is_among (ascending_set keys) key ≡ is_among keys key)
-    × ((others : List (List ℕ)) → IsAscending others → ((key : List ℕ) → is_among others key ≡ is_among keys key) → others ≡ ascending_set keys)
+    × ((others : List (List ℕ)) → IsAscending others
+    → ((key : List ℕ) → is_among others key ≡ is_among keys key) → others ≡ ascending_set keys)
 
 -- ---- order
 
@@ -36,13 +37,16 @@ abbrev pub index_key_cmp : List Field → List Key → List Key → Ordering
 index_key_cmp [] ks ls = Equal
 index_key_cmp (f ∷ fs) [] ls = Equal
 index_key_cmp (f ∷ fs) (a ∷ ks) [] = Equal
-index_key_cmp (f ∷ fs) (a ∷ ks) (b ∷ ls) = ordering_then (directed_cmp f.direction a b) (index_key_cmp fs ks ls)
+index_key_cmp (f ∷ fs) (a ∷ ks) (b ∷ ls) =
+    ordering_then (directed_cmp f.direction a b) (index_key_cmp fs ks ls)
 
 -- The entries of an index order by bytes as their keys do, and those of one key by the `_id`.
 abbrev pub EntriesOrder : Type 0
 EntriesOrder =
-    (collection index : ℕ) (fs : List Field) (ks ls : List Key) (t u : Tree) → IsIndexKey fs ks → IsIndexKey fs ls → IsKey (value t) → IsKey (value u)
-    → bytes_cmp (entry_key collection index (key_bytes fs ks) (tree_text t)) (entry_key collection index (key_bytes fs ls) (tree_text u))
+    (collection index : ℕ) (fs : List Field) (ks ls : List Key) (t u : Tree) → IsIndexKey fs ks
+    → IsIndexKey fs ls → IsKey (value t) → IsKey (value u)
+    → bytes_cmp (entry_key collection index (key_bytes fs ks) (tree_text t))
+    (entry_key collection index (key_bytes fs ls) (tree_text u))
     ≡ ordering_then (index_key_cmp fs ks ls) (compare t u)
 
 -- Encoded keys are equal exactly where the order calls the keys equal, and none begins another.
@@ -54,15 +58,18 @@ KeysAgree =
 
 -- The keys of a document that BSON can spell in a message have values that it can spell.
 abbrev pub KeysSpellable : Type 0
-KeysSpellable = (fs : List Field) (ps : Pairs) → IsKey (value (document ps)) → AllByRecursion (IsIndexKey fs) (index_keys fs ps)
+KeysSpellable = (fs : List Field) (ps : Pairs) → IsKey (value (document ps))
+    → AllByRecursion (IsIndexKey fs) (index_keys fs ps)
 
 -- ---- changes
 
--- Without the keys that are removed, and with those that are added, the old keys are the new ones; where they are the same nothing is.
+-- Without the keys that are removed, and with those that are added, the old keys are the new ones;
+-- where they are the same nothing is.
 abbrev pub ChangesLead : Type 0
 ChangesLead =
     (old new : List (List ℕ)) → IsAscending new
-    → (ascending_set (without old (without old new) ++ without new old) ≡ new) × (without new new ≡ [])
+    → (ascending_set (without old (without old new) ++ without new old) ≡ new)
+    × (without new new ≡ [])
 
 -- A document without an array on the paths has one key.
 abbrev pub OneKey : Type 0
@@ -76,4 +83,5 @@ ReadsBack = (d : Definition) → IsDefinition d → definition_in (spelled d) �
 
 -- What is read is spelled so, and may be a definition.
 abbrev pub OnlySpelled : Type 0
-OnlySpelled = (ps : Pairs) (d : Definition) → IsPairs ps → definition_in ps ≡ Some d → (ps ≡ spelled d) × IsDefinition d
+OnlySpelled = (ps : Pairs) (d : Definition) → IsPairs ps → definition_in ps ≡ Some d
+    → (ps ≡ spelled d) × IsDefinition d

@@ -1,5 +1,6 @@
 -- What a database holds: collections with their documents and the definitions of their indexes.
-use Rattle.std.specs.Prelude.{ℕ, pos, Bool, ◌==◌, if◌then◌else◌, List, [], ◌∷◌, codes, Option, Some, None, unwrap_or}
+use Rattle.std.specs.Prelude.{ℕ, pos, Bool, ◌==◌, if◌then◌else◌, List, [], ◌∷◌, codes, Option, Some}
+use Rattle.std.specs.Prelude.{None, unwrap_or}
 use Rattle.std.specs.Str.{bytes_eq}
 use Rattle.std.specs.List.{list_any}
 use Rattle.std.specs.Ordering.{nat_cmp}
@@ -10,8 +11,9 @@ use Rattle.bson.specs.Tree.{Tree, scalar, null, int32, text, Pairs}
 use Rattle.bson.specs.Lookup.{lookup}
 use Rattle.index.specs.Definition.{Definition}
 
--- A namespace, the number that its entries are kept under, its documents in ascending order of `_id`, and its indexes in the order of making.
--- The index on `_id` isn't among them. A state is a list of these in ascending order of their names, so that equal states are one list.
+-- A namespace, the number that its entries are kept under, its documents in ascending order of
+-- `_id`, and its indexes in the order of making. The index on `_id` isn't among them. A state is a
+-- list of these in ascending order of their names, so that equal states are one list.
 pub record Collection : Type 0 where
   pub name : List ℕ
   pub number : ℕ

@@ -1,6 +1,7 @@
--- The entries that a state is kept as in the sorted map, and what edits make of them. A key is a collection's number and an index's, each in
--- four bytes with the highest first, and a text. Under collection 0 and index 0 stands the catalogue; under a collection's number stand
--- its documents at index 0, and at the number of each of its indexes an entry for each key of each document.
+-- The entries that a state is kept as in the sorted map, and what edits make of them. A key is a
+-- collection's number and an index's, each in four bytes with the highest first, and a text. Under
+-- collection 0 and index 0 stands the catalogue; under a collection's number stand its documents at
+-- index 0, and at the number of each of its indexes an entry for each key of each document.
 use Rattle.std.specs.Prelude.{◌↔◌, ℕ, List, [], ◌∷◌, ◌++◌, map, codes, Some, None, Contains}
 use Rattle.std.specs.List.{flat_map}
 use Rattle.std.specs.Int.{w32, to_be_bytes}
@@ -57,12 +58,14 @@ document_entries number indexes ps =
 -- ---- all of them
 
 abbrev pub collection_entries : Collection → List Entry
-collection_entries c = catalogue_entry c ∷ flat_map (document_entries c.number c.indexes) c.documents
+collection_entries c =
+    catalogue_entry c ∷ flat_map (document_entries c.number c.indexes) c.documents
 
 abbrev pub state_entries : List Collection → List Entry
 state_entries cs = flat_map collection_entries cs
 
--- it is the catalogue's entry of a collection, a document's, or that of a document's key in an index
+-- it is the catalogue's entry of a collection, a document's, or that of a document's key in an
+-- index
 abbrev pub IsEntryOf : List Collection → Entry → Type 0
 IsEntryOf cs entry = Contains (state_entries cs) entry
 

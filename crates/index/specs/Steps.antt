@@ -1,5 +1,6 @@
 -- What the code has on its way to the keys of a document; these words serve its proof alone.
-use Rattle.std.specs.Prelude.{ℕ, ◌-◌, max, nat_lt, Bool, ◌||◌, List, [], ◌∷◌, ◌++◌, length, map, Option, Some, None, Result, Ok, if◌then◌else◌}
+use Rattle.std.specs.Prelude.{ℕ, ◌-◌, max, nat_lt, Bool, ◌||◌, List, [], ◌∷◌, ◌++◌, length, map}
+use Rattle.std.specs.Prelude.{Option, Some, None, Result, Ok, if◌then◌else◌}
 use Rattle.std.specs.List.{flat_map, list_any}
 use Rattle.outcome.specs.Outcome.{unless, ◌>>=◌}
 use Rattle.bson.specs.Tree.{Pairs}
@@ -27,7 +28,8 @@ abbrev pub texts_at : Field → Pairs → Result (List (List ℕ)) Refusal
 texts_at f ps = with_texts f.direction [] (field_keys f.path ps)
 
 -- the texts of the fields behind those of others, where the longest of each have room together
-abbrev pub texts_within : ℕ → List (List (List ℕ)) → List Field → Pairs → Result (List (List (List ℕ))) Refusal
+abbrev pub texts_within : ℕ → List (List (List ℕ)) → List Field → Pairs
+    → Result (List (List (List ℕ))) Refusal
 texts_within room done [] ps = Ok done
 texts_within room done (f ∷ fs) ps = texts_at f ps >>= λ texts.
     unless (nat_lt room (longest texts)) refusals.KeyTooLong
@@ -49,8 +51,10 @@ keys_unless_parallel fields ps =
     (Ok (if has_parallel_arrays fields ps then None else Some (encoded_keys fields ps)))
 
 -- the keys in further indexes behind these, where no index before had parallel arrays
-abbrev pub keys_behind : List (List (List ℕ)) → Bool → List Definition → Pairs → Result (List (List (List ℕ))) Refusal
+abbrev pub keys_behind : List (List (List ℕ)) → Bool → List Definition → Pairs
+    → Result (List (List (List ℕ))) Refusal
 keys_behind done is_parallel ds ps =
     unless (list_any (λ d. is_too_long d.fields ps) ds) refusals.KeyTooLong
-    (unless (is_parallel || list_any (λ d. has_parallel_arrays d.fields ps) ds) refusals.CannotIndexParallelArrays
+    (unless (is_parallel
+    || list_any (λ d. has_parallel_arrays d.fields ps) ds) refusals.CannotIndexParallelArrays
     (Ok (done ++ map (λ d. encoded_keys d.fields ps) ds)))

@@ -1,4 +1,5 @@
--- What the types of the crate stand for. An `IndexField` is a `Field`, an `IndexSpec` a `Definition`.
+-- What the types of the crate stand for. An `IndexField` is a `Field`, an `IndexSpec` a
+-- `Definition`.
 use Rattle.std.specs.Prelude.{ℕ, List, map}
 use Rattle.std.specs.Global.{Vec}
 

@@ -1,11 +1,15 @@
--- The message at the front of bytes, or the first fault there (MongoDB wire protocol, OP_MSG). A message is the int32 of its
--- length, which counts all its bytes, the numbers of the request and of what it answers, the opcode 2013, 32 flags, and sections to
--- its end. A section is a kind and, of kind 0, a document that is the body; of kind 1 the int32 of its size, which counts itself, a
--- name that a zero ends, and documents to the section's end. One section is the body, and no two of kind 1 have the same name.
--- Flag bit 1 says that the message wants no reply. A wrong length is a fault as soon as its four bytes are there; of the faults that
--- wait for the whole message the first of Opcode, Flags, Checksum, Section, TwoBodies and NoBody is the one. Bytes that are no whole
+-- The message at the front of bytes, or the first fault there (MongoDB wire protocol, OP_MSG). A
+-- message is the int32 of its length, which counts all its bytes, the numbers of the request and of
+-- what it answers, the opcode 2013, 32 flags, and sections to its end. A section is a kind and, of
+-- kind 0, a document that is the body; of kind 1 the int32 of its size, which counts itself, a name
+-- that a zero ends, and documents to the section's end. One section is the body, and no two of kind
+-- 1 have the same name. Flag bit 1 says that the message wants no reply. A wrong length is a fault
+-- as soon as its four bytes are there; of the faults that wait for the whole message the first of
+-- Opcode, Flags, Checksum, Section, TwoBodies and NoBody is the one. Bytes that are no whole
 -- message and have no fault are nothing yet.
-use Rattle.std.specs.Prelude.{ℕ, zero, suc, ◌%◌, ◌^◌, Bool, false, not, ◌||◌, ◌==◌, nat_lt, if◌then◌else◌, List, [], ◌∷◌, length, map, take, drop, Result, Ok, Err, Option, Some, None}
+use Rattle.std.specs.Prelude.{ℕ, zero, suc, ◌%◌, ◌^◌, Bool, false, not, ◌||◌, ◌==◌, nat_lt}
+use Rattle.std.specs.Prelude.{if◌then◌else◌, List, [], ◌∷◌, length, map, take, drop, Result, Ok}
+use Rattle.std.specs.Prelude.{Err, Option, Some, None}
 use Rattle.outcome.specs.Outcome.{◌>>=◌, unless}
 use Rattle.std.specs.Int.{w32, from_le_bytes}
 use Rattle.bson.specs.Limits.{message_limit}
@@ -25,8 +29,8 @@ pub data Section : Type 0 where
   body : List ℕ → Section
   sequence : Sequence → Section
 
--- A message in its frame: the number of the request, whether it wants no reply, the bytes of its body, and its sections of kind 1
--- in their order.
+-- A message in its frame: the number of the request, whether it wants no reply, the bytes of its
+-- body, and its sections of kind 1 in their order.
 pub record Frame : Type 0 where
   pub number : ℕ
   pub more_to_come : Bool
@@ -57,7 +61,8 @@ or_section (Err fault) = Err faults.Section
 abbrev pub name_at : List ℕ → Part (List ℕ)
 name_at bytes = or_section (names.name_at bytes)
 
--- As many as stand at the front, one behind the other, but no more than this, and the bytes that are left.
+-- As many as stand at the front, one behind the other, but no more than this, and the bytes that
+-- are left.
 abbrev pub each_from : {X : Type 0} → (List ℕ → List X × List ℕ) → List ℕ → Part X → List X × List ℕ
 each_from others bytes (Ok x) = (x.0 ∷ (others x.1).0, (others x.1).1)
 each_from others bytes (Err fault) = ([], bytes)
@@ -153,8 +158,9 @@ frame_of bytes =
 abbrev pub is_no_length : ℕ → Bool
 is_no_length len = nat_lt len 26 || nat_lt message_limit len
 
--- The message at the front with the bytes after it, or nothing where it isn't whole yet. A length that is wrong is a
--- fault as soon as its four bytes are there, any other fault comes with the whole message.
+-- The message at the front with the bytes after it, or nothing where it isn't whole yet. A length
+-- that is wrong is a fault as soon as its four bytes are there, any other fault comes with the
+-- whole message.
 unfoldable pub front : List ℕ → Result (Option (Frame × List ℕ)) FrameFault
 front bytes =
     if nat_lt (length bytes) 4 then Ok None else

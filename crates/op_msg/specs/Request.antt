@@ -1,9 +1,11 @@
--- What taking the message at the front gives, and how a reply is spelled (MongoDB wire protocol, OP_MSG). A message's document is
--- the one that the bytes of its body are, all of them, and behind its fields an array for each section of kind 1, in their order; or
--- the first fault: of the body's bytes, and then of each section a name that a field has already, and its documents. A document of
--- a section stands in an array of the message's document, so it has two of the levels less. A reply is a frame with its own
--- number, the number of the request, no flags, and one body.
-use Rattle.std.specs.Prelude.{◌≡◌, ℕ, ◌+◌, List, [], ◌∷◌, ◌++◌, length, take, drop, Bool, true, false, Result, Ok, Err, Option, Some, None, is_some}
+-- What taking the message at the front gives, and how a reply is spelled (MongoDB wire protocol,
+-- OP_MSG). A message's document is the one that the bytes of its body are, all of them, and behind
+-- its fields an array for each section of kind 1, in their order; or the first fault: of the body's
+-- bytes, and then of each section a name that a field has already, and its documents. A document of
+-- a section stands in an array of the message's document, so it has two of the levels less. A reply
+-- is a frame with its own number, the number of the request, no flags, and one body.
+use Rattle.std.specs.Prelude.{◌≡◌, ℕ, ◌+◌, List, [], ◌∷◌, ◌++◌, length, take, drop, Bool, true}
+use Rattle.std.specs.Prelude.{false, Result, Ok, Err, Option, Some, None, is_some}
 use Rattle.std.specs.Int.{w32, to_le_bytes}
 use Rattle.bson.specs.declared.fault.BsonFault.TheVariants as bson_faults
 use Rattle.bson.specs.Lookup.{lookup}
@@ -84,8 +86,8 @@ is_waiting (Err fault) = true
 abbrev pub le_32 : ℕ → List ℕ
 le_32 n = to_le_bytes w32 n
 
--- What stands before a body of this length: the length of the whole, the reply's number, the request's, the opcode, no flags,
--- and the kind of a section that is a body.
+-- What stands before a body of this length: the length of the whole, the reply's number, the
+-- request's, the opcode, no flags, and the kind of a section that is a body.
 abbrev pub head_bytes : ℕ → ℕ → ℕ → List ℕ
 head_bytes number request len =
     le_32 (len + 21) ++ le_32 number ++ le_32 request ++ le_32 2013 ++ le_32 0 ++ 0 ∷ []

@@ -1,5 +1,7 @@
--- Messages with sections of kind 1, worked by hand: what stands at the front of their bytes, and their documents.
-use Rattle.std.specs.Prelude.{◌≡◌, ℕ, ◌+◌, Bool, true, false, List, [], ◌∷◌, ◌++◌, length, codes, Result, Ok, Err, Option, Some}
+-- Messages with sections of kind 1, worked by hand: what stands at the front of their bytes, and
+-- their documents.
+use Rattle.std.specs.Prelude.{◌≡◌, ℕ, ◌+◌, Bool, true, false, List, [], ◌∷◌, ◌++◌, length, codes}
+use Rattle.std.specs.Prelude.{Result, Ok, Err, Option, Some}
 use Rattle.bson.specs.Tree.{document, array, no_pairs, pair, no_items, item}
 use Rattle.bson.specs.declared.fault.BsonFault.TheVariants as bson_faults
 use Rattle.op_msg.specs.Frame.{Frame, Sequence, front}
@@ -69,7 +71,8 @@ pub record FlagRows : Type 0 where
 pub record SectionRows : Type 0 where
   pub behind : front (message 0 (body_section ++ two_under_a))
       ≡ taken false empty (sequence_a (empty ∷ one_field ∷ []) ∷ [])
-  pub before : front (message 0 (none_under_a ++ body_section)) ≡ taken false empty (sequence_a [] ∷ [])
+  pub before : front (message 0 (none_under_a ++ body_section))
+      ≡ taken false empty (sequence_a [] ∷ [])
   pub unknown_kind : Refuses (2 ∷ empty) faults.Section
   pub small_size : Refuses (sized 4 (97 ∷ 0 ∷ [])) faults.Section
   pub size_past_the_end : Refuses (sized 7 (97 ∷ 0 ∷ [])) faults.Section
@@ -85,10 +88,13 @@ pub record SectionRows : Type 0 where
 
 pub record BodyRows : Type 0 where
   pub joined : body_of (beside empty (empty ∷ empty ∷ []))
-      ≡ Ok (pair (codes "a") (array (item (document no_pairs) (item (document no_pairs) no_items))) no_pairs)
+      ≡ Ok (pair (codes "a")
+      (array (item (document no_pairs) (item (document no_pairs) no_items))) no_pairs)
   pub none : body_of (beside empty []) ≡ Ok (pair (codes "a") (array no_items) no_pairs)
   pub repeated : body_of (beside one_field []) ≡ Err bson_faults.Repeated
   pub body_first : body_of (beside (5 ∷ 0 ∷ 0 ∷ 0 ∷ 1 ∷ []) ((5 ∷ 0 ∷ 0 ∷ 0 ∷ 1 ∷ []) ∷ []))
       ≡ Err bson_faults.Length
-  pub name_first : body_of (beside one_field ((5 ∷ 0 ∷ 0 ∷ 0 ∷ 1 ∷ []) ∷ [])) ≡ Err bson_faults.Repeated
-  pub wrong_document : body_of (beside empty ((5 ∷ 0 ∷ 0 ∷ 0 ∷ 1 ∷ []) ∷ [])) ≡ Err bson_faults.Length
+  pub name_first : body_of (beside one_field ((5 ∷ 0 ∷ 0 ∷ 0 ∷ 1 ∷ []) ∷ []))
+      ≡ Err bson_faults.Repeated
+  pub wrong_document : body_of (beside empty ((5 ∷ 0 ∷ 0 ∷ 0 ∷ 1 ∷ []) ∷ []))
+      ≡ Err bson_faults.Length

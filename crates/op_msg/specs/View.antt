@@ -1,5 +1,6 @@
 -- What functions that read return, beside what the definitions give.
-use Rattle.std.specs.Prelude.{◌≡◌, ℕ, Bool, List, [], ◌∷◌, Result, Ok, Err, Option, Some, None, option_map, is_some}
+use Rattle.std.specs.Prelude.{◌≡◌, ℕ, Bool, List, [], ◌∷◌, Result, Ok, Err, Option, Some, None}
+use Rattle.std.specs.Prelude.{option_map, is_some}
 use Rattle.outcome.specs.Outcome.{◌>>=◌, unless}
 use Rattle.bson.specs.Lawful.{NoZero, IsDocument}
 use Rattle.bson.specs.Lookup.{lookup}
@@ -9,7 +10,8 @@ use Rattle.bson.specs.View.{pairs_of}
 use Rattle.bson.specs.declared.value.Pair.{Pair}
 use Rattle.bson.specs.declared.fault.BsonFault.{BsonFault}
 use Rattle.bson.specs.declared.kind.Kind.TheVariants as kinds
-use Rattle.op_msg.specs.Frame.{Frame, Sequence, Section, body, sequence, part_at, each_in, bodies_of, sequences_of, sections_in}
+use Rattle.op_msg.specs.Frame.{Frame, Sequence, Section, body, sequence, part_at, each_in}
+use Rattle.op_msg.specs.Frame.{bodies_of, sequences_of, sections_in}
 use Rattle.op_msg.specs.declared.fault.FrameFault.{FrameFault}
 use Rattle.op_msg.specs.declared.fault.FrameFault.TheVariants as faults
 use Rattle.op_msg.specs.declared.reading.Message.{Message}

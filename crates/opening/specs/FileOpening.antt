@@ -1,5 +1,6 @@
 -- What opening a file gives.
-use Rattle.std.specs.Prelude.{◌≡◌, ◌≢◌, ℕ, false, List, ◌++◌, map, Option, Some, Result, IfErr, IfOk, MatchResult}
+use Rattle.std.specs.Prelude.{◌≡◌, ◌≢◌, ℕ, false, List, ◌++◌, map, Option, Some, Result, IfErr}
+use Rattle.std.specs.Prelude.{IfOk, MatchResult}
 use Rattle.std.specs.Global.{Vec}
 use Rattle.std.specs.Option.{option_map}
 use Rattle.page.specs.History.{History, KeepsWord, now, reads, IsImage}
@@ -14,7 +15,8 @@ use Rattle.collections.specs.State.{State}
 use Rattle.collections.specs.Standing.{HasState}
 use Rattle.collections.specs.View.{disk_history, is_stopped}
 use Rattle.opening.specs.Holding.{Holds}
-use Rattle.opening.specs.Judging.{IsLoadingAs, Makes, MakesNone, Progress, RefusesOne, TakesAll, nothing_read}
+use Rattle.opening.specs.Judging.{IsLoadingAs, Makes, MakesNone, Progress, RefusesOne, TakesAll}
+use Rattle.opening.specs.Judging.{nothing_read}
 use Rattle.opening.specs.Loading.{named_as, progress_of}
 use Rattle.opening.specs.declared.loading.Loading.{Loading}
 use Rattle.database_model.specs.Lawful.{IsLawfulState}
@@ -30,7 +32,8 @@ pub record IsRead {D : Type 0} (history : D → History) (old new : State D) : T
   pub stays : KeepsWord (disk_history history new) → (entries : List Entry)
       → HasEntries history old entries → HasEntries history new entries
 
--- Why entries were not taken: the device failed, memory ran out, or they are damaged for this reason.
+-- Why entries were not taken: the device failed, memory ran out, or they are damaged for this
+-- reason.
 pub record HasFault {D : Type 0} (history : D → History) (Why : Type 0) (old new : State D)
     (fault : OpenFault) : Type 0 where
   pub device : fault ≡ faults.Device → HasFailed history old new
@@ -40,8 +43,8 @@ pub record HasFault {D : Type 0} (history : D → History) (Why : Type 0) (old n
 abbrev pub IsOfEntries : OpenFault → Type 0
 IsOfEntries fault = (fault ≢ faults.NotADatabase) × (fault ≢ faults.NewerFormat)
 
--- Entries were judged by all that the tree has: while the disk keeps its word the answer is right for these, or the fault has
--- its cause.
+-- Entries were judged by all that the tree has: while the disk keeps its word the answer is right
+-- for these, or the fault has its cause.
 pub record Judges {D X : Type 0} (history : D → History) (IsRight : List Entry → X → Type 0)
     (Why : List Entry → Type 0) (result : Result X OpenFault) (old new : State D) : Type 0 where
   pub read : IsRead history old new

@@ -1,5 +1,7 @@
 -- How the entries of a file are judged, one after the other, and what they make of the collections.
-use Rattle.std.specs.Prelude.{◌≡◌, ◌≢◌, ◌⊎◌, ℕ, ◌+◌, ◌<◌, ◌≤◌, Bool, true, false, ◌==◌, ◌&&◌, not, List, [], ◌∷◌, length, map, take, drop, if◌then◌else◌, Option, Some, None, All, Ok}
+use Rattle.std.specs.Prelude.{◌≡◌, ◌≢◌, ◌⊎◌, ℕ, ◌+◌, ◌<◌, ◌≤◌, Bool, true, false, ◌==◌, ◌&&◌, not}
+use Rattle.std.specs.Prelude.{List, [], ◌∷◌, length, map, take, drop, if◌then◌else◌, Option, Some}
+use Rattle.std.specs.Prelude.{None, All, Ok}
 use Rattle.std.specs.Int.{w32, from_be_bytes}
 use Rattle.std.specs.Global.{Vec}
 use Rattle.std.specs.List.{list_all, list_any}
@@ -48,7 +50,8 @@ abbrev pub are_apart : List Definition → Bool
 are_apart [] = true
 are_apart (i ∷ is) = not (has_number i.number is) && are_apart is
 
--- The entry of a collection within the limits, which may follow those that the catalogue has so far.
+-- The entry of a collection within the limits, which may follow those that the catalogue has so
+-- far.
 pub record IsName (listed : List Collection) (pair : Entry) (n : Collection) : Type 0 where
   pub pair_is : pair ≡ catalogue_entry n
   pub plain : n.documents ≡ []
@@ -77,7 +80,8 @@ abbrev pub key_count : List (List (List ℕ)) → ℕ
 key_count [] = 0
 key_count (keys ∷ all) = length keys + key_count all
 
--- None of these indexes refuses the document, and those are multikey on whose paths it has an array.
+-- None of these indexes refuses the document, and those are multikey on whose paths it has an
+-- array.
 pub record IsIndexable (indexes : List Definition) (d : Pairs) : Type 0 where
   pub keys : keys_in_all indexes d ≡ Ok (keys_among indexes d)
   pub noted : list_any (becomes_multikey d) indexes ≡ false
@@ -95,7 +99,8 @@ pub record IsStoredAt (c : Collection) (pair : Entry) (document : Pairs) : Type 
   pub readable : IsDocument document
   pub indexable : IsIndexable c.indexes document
 
--- Among all entries each of its keys has one, and in a unique index no other document has an entry of that key.
+-- Among all entries each of its keys has one, and in a unique index no other document has an entry
+-- of that key.
 abbrev pub HasItsKeys : List Entry → Collection → Pairs → Type 0
 HasItsKeys all c d =
     lacks_any c.number (tree_text (key_of d)) c.indexes (keys_among c.indexes d) all ≡ false
@@ -111,8 +116,8 @@ is_of_index pair = not (index_in pair.key == 0)
 
 -- ---- what entries make
 
--- What was read of a file so far: the collections, how many documents they have and how many keys these have, and how many entries
--- of indexes there were.
+-- What was read of a file so far: the collections, how many documents they have and how many keys
+-- these have, and how many entries of indexes there were.
 pub record Progress : Type 0 where
   pub now : List Collection
   pub documents : ℕ
@@ -181,7 +186,8 @@ pub record Makes (all : List Entry) (end : Progress) : Type 0 where
   pub takes : TakesAll all nothing_read all end
   pub even : end.keys ≡ end.seen
 
--- They make no collections: one of them is refused, or there are more or fewer entries of indexes than keys.
+-- They make no collections: one of them is refused, or there are more or fewer entries of indexes
+-- than keys.
 abbrev pub MakesNone : List Entry → Type 0
 MakesNone all = RefusesOne all nothing_read all
     ⊎ ((end : Progress) × TakesAll all nothing_read all end × (end.keys ≢ end.seen))

@@ -1,5 +1,6 @@
--- What a function that may fail returns, for any type of faults: how planned results go on, and how what was returned fits what was
--- planned. The order of arguments is the same everywhere: the fault that says that memory ran out, the view, what was returned, what was planned.
+-- What a function that may fail returns, for any type of faults: how planned results go on, and how
+-- what was returned fits what was planned. The order of arguments is the same everywhere: the fault
+-- that says that memory ran out, the view, what was returned, what was planned.
 use Rattle.std.specs.Prelude.{◌≡◌, ◌≢◌, Bool, if◌then◌else◌, Option, Some, None, Result, Ok, Err}
 
 -- goes on with what was planned so far, or stays with its fault
@@ -26,7 +27,8 @@ or_refused None refusal = Err refusal
 abbrev pub Fails : {Y E : Type 0} → E → E → Result Y E → Type 0
 Fails memory e planned = e ≢ memory → planned ≡ Err e
 
--- What a function returned, seen by view, is what is planned, unless memory ran out, which this fault says.
+-- What a function returned, seen by view, is what is planned, unless memory ran out, which this
+-- fault says.
 abbrev pub Gives : {X Y E : Type 0} → E → (X → Y) → Result X E → Result Y E → Type 0
 Gives memory view (Ok x) planned = planned ≡ Ok (view x)
 Gives memory view (Err e) planned = Fails memory e planned
@@ -36,7 +38,8 @@ abbrev pub GivesExactly : {X Y E : Type 0} → (X → Y) → Result X E → Resu
 GivesExactly view (Ok x) planned = planned ≡ Ok (view x)
 GivesExactly view (Err e) planned = planned ≡ Err e
 
--- A function that changes a value returned: what is there now is what is planned, unless memory ran out.
+-- A function that changes a value returned: what is there now is what is planned, unless memory ran
+-- out.
 abbrev pub Does : {X E : Type 0} → E → Result (Unit {0}) E → X → Result X E → Type 0
 Does memory (Ok _) new planned = planned ≡ Ok new
 Does memory (Err e) new planned = Fails memory e planned

@@ -8,7 +8,8 @@ with_child i page [] = []
 with_child zero page (arm ∷ arms) = record { key = arm.key; child = page } ∷ arms
 with_child (suc i) page (arm ∷ arms) = arm ∷ with_child i page arms
 
--- where the number of a child's page stands behind the first child, and where it stands behind the header
+-- where the number of a child's page stands behind the first child, and where it stands behind the
+-- header
 abbrev pub later_place : ℕ → List Arm → ℕ
 later_place i [] = 0
 later_place zero (arm ∷ arms) = 2 + length arm.key

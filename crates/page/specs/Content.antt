@@ -1,5 +1,6 @@
 -- What a page holds.
-use Rattle.std.specs.Prelude.{◌≡◌, ◌⊎◌, ℕ, ◌+◌, ◌^◌, ◌<◌, ◌≤◌, Bool, true, false, ◌&&◌, ◌||◌, ◌==◌, List, [], ◌∷◌, length, map}
+use Rattle.std.specs.Prelude.{◌≡◌, ◌⊎◌, ℕ, ◌+◌, ◌^◌, ◌<◌, ◌≤◌, Bool, true, false, ◌&&◌, ◌||◌, ◌==◌}
+use Rattle.std.specs.Prelude.{List, [], ◌∷◌, length, map}
 use Rattle.std.specs.List.{AllByRecursion}
 use Rattle.std.specs.Ordering.{nat_cmp, is_lt}
 use Rattle.std.specs.Cmp.Lexicographic.{slice_cmp}
@@ -97,7 +98,8 @@ abbrev pub first_key : List Arm → List ℕ
 first_key [] = []
 first_key (first ∷ arms) = first.key
 
--- Two children or more, in ascending order of their keys, of which the first is empty, that find room.
+-- Two children or more, in ascending order of their keys, of which the first is empty, that find
+-- room.
 pub record IsBranch (arms : List Arm) : Type 0 where
   pub some : 2 ≤ length arms
   pub bare : first_key arms ≡ []
@@ -105,14 +107,16 @@ pub record IsBranch (arms : List Arm) : Type 0 where
   pub ascending : rise (arm_keys arms) ≡ true
   pub room : arms_size arms ≤ 4080
 
--- What a tree may have: a page of a chain that names the next one is full, and a list of free pages has no place there.
+-- What a tree may have: a page of a chain that names the next one is full, and a list of free pages
+-- has no place there.
 abbrev pub is_of_tree : Content → Bool
 is_of_tree (leaf items) = true
 is_of_tree (branch arms) = true
 is_of_tree (chain next bytes) = next == 0 || length bytes == 4076
 is_of_tree (free_list next pages) = false
 
--- A page of a chain holds 4,076 bytes, the last one at most as many, and one of the free list at most 1,019 numbers.
+-- A page of a chain holds 4,076 bytes, the last one at most as many, and one of the free list at
+-- most 1,019 numbers.
 abbrev pub IsContent : Content → Type 0
 IsContent (leaf items) = IsLeaf items
 IsContent (branch arms) = IsBranch arms

@@ -1,8 +1,10 @@
 -- What holds of every image that a crash may leave, over several calls.
 use Rattle.std.specs.Prelude.{◌≡◌, ℕ, ◌<◌, ◌≤◌, List, if◌then◌else◌, ◌==◌}
-use Rattle.page.specs.History.{History, Sector, KeepsWord, HasTime, now, MayHold, IsImage, LeftSince, Syncs, reads}
+use Rattle.page.specs.History.{History, Sector, KeepsWord, HasTime, now, MayHold, IsImage}
+use Rattle.page.specs.History.{LeftSince, Syncs, reads}
 
--- The disk went on from old to new. Its word never comes back, and ends only where the clock is at its greatest value.
+-- The disk went on from old to new. Its word never comes back, and ends only where the clock is at
+-- its greatest value.
 pub record GoesOn (old new : History) : Type 0 where
   pub kept : KeepsWord new → KeepsWord old
   pub keeps : KeepsWord old → HasTime new → KeepsWord new
@@ -37,7 +39,8 @@ pub record Secures (sectors : ℕ → Sector) (Kept : ℕ → Type 0)
 abbrev pub AreDurable : (ℕ → Sector) → Type 0
 AreDurable sectors = (k : ℕ) → IsDurable (sectors k)
 
--- A disk before its first call: it keeps its word, nothing has failed, and a crash leaves what reads give.
+-- A disk before its first call: it keeps its word, nothing has failed, and a crash leaves what
+-- reads give.
 pub record IsFresh (h : History) : Type 0 where
   pub word : KeepsWord h
   pub clock : h.clock ≡ 0

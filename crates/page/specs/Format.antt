@@ -1,10 +1,14 @@
--- The 4,096 bytes of a page: a header of sixteen bytes (kind, zero, count, the page's own number, the generation of the
--- commit that wrote it), then what its kind has, then zeros. Numbers have their lowest byte first.
-use Rattle.std.specs.Prelude.{ℕ, zero, suc, ◌+◌, ◌-◌, ◌*◌, Bool, not, ◌||◌, ◌&&◌, ◌==◌, if◌then◌else◌, nat_lt, ◌≤◌, List, [], ◌∷◌, ◌++◌, length, map, take, drop, replicate, slice_index, Result, Ok}
+-- The 4,096 bytes of a page: a header of sixteen bytes (kind, zero, count, the page's own number,
+-- the generation of the commit that wrote it), then what its kind has, then zeros. Numbers have
+-- their lowest byte first.
+use Rattle.std.specs.Prelude.{ℕ, zero, suc, ◌+◌, ◌-◌, ◌*◌, Bool, not, ◌||◌, ◌&&◌, ◌==◌}
+use Rattle.std.specs.Prelude.{if◌then◌else◌, nat_lt, ◌≤◌, List, [], ◌∷◌, ◌++◌, length, map, take}
+use Rattle.std.specs.Prelude.{drop, replicate, slice_index, Result, Ok}
 use Rattle.outcome.specs.Outcome.{◌>>=◌, unless}
 use Rattle.std.specs.List.{flat_map, list_all}
 use Rattle.byteorder.specs.Endian.{little_bytes, little_number}
-use Rattle.page.specs.Content.{Place, inline, spilled, Item, Arm, Content, leaf, branch, chain, free_list, item_keys, arm_keys, rise}
+use Rattle.page.specs.Content.{Place, inline, spilled, Item, Arm, Content, leaf, branch, chain}
+use Rattle.page.specs.Content.{free_list, item_keys, arm_keys, rise}
 use Rattle.page.specs.declared.page_fault.PageFault.{PageFault}
 use Rattle.page.specs.declared.page_fault.PageFault.TheVariants as faults
 
@@ -83,8 +87,8 @@ page_bytes sheet =
 
 -- ---- reading cells
 
--- The size of the cell at the front of a leaf's bytes, and of one behind the first child of a branch, by the lengths
--- that stand there.
+-- The size of the cell at the front of a leaf's bytes, and of one behind the first child of a
+-- branch, by the lengths that stand there.
 abbrev pub stored_size : ℕ → ℕ
 stored_size len = if nat_lt 330 len then 4 else len
 
@@ -113,12 +117,13 @@ arm_in bytes = record {
 abbrev pub are_zeros : List ℕ → Bool
 are_zeros bytes = list_all (λ b. b == 0) bytes
 
--- Where cells begin: so many, one behind the other from a place on, each whole and of at most 1,360 bytes, with zeros
--- behind the last.
+-- Where cells begin: so many, one behind the other from a place on, each whole and of at most 1,360
+-- bytes, with zeros behind the last.
 abbrev pub places_in : (List ℕ → ℕ) → ℕ → ℕ → List ℕ → Result (List ℕ) PageFault
 places_in size zero at bytes = unless (not (are_zeros (drop at bytes))) faults.Length (Ok [])
 places_in size (suc n) at bytes =
-    unless (nat_lt 1360 (size (drop at bytes)) || nat_lt (length (drop at bytes)) (size (drop at bytes)))
+    unless (nat_lt 1360 (size (drop at bytes))
+    || nat_lt (length (drop at bytes)) (size (drop at bytes)))
     faults.Length
     (places_in size n (at + size (drop at bytes)) bytes >>= λ places. Ok (at ∷ places))
 
@@ -134,8 +139,8 @@ abbrev pub numbers_in : ℕ → List ℕ → List ℕ
 numbers_in zero bytes = []
 numbers_in (suc n) bytes = little_number 4 bytes ∷ numbers_in n (drop 4 bytes)
 
--- ---- reading a page by its count and what stands behind the header, with the first fault in the order of their
--- numbers, but Length before Order
+-- ---- reading a page by its count and what stands behind the header, with the first fault in the
+-- order of their numbers, but Length before Order
 
 abbrev pub leaf_in : ℕ → List ℕ → Result Content PageFault
 leaf_in count body =
@@ -151,7 +156,8 @@ branch_in count body =
     unless (not (rise (arm_keys (arms_at body places)))) faults.Order
     (Ok (branch (arms_at body places))))
 
--- A chain's page, by its count, its next page and the 4,076 bytes behind that. All pages of a chain but the last are full.
+-- A chain's page, by its count, its next page and the 4,076 bytes behind that. All pages of a chain
+-- but the last are full.
 abbrev pub chain_in : ℕ → ℕ → List ℕ → Result Content PageFault
 chain_in count next bytes =
     unless

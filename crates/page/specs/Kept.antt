@@ -2,7 +2,8 @@
 use Rattle.std.specs.Prelude.{◌≡◌, ℕ, ◌+◌, ◌≤◌, List, [], ◌∷◌, length, map, drop}
 use Rattle.std.specs.List.{AllByRecursion, flat_map}
 use Rattle.page.specs.Content.{IsLeaf, IsBranch, item_size, arm_size}
-use Rattle.page.specs.Format.{item_bytes, arms_bytes, body_and_zeros, leaf_cell_size, branch_cell_size, arm_in, items_at, arms_at}
+use Rattle.page.specs.Format.{item_bytes, arms_bytes, body_and_zeros, leaf_cell_size}
+use Rattle.page.specs.Format.{branch_cell_size, arm_in, items_at, arms_at}
 
 -- a cell of this size begins at the place, and ends in the bytes
 abbrev pub IsWhole : (List ℕ → ℕ) → List ℕ → ℕ → Type 0

@@ -8,7 +8,8 @@ use Rattle.pager.specs.State.{State}
 use Rattle.pager.specs.Turn.{IsBegun}
 use Rattle.pager.specs.View.{pager_history}
 
--- Pages that a file may have, each once, and no more entries than find room there: at most 680 in a page.
+-- Pages that a file may have, each once, and no more entries than find room there: at most 680 in a
+-- page.
 pub record FitsFile (pages : List ℕ) (entries : List Entry) : Type 0 where
   pub once : AreOnce pages
   pub inside : Each (λ n. n < 1048576) pages

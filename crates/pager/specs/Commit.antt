@@ -38,7 +38,8 @@ pub record Commits {D : Type 0} (history : D → History) (root : ℕ)
       → (is_stopped new.store ≡ true) × (new ≡ record old { store = new.store })
   pub idle : is_stopped old.store ≡ true → new ≡ old
 
--- A turn since the pager began, whose tree below the root page reaches these pages and has these entries.
+-- A turn since the pager began, whose tree below the root page reaches these pages and has these
+-- entries.
 pub record IsTurn {D : Type 0} (history : D → History) (start now : State D) (root : ℕ)
     (live : List ℕ) (pages : List ℕ) (entries : List Entry) : Type 0 where
   pub grows : Grows (store_of history start) (store_of history now)
@@ -47,8 +48,8 @@ pub record IsTurn {D : Type 0} (history : D → History) (start now : State D) (
   pub account : let store = store_of history now in
       (n : ℕ) → times n pages + times n store.retired ≡ times n live + times n store.made
 
--- A crash at any moment of the call leaves the entries from before, or those of the turn. At Ok it leaves the turn's alone,
--- and the next turn may begin.
+-- A crash at any moment of the call leaves the entries from before, or those of the turn. At Ok it
+-- leaves the turn's alone, and the next turn may begin.
 pub record Moves {D : Type 0} (history : D → History) (pages : List ℕ) (before after : List Entry)
     (result : Result (Unit {0}) CommitFault) (old new : State D) : Type 0 where
   pub any_moment : LeavesOnly (pager_history history old) (pager_history history new)

@@ -12,7 +12,8 @@ use Rattle.pager.specs.State.{State}
 use Rattle.pager.specs.Turn.{IsBegun}
 use Rattle.pager.specs.View.{pager_history}
 
--- The file may have so many pages, with page 0: as many as were asked for, 1,048,576 at most, or those that it has.
+-- The file may have so many pages, with page 0: as many as were asked for, 1,048,576 at most, or
+-- those that it has.
 abbrev pub HasLimit : {D : Type 0} → ℕ → State D → Type 0
 HasLimit limit pager =
     length pager.book.states ≡ max (min limit 1048576) (durable_root pager.store).pages

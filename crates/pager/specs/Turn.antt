@@ -17,8 +17,8 @@ pub record AreInUse (pages : List ℕ) (book : Book) : Type 0 where
   pub others : (n : ℕ) → 0 < n → n < length book.states
       → is_free book.states n ≡ not (is_in_use book.states n)
 
--- No turn runs: nothing was made or retired. While the disk keeps its word, these entries are committed, and in the book just
--- the pages that their tree reaches are in use.
+-- No turn runs: nothing was made or retired. While the disk keeps its word, these entries are
+-- committed, and in the book just the pages that their tree reaches are in use.
 pub record IsBegun {D : Type 0} (history : D → History) (p : State D) (live : List ℕ)
     (entries : List Entry) : Type 0 where
   pub made : p.made ≡ []
@@ -27,7 +27,8 @@ pub record IsBegun {D : Type 0} (history : D → History) (p : State D) (live : 
   pub committed : KeepsWord (pager_history history p) → IsCommitted history p.store live entries
   pub in_use : KeepsWord (pager_history history p) → AreInUse live p.book
 
--- Undoing all that was made and retired since a turn began leads back to a pager that begins with the same entries.
+-- Undoing all that was made and retired since a turn began leads back to a pager that begins with
+-- the same entries.
 abbrev pub LeadsBack : {D : Type 0} → (D → History) → ℕ → ℕ → State D → State D → Type 0
 LeadsBack {D = D} history made retired old new =
     (start : State D) (live : List ℕ) (entries : List Entry) → IsBegun history start live entries
@@ -43,7 +44,8 @@ pub record IsOrderly {D : Type 0} (p : State D) : Type 0 where
   pub ascending : LieBehind 0 p.made
   pub booked : IsBookFor p.made p.book
 
--- Undoing what was made and retired since a moment of the turn leads back to the pages as they were then.
+-- Undoing what was made and retired since a moment of the turn leads back to the pages as they were
+-- then.
 abbrev pub Returns : {D : Type 0} → (D → History) → ℕ → ℕ → State D → State D → Type 0
 Returns {D = D} history made retired old new =
     (earlier : State D) → IsOrderly earlier

@@ -16,7 +16,8 @@ use Rattle.pager.specs.State.{State}
 abbrev pub pager_history : {D : Type 0} → (D → History) → State D → History
 pager_history history p = disk_history history p.store
 
--- the page of this number: one that the turn made, or what the disk holds under the root that is committed
+-- the page of this number: one that the turn made, or what the disk holds under the root that is
+-- committed
 abbrev pub sheets_of : {D : Type 0} → (D → History) → State D → ℕ → Result Sheet PageFault
 sheets_of history p n =
     made_or p.made n (sheet_at (reads (now (pager_history history p))) (durable_root p.store) n)
@@ -24,8 +25,8 @@ sheets_of history p n =
 abbrev pub root_numbers : Root → List ℕ
 root_numbers root = root.generation ∷ root.tree ∷ root.pages ∷ []
 
--- What no call but a commit changes: whether the store has stopped, the root that is committed, and what each page was when
--- the turn began.
+-- What no call but a commit changes: whether the store has stopped, the root that is committed, and
+-- what each page was when the turn began.
 abbrev pub base_of : {D : Type 0} → State D → List ℕ
 base_of p = flag (is_stopped p.store) ∷ root_numbers (durable_root p.store)
     ++ map state_number (rewind p.book.turn p.book.states)

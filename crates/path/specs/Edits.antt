@@ -1,8 +1,10 @@
--- Writing and removing at a path. Both go on in a document by the part's field and in an array by the element that the
--- part numbers; unlike reaching, they don't look into the elements.
-use Rattle.std.specs.Prelude.{ℕ, zero, suc, ◌+◌, nat_lt, nat_le, if◌then◌else◌, Option, Some, None, Result, Ok, Err, List, [], ◌∷◌}
+-- Writing and removing at a path. Both go on in a document by the part's field and in an array by
+-- the element that the part numbers; unlike reaching, they don't look into the elements.
+use Rattle.std.specs.Prelude.{ℕ, zero, suc, ◌+◌, nat_lt, nat_le, if◌then◌else◌, Option, Some, None}
+use Rattle.std.specs.Prelude.{Result, Ok, Err, List, [], ◌∷◌}
 use Rattle.std.specs.Option.{unwrap_or}
-use Rattle.bson.specs.Tree.{Tree, scalar, null, document, array, Pairs, no_pairs, Items, no_items, item}
+use Rattle.bson.specs.Tree.{Tree, scalar, null, document, array, Pairs, no_pairs, Items, no_items}
+use Rattle.bson.specs.Tree.{item}
 use Rattle.bson.specs.Lawful.{levels}
 use Rattle.bson.specs.Lookup.{lookup}
 use Rattle.bson.specs.Edits.{items_len, item_at, with_item, put, cut}
@@ -28,8 +30,8 @@ abbrev pub within : ℕ → Result Tree Refusal → Result Tree Refusal
 within most (Ok u) = if nat_le (levels u) most then Ok u else Err refusals.BadValue
 within most (Err e) = Err e
 
--- `made` gives what is to stand at the field from what stands there, if anything does. A document is at level 1 at
--- least, and no document nests more than 100 levels.
+-- `made` gives what is to stand at the field from what stands there, if anything does. A document
+-- is at level 1 at least, and no document nests more than 100 levels.
 abbrev pub write_field : (Option Tree → Result Tree Refusal) → List ℕ → Pairs → Result Pairs Refusal
 write_field made name ps = if_ok (within 99 (made (lookup ps name))) (λ u. Ok (put ps name u))
 
@@ -45,8 +47,9 @@ write_item made None ts = Err refusals.PathNotViable
 write_item made (Some i) ts = write_item_at made i ts
 
 module _ (made : Option Tree → Result Tree Refusal) where
-  -- What stands at the front of these parts once what `made` gives stands at their end. Where nothing stands there,
-  -- documents are made on the way. An array needs a part that is an index. Any other value on the way is refused.
+  -- What stands at the front of these parts once what `made` gives stands at their end. Where
+  -- nothing stands there, documents are made on the way. An array needs a part that is an index.
+  -- Any other value on the way is refused.
   abbrev pub write : List (List ℕ) → Option Tree → Result Tree Refusal
   write [] old = made old
   write (name ∷ rest) None = if_ok (write_field (write rest) name no_pairs) (λ ps. Ok (document ps))
@@ -86,8 +89,8 @@ abbrev pub cut_item : (Tree → Option Tree) → Option ℕ → Items → Items
 cut_item left None ts = ts
 cut_item left (Some i) ts = with_found left i ts (item_at ts i)
 
--- What is left of a value without what stands at the end of these parts: None where it is the value itself. A field
--- goes, an element becomes null, and where the way ends before, nothing changes.
+-- What is left of a value without what stands at the end of these parts: None where it is the value
+-- itself. A field goes, an element becomes null, and where the way ends before, nothing changes.
 abbrev pub cut_off : List (List ℕ) → Tree → Option Tree
 cut_off [] t = None
 cut_off (name ∷ rest) (scalar s) = Some (scalar s)

@@ -1,5 +1,6 @@
 -- Two parts that number one element are one.
-use Rattle.std.specs.Prelude.{◌≡◌, ◌≢◌, ℕ, ◌+◌, ◌*◌, ◌-◌, ◌<◌, ◌≤◌, ◌==◌, nat_le, ◌&&◌, Bool, true, false, if◌then◌else◌, Some, None, List, [], ◌∷◌, ◌++◌, ◌⊎◌, refl}
+use Rattle.std.specs.Prelude.{◌≡◌, ◌≢◌, ℕ, ◌+◌, ◌*◌, ◌-◌, ◌<◌, ◌≤◌, ◌==◌, nat_le, ◌&&◌, Bool, true}
+use Rattle.std.specs.Prelude.{false, if◌then◌else◌, Some, None, List, [], ◌∷◌, ◌++◌, ◌⊎◌, refl}
 use Rattle.std.proofs.Common.{sym, ap, subst, ◌∙◌, inl, inr, arith}
 use Rattle.std.proofs.lemmas.Bool.{leb-true, eqb-true, eqb-false}
 use Rattle.path.specs.Parts.{index_of, is_digits, leads_with_zero, number, is_empty}
@@ -9,7 +10,8 @@ from_last : ℕ → List ℕ → ℕ
 from_last n [] = n
 from_last n (d ∷ ds) = from_last n ds * 10 + (d - 48)
 
-from_last-end : (n : ℕ) (ds : List ℕ) (d : ℕ) → from_last n (ds ++ d ∷ []) ≡ from_last (n * 10 + (d - 48)) ds
+from_last-end : (n : ℕ) (ds : List ℕ) (d : ℕ)
+    → from_last n (ds ++ d ∷ []) ≡ from_last (n * 10 + (d - 48)) ds
 unfolding from_last
 from_last-end n [] d = refl
 from_last-end n (e ∷ ds) d = ap (λ (k : ℕ). k * 10 + (e - 48)) (from_last-end n ds d)
@@ -44,11 +46,14 @@ unfolding from_last NoZeroLast
 from_last-some d [] h = omega (arith, h)
 from_last-some d (e ∷ ds) h = omega (arith, from_last-some e ds h)
 
-one_list : (ds es : List ℕ) → Digits ds → Digits es → NoZeroLast ds → NoZeroLast es → from_last 0 ds ≡ from_last 0 es → ds ≡ es
+one_list : (ds es : List ℕ) → Digits ds → Digits es → NoZeroLast ds → NoZeroLast es
+    → from_last 0 ds ≡ from_last 0 es → ds ≡ es
 unfolding from_last Digits
 one_list [] [] a b h k same = refl
-one_list [] (e ∷ es) a b h k same = let some = from_last-some e es k in absurd (omega (arith, same, some))
-one_list (d ∷ ds) [] a b h k same = let some = from_last-some d ds h in absurd (omega (arith, same, some))
+one_list [] (e ∷ es) a b h k same = let some = from_last-some e es k in
+    absurd (omega (arith, same, some))
+one_list (d ∷ ds) [] a b h k same = let some = from_last-some d ds h in
+    absurd (omega (arith, same, some))
 one_list (d ∷ ds) (e ∷ es) a b h k same =
     let low : 48 ≤ d = a.0 in
     let high : d ≤ 57 = a.1 in
@@ -103,24 +108,30 @@ record IsIndex (name : List ℕ) (n : ℕ) : Type 0 where
 index_facts : (name : List ℕ) (n : ℕ) → index_of name ≡ Some n → IsIndex name n
 index_facts name n e = by (leads_with_zero name) refl (is_digits name) refl e
   where
-    by : (a : Bool) → leads_with_zero name ≡ a → (b : Bool) → is_digits name ≡ b → (if a then None else if b then Some (number 0 name) else None) ≡ Some n → IsIndex name n
+    by : (a : Bool) → leads_with_zero name ≡ a → (b : Bool) → is_digits name ≡ b
+        → (if a then None else if b then Some (number 0 name) else None) ≡ Some n → IsIndex name n
     by true p b q e = absurd cc
     by false p true q e = record { no_lead = p; digits = q; is = cc }
     by false p false q e = absurd cc
 
-shape : (name : List ℕ) → is_empty name ≡ false → leads_with_zero name ≡ false → is_digits name ≡ true → (name ≡ 48 ∷ []) ⊎ NoZeroLast (back name)
+shape : (name : List ℕ) → is_empty name ≡ false → leads_with_zero name ≡ false
+    → is_digits name ≡ true → (name ≡ 48 ∷ []) ⊎ NoZeroLast (back name)
 unfolding NoZeroLast back
 shape [] e l d = absurd cc
 shape (b ∷ []) e l d = by (b == 48) refl
   where
     low : 48 ≤ b
-    low = leb-true 48 b (and_true (nat_le 48 b) (nat_le b 57) (and_true (nat_le 48 b && nat_le b 57) true d).0).0
+    low = leb-true 48 b
+        (and_true (nat_le 48 b) (nat_le b 57) (and_true (nat_le 48 b && nat_le b 57) true d).0).0
 
     by : (c : Bool) → (b == 48) ≡ c → (b ∷ [] ≡ 48 ∷ []) ⊎ (48 < b)
     by true p = inl (ap (λ (k : ℕ). k ∷ []) (eqb-true b 48 p))
     by false p = let ne : b ≢ 48 = eqb-false b 48 p in inr (omega (arith, low))
 shape (b ∷ c ∷ bs) e l d =
-    let low : 48 ≤ b = leb-true 48 b (and_true (nat_le 48 b) (nat_le b 57) (and_true (nat_le 48 b && nat_le b 57) (is_digits (c ∷ bs)) d).0).0 in
+    let low : 48 ≤ b =
+    leb-true 48 b
+    (and_true (nat_le 48 b) (nat_le b 57)
+    (and_true (nat_le 48 b && nat_le b 57) (is_digits (c ∷ bs)) d).0).0 in
     let ne : b ≢ 48 = eqb-false b 48 l in
     inr (NoZeroLast-end (back (c ∷ bs)) b (omega arith))
 
@@ -133,9 +144,16 @@ some_number name e h = by (back name) refl
 
     by : (ds : List ℕ) → back name ≡ ds → 0 < number 0 name
     by [] p = absurd (let q = ap is_empty (empty p) in cc)
-    by (d ∷ ds) p = omega (arith, number-back 0 name, ap (from_last 0) p, from_last-some d ds (subst NoZeroLast p h))
+    by (d ∷ ds) p =
+        omega (
+          arith,
+          number-back 0 name,
+          ap (from_last 0) p,
+          from_last-some d ds (subst NoZeroLast p h),
+        )
 
-pub one_index : (a b : List ℕ) (n : ℕ) → is_empty a ≡ false → is_empty b ≡ false → index_of a ≡ Some n → index_of b ≡ Some n → a ≡ b
+pub one_index : (a b : List ℕ) (n : ℕ) → is_empty a ≡ false → is_empty b ≡ false
+    → index_of a ≡ Some n → index_of b ≡ Some n → a ≡ b
 one_index a b n ea eb ia ib = by (shape a ea fa.no_lead fa.digits) (shape b eb fb.no_lead fb.digits)
   where
     fa : IsIndex a n
@@ -146,8 +164,12 @@ one_index a b n ea eb ia ib = by (shape a ea fa.no_lead fa.digits) (shape b eb f
 
     by : (a ≡ 48 ∷ []) ⊎ NoZeroLast (back a) → (b ≡ 48 ∷ []) ⊎ NoZeroLast (back b) → a ≡ b
     by (inl x) (inl y) = x ∙ sym y
-    by (inl x) (inr y) = let none : number 0 a ≡ 0 = ap (number 0) x in absurd (omega (arith, none, fa.is, fb.is, some_number b eb y))
-    by (inr x) (inl y) = let none : number 0 b ≡ 0 = ap (number 0) y in absurd (omega (arith, none, fa.is, fb.is, some_number a ea x))
+    by (inl x) (inr y) = let none : number 0 a ≡ 0 = ap (number 0) x in
+        absurd (omega (arith, none, fa.is, fb.is, some_number b eb y))
+    by (inr x) (inl y) = let none : number 0 b ≡ 0 = ap (number 0) y in
+        absurd (omega (arith, none, fa.is, fb.is, some_number a ea x))
     by (inr x) (inr y) =
-        let same = one_list (back a) (back b) (digits_back a fa.digits) (digits_back b fb.digits) x y (sym (number-back 0 a) ∙ fa.is ∙ sym fb.is ∙ number-back 0 b) in
+        let same = one_list (back a) (back b) (digits_back a fa.digits)
+        (digits_back b fb.digits) x y
+        (sym (number-back 0 a) ∙ fa.is ∙ sym fb.is ∙ number-back 0 b) in
         sym (back-back a) ∙ ap back same ∙ back-back b

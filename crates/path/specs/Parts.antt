@@ -1,6 +1,8 @@
--- A path is parts joined by dots. A part isn't empty, doesn't begin with `$` and has no zero byte, and a path has at
--- most 255 bytes.
-use Rattle.std.specs.Prelude.{ℕ, ◌≡◌, ◌+◌, ◌-◌, ◌*◌, ◌==◌, nat_lt, nat_le, ◌&&◌, ◌||◌, Bool, true, false, if◌then◌else◌, Option, Some, None, Result, List, [], ◌∷◌, length}
+-- A path is parts joined by dots. A part isn't empty, doesn't begin with `$` and has no zero byte,
+-- and a path has at most 255 bytes.
+use Rattle.std.specs.Prelude.{ℕ, ◌≡◌, ◌+◌, ◌-◌, ◌*◌, ◌==◌, nat_lt, nat_le, ◌&&◌, ◌||◌, Bool, true}
+use Rattle.std.specs.Prelude.{false, if◌then◌else◌, Option, Some, None, Result, List, [], ◌∷◌}
+use Rattle.std.specs.Prelude.{length}
 use Rattle.outcome.specs.Outcome.{fault_or}
 use Rattle.std.specs.Str.{bytes_eq}
 use Rattle.std.specs.List.{slice_split, list_any, list_all}

@@ -8,7 +8,9 @@ abbrev pub AreApart : List (List (List ℕ)) → Type 0
 AreApart [] = Unit {0}
 AreApart (path ∷ paths) = (list_any (meets path) paths ≡ false) × AreApart paths
 
--- The new paths are the old ones and one more: whatever meets one of them meets that one or an old one.
+-- The new paths are the old ones and one more: whatever meets one of them meets that one or an old
+-- one.
 abbrev pub HasOneMore : List (List ℕ) → List (List (List ℕ)) → List (List (List ℕ)) → Type 0
 HasOneMore path old new =
-    (other : List (List ℕ)) → list_any (meets other) new ≡ (meets other path || list_any (meets other) old)
+    (other : List (List ℕ))
+    → list_any (meets other) new ≡ (meets other path || list_any (meets other) old)

@@ -1,6 +1,7 @@
--- The one place that the path of an edit names: it goes on in a document by the part's field and in an array by the
--- element that the part numbers, and doesn't look into the elements.
-use Rattle.std.specs.Prelude.{ℕ, Bool, true, false, if◌then◌else◌, Option, Some, None, List, [], ◌∷◌}
+-- The one place that the path of an edit names: it goes on in a document by the part's field and in
+-- an array by the element that the part numbers, and doesn't look into the elements.
+use Rattle.std.specs.Prelude.{ℕ, Bool, true, false, if◌then◌else◌, Option, Some, None, List, []}
+use Rattle.std.specs.Prelude.{◌∷◌}
 use Rattle.std.specs.Option.{option_and_then}
 use Rattle.bson.specs.Tree.{Tree, scalar, document, array}
 use Rattle.bson.specs.Lookup.{lookup}

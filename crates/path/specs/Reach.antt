@@ -14,7 +14,8 @@ abbrev pub onwards : (Tree → List Reached) → Option Tree → List Reached �
 onwards go None none = none
 onwards go (Some t) none = go t
 
--- on in each element that is a document, in order; one that lacks a field named by digits is passed over
+-- on in each element that is a document, in order; one that lacks a field named by digits is passed
+-- over
 abbrev pub in_elements : (Tree → List Reached) → List ℕ → Items → List Reached
 in_elements go name no_items = []
 in_elements go name (item (document ps) ts) =
@@ -25,9 +26,10 @@ in_elements go name (item t ts) = in_elements go name ts
 abbrev pub in_place : (Tree → List Reached) → List ℕ → Items → List Reached
 in_place go name ts = onwards go (option_and_then (item_at ts) (index_of name)) []
 
--- The parts that are left, and the value that was come to. Where no parts are left, it is the value itself; a document
--- is left by the part's field, or it is Missing; an array by its elements that are documents, then by the element that
--- the part numbers; any other value with parts left is Missing.
+-- The parts that are left, and the value that was come to. Where no parts are left, it is the value
+-- itself; a document is left by the part's field, or it is Missing; an array by its elements that
+-- are documents, then by the element that the part numbers; any other value with parts left is
+-- Missing.
 abbrev pub reach : List (List ℕ) → Tree → List Reached
 reach [] t = Some t ∷ []
 reach (name ∷ rest) (scalar s) = None ∷ []

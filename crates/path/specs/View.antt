@@ -1,5 +1,5 @@
--- What the types of the crate stand for. A `Path` is the list of its parts, a `Part` its name; `reached` says what a
--- `Reached` is.
+-- What the types of the crate stand for. A `Path` is the list of its parts, a `Part` its name;
+-- `reached` says what a `Reached` is.
 use Rattle.std.specs.Prelude.{Option, Some, None}
 use Rattle.bson.specs.Tree.{Tree}
 use Rattle.bson.specs.View.{tree}

@@ -1,5 +1,5 @@
 -- An answer is told by its members.
-use Rattle.std.proofs.Common.{◌≡◌, true, List, arith}
+use Rattle.std.proofs.Common.{◌≡◌, ⊎_elim, inl, inr, true, List, arith}
 use Rattle.std.specs.List.{AllPairs, filter}
 use Rattle.std.specs.Cmp.{IsTotalOrder, then_total, on_total}
 use Rattle.std.specs.Ordering.{on}
@@ -17,10 +17,10 @@ use Rattle.index.specs.LawfulState.{IsStorable, IsRising}
 use Rattle.index.specs.State.{key_of}
 use Rattle.index.proofs.HomeLemmas.{listed_of}
 use Rattle.index.proofs.MemberLemmas.{Among, among_of, contains_of, of_all}
-use Rattle.planner.specs.AnswerLaws.{answer_cmp, HaveSameMembers, OrderedOnce, SortsToAnswer, IsFound, NeverChangesAnswer, KeptAreNoted}
+use Rattle.planner.specs.AnswerLaws.{answer_cmp, FrontOfAnswer, HaveSameMembers, OrderedOnce, SortsToAnswer, IsFound, NeverChangesAnswer, KeptAreNoted}
 use Rattle.planner.specs.Plan.{fields_of, is_multi, range_in}
 use Rattle.planner.proofs.KeyBytesLemmas.{has_bytes_in_range}
-use Rattle.planner.proofs.RisingLemmas.{Rises, rises_of, pairs_of, one_rising, sorted_rises, among_sorted, sorted_among, filter_among, among_filter, rises_filter}
+use Rattle.planner.proofs.RisingLemmas.{Rises, rises_of, pairs_of, front_rising, one_rising, sorted_rises, among_sorted, sorted_among, filter_among, among_filter, rises_filter}
 
 by_sort : (fields : List SortField) → IsTotalOrder (compare_by fields)
 by_sort fields = (orders_stably fields).0
@@ -50,6 +50,23 @@ sorts_to_answer fields ds rising = (pairs_of (answer_cmp fields) (order fields d
         (rises_of (answer_cmp fields) found up) rises
         (λ d g. sorted_among (compare_by fields) d ds (among_of ds d (same.to d (contains_of found d g))))
         (λ d g. among_of found d (same.from d (contains_of ds d (among_sorted (compare_by fields) d ds g))))
+
+-- ---- the front of an answer
+
+pub front_of_answer : FrontOfAnswer
+front_of_answer rs sort ds found rising up to above =
+    front_rising (answer_cmp sort) (answer_total sort) found (order sort kept) (rises_of (answer_cmp sort) found up)
+    (rises_of (answer_cmp sort) (order sort kept) (sorts_to_answer sort kept kept_rises).0)
+    (λ d g. let t = to d (contains_of found d g) in sorted_among (compare_by sort) d kept (among_filter (matches rs) d ds (among_of ds d t.0) t.1))
+    (λ d e g h.
+    let f = filter_among (matches rs) d ds (among_sorted (compare_by sort) d kept g) in
+    ⊎_elim (λ there. inl (among_of found d there)) (λ less. inr less) (above d e (contains_of ds d f.0) f.1 (contains_of found e h)))
+  where
+    kept : List Pairs
+    kept = filter (matches rs) ds
+
+    kept_rises : IsRising kept
+    kept_rises = pairs_of (on key_of compare) kept (rises_filter (matches rs) (on key_of compare) ds (rises_of (on key_of compare) ds rising))
 
 -- ---- what a walk over a range finds
 

@@ -30,7 +30,7 @@ use Rattle.planner.specs.KeyScan.{id_text}
 use Rattle.planner.proofs.RangeReadingLemmas.{range_finds_matching}
 use Rattle.planner.proofs.RisingLemmas.{Below, Rises, among_filter, below_each, filter_among, one_rising, rises_filter, rises_of}
 
-abbrev id_of : Pairs → List ℕ
+abbrev pub id_of : Pairs → List ℕ
 id_of d = tree_text (key_of d)
 
 by_id : IsTotalOrder (on key_of compare)
@@ -44,7 +44,7 @@ not_less o e f = let g : Less ≡ Equal = sym e ∙ f in cc
 among_set : (ks : List (List ℕ)) (k : List ℕ) → Among k ks → Among k (ascending_set ks)
 among_set ks k h = test_among (ascending_set ks) k (set_among ks k ∙ among_test ks k h)
 
-set_members : (ks : List (List ℕ)) (k : List ℕ) → Among k (ascending_set ks) → Among k ks
+pub set_members : (ks : List (List ℕ)) (k : List ℕ) → Among k (ascending_set ks) → Among k ks
 set_members ks k h = test_among ks k (sym (set_among ks k) ∙ among_test (ascending_set ks) k h)
 
 -- the text in which an `_id` is found
@@ -73,7 +73,7 @@ found_there d (x ∷ ds) up (inr g) =
     (compare_total.antisymm (key_of d) (key_of x) ∙ ap ordering_reverse (below_each (on key_of compare) x d ds up.0 g))
     ∙ found_there d ds up.1 g
 
-same_document : (ds : List Pairs) (d e : Pairs) → All IsStorable ds → IsRising ds → Among d ds → Among e ds → id_of d ≡ id_of e → d ≡ e
+pub same_document : (ds : List Pairs) (d e : Pairs) → All IsStorable ds → IsRising ds → Among d ds → Among e ds → id_of d ≡ id_of e → d ≡ e
 same_document ds d e all up there here same =
     let hd : IsStorable d = of_all IsStorable ds d all there in
     let he : IsStorable e = of_all IsStorable ds e all here in
@@ -108,7 +108,7 @@ documents_of ds (id ∷ ids) each =
     one e there later d (inl same) = subst (λ (x : Pairs). Among x ds) (sym same) there
     one e there later d (inr h) = later.stored d h
 
-each_found : (ds es : List Pairs) → Rises (on key_of compare) ds → ((d : Pairs) → Among d es → Among d ds) → AllByRecursion (λ d. find_document ds (key_of d) ≡ Some d) es
+pub each_found : (ds es : List Pairs) → Rises (on key_of compare) ds → ((d : Pairs) → Among d es → Among d ds) → AllByRecursion (λ d. find_document ds (key_of d) ≡ Some d) es
 each_found ds [] up within = tt
 each_found ds (e ∷ es) up within = (found_there e ds up (within e (inl refl)), each_found ds es up (λ d h. within d (inr h)))
 

@@ -14,3 +14,4 @@ pub mod KeyScanLemmas
 pub mod RangeReadingLemmas
 pub mod FoundIdLemmas
 pub mod ChosenLemmas
+pub mod FirstIdLemmas

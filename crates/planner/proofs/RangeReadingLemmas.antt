@@ -33,7 +33,7 @@ pub record IsPassing (fs : List Field) (p : List Key → Bool) (keys : List (Lis
   pub spellable : IsIndexKey fs one
   pub passes : p one ≡ true
 
-passing : (fs : List Field) (p : List Key → Bool) (keys : List (List Key)) → AllByRecursion (IsIndexKey fs) keys → list_any p keys ≡ true → IsPassing fs p keys
+pub passing : (fs : List Field) (p : List Key → Bool) (keys : List (List Key)) → AllByRecursion (IsIndexKey fs) keys → list_any p keys ≡ true → IsPassing fs p keys
 passing fs p [] g e = absurd cc
 passing fs p (ks ∷ keys) g e = by (p ks) refl (passing fs p keys g.1) e
   where
@@ -42,13 +42,13 @@ passing fs p (ks ∷ keys) g e = by (p ks) refl (passing fs p keys g.1) e
     by false so later f = let l = later f in record { one = l.one; there = inr l.there; spellable = l.spellable; passes = l.passes }
 
 -- an encoded key of each list of keys
-encoded_there : (fs : List Field) (d : Pairs) (ks : List Key) → Among ks (index_keys fs d) → Among (key_bytes fs ks) (encoded_keys fs d)
+pub encoded_there : (fs : List Field) (d : Pairs) (ks : List Key) → Among ks (index_keys fs d) → Among (key_bytes fs ks) (encoded_keys fs d)
 encoded_there fs d ks there =
     let keys = map (key_bytes fs) (index_keys fs d) in
     test_among (encoded_keys fs d) (key_bytes fs ks) (set_among keys (key_bytes fs ks) ∙ among_test keys (key_bytes fs ks) (among_image (key_bytes fs) ks (index_keys fs d) there))
 
 -- the text of the `_id` is found behind a document's key
-id_behind : (fs : List Field) (d : Pairs) (key text : List ℕ) → IsStorable d → Among key (encoded_keys fs d) → text ≡ key ++ tree_text (key_of d) → id_text fs text ≡ Some (tree_text (key_of d))
+pub id_behind : (fs : List Field) (d : Pairs) (key text : List ℕ) → IsStorable d → Among key (encoded_keys fs d) → text ≡ key ++ tree_text (key_of d) → id_text fs text ≡ Some (tree_text (key_of d))
 id_behind fs d key text stored there is =
     let e : IsEncoded fs key = encoded_of fs d key stored there in
     ap (id_text fs) (is ∙ ap (λ (k : List ℕ). k ++ tree_text (key_of d)) e.is) ∙ finds_id_text fs e.keys (tree_text (key_of d)) e.spellable

@@ -1,5 +1,5 @@
 -- Lists in strict order by any total order, and a stable sort of what rises by another one.
-use Rattle.std.proofs.Common.{◌≡◌, ℕ, zero, suc, ◌<◌, Bool, true, false, List, [], ◌∷◌, length, get_or, ◌⊎◌, inl, inr, refl, sym, ap, ◌∙◌, arith}
+use Rattle.std.proofs.Common.{◌≡◌, ℕ, zero, suc, ◌<◌, Bool, true, false, List, [], ◌∷◌, length, take, get_or, ◌⊎◌, inl, inr, refl, sym, ap, ◌∙◌, arith}
 use Rattle.std.specs.Prelude.{cond}
 use Rattle.std.specs.List.{AllPairs, filter}
 use Rattle.std.specs.Cmp.{IsTotalOrder, then_total}
@@ -55,7 +55,7 @@ module _ {X : Type 0} (cmp : X → X → Ordering) where
     pub below_over : (x y : X) → cmp x y ≡ Greater → cmp y x ≡ Less
     below_over x y e = o.antisymm y x ∙ ap ordering_reverse e
 
-    not_both : (x y : X) → cmp x y ≡ Less → cmp y x ≡ Less → ⊥
+    pub not_both : (x y : X) → cmp x y ≡ Less → cmp y x ≡ Less → ⊥
     not_both x y e f = let g = over_below x y e in cc
 
     not_itself : (x y : X) → x ≡ y → cmp x y ≡ Less → ⊥
@@ -86,6 +86,28 @@ module _ {X : Type 0} (cmp : X → X → Ordering) where
         let rest : xs ≡ ys = one_rising xs ys hx.1 hy.1
         (λ z g. behind x y z xs ys same hx.0 g (to z (inr g)))
         (λ z g. behind y x z ys xs (sym same) hy.0 g (from z (inr g))) in
+        λ i. same i ∷ rest i
+
+    first_head : (x y : X) (xs ys : List X) → Below x xs → Below y ys → (x ≡ y) ⊎ Among x ys → ((y ≡ x) ⊎ Among y xs) ⊎ (cmp x y ≡ Less) → x ≡ y
+    first_head x y xs ys hx hy g (inl h) = one_head x y xs ys hx hy g h
+    first_head x y xs ys hx hy (inl e) (inr less) = e
+    first_head x y xs ys hx hy (inr f) (inr less) = absurd (not_both x y less (below_each y x ys hy f))
+
+    behind_first : (x y z w : X) (xs ys : List X) → x ≡ y → Below y ys → Among z ys → ((z ≡ x) ⊎ Among z xs) ⊎ (cmp w z ≡ Less) → Among z xs ⊎ (cmp w z ≡ Less)
+    behind_first x y z w xs ys same hy g (inl (inl e)) = absurd (not_itself y z (sym same ∙ sym e) (below_each y z ys hy g))
+    behind_first x y z w xs ys same hy g (inl (inr f)) = inl f
+    behind_first x y z w xs ys same hy g (inr less) = inr less
+
+    -- what rises among others of which each is above it, or among it, is their front
+    pub front_rising : (xs ys : List X) → Rises xs → Rises ys
+        → ((z : X) → Among z xs → Among z ys) → ((z w : X) → Among z ys → Among w xs → Among z xs ⊎ (cmp w z ≡ Less)) → xs ≡ take (length xs) ys
+    front_rising [] ys hx hy to above = refl
+    front_rising (x ∷ xs) [] hx hy to above = absurd (to x (inl refl))
+    front_rising (x ∷ xs) (y ∷ ys) hx hy to above =
+        let same : x ≡ y = first_head x y xs ys hx.0 hy.0 (to x (inl refl)) (above y x (inl refl) (inl refl)) in
+        let rest : xs ≡ take (length xs) ys = front_rising xs ys hx.1 hy.1
+        (λ z g. behind x y z xs ys same hx.0 g (to z (inr g)))
+        (λ z w g h. behind_first x y z w xs ys same hy.0 g (above z w (inr g) (inr h))) in
         λ i. same i ∷ rest i
 
 -- ---- a stable sort of what rises by another order

@@ -1,5 +1,6 @@
 -- The choice of a plan in its own words, without a rank.
-use Rattle.std.specs.Prelude.{◌≡◌, ◌<◌, ◌⊎◌, true, false, Some, None, List, [], ◌∷◌, ◌++◌, length, map}
+use Rattle.std.specs.Prelude.{◌≡◌, ◌<◌, ◌⊎◌, true, false, Some, None, List, [], ◌∷◌, ◌++◌, length}
+use Rattle.std.specs.Prelude.{map}
 use Rattle.std.specs.List.{AllByRecursion}
 use Rattle.filter.specs.Condition.{Conditions}
 use Rattle.filter.specs.Sort.{SortField}
@@ -11,7 +12,8 @@ abbrev pub all_ranges : Conditions → List SortField → List Definition → Li
 all_ranges rs sort indexes =
     range_in rs sort None ∷ map (λ d. range_in rs sort (Some d)) indexes
 
--- It has more leading values; or as many, and an end where the other has none; or that alike, and it alone is in the order of the sort.
+-- It has more leading values; or as many, and an end where the other has none; or that alike, and
+-- it alone is in the order of the sort.
 abbrev pub Outranks : Range → Range → Type 0
 Outranks r s =
     (length s.equal < length r.equal)
@@ -35,7 +37,8 @@ abbrev pub IsChosen : List Range → Plan → Type 0
 IsChosen ranges scan = AllByRecursion IsNoHelp ranges
 IsChosen ranges (by_index r) = IsFirstBest ranges r × (¬ IsNoHelp r)
 
--- The plan is the first index that none outranks, where it helps; else no index helps, and it is a scan.
+-- The plan is the first index that none outranks, where it helps; else no index helps, and it is a
+-- scan.
 abbrev pub ChoosesFirstBest : Type 0
 ChoosesFirstBest =
     (rs : Conditions) (sort : List SortField) (indexes : List Definition)

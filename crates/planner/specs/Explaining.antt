@@ -1,5 +1,6 @@
 -- The text of a plan, as `explain` answers it.
-use Rattle.std.specs.Prelude.{ℕ, Bool, if◌then◌else◌, Option, Some, None, List, ◌++◌, length, codes, decimal}
+use Rattle.std.specs.Prelude.{ℕ, Bool, if◌then◌else◌, Option, Some, None, List, ◌++◌, length, codes}
+use Rattle.std.specs.Prelude.{decimal}
 use Rattle.index.specs.Definition.{Definition}
 use Rattle.planner.specs.Usable.{Bound}
 use Rattle.planner.specs.Plan.{Range, Plan, scan, by_index}

@@ -1,4 +1,5 @@
--- The `_id`s to which the entries of an index lead, and that a filter selects of their documents what it selects of all.
+-- The `_id`s to which the entries of an index lead, and that a filter selects of their documents
+-- what it selects of all.
 use Rattle.std.specs.Prelude.{◌≡◌, ℕ, Some, List, map, All}
 use Rattle.std.specs.List.{AllByRecursion, filter, flat_map}
 use Rattle.std.specs.Option.{option_to_list}
@@ -26,8 +27,8 @@ ids_of fields texts = flat_map (λ text. option_to_list (id_text fields text)) t
 abbrev pub ids_in : List Field → List (List ℕ) → List (List ℕ)
 ids_in fields texts = ascending_set (ids_of fields texts)
 
--- These are the texts of the `_id`s of some of the documents, each of which is found by its `_id`, in their order; and the filter selects of
--- them what it selects of all.
+-- These are the texts of the `_id`s of some of the documents, each of which is found by its `_id`,
+-- in their order; and the filter selects of them what it selects of all.
 pub record LeadToMatching (rs : Conditions) (ds : List Pairs) (ids : List (List ℕ)) : Type 0 where
   pub documents : List Pairs
   pub spelled : ids ≡ map (λ d. tree_text (key_of d)) documents
@@ -37,7 +38,9 @@ pub record LeadToMatching (rs : Conditions) (ds : List Pairs) (ids : List (List 
 -- So it is of the `_id`s in what is read of an index in the range that the filter gives there.
 abbrev pub IdsLeadToMatching : Type 0
 IdsLeadToMatching =
-    (rs : Conditions) (sort : List SortField) (i : Definition) (ds : List Pairs) (texts : List (List ℕ))
+    (rs : Conditions) (sort : List SortField) (i : Definition) (ds : List Pairs)
+    (texts : List (List ℕ))
     → let r = range_in rs sort (Some i) in
-    IsNotedFor (Some i) ds → IsSpellable r → All IsStorable ds → IsRising ds → AreReadFrom i r ds texts
+    IsNotedFor (Some i) ds → IsSpellable r → All IsStorable ds → IsRising ds
+    → AreReadFrom i r ds texts
     → LeadToMatching rs ds (ids_in i.fields texts)

@@ -1,5 +1,6 @@
 -- That documents that are looked up by their `_id`s, in ascending order, are those of a scan.
-use Rattle.std.specs.Prelude.{◌≡◌, ℕ, ⊤, Bool, true, List, [], ◌∷◌, All, Contains, Option, Some, None}
+use Rattle.std.specs.Prelude.{◌≡◌, ℕ, ⊤, Bool, true, List, [], ◌∷◌, All, Contains, Option, Some}
+use Rattle.std.specs.Prelude.{None}
 use Rattle.std.specs.List.{AllPairs, filter}
 use Rattle.std.specs.declared.cmp.Ordering.TheVariants.{Less}
 use Rattle.bson.specs.Tree.{Tree, Pairs}
@@ -26,7 +27,8 @@ abbrev pub found_by : List Pairs → List Tree → List Pairs
 found_by ds [] = []
 found_by ds (id ∷ ids) = with_found (find_document ds id) (found_by ds ids)
 
--- Where the texts ascend, and those of all documents that pass are among them, no other has to be looked at.
+-- Where the texts ascend, and those of all documents that pass are among them, no other has to be
+-- looked at.
 abbrev pub FindsByIds : Type 0
 FindsByIds =
     (passes : Pairs → Bool) (ds : List Pairs) (ids : List Tree) (texts : List (List ℕ))

@@ -1,5 +1,7 @@
--- Which keys lie in a range of an index: as lists of values, and as the bytes that the entries of the index have.
-use Rattle.std.specs.Prelude.{◌≡◌, ℕ, ◌==◌, ◌&&◌, Bool, true, false, Option, Some, None, IfSome, List, [], ◌∷◌, ◌++◌, length, take, drop, All}
+-- Which keys lie in a range of an index: as lists of values, and as the bytes that the entries of
+-- the index have.
+use Rattle.std.specs.Prelude.{◌≡◌, ℕ, ◌==◌, ◌&&◌, Bool, true, false, Option, Some, None, IfSome}
+use Rattle.std.specs.Prelude.{List, [], ◌∷◌, ◌++◌, length, take, drop, All}
 use Rattle.std.specs.List.{list_any}
 use Rattle.std.specs.Str.{bytes_eq}
 use Rattle.std.specs.declared.cmp.Ordering.{Ordering}
@@ -46,8 +48,8 @@ is_in (t ∷ ts) low high (k ∷ ks) = is_equal_to t k && is_in ts low high ks
 abbrev pub has_key : Range → List Key → Bool
 has_key r ks = is_in r.equal r.low r.high ks
 
--- A document that a filter matches has a key in the range that the filter gives in an index, where the index is noted as multikey if the
--- document makes it one.
+-- A document that a filter matches has a key in the range that the filter gives in an index, where
+-- the index is noted as multikey if the document makes it one.
 abbrev pub HasKeyInRange : Type 0
 HasKeyInRange =
     (rs : Conditions) (sort : List SortField) (index : Option Definition) (ps : Pairs)
@@ -101,7 +103,8 @@ pub record IsSpellable (r : Range) : Type 0 where
   pub low_spelled : IfSome r.low (λ b. IsKey (value b.operand))
   pub high_spelled : IfSome r.high (λ b. IsKey (value b.operand))
 
--- So one of the document's encoded keys does, if BSON can spell the document and the values of the range.
+-- So one of the document's encoded keys does, if BSON can spell the document and the values of the
+-- range.
 abbrev pub HasBytesInRange : Type 0
 HasBytesInRange =
     (rs : Conditions) (sort : List SortField) (index : Option Definition) (ps : Pairs)

@@ -1,5 +1,8 @@
--- Where the text of a value ends, told by its bytes alone: what stands behind the texts of an entry's key is the text of the `_id`.
-use Rattle.std.specs.Prelude.{ℕ, zero, suc, ◌+◌, ◌-◌, ◌==◌, nat_lt, Bool, true, false, if◌then◌else◌, Option, Some, None, List, [], ◌∷◌, length, take, drop, map}
+-- Where the text of a value ends, told by its bytes alone: what stands behind the texts of an
+-- entry's key is the text of the `_id`.
+use Rattle.std.specs.Prelude.{ℕ, zero, suc, ◌+◌, ◌-◌, ◌==◌, nat_lt, Bool, true, false}
+use Rattle.std.specs.Prelude.{if◌then◌else◌, Option, Some, None, List, [], ◌∷◌, length, take, drop}
+use Rattle.std.specs.Prelude.{map}
 use Rattle.std.specs.Int.{w32, from_be_bytes}
 use Rattle.std.specs.Option.{option_and_then}
 use Rattle.value_order.specs.declared.texts.Direction.{Direction}
@@ -55,7 +58,8 @@ abbrev pub by_class : ℕ → Option (List ℕ) → Option (List ℕ) → Option
 by_class class of_pairs of_items of_scalar =
     if class == 0x50 then of_pairs else if class == 0x60 then of_items else of_scalar
 
--- Each value, and each pair or item behind another, takes a step; there are at most as many as bytes.
+-- Each value, and each pair or item behind another, takes a step; there are at most as many as
+-- bytes.
 abbrev mutual
   pub behind_value : Direction → ℕ → List ℕ → Option (List ℕ)
   behind_value d zero bytes = None

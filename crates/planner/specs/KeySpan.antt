@@ -1,5 +1,6 @@
 -- Between which bytes the keys of a range lie: where a walk begins, and where it may end.
-use Rattle.std.specs.Prelude.{◌≡◌, ℕ, true, false, Option, Some, None, List, [], ◌∷◌, ◌++◌, length, take, drop}
+use Rattle.std.specs.Prelude.{◌≡◌, ℕ, true, false, Option, Some, None, List, [], ◌∷◌, ◌++◌, length}
+use Rattle.std.specs.Prelude.{take, drop}
 use Rattle.std.specs.Ordering.{is_lt, is_gt}
 use Rattle.value_order.specs.Order.{value, bytes_cmp}
 use Rattle.value_order.specs.KeyText.{directed_text}
@@ -15,7 +16,8 @@ use Rattle.planner.specs.KeyRange.{front_text, place_by, has_bytes}
 abbrev pub bound_text : Direction → Bound → List ℕ
 bound_text d b = directed_text d (value b.operand)
 
--- the text at one end; where only the other end has one, the byte of its class, since all keys of the range are of that
+-- the text at one end; where only the other end has one, the byte of its class, since all keys of
+-- the range are of that
 abbrev pub end_text : Direction → Option Bound → Option Bound → List ℕ
 end_text d (Some b) other = bound_text d b
 end_text d None (Some b) = take 1 (bound_text d b)
@@ -44,4 +46,5 @@ SpansRange =
     (rs : Conditions) (sort : List SortField) (index : Option Definition) (key : List ℕ)
     → let r = range_in rs sort index in let fs = fields_of index in
     has_bytes fs r key ≡ true
-    → (is_lt (bytes_cmp key (first_key fs r)) ≡ false) × (is_gt (place_by (last_key fs r) key) ≡ false)
+    → (is_lt (bytes_cmp key (first_key fs r)) ≡ false)
+    × (is_gt (place_by (last_key fs r) key) ≡ false)

@@ -1,6 +1,7 @@
 pub mod Usable
 pub mod Plan
 pub mod Explaining
+pub mod ExplainingLaws
 pub mod KeyRange
 pub mod KeyScan
 pub mod KeyScanLaws
@@ -12,3 +13,4 @@ pub mod FoundIds
 pub mod Rows
 pub mod ChoiceLaws
 pub mod IdLaws
+pub mod FirstIds

@@ -1,5 +1,7 @@
 -- How the documents of a find are found: by a scan of the collection, or by a range of one index.
-use Rattle.std.specs.Prelude.{ℕ, ◌+◌, ◌*◌, ◌==◌, nat_lt, ◌&&◌, ◌||◌, not, Bool, true, false, if◌then◌else◌, Option, Some, None, List, [], ◌∷◌, length, drop, map, codes, is_some}
+use Rattle.std.specs.Prelude.{ℕ, ◌+◌, ◌*◌, ◌==◌, nat_lt, ◌&&◌, ◌||◌, not, Bool, true, false}
+use Rattle.std.specs.Prelude.{if◌then◌else◌, Option, Some, None, List, [], ◌∷◌, length, drop, map}
+use Rattle.std.specs.Prelude.{codes, is_some}
 use Rattle.bson.specs.Tree.{Tree}
 use Rattle.path.specs.Parts.{parts_of}
 use Rattle.filter.specs.Condition.{Conditions}
@@ -9,7 +11,8 @@ use Rattle.value_order.specs.declared.texts.Direction.TheVariants.{Ascending, De
 use Rattle.index.specs.Definition.{Field, Definition}
 use Rattle.planner.specs.Usable.{Bound, Usable, nothing, is_path, usable}
 
--- A range of an index: the keys that begin with values equal to these, and of which the next one lies between the ends.
+-- A range of an index: the keys that begin with values equal to these, and of which the next one
+-- lies between the ends.
 pub record Range : Type 0 where
   -- none is the index on `_id`, which every collection has
   pub index : Option Definition
@@ -55,8 +58,8 @@ abbrev pub asked_next : Conditions → List Field → Usable
 asked_next rs [] = nothing
 asked_next rs (f ∷ fs) = asked_of f rs
 
--- In a multikey index one key of a document may meet the lower end and another the upper one, and none both: so the upper end counts only
--- where there is no lower one.
+-- In a multikey index one key of a document may meet the lower end and another the upper one, and
+-- none both: so the upper end counts only where there is no lower one.
 abbrev pub upper_beside : Bool → Option Bound → Option Bound → Option Bound
 upper_beside multi low high = if multi && is_some low then None else high
 
@@ -93,8 +96,8 @@ range_in rs sort index =
 abbrev pub has_end : Range → Bool
 has_end r = is_some r.low || is_some r.high
 
--- The more leading values the better, then a range of the next one, then the order of the sort: neither of the last two outweighs what stands
--- before it. 0 is an index that doesn't help.
+-- The more leading values the better, then a range of the next one, then the order of the sort:
+-- neither of the last two outweighs what stands before it. 0 is an index that doesn't help.
 abbrev pub rank : Range → ℕ
 rank r = 4 * length r.equal + ((if has_end r then 2 else 0) + (if r.is_sorted then 1 else 0))
 

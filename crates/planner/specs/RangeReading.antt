@@ -1,4 +1,5 @@
--- What is found by reading the entries of an index from the first key of a range to its last: every document that the filter matches.
+-- What is found by reading the entries of an index from the first key of a range to its last: every
+-- document that the filter matches.
 use Rattle.std.specs.Prelude.{◌≡◌, ℕ, true, false, Some, List, ◌++◌, All, Contains}
 use Rattle.std.specs.Ordering.{is_lt, is_gt}
 use Rattle.bson.specs.Tree.{Pairs}
@@ -29,7 +30,8 @@ LiesBetween first last text =
     (is_lt (bytes_cmp text first) ≡ false) × (is_gt (place_by last text) ≡ false)
 
 -- Texts of entries of these documents in an index, and all that lie between the ends of a range.
-pub record AreReadFrom (i : Definition) (r : Range) (ds : List Pairs) (texts : List (List ℕ)) : Type 0 where
+pub record AreReadFrom (i : Definition) (r : Range) (ds : List Pairs)
+    (texts : List (List ℕ)) : Type 0 where
   pub given : (text : List ℕ) → Contains texts text → IsEntryText ds i text
   pub all : (text : List ℕ) → IsEntryText ds i text
       → LiesBetween (first_key i.fields r) (last_key i.fields r) text → Contains texts text
@@ -39,10 +41,12 @@ abbrev pub LeadsTo : Definition → List (List ℕ) → Pairs → Type 0
 LeadsTo i texts d =
     (text : List ℕ) × Contains texts text × (id_text i.fields text ≡ Some (tree_text (key_of d)))
 
--- Each text that is read leads to one of the documents, and to each document that the filter matches one of them leads.
+-- Each text that is read leads to one of the documents, and to each document that the filter
+-- matches one of them leads.
 abbrev pub RangeFindsMatching : Type 0
 RangeFindsMatching =
-    (rs : Conditions) (sort : List SortField) (i : Definition) (ds : List Pairs) (texts : List (List ℕ))
+    (rs : Conditions) (sort : List SortField) (i : Definition) (ds : List Pairs)
+    (texts : List (List ℕ))
     → let r = range_in rs sort (Some i) in
     IsNotedFor (Some i) ds → IsSpellable r → All IsStorable ds → AreReadFrom i r ds texts
     → ((text : List ℕ) → Contains texts text

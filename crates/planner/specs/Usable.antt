@@ -1,11 +1,13 @@
--- What a filter asks of a path so that an index can serve it: to be equal to a value, or to lie above or below one. Only conditions at the
--- top of the filter count, since all of those have to hold. No operand is an array: a document with an array has a key for each element, and
--- none for the array itself.
+-- What a filter asks of a path so that an index can serve it: to be equal to a value, or to lie
+-- above or below one. Only conditions at the top of the filter count, since all of those have to
+-- hold. No operand is an array: a document with an array has a key for each element, and none for
+-- the array itself.
 use Rattle.std.specs.Prelude.{ℕ, ◌&&◌, Bool, if◌then◌else◌, Option, Some, None, List, option_map}
 use Rattle.std.specs.Option.{option_or}
 use Rattle.bson.specs.Tree.{Tree, array}
 use Rattle.path.specs.Parts.{is_front}
-use Rattle.filter.specs.Condition.{equal, ordered, Condition, at, is, Conditions, no_conditions, condition}
+use Rattle.filter.specs.Condition.{equal, ordered, Condition, at, is, Conditions, no_conditions}
+use Rattle.filter.specs.Condition.{condition}
 use Rattle.filter.specs.declared.condition.Comparison.{Comparison}
 use Rattle.filter.specs.declared.condition.Comparison.TheVariants.{Below, AtMost, Above, AtLeast}
 

@@ -25,8 +25,8 @@ fn push_id(ids: &mut Vec<Vec<u8>>, index: &IndexSpec, text: &[u8]) -> Result<(),
     Ok(())
 }
 
-/// The texts of the `_id`s in the texts of entries.
-fn ids_of(alloc: Global, index: &IndexSpec, texts: &[Vec<u8>]) -> Result<Vec<Vec<u8>>, NoMemory>
+/// The texts of the `_id`s in the texts of an index's entries, in their order.
+pub fn ids_of(alloc: Global, index: &IndexSpec, texts: &[Vec<u8>]) -> Result<Vec<Vec<u8>>, NoMemory>
     ensures { IfOk result (λ ids. texts_of ids.items
         ≡ ids_of index.now.fields (texts_of texts.now)) }
 {
@@ -38,7 +38,7 @@ fn ids_of(alloc: Global, index: &IndexSpec, texts: &[Vec<u8>]) -> Result<Vec<Vec
 }
 
 /// Each of these once, ascending.
-fn ascending(ids: Vec<Vec<u8>>) -> Vec<Vec<u8>>
+pub fn ascending(ids: Vec<Vec<u8>>) -> Vec<Vec<u8>>
     ensures { texts_of result.items ≡ ascending_set (texts_of ids.items) }
 {
     let mut ids = ids;

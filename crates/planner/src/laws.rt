@@ -1,8 +1,9 @@
 //! Laws of the definitions and rows worked by hand, as contracts.
 
-ghost use Rattle.planner.specs.AnswerLaws.{OrderedOnce, SortsToAnswer, KeptAreNoted, NeverChangesAnswer, WalksInOrder};
+ghost use Rattle.planner.specs.AnswerLaws.{FrontOfAnswer, OrderedOnce, SortsToAnswer, KeptAreNoted, NeverChangesAnswer, WalksInOrder};
 ghost use Rattle.planner.specs.ChoiceLaws.{ChoosesFirstBest};
 ghost use Rattle.planner.specs.IdLaws.{FindsByIds};
+ghost use Rattle.planner.specs.FirstIds.{FirstIdsLead};
 ghost use Rattle.planner.specs.FoundIds.{IdsLeadToMatching};
 ghost use Rattle.planner.specs.KeyRange.{HasKeyInRange, HasBytesInRange};
 ghost use Rattle.planner.specs.KeyScanLaws.{FindsIdText};
@@ -55,6 +56,11 @@ pub fn sorts_to_answer()
     ensures { SortsToAnswer }
 {}
 
+/// Documents that a filter matches are the first ones of an answer where they stand in its order and each other one is above them.
+pub fn front_of_answer()
+    ensures { FrontOfAnswer }
+{}
+
 /// The indexes of a collection that is kept are noted as multikey where a document of it has an array on one of their
 /// paths.
 pub fn kept_are_noted()
@@ -91,4 +97,10 @@ pub fn range_finds_matching()
 /// Of the documents of the `_id`s that are found so the filter selects what it selects of all.
 pub fn ids_lead_to_matching()
     ensures { IdsLeadToMatching }
+{}
+
+/// What is read first of an index in the order of a sort leads to documents of which those that the filter matches are the first ones of the
+/// answer.
+pub fn first_ids_lead()
+    ensures { FirstIdsLead }
 {}

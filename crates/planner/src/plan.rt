@@ -1,6 +1,6 @@
 //! The choice of a plan, and its text.
 
-ghost use Rattle.std.specs.Prelude.{◌≡◌, IfOk, string_bytes};
+ghost use Rattle.std.specs.Prelude.{◌≡◌, ◌≤◌, IfOk, length, string_bytes};
 ghost use Rattle.planner.specs.Plan.{choose};
 ghost use Rattle.planner.specs.Explaining.{index_name, range_word, sort_word, in_words, range_text, explain_text};
 ghost use Rattle.planner.specs.View.{range_of, plan_of};
@@ -41,10 +41,14 @@ pub fn choose<'a>(filter: &'a Filter, sort: &Sort, indexes: &'a [IndexSpec]) -> 
 
 impl IndexRange<'_> {
     fn index_name(&self) -> &str
-        ensures { result.now ≡ index_name (range_of self.now).index }
+        ensures name { result.now ≡ index_name (range_of self.now).index }
+        ensures short { length result.now ≤ 127 }
     {
         match self.index {
-            Some(spec) => spec.name(),
+            Some(spec) => {
+                let _number = spec.number();
+                spec.name()
+            }
             None => "_id_",
         }
     }
@@ -81,7 +85,8 @@ fn in_words(
 }
 
 fn explain_range(alloc: Global, range: &IndexRange<'_>) -> Result<String, NoMemory>
-    ensures { IfOk result (λ text. string_bytes text ≡ range_text (range_of range.now)) }
+    ensures text { IfOk result (λ text. string_bytes text ≡ range_text (range_of range.now)) }
+    ensures short { IfOk result (λ text. length (string_bytes text) ≤ 200) }
 {
     in_words(
         alloc,
@@ -93,9 +98,10 @@ fn explain_range(alloc: Global, range: &IndexRange<'_>) -> Result<String, NoMemo
 }
 
 /// The text of a plan: `SCAN`, or `INDEX`, the index's name, how many leading values there are, which ends of a range, and
-/// whether keys stand in the order of the sort.
+/// whether keys stand in the order of the sort. It has at most 200 bytes.
 pub fn explain_text(alloc: Global, plan: &Plan<'_>) -> Result<String, NoMemory>
-    ensures { IfOk result (λ text. string_bytes text ≡ explain_text (plan_of plan.now)) }
+    ensures text { IfOk result (λ text. string_bytes text ≡ explain_text (plan_of plan.now)) }
+    ensures short { IfOk result (λ text. length (string_bytes text) ≤ 200) }
 {
     match plan {
         Plan::Scan => String::from_str(alloc, "SCAN"),

@@ -110,7 +110,8 @@ impl<'a> IndexRange<'a> {
 
     /// How many leading fields have a value.
     pub fn equals(&self) -> usize
-        ensures { result ≡ length (range_of self.now).equal }
+        ensures count { result ≡ length (range_of self.now).equal }
+        ensures most { result ≤ 4 }
     {
         self.equal.count()
     }

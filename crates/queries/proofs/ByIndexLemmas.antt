@@ -50,14 +50,14 @@ below_all : (k : List ℕ) (ks : List (List ℕ)) → AllByRecursion (λ y. byte
 below_all k [] h = tt
 below_all k (x ∷ ks) h = (h.0, below_all k ks h.1)
 
-rise : (ks : List (List ℕ)) → IsStrictlySortedBy bytes_cmp ks → Rises bytes_cmp ks
+pub rise : (ks : List (List ℕ)) → IsStrictlySortedBy bytes_cmp ks → Rises bytes_cmp ks
 unfolding IsStrictlySortedBy
 rise [] h = tt
 rise (k ∷ ks) h = (below_all k ks h.0, rise ks h.1)
 
 -- ---- the documents to which they lead
 
-told : (ds es : List Pairs) → All IsStorable ds → AllByRecursion (λ d. find_document ds (key_of d) ≡ Some d) es → AreIdTexts (map (λ d. tree_text (key_of d)) es) (map key_of es)
+pub told : (ds es : List Pairs) → All IsStorable ds → AllByRecursion (λ d. find_document ds (key_of d) ≡ Some d) es → AreIdTexts (map (λ d. tree_text (key_of d)) es) (map key_of es)
 told ds [] all h = tt
 told ds (e ∷ es) all h = (refl, id_is_key e (of_all IsStorable ds e all (document_some ds (key_of e) e h.0).0), told ds es all h.1)
 
@@ -75,7 +75,7 @@ ids_leading rs number now c ids numbered kept up lead = record {
 
 -- ---- the range of a filter in an index of the collection that is asked
 
-module _ (rs : Conditions) (home : Catalogued) (r : Range) (is : IsRangeOf rs home.indexes.items r) (now : List Collection) (state : IsLawfulState now) (c : Collection) (asked : IsAsked home now c) where
+module _ (rs : Conditions) (home : Catalogued) (r : Range) (is : IsRangeOf rs [] home.indexes.items r) (now : List Collection) (state : IsLawfulState now) (c : Collection) (asked : IsAsked home now c) where
   kept : IsKept c
   kept = (found_collection now c.name c state asked.numbered.found).0
 
@@ -111,18 +111,18 @@ module _ (rs : Conditions) (home : Catalogued) (r : Range) (is : IsRangeOf rs ho
 
 -- ---- the range that the planner chose
 
-pub range_chosen : (rs : Conditions) (sort : List SortField) (indexes : List Definition) (plan : Chosen) (range : IndexRange) → sort ≡ [] → plan_of plan ≡ choose rs sort indexes → plan ≡ plans.Index range → is_some range.index ≡ true → IsSpellable (range_of range)
-    → IsRangeOf rs indexes (range_of range)
-range_chosen rs sort indexes plan range none chosen is named spelled = at range.index refl named
+pub range_chosen : (rs : Conditions) (sort : List SortField) (indexes : List Definition) (plan : Chosen) (range : IndexRange) → plan_of plan ≡ choose rs sort indexes → plan ≡ plans.Index range → is_some range.index ≡ true → IsSpellable (range_of range)
+    → IsRangeOf rs sort indexes (range_of range)
+range_chosen rs sort indexes plan range chosen is named spelled = at range.index refl named
   where
-    by_range : choose rs [] indexes ≡ by_index (range_of range)
-    by_range = ap (λ (s : List SortField). choose rs s indexes) (sym none) ∙ sym chosen ∙ ap plan_of is
+    by_range : choose rs sort indexes ≡ by_index (range_of range)
+    by_range = sym chosen ∙ ap plan_of is
 
-    at : (o : Option (Bor Definition)) → range.index ≡ o → is_some o ≡ true → IsRangeOf rs indexes (range_of range)
+    at : (o : Option (Bor Definition)) → range.index ≡ o → is_some o ≡ true → IsRangeOf rs sort indexes (range_of range)
     at None e some = absurd cc
     at (Some spec) e some =
         let index : (range_of range).index ≡ Some spec.now = ap index_of e in
-        let given = chosen_range rs [] indexes (range_of range) spec.now by_range index in
+        let given = chosen_range rs sort indexes (range_of range) spec.now by_range index in
         record { definition = spec.now; index = index; there = given.there; given = given.given; spellable = spelled }
 
 -- the entries that were read between the ends of the range

@@ -1,5 +1,5 @@
 -- Documents that are counted as they come.
-use Rattle.std.proofs.Common.{◌≡◌, ℕ, min, ◌+◌, ◌-◌, ◌^◌, ◌≤◌, ◌<◌, Bool, true, false, List, [], ◌∷◌, ◌++◌, length, drop, get_or, refl, sym, ap, ◌∙◌, add-one, drop-cons, arith, length-append}
+use Rattle.std.proofs.Common.{◌≡◌, ℕ, min, ◌+◌, ◌-◌, ◌^◌, ◌≤◌, ◌<◌, Bool, true, false, List, [], ◌∷◌, ◌++◌, length, Option, drop, get_or, refl, sym, ap, ◌∙◌, add-one, drop-cons, arith, length-append}
 use Rattle.std.proofs.lemmas.List.{drop_all}
 use Rattle.std.specs.List.{filter}
 use Rattle.std.proofs.lemmas.List.Elements.{filter-append}
@@ -7,6 +7,8 @@ use Rattle.bson.specs.Tree.{Pairs}
 use Rattle.filter.specs.Condition.{Conditions}
 use Rattle.filter.specs.Matches.{matches}
 use Rattle.database_model.specs.Find.{matching}
+use Rattle.planner.specs.IdLaws.{with_found}
+use Rattle.queries.proofs.LookingUpLemmas.{found_first}
 
 -- So many were counted, as far as a number goes, of documents that are fewer than numbers go.
 pub record AreCounted (rules : Conditions) (count : ℕ) (all left : List Pairs) : Type 0 where
@@ -70,3 +72,22 @@ module _ (rules : Conditions) where
 
   pub all_counted : (count : ℕ) (all : List Pairs) → AreCounted rules count all [] → count ≡ length (matching rules all)
   all_counted count all h = omega (arith, h.small, h.few, h.sum, filter_fewer (matches rules) all)
+
+-- ---- documents that are looked up
+
+-- so many were counted, and those that are left make up all that match
+abbrev pub AreCountedOf : Conditions → ℕ → List Pairs → List Pairs → Type 0
+AreCountedOf rules count all left = count + length (matching rules left) ≡ length (matching rules all)
+
+module _ (rules : Conditions) where
+  pub none_counted_of : (all found : List Pairs) → filter (matches rules) found ≡ filter (matches rules) all → AreCountedOf rules 0 all found
+  none_counted_of all found same = omega (arith, ap length same)
+
+  pub one_counted_of : (count more next : ℕ) → next ≡ count + more → (all left : List Pairs) (o : Option Pairs) → more ≡ length (matching rules (with_found o [])) → AreCountedOf rules count all (with_found o left) → AreCountedOf rules next all left
+  one_counted_of count more next sum all left o is so =
+      let parts : length (matching rules (with_found o left)) ≡ length (matching rules (with_found o [])) + length (matching rules left) =
+      ap length (found_first (matches rules) o left) ∙ length-append (matching rules (with_found o [])) (matching rules left) in
+      omega (arith, sum, is, parts, so)
+
+  pub all_counted_of : (count : ℕ) (all : List Pairs) → AreCountedOf rules count all [] → count ≡ length (matching rules all)
+  all_counted_of count all so = omega (arith, so)

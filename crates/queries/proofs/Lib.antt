@@ -7,3 +7,6 @@ pub mod NeededLemmas
 pub mod ByIdLemmas
 pub mod LookingUpLemmas
 pub mod ByIndexLemmas
+pub mod IdTextLemmas
+pub mod OrderingLemmas
+pub mod ByOrderLemmas

@@ -1,6 +1,6 @@
 -- Documents that are met one after the other, and those of them that are needed.
-use Rattle.std.proofs.Common.{◌≡◌, ℕ, zero, suc, ◌≤◌, Bool, true, false, List, [], ◌∷◌, ◌++◌, length, take, drop, refl, sym, ap, subst, ◌∙◌, append_assoc, arith}
-use Rattle.std.specs.Prelude.{None, All, IfOk, Result, Ok, Err}
+use Rattle.std.proofs.Common.{◌≡◌, ℕ, zero, suc, ◌≤◌, Bool, true, false, List, [], ◌∷◌, ◌++◌, length, take, drop, Option, Some, refl, sym, ap, subst, ◌∙◌, append_assoc, arith}
+use Rattle.std.specs.Prelude.{None, All, IfOk, IfSome, Result, Ok, Err}
 use Rattle.std.specs.List.{filter}
 use Rattle.std.proofs.lemmas.List.{take-append-drop, append-nil}
 use Rattle.std.proofs.lemmas.List.Elements.{All-append as append_all, All-cons, All-nil, filter-append}
@@ -10,8 +10,11 @@ use Rattle.aggregate.specs.Pipeline.{run}
 use Rattle.aggregate.specs.Stage.{Stage}
 use Rattle.aggregate.specs.Taking.{takes, SufficesTaken, IsEnough}
 use Rattle.aggregate.specs.EnoughLaws.{All-append, All-filter, All-front, Pass, Within, enough_of_all, enough_by_then, fault-within, filter-passes, none_is_enough, passed-filter, within-fault}
+use Rattle.aggregate.specs.TakingLaws.{only_taken}
 use Rattle.database_model.specs.Aggregate.{AreEnough}
 use Rattle.database_model.specs.Lawful.{IsWithin}
+use Rattle.planner.specs.IdLaws.{with_found}
+use Rattle.queries.proofs.LookingUpLemmas.{found_first}
 use Rattle.queries.proofs.WithinLemmas.{faultless_within, none_at_fault}
 
 -- ---- more than enough
@@ -122,7 +125,7 @@ module _ (stages : List Stage) (before all : List Pairs) where
 -- ---- one document
 
 module _ (stages : List Stage) (x : Pairs) where
-  taken_alone : takes stages x ≡ true → filter (takes stages) (x ∷ []) ≡ x ∷ []
+  pub taken_alone : takes stages x ≡ true → filter (takes stages) (x ∷ []) ≡ x ∷ []
   taken_alone is = rw is refl
 
   passed_alone : takes stages x ≡ false → filter (takes stages) (x ∷ []) ≡ []
@@ -155,3 +158,57 @@ within_none p left none = subst (λ (ds : List Pairs). All IsWithin (filter p ds
 pub if_ok : {X E : Type 0} {P Q : X → Type 0} (r : Result X E) → ((x : X) → P x → Q x) → IfOk r P → IfOk r Q
 if_ok (Ok x) f h = f x h
 if_ok (Err e) f h = tt
+
+-- ---- documents that are looked up
+
+-- Of those that a pipeline takes some were met, of which these few are enough, and the others are among those that are left.
+pub record AreTakenOf (stages : List Stage) (few all left : List Pairs) : Type 0 where
+  pub seen : List Pairs
+  pub split : seen ++ filter (takes stages) left ≡ filter (takes stages) all
+  pub enough : IsEnough stages few seen
+
+module _ (stages : List Stage) where
+  pub none_taken_of : (all found : List Pairs) → filter (takes stages) found ≡ filter (takes stages) all → AreTakenOf stages [] all found
+  none_taken_of all found same = record { seen = []; split = same; enough = none_is_enough stages }
+
+  pub one_taken_of : (few next : List Pairs) (x : Option Pairs) → ((seen : List Pairs) → IsEnough stages few seen → IsEnough stages next (seen ++ filter (takes stages) (with_found x [])))
+      → (all left : List Pairs) (o : Option Pairs) → x ≡ o → AreTakenOf stages few all (with_found o left) → AreTakenOf stages next all left
+  one_taken_of few next x on all left o same h =
+      let one = filter (takes stages) (with_found x []) in
+      let later = filter (takes stages) left in
+      record {
+        seen = h.seen ++ one;
+        split =
+            append_assoc h.seen one later ∙ ap (λ (ys : List Pairs). h.seen ++ ys) (sym (found_first (takes stages) x left))
+            ∙ ap (λ (y : Option Pairs). h.seen ++ filter (takes stages) (with_found y left)) same ∙ h.split;
+        enough = on h.seen h.enough;
+      }
+
+  pub all_taken_of : (few last all : List Pairs) → ((seen : List Pairs) → IsEnough stages few seen → IsEnough stages last seen) → AreTakenOf stages few all [] → AreEnough stages last all
+  all_taken_of few last all on h = λ fault.
+      let whole : h.seen ≡ filter (takes stages) all = sym (append-nil h.seen) ∙ h.split in
+      enough_of_all stages 65535 last all (subst (IsEnough stages last) whole (on h.seen h.enough)) fault
+
+  pub enough_taken_of : (few all left : List Pairs) → SufficesTaken stages (length few) → AreTakenOf stages few all left → AreEnough stages few all
+  enough_taken_of few all left most h = λ fault.
+      let p = takes stages in
+      let later = filter p left in
+      let taken : Pass p h.seen = All-front (λ d. p d ≡ true) h.seen later (subst (Pass p) (sym h.split) (filter-passes p all)) in
+      let same : filter p h.seen ≡ h.seen = passed-filter p h.seen taken in
+      let within : first_fault 65535 (filter p all) ≡ None = within-fault 65535 (filter p all) (All-filter (λ d. limit_fault 65535 d ≡ None) p all (fault-within 65535 all fault)) in
+      enough_by_then stages 65535 few h.seen later (subst (IsEnough stages few) (sym same) h.enough) most (subst (λ (xs : List Pairs). first_fault 65535 xs ≡ None) (sym h.split) within)
+      ∙ ap (run stages 65535) h.split ∙ only_taken stages 65535 all
+
+-- none was found
+pub none_found_enough : (stages : List Stage) (now seen : List Pairs) (o : Option Pairs) → o ≡ None → IsEnough stages now seen → IsEnough stages now (seen ++ filter (takes stages) (with_found o []))
+none_found_enough stages now seen o none h =
+    subst (λ (o : Option Pairs). IsEnough stages now (seen ++ filter (takes stages) (with_found o []))) (sym none) (subst (IsEnough stages now) (sym (append-nil seen)) h)
+
+-- one that was found within the limits
+pub found_within : (p : Pairs → Bool) (o : Option Pairs) → IfSome o (λ d. IsWithin d) → All IsWithin (filter p (with_found o []))
+found_within p None h = All-nil IsWithin
+found_within p (Some d) h = at (p d) refl
+  where
+    at : (b : Bool) → p d ≡ b → All IsWithin (filter p (d ∷ []))
+    at true e = rw e (All-cons IsWithin d [] h (All-nil IsWithin))
+    at false e = rw e (All-nil IsWithin)

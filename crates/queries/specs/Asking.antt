@@ -5,7 +5,8 @@ use Rattle.database_model.specs.Lawful.{IsStored}
 use Rattle.index.specs.State.{Collection}
 use Rattle.index.specs.declared.catalogue_reading.Catalogued.{Catalogued}
 
--- one of the collections, of which the catalogue has this, and whose documents are such as commands store
+-- one of the collections, of which the catalogue has this, and whose documents are such as commands
+-- store
 pub record IsAsked (home : Catalogued) (now : List Collection) (c : Collection) : Type 0 where
   pub numbered : IsNumbered now c home.number
   pub indexed : c.indexes ≡ home.indexes.items

@@ -1,19 +1,48 @@
 -- What is known of documents that have to have one of some `_id`s.
-use Rattle.std.specs.Prelude.{◌≡◌, ℕ, Bool, true, List, Contains}
-use Rattle.std.specs.List.{AllPairs}
+use Rattle.std.specs.Prelude.{◌≡◌, ℕ, Bool, true, List, [], ◌∷◌, Some, Contains}
+use Rattle.std.specs.List.{AllByRecursion, AllPairs}
 use Rattle.std.specs.declared.cmp.Ordering.TheVariants as orders
 use Rattle.bson.specs.Tree.{Tree, Pairs}
 use Rattle.value_order.specs.KeyText.{tree_text}
-use Rattle.value_order.specs.Order.{bytes_cmp, compare}
+use Rattle.value_order.specs.Laws.{IsKey}
+use Rattle.value_order.specs.Order.{bytes_cmp, value}
+use Rattle.path.specs.Reach.{candidates}
+use Rattle.index.specs.Changes.{is_among}
 use Rattle.index.specs.State.{Collection, key_of}
 use Rattle.planner.specs.IdLaws.{AreIdTexts}
 use Rattle.database_model.specs.Lawful.{IsStored}
 use Rattle.collections.specs.Reading.{IsNumbered}
 
--- a stored document that passes has this `_id`
-abbrev pub AsksForId : (Pairs → Bool) → Tree → Type 0
-AsksForId passes id =
-    (d : Pairs) → IsStored d → passes d ≡ true → compare (key_of d) id ≡ orders.Equal
+-- the key text of a value that BSON can spell
+pub record IsIdText (text : List ℕ) : Type 0 where
+  pub id : Tree
+  pub spelled : text ≡ tree_text id
+  pub key : IsKey (value id)
+
+-- Texts of values were put to others: none of those is lost.
+pub record ArePut (before after : List (List ℕ)) : Type 0 where
+  pub texts : AllByRecursion IsIdText before → AllByRecursion IsIdText after
+  pub kept : (text : List ℕ) → is_among before text ≡ true → is_among after text ≡ true
+
+-- Whatever has such a text and passes has one of these.
+abbrev pub Tell : {X : Type 0} → (X → Type 0) → (X → List ℕ) → (X → Bool) → List (List ℕ)
+    → Type 0
+Tell {X} Is text_of passes texts =
+    (x : X) → Is x → passes x ≡ true → is_among texts (text_of x) ≡ true
+
+-- a value that BSON can spell, and that is no array
+abbrev pub IsPlain : Tree → Type 0
+IsPlain t = IsKey (value t) × (candidates (Some t) ≡ t ∷ [])
+
+abbrev pub TellValues : (Tree → Bool) → List (List ℕ) → Type 0
+TellValues passes texts = Tell IsPlain tree_text passes texts
+
+-- a document that is stored, and whose `_id` BSON can spell
+abbrev pub HasId : Pairs → Type 0
+HasId d = IsStored d × IsKey (value (key_of d))
+
+abbrev pub TellIds : (Pairs → Bool) → List (List ℕ) → Type 0
+TellIds passes texts = Tell HasId (λ d. tree_text (key_of d)) passes texts
 
 -- These ascending texts tell `_id`s, and a document of the collection that passes has one of them.
 pub record AreIdsOf (number : ℕ) (passes : Pairs → Bool) (texts : List (List ℕ))

@@ -1,16 +1,20 @@
-//! Filters that ask for one `_id`: its document is looked up, and no other is read.
+//! Filters that ask for `_id`s: their documents are looked up, and no others are read.
 
-ghost use Rattle.std.specs.Prelude.{◌≡◌, IfSome};
+ghost use Rattle.std.specs.Prelude.{◌≡◌, true, IfOk, IfSome, OnOk, Some, [], ◌∷◌};
+ghost use Rattle.std.specs.Ordering.{is_eq};
 ghost use Rattle.bson.specs.View.{tree};
-ghost use Rattle.filter.specs.Condition.{equal, is};
-ghost use Rattle.filter.specs.Matches.{holds, matches, whole};
+ghost use Rattle.filter.specs.Matches.{along, any_holds, holds, matches, whole};
 ghost use Rattle.filter.specs.ProjectionReading.{is_id};
-ghost use Rattle.filter.specs.View.{condition_of};
-ghost use Rattle.queries.specs.ById.{AsksForId};
+ghost use Rattle.filter.specs.View.{condition_of, conditions_of};
+ghost use Rattle.index.specs.View.{texts_of};
+ghost use Rattle.queries.specs.ById.{ArePut, TellIds, TellValues};
+ghost use Rattle.value_order.specs.Order.{compare};
 
-use bson::Value;
+use bson::{NoMemory, Value};
 use filter::{Condition, Filter, Predicate};
 use path::Path;
+use planner::short_text;
+use std::alloc::Global;
 
 fn is_id(path: &Path) -> bool
     ensures { result ≡ is_id path.now }
@@ -21,41 +25,93 @@ fn is_id(path: &Path) -> bool
     }
 }
 
-/// The value that a condition asks to be equal to, if it asks that.
-fn equal_in(condition: &Condition) -> Option<&Value>
-    ensures { IfSome result (λ v. condition_of condition.now ≡ is (equal (tree v.now))) }
+/// Puts the key text of a value behind others; false where it is longer than that of a stored document's `_id` may be.
+pub fn put_id(alloc: Global, ids: &mut Vec<Vec<u8>>, value: &Value) -> Result<bool, NoMemory>
+    ensures put { OnOk result (ArePut (texts_of ids.old.items) (texts_of ids.new.items)) }
+    ensures tells { IfOk result (λ told. told ≡ true
+        → TellValues (λ t. is_eq (compare t (tree value.now))) (texts_of ids.new.items)) }
+{
+    let Some(text) = short_text(alloc, value)? else {
+        return Ok(false);
+    };
+    ids.push(text)?;
+    Ok(true)
+}
+
+/// Puts the text of the value that a condition asks to be equal to; false where it asks something else.
+fn put_equal(alloc: Global, ids: &mut Vec<Vec<u8>>, condition: &Condition) -> Result<bool, NoMemory>
+    ensures put { OnOk result (ArePut (texts_of ids.old.items) (texts_of ids.new.items)) }
+    ensures tells { IfOk result (λ told. told ≡ true
+        → TellValues (λ t. holds (condition_of condition.now) (along (Some t ∷ [])))
+        (texts_of ids.new.items)) }
 {
     match condition {
-        Condition::Is(Predicate::Equal(value)) => Some(value),
-        _ => None,
+        Condition::Is(Predicate::Equal(value)) => put_id(alloc, ids, value),
+        _ => Ok(false),
     }
 }
 
-/// The value that a condition asks the `_id` to be equal to, if that is the first thing it asks.
-fn id_in(condition: &Condition) -> Option<&Value>
-    ensures { IfSome result (λ v.
-        AsksForId (λ d. holds (condition_of condition.now) (whole d)) (tree v.now)) }
+/// Puts the texts of the values to which conditions ask to be equal; false where one of them asks something else.
+fn put_each(
+    alloc: Global,
+    ids: &mut Vec<Vec<u8>>,
+    conditions: &[Condition],
+) -> Result<bool, NoMemory>
+    ensures put { OnOk result (ArePut (texts_of ids.old.items) (texts_of ids.new.items)) }
+    ensures tells { IfOk result (λ told. told ≡ true
+        → TellValues (λ t. any_holds (conditions_of conditions.now) (along (Some t ∷ [])))
+        (texts_of ids.new.items)) }
 {
-    let Condition::At(path, asked) = condition else {
-        return None;
-    };
-    if !is_id(path) {
-        return None;
-    }
-    match asked.conditions() {
-        [first, ..] => equal_in(first),
-        [] => None,
-    }
-}
-
-/// The value that a filter asks the `_id` to be equal to, if it does.
-pub fn asked_id(filter: &Filter) -> Option<&Value>
-    ensures { IfSome result (λ v. AsksForId (matches filter.now) (tree v.now)) }
-{
-    'conditions: for condition in filter.conditions() {
-        if let Some(id) = id_in(condition) {
-            return Some(id);
+    'conditions: for condition in conditions {
+        if !put_equal(alloc, ids, condition)? {
+            return Ok(false);
         }
     }
-    None
+    Ok(true)
+}
+
+/// Puts the texts of the values of which a condition asks to be equal to one; false where it asks something else.
+fn put_asked(alloc: Global, ids: &mut Vec<Vec<u8>>, condition: &Condition) -> Result<bool, NoMemory>
+    ensures put { OnOk result (ArePut (texts_of ids.old.items) (texts_of ids.new.items)) }
+    ensures tells { IfOk result (λ told. told ≡ true
+        → TellValues (λ t. holds (condition_of condition.now) (along (Some t ∷ [])))
+        (texts_of ids.new.items)) }
+{
+    match condition {
+        Condition::Any(members) => put_each(alloc, ids, members.conditions()),
+        _ => put_equal(alloc, ids, condition),
+    }
+}
+
+/// Puts the texts of the values of which a condition asks the `_id` to be equal to one; false where that isn't the first thing it asks.
+fn put_at(alloc: Global, ids: &mut Vec<Vec<u8>>, condition: &Condition) -> Result<bool, NoMemory>
+    ensures put { OnOk result (ArePut (texts_of ids.old.items) (texts_of ids.new.items)) }
+    ensures tells { IfOk result (λ told. told ≡ true
+        → TellIds (λ d. holds (condition_of condition.now) (whole d)) (texts_of ids.new.items)) }
+{
+    let Condition::At(path, asked) = condition else {
+        return Ok(false);
+    };
+    if !is_id(path) {
+        return Ok(false);
+    }
+    match asked.conditions() {
+        [first, ..] => put_asked(alloc, ids, first),
+        [] => Ok(false),
+    }
+}
+
+/// Puts the key texts of the `_id`s that a filter asks for behind others: a stored document that it matches has one of them. False
+/// where it asks for none, or for one whose text is too long; some of the texts may stand there then.
+pub fn put_ids(alloc: Global, ids: &mut Vec<Vec<u8>>, filter: &Filter) -> Result<bool, NoMemory>
+    ensures put { OnOk result (ArePut (texts_of ids.old.items) (texts_of ids.new.items)) }
+    ensures tells { IfOk result (λ told. told ≡ true
+        → TellIds (matches filter.now) (texts_of ids.new.items)) }
+{
+    'conditions: for condition in filter.conditions() {
+        if put_at(alloc, ids, condition)? {
+            return Ok(true);
+        }
+    }
+    Ok(false)
 }

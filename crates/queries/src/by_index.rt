@@ -22,17 +22,17 @@ use std::alloc::Global;
 /// Where more entries than this lie in a range, its documents are not looked up one by one: a walk through the collection is quicker.
 const MOST_LOOKED_UP: usize = 4_096;
 
-/// The range of one of these indexes that serves a filter best, if one serves it.
-fn range_asked<'a>(
+/// The range of one of these indexes that serves a filter and a sort best, if one serves them.
+pub(crate) fn range_asked<'a>(
     alloc: Global,
     filter: &'a Filter,
+    sort: &Sort,
     indexes: &'a [IndexSpec],
 ) -> Result<Option<IndexRange<'a>>, NoMemory>
     ensures { IfOk result (λ found. IfSome found
-        (λ range. IsRangeOf filter.now indexes.now (range_of range))) }
+        (λ range. IsRangeOf filter.now sort.now indexes.now (range_of range))) }
 {
-    let sort = Sort::new(alloc);
-    let Plan::Index(range) = choose(filter, &sort, indexes) else {
+    let Plan::Index(range) = choose(filter, sort, indexes) else {
         return Ok(None);
     };
     if range.index.is_none() {
@@ -87,7 +87,8 @@ pub(crate) fn ids_by_index<D: Disk>(
     if file.is_stopped() {
         return Err(Refusal::StorageFailed);
     }
-    let Some(range) = range_asked(alloc, filter, &home.indexes)? else {
+    let none = Sort::new(alloc);
+    let Some(range) = range_asked(alloc, filter, &none, &home.indexes)? else {
         return Ok(None);
     };
     let Some(index) = range.index else {

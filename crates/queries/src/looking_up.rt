@@ -1,11 +1,7 @@
-//! Documents that are looked up by their `_id`s, where a filter asks for one or an index tells them.
+//! Documents that are looked up by their `_id`s, where a filter asks for these or an index tells them.
 
-ghost use Rattle.std.specs.Prelude.{◌≡◌, ◌++◌, ◌∷◌, [], All, IfOk, IfSome, OnOk, take};
+ghost use Rattle.std.specs.Prelude.{◌≡◌, ◌++◌, [], All, IfOk, IfSome, OnOk, take};
 ghost use Rattle.std.specs.List.{filter};
-ghost use Rattle.bson.specs.View.{tree};
-ghost use Rattle.value_order.specs.KeyText.{tree_text};
-ghost use Rattle.value_order.specs.Laws.{IsKey};
-ghost use Rattle.value_order.specs.Order.{value};
 ghost use Rattle.collections.specs.Reading.{IsPlaceOf, ReadsOf, stored_at};
 ghost use Rattle.database_model.specs.Lawful.{IsWithin};
 ghost use Rattle.index.specs.View.{texts_of};
@@ -16,19 +12,19 @@ ghost use Rattle.queries.specs.Asking.{IsAsked};
 use crate::by_index::ids_by_index;
 use crate::scanning::scanned;
 use crate::selects::Selects;
-use bson::{Document, NoMemory, Value};
+use bson::{Document, NoMemory};
 use collections::Collections;
 use index::Catalogued;
 use page::Disk;
 use path::Refusal;
-use planner::short_text;
+use planner::ascending;
 use replies::SharedDocument;
 use statements::STORED_LIMIT;
 use std::alloc::Global;
 use update::limits_fault;
 
 /// The document of an `_id` in the collection of a number. A disk may give one that is over the limits of those that are stored.
-fn document_within<D: Disk>(
+pub(crate) fn document_within<D: Disk>(
     file: &mut Collections<D>,
     number: u32,
     id: &[u8],
@@ -66,7 +62,7 @@ fn put_found<S: Selects>(
 }
 
 /// Looks one document up, and puts it behind the others, if it is looked for.
-fn look_up<D: Disk, S: Selects>(
+pub(crate) fn look_up<D: Disk, S: Selects>(
     alloc: Global,
     file: &mut Collections<D>,
     number: u32,
@@ -112,19 +108,8 @@ pub(crate) fn selected_by_ids<D: Disk, S: Selects>(
     Ok(found)
 }
 
-/// The text of an `_id` alone, unless it is longer than that of a stored document may be.
-fn only_id(alloc: Global, id: &Value) -> Result<Option<Vec<Vec<u8>>>, NoMemory>
-    ensures { IfOk result (λ found. IfSome found (λ ids.
-        (texts_of ids.items ≡ tree_text (tree id.now) ∷ []) × IsKey (value (tree id.now)))) }
-{
-    let Some(text) = short_text(alloc, id)? else {
-        return Ok(None);
-    };
-    Ok(Some(vec![in alloc; text]?))
-}
-
 /// The ascending texts of `_id`s among which are those of all documents that are looked for, where they can be told without a walk.
-fn asked_ids<D: Disk, S: Selects>(
+pub(crate) fn asked_ids<D: Disk, S: Selects>(
     alloc: Global,
     file: &mut Collections<D>,
     home: &Catalogued,
@@ -138,8 +123,9 @@ fn asked_ids<D: Disk, S: Selects>(
     if file.is_stopped() {
         return Err(Refusal::StorageFailed);
     }
-    if let Some(id) = which.asked_id() {
-        return Ok(only_id(alloc, id)?);
+    let mut ids = Vec::new(alloc);
+    if which.put_ids(alloc, &mut ids)? {
+        return Ok(Some(ascending(ids)));
     }
     match which.asked_filter() {
         Some(filter) => ids_by_index(alloc, file, home, filter),
@@ -148,7 +134,8 @@ fn asked_ids<D: Disk, S: Selects>(
 }
 
 /// The documents of a collection in a file that are looked for, in ascending order of `_id`: the first ones, up to so many. Where all
-/// of them have one `_id`, or an index serves the filter that asks for them, they are looked up; else the collection is walked through.
+/// of them are looked for by their `_id`s, or an index serves the filter that asks for them, they are looked up; else the collection is
+/// walked through.
 pub fn selected_in<D: Disk, S: Selects>(
     alloc: Global,
     file: &mut Collections<D>,

@@ -9,13 +9,19 @@ ghost use Rattle.collections.specs.Reading.{IsNumbered, ReadsOf};
 ghost use Rattle.commands.specs.View.{documents_at};
 ghost use Rattle.database_model.specs.Aggregate.{AreEnough};
 ghost use Rattle.database_model.specs.Lawful.{IsWithin};
+ghost use Rattle.index.specs.View.{texts_of};
+ghost use Rattle.planner.specs.IdLaws.{with_found};
+ghost use Rattle.queries.specs.Asking.{IsAsked};
+ghost use Rattle.queries.specs.ById.{AreIdsOf};
 ghost use Rattle.queries.specs.Within.{HasReadCause};
 
+use crate::looking_up::{asked_ids, document_within};
 use crate::scanning::BATCH;
 use crate::within::built_within;
 use aggregate::Pipeline;
 use bson::{Document, NoMemory, SpelledDocument};
 use collections::Collections;
+use index::Catalogued;
 use page::Disk;
 use path::Refusal;
 use std::alloc::Global;
@@ -126,9 +132,9 @@ fn are_enough(pipeline: &Pipeline, count: usize) -> bool
     }
 }
 
-/// The documents of the collection of a number in a file that a pipeline needs: of those that it takes no more than it keeps.
-/// Where it sorts them and keeps the first ones, it never holds many more than these.
-pub fn needed_in<D: Disk>(
+/// The documents of the collection of a number in a file that a pipeline needs, by a walk through it: of those that it takes no more
+/// than it keeps. Where it sorts them and keeps the first ones, it never holds many more than these.
+fn needed_scanned<D: Disk>(
     alloc: Global,
     file: &mut Collections<D>,
     number: u32,
@@ -153,4 +159,74 @@ pub fn needed_in<D: Disk>(
         needed = with_more(alloc, pipeline, needed, &mut room, documents)?;
     }
     Ok(needed)
+}
+
+/// These documents and one that was looked up, if it was found and a pipeline takes it.
+fn with_looked_up(
+    alloc: Global,
+    pipeline: &Pipeline,
+    these: Vec<Document>,
+    room: &mut usize,
+    found: Option<Document>,
+) -> Result<Vec<Document>, NoMemory>
+    ensures { (seen : List Pairs) → IsEnough (pipeline_of pipeline.now) these.items seen
+        → IfOk result (λ v. IsEnough (pipeline_of pipeline.now) v.items
+        (seen ++ filter (takes (pipeline_of pipeline.now)) (with_found found []))) }
+{
+    let Some(document) = found else {
+        return Ok(these);
+    };
+    if !pipeline.takes(&document) {
+        return Ok(these);
+    }
+    with_one_more(alloc, pipeline, these, room, document)
+}
+
+/// The documents of the collection of a number that a pipeline needs, where those that it takes have some of these `_id`s, told by
+/// their ascending key texts.
+fn needed_by_ids<D: Disk>(
+    alloc: Global,
+    file: &mut Collections<D>,
+    number: u32,
+    pipeline: &Pipeline,
+    ids: &[Vec<u8>],
+) -> Result<Vec<Document>, Refusal>
+    ensures reads { ReadsOf D.history
+        (AreIdsOf number (takes (pipeline_of pipeline.now)) (texts_of ids.now))
+        (λ now c few. AreEnough (pipeline_of pipeline.now) few.items c.documents)
+        result file.old file.new }
+    ensures within { IfOk result (λ few. All IsWithin few.items) }
+{
+    if file.is_stopped() {
+        return Err(Refusal::StorageFailed);
+    }
+    let mut needed = Vec::new(alloc);
+    let mut room = ROOM;
+    'ids: for id in ids {
+        if are_enough(pipeline, needed.len()) {
+            return Ok(needed);
+        }
+        let found = document_within(file, number, id)?;
+        needed = with_looked_up(alloc, pipeline, needed, &mut room, found)?;
+    }
+    Ok(only_needed(alloc, pipeline, needed)?)
+}
+
+/// The documents of a collection in a file that a pipeline needs: of those that it takes no more than it keeps. Where a `$match` in
+/// front asks for an `_id`, or an index serves it, they are looked up; else the collection is walked through.
+pub fn needed_in<D: Disk>(
+    alloc: Global,
+    file: &mut Collections<D>,
+    home: &Catalogued,
+    pipeline: &Pipeline,
+) -> Result<Vec<Document>, Refusal>
+    ensures reads { ReadsOf D.history (IsAsked home.now)
+        (λ now c few. AreEnough (pipeline_of pipeline.now) few.items c.documents)
+        result file.old file.new }
+    ensures within { IfOk result (λ few. All IsWithin few.items) }
+{
+    match asked_ids(alloc, file, home, pipeline)? {
+        Some(ids) => needed_by_ids(alloc, file, home.number, pipeline, &ids),
+        None => needed_scanned(alloc, file, home.number, pipeline),
+    }
 }

@@ -44,7 +44,7 @@ fn select_one<S: Selects>(
 }
 
 /// Puts those that are looked for behind the ones that were found, up to so many.
-fn select<S: Selects>(
+pub(crate) fn select<S: Selects>(
     alloc: Global,
     which: &S,
     most: usize,

@@ -16,6 +16,7 @@ use Rattle.database_model.specs.KillCursors.{ToldApart, with_id, told_apart, id_
 use Rattle.database_model.specs.CreateIndexes.{create_indexes_reply}
 use Rattle.database_model.specs.DropIndexes.{drop_indexes_reply}
 use Rattle.database_model.specs.DropCollection.{drop_reply}
+use Rattle.database_model.specs.Explain.{explain_reply}
 use Rattle.database_model.specs.Hello.{hello_reply}
 use Rattle.database_model.specs.Lawful.{IsWithin}
 use Rattle.replies.specs.View.{IsSendable}
@@ -77,6 +78,21 @@ drop-sendable count name short =
       length-int count,
       pairs_size-pair (codes "ns") (words name) ok,
       length-words name,
+      pairs_size-pair (codes "ok") (int 1) no_pairs,
+      length-int 1,
+      ap length pairs_bytes-none,
+    )
+
+pub explain-sendable : (plan : List ℕ) → length plan ≤ 200 → IsSendable (ok_reply (explain_reply plan))
+explain-sendable plan short =
+    let ok = pair (codes "ok") (int 1) no_pairs in
+    let reply = pair (codes "plan") (words plan) ok in
+    omega (
+      arith,
+      short,
+      frame_of-length (pairs_bytes reply),
+      pairs_size-pair (codes "plan") (words plan) ok,
+      length-words plan,
       pairs_size-pair (codes "ok") (int 1) no_pairs,
       length-int 1,
       ap length pairs_bytes-none,

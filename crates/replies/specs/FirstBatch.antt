@@ -7,7 +7,8 @@ use Rattle.database_model.specs.Cursors.{batch_of, batch_reply, is_refused}
 use Rattle.database_model.specs.Refusals.{ok_reply}
 use Rattle.database_model.specs.World.{CursorTable}
 
--- The reply has so many of the documents. Where others are left, the connection may open the next cursor.
+-- The reply has so many of the documents. Where others are left, the connection may open the next
+-- cursor.
 pub record IsFirstBatch (table : CursorTable) (connection : ℕ) (namespace : List ℕ)
     (documents : List Pairs) (most n : ℕ) (reply : Pairs) : Type 0 where
   pub count : n ≡ batch_of most documents

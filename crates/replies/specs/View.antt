@@ -40,7 +40,8 @@ abbrev pub with_ok : Result (World × Pairs) Refusal → Result (World × Pairs)
 with_ok (Ok x) = Ok (x.0, ok_reply x.1)
 with_ok (Err e) = Err e
 
--- What running a command made of a world: what was planned, or a refusal, which leaves the world as it was.
+-- What running a command made of a world: what was planned, or a refusal, which leaves the world as
+-- it was.
 abbrev pub Runs : World → Result (World × Pairs) Refusal → World → Result Pairs Refusal → Type 0
 Runs old planned new (Ok reply) = with_ok planned ≡ Ok (new, reply)
 Runs old planned new (Err e) = (new ≡ old) × Fails refusals.OutOfMemory e planned

@@ -13,8 +13,8 @@ pub use connection::{CONNECTIONS, ConnId};
 pub use cursors::Cursors;
 pub use reply::{
     Answer, add, built, create_indexes_reply, described_document, done, drop_indexes_reply,
-    drop_reply, full_bytes, insert_reply, listed_document, out_of_memory_bytes, ping_reply, put,
-    refusal_document, spelled, total_reply,
+    drop_reply, explain_reply, full_bytes, insert_reply, listed_document, out_of_memory_bytes,
+    ping_reply, put, refusal_document, spelled, total_reply,
 };
 pub use shared_document::SharedDocument;
 

@@ -11,6 +11,7 @@ ghost use Rattle.replies.specs.View.{outcome_of};
 ghost use Rattle.database_model.specs.CreateIndexes.{create_indexes_reply};
 ghost use Rattle.database_model.specs.DropIndexes.{drop_indexes_reply};
 ghost use Rattle.database_model.specs.DropCollection.{drop_reply};
+ghost use Rattle.database_model.specs.Explain.{explain_reply};
 ghost use Rattle.database_model.specs.ListCollections.{listed};
 ghost use Rattle.database_model.specs.ListIndexes.{described};
 ghost use Rattle.database_model.specs.Refusals.{int, total, words, ok_reply, refusal_reply};
@@ -154,6 +155,15 @@ pub fn drop_indexes_reply(alloc: Global, count: usize) -> Result<Document, NoMem
 {
     let mut reply = Document::new(alloc);
     put(&mut reply, "nIndexesWas", Value::Int32(count as i32))?;
+    done(reply)
+}
+
+/// The reply of an `explain`: the text of a plan.
+pub fn explain_reply(alloc: Global, text: &str) -> Result<Document, NoMemory>
+    ensures { IfOk result (λ d. d ≡ ok_reply (explain_reply text.now)) }
+{
+    let mut reply = Document::new(alloc);
+    put(&mut reply, "plan", text_value(alloc, text)?)?;
     done(reply)
 }
 

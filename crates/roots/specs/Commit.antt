@@ -1,12 +1,14 @@
 -- What a commit does.
-use Rattle.std.specs.Prelude.{◌≡◌, ◌≢◌, ◌⊎◌, ℕ, ◌+◌, ◌-◌, ◌^◌, ◌<◌, ◌≤◌, List, true, Result, Err, OnOk, OnErr}
+use Rattle.std.specs.Prelude.{◌≡◌, ◌≢◌, ◌⊎◌, ℕ, ◌+◌, ◌-◌, ◌^◌, ◌<◌, ◌≤◌, List, true, Result, Err}
+use Rattle.std.specs.Prelude.{OnOk, OnErr}
 use Rattle.std.specs.List.{AllByRecursion}
 use Rattle.page.specs.Format.{Sheet}
 use Rattle.page.specs.History.{History, KeepsWord, now, reads}
 use Rattle.page.specs.Crash.{GoesOn, LeavesOnly, LeavesNow}
 use Rattle.btree.specs.Keys.{Entry}
 use Rattle.roots.specs.Image.{IsOnPages, StandsFor}
-use Rattle.roots.specs.Store.{disk_history, durable_root, is_stopped, IsRunning, HasDeviceCause, IsCommitted, Keeps}
+use Rattle.roots.specs.Store.{disk_history, durable_root, is_stopped, IsRunning, HasDeviceCause}
+use Rattle.roots.specs.Store.{IsCommitted, Keeps}
 use Rattle.roots.specs.Turn.{AreWritten, IsTurn, LieBehind, next_root, numbers_of}
 use Rattle.roots.specs.declared.root.Root.{Root}
 use Rattle.roots.specs.declared.store.Store.{Store}
@@ -30,7 +32,8 @@ pub record CommitsRoot {D : Type 0} (history : D → History) (root_page : ℕ)
   pub stops : result ≡ Err faults.Device → is_stopped new ≡ true
   pub idle : is_stopped old ≡ true → new ≡ old
 
--- What reads give after it: the pages that were handed in, where it is done, and in each other page what was there.
+-- What reads give after it: the pages that were handed in, where it is done, and in each other page
+-- what was there.
 pub record LeavesPages {D : Type 0} (history : D → History) (made : List Sheet) (tree : ℕ)
     (result : Result (Unit {0}) CommitFault) (old new : Store D) : Type 0 where
   pub others : KeepsWord (disk_history history new) → (k : ℕ) → 2 ≤ k
@@ -42,7 +45,8 @@ pub record LeavesPages {D : Type 0} (history : D → History) (made : List Sheet
       → OnOk result (durable_root new ≡ next_root (durable_root old) made tree)
   pub still : OnErr result (durable_root new ≡ durable_root old)
 
--- A crash at any moment of the call leaves the entries from before, or those of the turn. At Ok it leaves the turn's alone.
+-- A crash at any moment of the call leaves the entries from before, or those of the turn. At Ok it
+-- leaves the turn's alone.
 pub record MovesMap {D : Type 0} (history : D → History) (next : Root) (pages : List ℕ)
     (before after : List Entry) (result : Result (Unit {0}) CommitFault)
     (old new : Store D) : Type 0 where

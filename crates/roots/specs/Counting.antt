@@ -10,7 +10,8 @@ use Rattle.roots.specs.declared.opening.OpenFault.TheVariants as faults
 use Rattle.roots.specs.declared.root.Root.{Root}
 use Rattle.roots.specs.declared.store.Store.{Store}
 
--- A file has the pages of its root, and always page 0. Page 0, those that the root's tree reaches and the free ones are all of them.
+-- A file has the pages of its root, and always page 0. Page 0, those that the root's tree reaches
+-- and the free ones are all of them.
 pub record AreCounts (root : Root) (live : List ℕ) (counts : PageCounts) : Type 0 where
   pub pages : counts.pages ≡ max root.pages 1
   pub all : 1 + length live + counts.free ≡ counts.pages
@@ -22,8 +23,8 @@ pub record CountsTree (image : ℕ → List ℕ) (root : Root) (counts : PageCou
   pub holds : HoldsMap (sheet_at image root) root live entries
   pub are : AreCounts root live counts
 
--- Nothing of the store has changed, and the root has a tree, of which these are the counts; where one is committed, they are its
--- own, and the fault isn't one of the pages.
+-- Nothing of the store has changed, and the root has a tree, of which these are the counts; where
+-- one is committed, they are its own, and the fault isn't one of the pages.
 pub record CountsPages {D : Type 0} (history : D → History) (result : Result PageCounts OpenFault)
     (old new : Store D) : Type 0 where
   pub root : durable_root new ≡ durable_root old

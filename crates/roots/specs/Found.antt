@@ -1,9 +1,12 @@
 -- What a walk over pages finds: the pages that it reached are those of a tree whose keys rise.
-use Rattle.std.specs.Prelude.{◌≡◌, ◌≢◌, ℕ, ◌<◌, suc, zero, List, [], ◌∷◌, ◌++◌, length, take, drop, map, Option, Some, Result, Ok, Err}
+use Rattle.std.specs.Prelude.{◌≡◌, ◌≢◌, ℕ, ◌<◌, suc, zero, List, [], ◌∷◌, ◌++◌, length, take, drop}
+use Rattle.std.specs.Prelude.{map, Option, Some, Result, Ok, Err}
 use Rattle.page.specs.Content.{Arm, Item, Place}
 use Rattle.btree.specs.Keys.{Each, IsBetween, IsWithin, Pair, Rises}
 use Rattle.btree.specs.Store.{IsAt, Store}
-use Rattle.btree.specs.Tree.{Body, HasLinks, IsFan, IsSound, IsWhole, Shows, Twig, arm_of, content_of, item_of, next_of, pages_of, pair_keys, place_of, twig_keys, with_low}
+use Rattle.btree.specs.Tree.{Body, HasLinks, IsFan, IsSound, IsWhole, Shows, Twig, arm_of}
+use Rattle.btree.specs.Tree.{content_of, item_of, next_of, pages_of, pair_keys, place_of, twig_keys}
+use Rattle.btree.specs.Tree.{with_low}
 use Rattle.roots.specs.declared.opening.OpenFault.{OpenFault}
 use Rattle.roots.specs.declared.opening.OpenFault.TheVariants as faults
 

@@ -1,5 +1,6 @@
 -- What an image of the disk stands for: the entries of the tree whose root page its root names.
-use Rattle.std.specs.Prelude.{◌≡◌, ◌⊎◌, ℕ, ◌<◌, ◌&&◌, nat_lt, if◌then◌else◌, List, [], ◌∷◌, Result, Ok, Err, is_ok}
+use Rattle.std.specs.Prelude.{◌≡◌, ◌⊎◌, ℕ, ◌<◌, ◌&&◌, nat_lt, if◌then◌else◌, List, [], ◌∷◌, Result}
+use Rattle.std.specs.Prelude.{Ok, Err, is_ok}
 use Rattle.page.specs.Content.{Content, chain}
 use Rattle.page.specs.Format.{Sheet, sheet_in}
 use Rattle.page.specs.Page.{page_at, IsSectorOf}

@@ -1,7 +1,9 @@
--- The 512 bytes of a root sector, and the root that two of them give. A root sector has the mark DOCPAGE1, the format 1,
--- the page size 4096, the generation in eight bytes, the first page of the tree and the number of pages, then zeros (no
--- list of free pages). Numbers have their lowest byte first. Zeros alone are the root of a file that was never committed.
-use Rattle.std.specs.Prelude.{ℕ, ◌+◌, ◌-◌, ◌%◌, ◌^◌, ◌<◌, ◌≤◌, Bool, false, not, ◌&&◌, ◌==◌, nat_lt, if◌then◌else◌, List, ◌++◌, drop, replicate, codes, Result, Ok, Err}
+-- The 512 bytes of a root sector, and the root that two of them give. A root sector has the mark
+-- DOCPAGE1, the format 1, the page size 4096, the generation in eight bytes, the first page of the
+-- tree and the number of pages, then zeros (no list of free pages). Numbers have their lowest byte
+-- first. Zeros alone are the root of a file that was never committed.
+use Rattle.std.specs.Prelude.{ℕ, ◌+◌, ◌-◌, ◌%◌, ◌^◌, ◌<◌, ◌≤◌, Bool, false, not, ◌&&◌, ◌==◌, nat_lt}
+use Rattle.std.specs.Prelude.{if◌then◌else◌, List, ◌++◌, drop, replicate, codes, Result, Ok, Err}
 use Rattle.byteorder.specs.Endian.{little_bytes, little_number}
 use Rattle.page.specs.Format.{are_zeros}
 use Rattle.roots.specs.declared.root.Root.{Root}
@@ -32,7 +34,8 @@ fields_in bytes = record {
   pages = little_number 4 (drop 28 bytes);
 }
 
--- A commit has a number, a file has at most 1,048,576 pages, and the tree begins below their number.
+-- A commit has a number, a file has at most 1,048,576 pages, and the tree begins below their
+-- number.
 abbrev pub is_possible : Root → Bool
 is_possible root =
     nat_lt 0 root.generation && (nat_lt root.tree root.pages && not (nat_lt 1048576 root.pages))
@@ -57,7 +60,8 @@ root_in bytes =
 
 -- ---- reading both
 
--- Of the root in sector 0 and that in sector 1 the later one counts. The other is the one before it.
+-- Of the root in sector 0 and that in sector 1 the later one counts. The other is the one before
+-- it.
 abbrev pub newer_root : Root → Root → Result Root OpenFault
 newer_root even odd =
     if not (even.generation % 2 == 0) then Err faults.Damaged else

@@ -27,8 +27,8 @@ is_stopped store = store.stopped
 abbrev pub IsRunning : {D : Type 0} → Store D → Type 0
 IsRunning store = is_stopped store ≡ false
 
--- While the disk keeps its word: its root is this one, whose tree reaches these pages and has these entries, and a crash
--- leaves what these pages and the roots hold.
+-- While the disk keeps its word: its root is this one, whose tree reaches these pages and has these
+-- entries, and a crash leaves what these pages and the roots hold.
 pub record Keeps (h : History) (root : Root) (live : List ℕ) (entries : List Entry) : Type 0 where
   pub opens : KeepsWord h → OpensAs (reads (now h)) root
   pub holds : KeepsWord h → HoldsMap (sheet_at (reads (now h)) root) root live entries
@@ -40,7 +40,8 @@ pub record IsCommitted {D : Type 0} (history : D → History) (store : Store D) 
   pub running : IsRunning store
   pub keeps : Keeps (disk_history history store) (durable_root store) live entries
 
--- Why a call from old to new met a failed device: a write or a sync had failed before, or failed in the call.
+-- Why a call from old to new met a failed device: a write or a sync had failed before, or failed in
+-- the call.
 abbrev pub HasDeviceCause : {D : Type 0} → (D → History) → Store D → Store D → Type 0
 HasDeviceCause history old new =
     (is_stopped old ≡ true)

@@ -1,5 +1,6 @@
 -- What a turn hands to a commit: the pages that it made, and the root page of its tree.
-use Rattle.std.specs.Prelude.{◌≡◌, ℕ, ◌+◌, ◌<◌, max, if◌then◌else◌, ◌==◌, List, [], ◌∷◌, map, Result, Ok}
+use Rattle.std.specs.Prelude.{◌≡◌, ℕ, ◌+◌, ◌<◌, max, if◌then◌else◌, ◌==◌, List, [], ◌∷◌, map}
+use Rattle.std.specs.Prelude.{Result, Ok}
 use Rattle.std.specs.List.{AllByRecursion}
 use Rattle.page.specs.History.{History, KeepsWord, now, reads}
 use Rattle.page.specs.Format.{Sheet, page_bytes}
@@ -42,8 +43,9 @@ next_root root made tree = record {
   pages = max root.pages (end_behind 1 made);
 }
 
--- The turn's pages ascend and lie in a file of at most 1,048,576 pages, and none of them is live. The tree below the new
--- root page, in these and in what the disk's other pages hold, reaches these pages, each once, and has these entries.
+-- The turn's pages ascend and lie in a file of at most 1,048,576 pages, and none of them is live.
+-- The tree below the new root page, in these and in what the disk's other pages hold, reaches these
+-- pages, each once, and has these entries.
 pub record IsTurn (h : History) (root : Root) (live : List ℕ) (made : List Sheet) (tree : ℕ)
     (pages : List ℕ) (entries : List Entry) : Type 0 where
   pub ascending : LieBehind 0 made

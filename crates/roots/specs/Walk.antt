@@ -1,5 +1,7 @@
--- What a walk over a tree's pages gives: those that it reaches, each once, in the order of its keys.
-use Rattle.std.specs.Prelude.{◌≡◌, ◌≢◌, ℕ, ◌+◌, ◌<◌, ◌≤◌, false, if◌then◌else◌, List, ◌++◌, length, get_or, max, Result, Ok, Err, IfErr, IfOk, OnOk, MatchResult}
+-- What a walk over a tree's pages gives: those that it reaches, each once, in the order of its
+-- keys.
+use Rattle.std.specs.Prelude.{◌≡◌, ◌≢◌, ℕ, ◌+◌, ◌<◌, ◌≤◌, false, if◌then◌else◌, List, ◌++◌, length}
+use Rattle.std.specs.Prelude.{get_or, max, Result, Ok, Err, IfErr, IfOk, OnOk, MatchResult}
 use Rattle.page.specs.History.{History, KeepsWord, now, reads}
 use Rattle.page.specs.Crash.{ReadsOnly}
 use Rattle.page.specs.Format.{Sheet}
@@ -16,7 +18,8 @@ use Rattle.roots.specs.declared.root.Root.{Root}
 use Rattle.roots.specs.declared.store.Store.{Store}
 use Rattle.roots.specs.declared.walk.Reached.{Reached}
 
--- a failed read is counted; the other faults are that memory ran out, and that the pages are no tree
+-- a failed read is counted; the other faults are that memory ran out, and that the pages are no
+-- tree
 abbrev pub HasCause : History → History → OpenFault → Type 0
 HasCause old new faults.Device = KeepsWord new → old.failures < new.failures
 HasCause old new faults.Memory = Unit {0}
@@ -82,8 +85,8 @@ abbrev pub HasMapThere : (ℕ → List ℕ) → Root → Type 0
 HasMapThere image root =
     (pages : List ℕ) × ((entries : List Entry) × HoldsMap (sheet_at image root) root pages entries)
 
--- Nothing of the store has changed, and the root has a tree; where one is committed, the pages that it reaches are in use, and
--- the fault isn't one of the pages.
+-- Nothing of the store has changed, and the root has a tree; where one is committed, the pages that
+-- it reaches are in use, and the fault isn't one of the pages.
 pub record FindsFree {D : Type 0} (history : D → History) (limit : ℕ)
     (result : Result Book OpenFault) (old new : Store D) : Type 0 where
   pub root : durable_root new ≡ durable_root old

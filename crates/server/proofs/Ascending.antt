@@ -14,7 +14,7 @@ use Rattle.server.specs.InOrder.{AreCalledAbove, AreCalledInOrder}
 use Rattle.server.specs.Turn.{Call, calls, call_at, front_of, connection_at, connections_after, taken_at, connections_taken}
 use Rattle.server.specs.declared.connection.Connection.{Connection}
 
-both : (a b : Bool) → (a && b) ≡ true → (a ≡ true) × (b ≡ true)
+pub both : (a b : Bool) → (a && b) ≡ true → (a ≡ true) × (b ≡ true)
 both true b e = (refl, e)
 both false b e = absurd cc
 
@@ -81,7 +81,7 @@ drop_above low (l ∷ ls) id h = at (nat_cmp id l.id) (drop_above l.id ls id (bo
     at orders.Equal later = lower low l.id ls parts.0 parts.1
     at orders.Greater later = join (nat_lt low l.id) (are_above l.id (drop_connection ls id)) parts.0 later
 
-above_ascends : (low : ℕ) (ls : List Connection) → are_above low ls ≡ true → are_ascending ls ≡ true
+pub above_ascends : (low : ℕ) (ls : List Connection) → are_above low ls ≡ true → are_ascending ls ≡ true
 above_ascends low [] h = refl
 above_ascends low (l ∷ ls) h = (both (nat_lt low l.id) (are_above l.id ls) h).1
 

@@ -10,6 +10,7 @@ pub mod Places
 pub mod ConnectionServed
 pub mod ConnectionsServed
 pub mod StreamsTaken
+pub mod BatchesGiven
 pub mod Ascending
 pub mod AnewLemmas
 pub mod Reading

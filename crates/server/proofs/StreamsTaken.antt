@@ -1,14 +1,56 @@
--- Why the messages that turns take are those of the whole stream.
-use Rattle.std.proofs.Common.{◌≡◌, ℕ, List, [], ◌∷◌, ◌++◌, refl, sym, ◌∙◌, ap, subst, append_assoc, append-nil}
-use Rattle.std.specs.Prelude.{Result, Ok, Err, Option, Some, None}
+-- Why the messages that the turns of a history take from a connection are those of the whole stream.
+use Rattle.std.proofs.Common.{◌≡◌, inl, inr, ℕ, List, [], ◌∷◌, ◌++◌, refl, sym, ◌∙◌, ap, subst, append_assoc, append-nil, arith}
+use Rattle.std.specs.Prelude.{◌≢◌, ◌==◌, if◌then◌else◌, Bool, true, false, ◌&&◌, nat_lt, Result, Ok, Err, Option, Some, None, unwrap_or}
+use Rattle.std.specs.Ordering.{nat_cmp}
+use Rattle.std.specs.declared.cmp.Ordering.{Ordering}
+use Rattle.std.specs.declared.cmp.Ordering.TheVariants as orders
+use Rattle.std.proofs.lemmas.Bool.Decides.{nat_tests}
+use Rattle.path.specs.declared.refusal.Refusal.{Refusal}
+use Rattle.database_model.specs.World.{World}
+use Rattle.index.specs.State.{by_order}
 use Rattle.op_msg.specs.Frame.{Frame, front}
 use Rattle.op_msg.specs.Stream.{Begins}
 use Rattle.op_msg.specs.declared.fault.FrameFault.{FrameFault}
 use Rattle.op_msg.proofs.Streams.{stays}
-use Rattle.server.specs.ServerState.{add_bytes}
-use Rattle.server.specs.Turn.{front_of, front_if_open, connection_at, connection_after}
-use Rattle.server.specs.Streams.{Event, bytes, turn, stream_of, connection_over, message_at, taken_over, IsLeft}
+use Rattle.server.specs.ServerState.{ServerState, add_bytes, are_above, are_ascending, drop_connection, ended, fed, feed_connections, find_connection, new_connection}
+use Rattle.server.specs.Moment.{Moment, TurnEnd}
+use Rattle.server.specs.Causes.{IsCaused}
+use Rattle.server.specs.History.{Happens, RoomRanOut}
+use Rattle.server.specs.Turn.{Call, Out, Turns, calls, call_at, front_of, front_if_open, connection_at, connection_after, connections_after}
+use Rattle.server.specs.Streams.{AreAtFront, IsLeft, DoesNotEnd, TakesTheStream, bytes_from, connection_in, messages_from, taken_from}
 use Rattle.server.specs.declared.connection.Connection.{Connection}
+use Rattle.server.specs.declared.step.Step.{Step}
+use Rattle.server.specs.declared.step.Step.TheVariants as steps
+use Rattle.server.proofs.Ascending.{above_ascends, after_ascends, both, drop_ascends, feed_ascends}
+
+-- ---- one connection, to which bytes come and of which turns take messages
+
+data Event : Type 0 where
+  bytes : List ℕ → Event
+  turn : Event
+
+abbrev stream_of : List Event → List ℕ
+stream_of [] = []
+stream_of (bytes chunk ∷ later) = chunk ++ stream_of later
+stream_of (turn ∷ later) = stream_of later
+
+abbrev connection_over : Connection → List Event → Connection
+connection_over connection [] = connection
+connection_over connection (bytes chunk ∷ later) =
+    connection_over (add_bytes connection connection.fault chunk) later
+connection_over connection (turn ∷ later) = connection_over (connection_after connection) later
+
+abbrev message_at : Result (Option (Frame × List ℕ)) FrameFault → List Frame
+message_at (Ok None) = []
+message_at (Ok (Some x)) = x.0 ∷ []
+message_at (Err fault) = []
+
+abbrev taken_over : Connection → List Event → List Frame
+taken_over connection [] = []
+taken_over connection (bytes chunk ∷ later) =
+    taken_over (add_bytes connection connection.fault chunk) later
+taken_over connection (turn ∷ later) =
+    message_at (front_of connection) ++ taken_over (connection_after connection) later
 
 abbrev Front : Type 0
 Front = Result (Option (Frame × List ℕ)) FrameFault
@@ -22,14 +64,14 @@ closed_stays : (connection : Connection) (fault : FrameFault) (events : List Eve
 closed_stays connection fault [] e = (refl, refl)
 closed_stays connection fault (bytes chunk ∷ later) e =
     let same : add_bytes connection connection.fault chunk ≡ connection = ap (λ (f : Option FrameFault). add_bytes connection f chunk) e in
-    let then = closed_stays connection fault later e in
-    (ap (λ (l : Connection). taken_over l later) same ∙ then.0, ap (λ (l : Connection). connection_over l later) same ∙ then.1)
+    let behind = closed_stays connection fault later e in
+    (ap (λ (l : Connection). taken_over l later) same ∙ behind.0, ap (λ (l : Connection). connection_over l later) same ∙ behind.1)
 closed_stays connection fault (turn ∷ later) e =
     let nothing : front_of connection ≡ Ok None = ap (λ (f : Option FrameFault). front_if_open f connection.frames) e in
     let same : connection_after connection ≡ connection = ap (λ (f : Front). connection_at connection f) nothing in
-    let then = closed_stays connection fault later e in (
-      ap (λ (f : Front). message_at f ++ taken_over (connection_after connection) later) nothing ∙ ap (λ (l : Connection). taken_over l later) same ∙ then.0,
-      ap (λ (l : Connection). connection_over l later) same ∙ then.1,
+    let behind = closed_stays connection fault later e in (
+      ap (λ (f : Front). message_at f ++ taken_over (connection_after connection) later) nothing ∙ ap (λ (l : Connection). taken_over l later) same ∙ behind.0,
+      ap (λ (l : Connection). connection_over l later) same ∙ behind.1,
     )
 
 closed : (connection : Connection) (fault : FrameFault) (events : List Event) (stream : List ℕ) → connection.fault ≡ Some fault → front stream ≡ Err fault → Takes stream (taken_over connection events) (connection_over connection events)
@@ -45,7 +87,7 @@ module _ (connection : Connection) (later : List Event) (is_open : connection.fa
       (t.0, (x.1 ++ stream_of later, (stays connection.frames (stream_of later)).0 x.0 x.1 e, t.1), t.2)
   by_front (Err fault) e = closed (connection_at connection (Err fault)) fault later (connection.frames ++ stream_of later) refl ((stays connection.frames (stream_of later)).1 fault e)
 
-pub takes : (connection : Connection) (events : List Event) → connection.fault ≡ None → Takes (connection.frames ++ stream_of events) (taken_over connection events) (connection_over connection events)
+takes : (connection : Connection) (events : List Event) → connection.fault ≡ None → Takes (connection.frames ++ stream_of events) (taken_over connection events) (connection_over connection events)
 takes connection [] is_open = (connection.frames, sym (append-nil connection.frames), subst (λ (x : Option FrameFault). IsLeft x connection.frames connection.frames) (sym is_open) refl)
 takes connection (bytes chunk ∷ later) is_open =
     let fed : add_bytes connection connection.fault chunk ≡ record connection { frames = connection.frames ++ chunk } = ap (λ (f : Option FrameFault). add_bytes connection f chunk) is_open in
@@ -56,3 +98,221 @@ takes connection (turn ∷ later) is_open =
     let is : front_of connection ≡ front connection.frames = ap (λ (f : Option FrameFault). front_if_open f connection.frames) is_open in
     subst (λ (f : Front). Takes (connection.frames ++ stream_of later) (message_at f ++ taken_over (connection_at connection f) later) (connection_over (connection_at connection f) later)) (sym is)
     (by_front connection later is_open (λ l o. takes l later o) (front connection.frames) refl)
+
+-- ---- the connection of a number among connections
+
+abbrev found : ℕ → Option Connection → Connection
+found id o = unwrap_or o (new_connection id [])
+
+-- bytes that came on a connection add to it, and not to another one
+abbrev fed_at : ℕ → ℕ → List ℕ → Connection → Connection
+fed_at id n chunk c = if n == id then add_bytes c c.fault chunk else c
+
+kept_id : (l : Connection) (fault : Option FrameFault) (chunk : List ℕ) → (add_bytes l fault chunk).id ≡ l.id
+kept_id l None chunk = refl
+kept_id l (Some fault) chunk = refl
+
+first_fed : (id n : ℕ) (chunk : List ℕ) (q : Ordering) → nat_cmp id n ≡ q → found id (by_order q None (Some (new_connection n chunk)) None) ≡ fed_at id n chunk (new_connection id [])
+first_fed id n chunk orders.Less e = let other : (n == id) ≡ false = grind (arith, nat_tests) in rw other refl
+first_fed id n chunk orders.Equal e =
+    let same : (n == id) ≡ true = grind (arith, nat_tests) in
+    let is : n ≡ id = grind (arith, nat_tests) in
+    rw same (ap (λ (m : ℕ). new_connection m chunk) is)
+first_fed id n chunk orders.Greater e = let other : (n == id) ≡ false = grind (arith, nat_tests) in rw other refl
+
+module _ (id n : ℕ) (chunk : List ℕ) (l : Connection) (ls : List Connection) where
+  abbrev fed_by : Ordering → List Connection
+  fed_by o = by_order o (new_connection n chunk ∷ l ∷ ls) (add_bytes l l.fault chunk ∷ ls) (l ∷ feed_connections ls n chunk)
+
+  abbrev before_by : Ordering → Connection
+  before_by p = found id (by_order p None (Some l) (find_connection ls id))
+
+  other_than : (n == id) ≡ false → (c : Connection) → c ≡ fed_at id n chunk c
+  other_than e c = rw e refl
+
+  in_front : (p : Ordering) → nat_cmp n l.id ≡ orders.Less → nat_cmp id l.id ≡ p → (q : Ordering) → nat_cmp id n ≡ q
+      → found id (by_order q None (Some (new_connection n chunk)) (by_order p None (Some l) (find_connection ls id))) ≡ fed_at id n chunk (before_by p)
+  in_front p e is orders.Greater eq = let other : (n == id) ≡ false = grind (arith, nat_tests) in other_than other (before_by p)
+  in_front orders.Less e is orders.Less eq = first_fed id n chunk orders.Less eq
+  in_front orders.Less e is orders.Equal eq = first_fed id n chunk orders.Equal eq
+  in_front orders.Equal e is orders.Less eq = absurd (grind (arith, nat_tests))
+  in_front orders.Equal e is orders.Equal eq = absurd (grind (arith, nat_tests))
+  in_front orders.Greater e is orders.Less eq = absurd (grind (arith, nat_tests))
+  in_front orders.Greater e is orders.Equal eq = absurd (grind (arith, nat_tests))
+
+  in_place : (p : Ordering) → nat_cmp n l.id ≡ orders.Equal → nat_cmp id l.id ≡ p
+      → found id (by_order p None (Some (add_bytes l l.fault chunk)) (find_connection ls id)) ≡ fed_at id n chunk (before_by p)
+  in_place orders.Less e is = let other : (n == id) ≡ false = grind (arith, nat_tests) in other_than other (before_by orders.Less)
+  in_place orders.Equal e is = let same : (n == id) ≡ true = grind (arith, nat_tests) in rw same refl
+  in_place orders.Greater e is = let other : (n == id) ≡ false = grind (arith, nat_tests) in other_than other (before_by orders.Greater)
+
+  behind : (p : Ordering) → nat_cmp n l.id ≡ orders.Greater → nat_cmp id l.id ≡ p → connection_in (feed_connections ls n chunk) id ≡ fed_at id n chunk (connection_in ls id)
+      → found id (by_order p None (Some l) (find_connection (feed_connections ls n chunk) id)) ≡ fed_at id n chunk (before_by p)
+  behind orders.Less e is later = let other : (n == id) ≡ false = grind (arith, nat_tests) in other_than other (before_by orders.Less)
+  behind orders.Equal e is later = let other : (n == id) ≡ false = grind (arith, nat_tests) in other_than other (before_by orders.Equal)
+  behind orders.Greater e is later = later
+
+  fed_step : (o : Ordering) → nat_cmp n l.id ≡ o → connection_in (feed_connections ls n chunk) id ≡ fed_at id n chunk (connection_in ls id)
+      → connection_in (fed_by o) id ≡ fed_at id n chunk (before_by (nat_cmp id l.id))
+  fed_step orders.Less e later = in_front (nat_cmp id l.id) e refl (nat_cmp id n) refl
+  fed_step orders.Equal e later = rw (kept_id l l.fault chunk) (in_place (nat_cmp id l.id) e refl)
+  fed_step orders.Greater e later = behind (nat_cmp id l.id) e refl later
+
+fed_in : (id n : ℕ) (chunk : List ℕ) (ls : List Connection) → connection_in (feed_connections ls n chunk) id ≡ fed_at id n chunk (connection_in ls id)
+fed_in id n chunk [] = first_fed id n chunk (nat_cmp id n) refl
+fed_in id n chunk (l ∷ ls) = fed_step id n chunk l ls (nat_cmp n l.id) refl (fed_in id n chunk ls)
+
+-- none of these connections has the number, so no call of theirs
+not_called : (id : ℕ) (l : Connection) (f : Front) (cs : List Call) → (l.id == id) ≡ false → messages_from id (call_at l f ++ cs) ≡ messages_from id cs
+not_called id l (Ok (Some x)) cs other = rw other refl
+not_called id l (Ok None) cs other = refl
+not_called id l (Err fault) cs other = refl
+
+called : (id : ℕ) (l : Connection) (f : Front) (cs : List Call) → (l.id == id) ≡ true → messages_from id (call_at l f ++ cs) ≡ message_at f ++ messages_from id cs
+called id l (Ok (Some x)) cs same = rw same refl
+called id l (Ok None) cs same = refl
+called id l (Err fault) cs same = refl
+
+none_above : (id low : ℕ) (ls : List Connection) → nat_lt low id ≡ false → are_above low ls ≡ true → (find_connection ls id ≡ None) × (messages_from id (calls ls) ≡ [])
+none_above id low [] past h = (refl, refl)
+none_above id low (l ∷ ls) past h =
+    let parts = both (nat_lt low l.id) (are_above l.id ls) h in
+    let first = parts.0 in
+    let other : (l.id == id) ≡ false = grind (arith, nat_tests) in
+    let later = none_above id l.id ls (grind (arith, nat_tests)) parts.1 in
+    (by (nat_cmp id l.id) refl first, not_called id l (front_of l) (calls ls) other ∙ later.1)
+  where
+    by : (o : Ordering) → nat_cmp id l.id ≡ o → nat_lt low l.id ≡ true → by_order o None (Some l) (find_connection ls id) ≡ None
+    by orders.Less e first = refl
+    by orders.Equal e first = absurd (grind (arith, nat_tests))
+    by orders.Greater e first = absurd (grind (arith, nat_tests))
+
+dropped_in : (id n : ℕ) (ls : List Connection) → n ≢ id → are_ascending ls ≡ true → connection_in (drop_connection ls n) id ≡ connection_in ls id
+dropped_in id n [] other h = refl
+dropped_in id n (l ∷ ls) other h = by (nat_cmp n l.id) refl (nat_cmp id l.id) refl (dropped_in id n ls other (above_ascends l.id ls h))
+  where
+    by : (o : Ordering) → nat_cmp n l.id ≡ o → (p : Ordering) → nat_cmp id l.id ≡ p → connection_in (drop_connection ls n) id ≡ connection_in ls id
+        → connection_in (by_order o (l ∷ ls) ls (l ∷ drop_connection ls n)) id ≡ connection_in (l ∷ ls) id
+    by orders.Less e p is later = refl
+    by orders.Equal e orders.Less is later = rw is (ap (found id) (none_above id l.id ls (grind (arith, nat_tests)) h).0)
+    by orders.Equal e orders.Equal is later = absurd (other (grind (arith, nat_tests)))
+    by orders.Equal e orders.Greater is later = rw is refl
+    by orders.Greater e orders.Less is later = rw is refl
+    by orders.Greater e orders.Equal is later = rw is refl
+    by orders.Greater e orders.Greater is later = rw is later
+
+-- a turn does to the connection what it does to one
+turned_id : (l : Connection) (f : Front) → (connection_at l f).id ≡ l.id
+turned_id l (Ok (Some x)) = refl
+turned_id l (Ok None) = refl
+turned_id l (Err fault) = refl
+
+turned_in : (id : ℕ) (ls : List Connection) → connection_in (connections_after ls) id ≡ connection_after (connection_in ls id)
+unfolding front
+turned_in id [] = refl
+turned_in id (l ∷ ls) = rw (turned_id l (front_of l)) (by (nat_cmp id l.id) (turned_in id ls))
+  where
+    by : (o : Ordering) → connection_in (connections_after ls) id ≡ connection_after (connection_in ls id)
+        → found id (by_order o None (Some (connection_after l)) (find_connection (connections_after ls) id)) ≡ connection_after (found id (by_order o None (Some l) (find_connection ls id)))
+    by orders.Less later = refl
+    by orders.Equal later = refl
+    by orders.Greater later = later
+
+-- and takes its message
+taken_in : (id : ℕ) (ls : List Connection) → are_ascending ls ≡ true → messages_from id (calls ls) ≡ message_at (front_of (connection_in ls id))
+unfolding front
+taken_in id [] h = refl
+taken_in id (l ∷ ls) h = by (nat_cmp id l.id) refl (taken_in id ls (above_ascends l.id ls h))
+  where
+    by : (o : Ordering) → nat_cmp id l.id ≡ o → messages_from id (calls ls) ≡ message_at (front_of (connection_in ls id))
+        → messages_from id (call_at l (front_of l) ++ calls ls) ≡ message_at (front_of (found id (by_order o None (Some l) (find_connection ls id))))
+    by orders.Less e later =
+        let other : (l.id == id) ≡ false = grind (arith, nat_tests) in
+        not_called id l (front_of l) (calls ls) other ∙ (none_above id l.id ls (grind (arith, nat_tests)) h).1
+    by orders.Equal e later =
+        let same : (l.id == id) ≡ true = grind (arith, nat_tests) in
+        called id l (front_of l) (calls ls) same ∙ ap (λ (fs : List Frame). message_at (front_of l) ++ fs) (none_above id l.id ls (grind (arith, nat_tests)) h).1
+        ∙ append-nil (message_at (front_of l))
+    by orders.Greater e later =
+        let other : (l.id == id) ≡ false = grind (arith, nat_tests) in
+        not_called id l (front_of l) (calls ls) other ∙ later
+
+-- ---- a history
+
+abbrev events_for : ℕ → List Step → List Event
+events_for id [] = []
+events_for id (steps.Bytes n chunk ∷ later) = if n == id then bytes chunk.items ∷ events_for id later else events_for id later
+events_for id (steps.Turn ∷ later) = turn ∷ events_for id later
+events_for id (steps.Gone n ∷ later) = events_for id later
+
+stream_is : (id : ℕ) (all : List Step) → stream_of (events_for id all) ≡ bytes_from id all
+stream_is id [] = refl
+stream_is id (steps.Bytes n chunk ∷ later) = by (n == id) (stream_is id later)
+  where
+    by : (b : Bool) → stream_of (events_for id later) ≡ bytes_from id later
+        → stream_of (if b then bytes chunk.items ∷ events_for id later else events_for id later) ≡ (if b then chunk.items ++ bytes_from id later else bytes_from id later)
+    by true later = ap (λ (s : List ℕ). chunk.items ++ s) later
+    by false later = later
+stream_is id (steps.Turn ∷ later) = stream_is id later
+stream_is id (steps.Gone n ∷ later) = stream_is id later
+
+-- its turns take from the connection what they take from it alone, and leave it so
+abbrev IsAlone : ℕ → List Connection → List Step → List Frame → List Connection → Type 0
+IsAlone id before all taken after =
+    (taken ≡ taken_over (connection_in before id) (events_for id all))
+    × (connection_in after id ≡ connection_over (connection_in before id) (events_for id all))
+
+fed_alone : (id n : ℕ) (chunk : List ℕ) (later : List Step) (c mid : Connection) (taken : List Frame) (last : Connection) → mid ≡ fed_at id n chunk c
+    → (taken ≡ taken_over mid (events_for id later)) × (last ≡ connection_over mid (events_for id later))
+    → (b : Bool) → (n == id) ≡ b
+    → (taken ≡ taken_over c (if b then bytes chunk ∷ events_for id later else events_for id later))
+    × (last ≡ connection_over c (if b then bytes chunk ∷ events_for id later else events_for id later))
+fed_alone id n chunk later c mid taken last is h true e =
+    let is_fed : mid ≡ add_bytes c c.fault chunk = is ∙ ap (λ (b : Bool). if b then add_bytes c c.fault chunk else c) e in
+    (h.0 ∙ ap (λ (x : Connection). taken_over x (events_for id later)) is_fed, h.1 ∙ ap (λ (x : Connection). connection_over x (events_for id later)) is_fed)
+fed_alone id n chunk later c mid taken last is h false e =
+    let is_same : mid ≡ c = is ∙ ap (λ (b : Bool). if b then add_bytes c c.fault chunk else c) e in
+    (h.0 ∙ ap (λ (x : Connection). taken_over x (events_for id later)) is_same, h.1 ∙ ap (λ (x : Connection). connection_over x (events_for id later)) is_same)
+
+-- the connections after a turn, done or undone
+turned : (beside : World → Refusal → Type 0) (no_room : Type 0) (state new : ServerState) (out : Out) → Turns beside no_room state out new → new.connections ≡ connections_after state.connections
+turned beside no_room state new out (inl done) = ap (λ (s : ServerState). s.connections) done.leaves
+turned beside no_room state new out (inr (inl undone)) = ap (λ (s : ServerState). s.connections) undone.leaves
+turned beside no_room state new out (inr (inr (full, undone))) = ap (λ (s : ServerState). s.connections) undone.leaves
+
+alone : (id : ℕ) (at : Moment) (state : ServerState) (all : List Step) (given : List (ℕ × List ℕ)) (ends : List TurnEnd) (new : ServerState)
+    (h : Happens at state all given ends new) → are_ascending state.connections ≡ true → DoesNotEnd id all
+    → IsAlone id state.connections all (taken_from id at state all given ends new h) new.connections
+alone id at state [] given ends new h ascends unended = (refl, ap (λ (s : ServerState). connection_in s.connections id) h.2)
+alone id at state (steps.Bytes n chunk ∷ later) given ends new h ascends unended =
+    let mid = fed state n chunk.items in
+    fed_alone id n chunk.items later (connection_in state.connections id) (connection_in mid.connections id) (taken_from id at mid later given ends new h) (connection_in new.connections id)
+    (fed_in id n chunk.items state.connections) (alone id at mid later given ends new h (feed_ascends state.connections n chunk.items ascends) unended) (n == id) refl
+alone id at state (steps.Gone n ∷ later) given ends new h ascends unended =
+    let mid = ended state n in
+    let rest = alone id at mid later given ends new h (drop_ascends state.connections n ascends) unended.1 in
+    let same = dropped_in id n state.connections unended.0 ascends in
+    (rest.0 ∙ ap (λ (x : Connection). taken_over x (events_for id later)) same, rest.1 ∙ ap (λ (x : Connection). connection_over x (events_for id later)) same)
+alone id at state (steps.Turn ∷ later) given ends new h ascends unended =
+    let mid = h.0 in
+    let after = turned (IsCaused at h.3.at) (RoomRanOut at state) state mid h.1 h.5 in
+    let rises : are_ascending mid.connections ≡ true = ap are_ascending after ∙ after_ascends state.connections ascends in
+    let rest = alone id h.3.at mid later h.2 h.4 new h.9 rises unended in
+    let same : connection_in mid.connections id ≡ connection_after (connection_in state.connections id) =
+    ap (λ (ls : List Connection). connection_in ls id) after ∙ turned_in id state.connections in (
+      (λ i. taken_in id state.connections ascends i ++ rest.0 i)
+          ∙ ap (λ (x : Connection). message_at (front_of (connection_in state.connections id)) ++ taken_over x (events_for id later)) same,
+      rest.1 ∙ ap (λ (x : Connection). connection_over x (events_for id later)) same,
+    )
+
+pub takes_the_stream : TakesTheStream
+takes_the_stream id at state all given ends new h ascends is_open unended =
+    let c = connection_in state.connections id in
+    let is = alone id at state all given ends new h ascends unended in
+    let t = takes c (events_for id all) is_open in
+    record {
+      rest = t.0;
+      begins = subst (λ (s : List ℕ). Begins (c.frames ++ s) (taken_from id at state all given ends new h) t.0) (stream_is id all)
+          (subst (λ (fs : List Frame). Begins (c.frames ++ stream_of (events_for id all)) fs t.0) (sym is.0) t.1);
+      is_left = subst (λ (x : Connection). IsLeft x.fault x.frames t.0) (sym is.1) t.2;
+    }

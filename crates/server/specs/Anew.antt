@@ -1,5 +1,5 @@
--- The headline without the premise on the disk: a run over a new disk in memory, which keeps its word as long as its clock, the
--- number of its calls in eight bytes, isn't at its greatest value.
+-- The headline without the premise on the disk: a run over a new disk in memory, which keeps its
+-- word as long as its clock, the number of its calls in eight bytes, isn't at its greatest value.
 use Rattle.std.specs.Prelude.{◌≡◌, [], List}
 use Rattle.page.specs.History.{KeepsWord, HasTime}
 use Rattle.page.specs.Memory.{memory_history}

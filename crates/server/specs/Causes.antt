@@ -6,13 +6,14 @@ use Rattle.collections.specs.Calls.{IsTooLarge, IsOfFile}
 use Rattle.database_model.specs.World.{World}
 use Rattle.server.specs.Moment.{Moment}
 
--- Between these moments a page was asked for and none was free, which is counted (the count stays at its greatest value).
+-- Between these moments a page was asked for and none was free, which is counted (the count stays
+-- at its greatest value).
 abbrev pub FoundNoPage : Moment → Moment → Type 0
 FoundNoPage old new = (old.full_takes < new.full_takes) ⊎ (new.full_takes ≡ 2 ^ 64 - 1)
 
--- The causes of a refusal, by the first and the last moment of its turn, and by the world that the command leads to: memory ran
--- out; or, where the disk has kept its word, the device failed; or no page was free, or a tree of those collections would have
--- more than 32 levels.
+-- The causes of a refusal, by the first and the last moment of its turn, and by the world that the
+-- command leads to: memory ran out; or, where the disk has kept its word, the device failed; or no
+-- page was free, or a tree of those collections would have more than 32 levels.
 abbrev pub IsCaused : Moment → Moment → World → Refusal → Type 0
 IsCaused old new planned refusal = (refusal ≡ refusals.OutOfMemory)
     ⊎ (((refusal ≡ refusals.StorageFailed)

@@ -1,5 +1,6 @@
 -- What a dump is: the documents of a collection, each as a line of hexadecimal.
-use Rattle.std.specs.Prelude.{String, ◌≡◌, ℕ, List, map, string_bytes, Option, Some, None, Result, MatchResult}
+use Rattle.std.specs.Prelude.{String, ◌≡◌, ℕ, List, map, string_bytes, Option, Some, None, Result}
+use Rattle.std.specs.Prelude.{MatchResult}
 use Rattle.std.specs.Global.{Vec, Global}
 use Rattle.std.specs.Option.{option_map}
 use Rattle.hex.specs.Hex.{encode_lower}

@@ -24,8 +24,8 @@ is_stopped core = engines.is_stopped core.engine
 abbrev pub IsRunning : {D : Type 0} → Core D → Type 0
 IsRunning core = engines.IsRunning core.engine
 
--- Between calls no turn is open, and no cursor is touched; the connections ascend. Until the server stops, every image holds the
--- collections as they are, and no others.
+-- Between calls no turn is open, and no cursor is touched; the connections ascend. Until the server
+-- stops, every image holds the collections as they are, and no others.
 pub record IsSound {D : Type 0} (history : D → History) (core : Core D) : Type 0 where
   pub engine : engines.IsSound history core.engine
   pub idle : turn_start core.engine ≡ (world core.engine).collections
@@ -54,7 +54,8 @@ engine_moment history engine = record {
 abbrev pub moment_of : {D : Type 0} → (D → History) → Core D → Moment
 moment_of history core = engine_moment history core.engine
 
--- What one step does to the disk: a crash at any moment of it leaves the collections as they were or as they are after it.
+-- What one step does to the disk: a crash at any moment of it leaves the collections as they were
+-- or as they are after it.
 pub record GoesSafely {D : Type 0} (history : D → History) (old new : Core D) : Type 0 where
   pub on : GoesOn (disk_history history old) (disk_history history new)
   pub any_moment : IsRunning old → LeavesOnly (disk_history history old) (disk_history history new)

@@ -1,24 +1,29 @@
--- The headline. For every list of steps, in whatever chunks the bytes come and however connections interleave, what the server
--- hands out, as long as its disk keeps its word, is a history's output: these frames, in this order, and so these bytes for each connection. A run goes on to the end
--- of its steps, or stops at one of them, for want of memory or because the device failed. Bytes that found no memory, and a turn
--- that took no message, changed nothing; where the frames of a turn found no memory the turn is done, and what is missing is that
--- turn's replies and no other; a turn in which the device failed handed out nothing.
+-- The headline. For every list of steps, in whatever chunks the bytes come and however connections
+-- interleave, what the server hands out, as long as its disk keeps its word, is a history's output:
+-- these frames, in this order, and so these bytes for each connection. A run goes on to the end of
+-- its steps, or stops at one of them, for want of memory or because the device failed. Bytes that
+-- found no memory, and a turn that took no message, changed nothing; where the frames of a turn
+-- found no memory the turn is done, and what is missing is that turn's replies and no other; a turn
+-- in which the device failed handed out nothing.
 --
--- A crash leaves the collections after some whole turns of that history, in order of time: between two turns' ends those of the
--- one or of the other, and at the end of the run those after all turns that answered, or after one more where the device failed
--- in it.
-use Rattle.std.specs.Prelude.{◌≡◌, ◌⊎◌, ◌<◌, ℕ, ◌+◌, Bool, true, List, [], ◌∷◌, ◌++◌, take, slice_get, Option, Some, None, Vec}
+-- A crash leaves the collections after some whole turns of that history, in order of time: between
+-- two turns' ends those of the one or of the other, and at the end of the run those after all turns
+-- that answered, or after one more where the device failed in it.
+use Rattle.std.specs.Prelude.{◌≡◌, ◌⊎◌, ◌<◌, ℕ, ◌+◌, Bool, true, List, [], ◌∷◌, ◌++◌, take}
+use Rattle.std.specs.Prelude.{slice_get, Option, Some, None, Vec}
 use Rattle.std.specs.Global.{Global}
 use Rattle.page.specs.History.{History, KeepsWord}
 use Rattle.page.specs.Crash.{GoesOn, LeavesNow}
 use Rattle.opening.specs.Holding.{Holds}
 use Rattle.server.specs.ServerState.{ServerState}
 use Rattle.server.specs.Turn.{Out, Turns, TurnFails}
-use Rattle.server.specs.Moment.{TurnEnd, Instant, HasKeptWord, end_at, last_collections, last_moment, HoldsEither, FollowInOrder, LeavesInOrder}
+use Rattle.server.specs.Moment.{TurnEnd, Instant, HasKeptWord, end_at, last_collections}
+use Rattle.server.specs.Moment.{last_moment, HoldsEither, FollowInOrder, LeavesInOrder}
 use Rattle.server.specs.Causes.{IsCaused}
 use Rattle.server.specs.History.{Happens, RoomRanOut, bytes_to, turns_in}
 use Rattle.server.specs.View.{frames_in}
-use Rattle.server.specs.Durable.{disk_history, is_stopped, IsRunning, collections_of, clock_of, moment_of, instant_of}
+use Rattle.server.specs.Durable.{disk_history, is_stopped, IsRunning, collections_of, clock_of}
+use Rattle.server.specs.Durable.{moment_of, instant_of}
 use Rattle.server.specs.declared.turn.Core.{Core}
 use Rattle.server.specs.declared.turn.TurnFault.{TurnFault}
 use Rattle.server.specs.declared.turn.TurnFault.TheVariants as turns
@@ -51,7 +56,8 @@ pub record LosesTurn (first : Instant) (done : List Step) (given : List (ℕ × 
       (RoomRanOut (last_moment first.moment earlier) before) before lost last.state
   pub counted : ends ≡ earlier ++ end_at last ∷ []
 
--- A history of these steps, and then one turn that handed out nothing, by its fault and whether the server had stopped at the start.
+-- A history of these steps, and then one turn that handed out nothing, by its fault and whether the
+-- server had stopped at the start.
 pub record FailsTurn (first : Instant) (was_stopped : Bool) (done : List Step)
     (given : List (ℕ × List ℕ)) (ends : List TurnEnd) (fault : TurnFault)
     (last : Instant) : Type 0 where
@@ -60,7 +66,8 @@ pub record FailsTurn (first : Instant) (was_stopped : Bool) (done : List Step)
   pub turn : TurnFails (HasKeptWord last) (IsCaused (last_moment first.moment ends) last.moment)
       before fault was_stopped last.state
 
--- How a run ends, by the step and the fault at which it stopped, if it did; and, where the disk has kept its word, its history.
+-- How a run ends, by the step and the fault at which it stopped, if it did; and, where the disk has
+-- kept its word, its history.
 abbrev pub Ends : Instant → Bool → List Step → Option (ℕ × DriveFault) → List (ℕ × List ℕ)
     → List TurnEnd → Instant → Type 0
 Ends first was_stopped all None given ends last =
@@ -100,9 +107,11 @@ pub record Drives {D : Type 0} (history : D → History) (first : Core D) (all :
   pub bytes : (id : ℕ) → bytes_for id out ≡ bytes_to id given
   pub turns : out.turns ≡ turns_done out.stopped all
   pub on : GoesOn (disk_history history first) (disk_history history last)
-  -- the moments of its turns' ends lie between the first one and now, in order, and what is counted never falls
+  -- the moments of its turns' ends lie between the first one and now, in order, and what is counted
+  -- never falls
   pub moments : FollowInOrder (moment_of history first) ends (moment_of history last)
-  -- from each turn's end to the next one's, a crash leaves the collections of the one or of the other
+  -- from each turn's end to the next one's, a crash leaves the collections of the one or of the
+  -- other
   pub in_order : IsRunning first → KeepsWord (disk_history history last)
       → LeavesInOrder (disk_history history last) (clock_of history first)
       (collections_of first) ends (collections_of last)

@@ -1,6 +1,6 @@
--- A history: a list of chunks of bytes, turns and ends of connections, and what comes of it. Its output for a connection is its
--- frames in the order in which the turns handed them out. Its turns' ends are the moments at which they answered, each with the
--- collections then, in order.
+-- A history: a list of chunks of bytes, turns and ends of connections, and what comes of it. Its
+-- output for a connection is its frames in the order in which the turns handed them out. Its turns'
+-- ends are the moments at which they answered, each with the collections then, in order.
 use Rattle.std.specs.Prelude.{◌≡◌, ◌-◌, ◌^◌, ℕ, suc, ◌==◌, if◌then◌else◌, List, [], ◌∷◌, ◌++◌}
 use Rattle.server.specs.ServerState.{ServerState, fed, ended}
 use Rattle.database_model.specs.World.{World}
@@ -11,8 +11,8 @@ use Rattle.server.specs.declared.connection.Connection.{Connection}
 use Rattle.server.specs.declared.step.Step.{Step}
 use Rattle.server.specs.declared.step.Step.TheVariants as steps
 
--- A commit from this moment on finds no greater generation; and not all answers that the messages of these connections may get
--- leave nothing written.
+-- A commit from this moment on finds no greater generation; and not all answers that the messages
+-- of these connections may get leave nothing written.
 abbrev pub NoCommitIsLeft : Moment → World → List Connection → Type 0
 NoCommitIsLeft old world connections = (old.generation ≡ 2 ^ 64 - 1)
     × (ChangeNothing OfAnyCause world (calls connections) → ⊥)
@@ -20,8 +20,8 @@ NoCommitIsLeft old world connections = (old.generation ≡ 2 ^ 64 - 1)
 abbrev pub RoomRanOut : Moment → ServerState → Type 0
 RoomRanOut old state = NoCommitIsLeft old state.world state.connections
 
--- From this moment and state on, after these steps the server may be this one, the frames that were handed out these, each with
--- its connection, in order, and the turns' ends these.
+-- From this moment and state on, after these steps the server may be this one, the frames that were
+-- handed out these, each with its connection, in order, and the turns' ends these.
 abbrev pub Happens : Moment → ServerState → List Step → List (ℕ × List ℕ) → List TurnEnd
     → ServerState → Type 0
 Happens at state [] given ends new = (given ≡ []) × (ends ≡ []) × (new ≡ state)

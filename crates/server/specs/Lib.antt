@@ -17,5 +17,6 @@ pub mod Rows
 pub mod Chunks
 pub mod InOrder
 pub mod Streams
+pub mod Batches
 pub mod Taking
 pub mod Serving

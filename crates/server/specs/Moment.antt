@@ -1,5 +1,5 @@
--- A moment of a server: whether its disk had kept its word, the disk's clock, how often the device had failed and a page was asked
--- for and none was free, and the number of the last commit.
+-- A moment of a server: whether its disk had kept its word, the disk's clock, how often the device
+-- had failed and a page was asked for and none was free, and the number of the last commit.
 use Rattle.std.specs.Prelude.{◌⊎◌, ℕ, ◌+◌, Bool, IsTrue, ◌≤◌, List, [], ◌∷◌}
 use Rattle.page.specs.History.{History, IsImage}
 use Rattle.index.specs.State.{Collection}
@@ -13,8 +13,9 @@ pub record Moment : Type 0 where
   pub generation : ℕ
   pub full_takes : ℕ
 
--- A later moment of the same server: the disk had kept its word before, its clock and the number of the last commit have not
--- fallen, nor, while it keeps its word, how often it had failed and no page was free.
+-- A later moment of the same server: the disk had kept its word before, its clock and the number of
+-- the last commit have not fallen, nor, while it keeps its word, how often it had failed and no
+-- page was free.
 pub record Follows (old new : Moment) : Type 0 where
   pub word : IsTrue new.keeps_word → IsTrue old.keeps_word
   pub clock : old.clock ≤ new.clock
@@ -52,7 +53,8 @@ abbrev pub last_moment : Moment → List TurnEnd → Moment
 last_moment first [] = first
 last_moment first (e ∷ later) = last_moment e.at later
 
--- Each turn's end follows the one before, the first one the first moment, and the last moment the last one.
+-- Each turn's end follows the one before, the first one the first moment, and the last moment the
+-- last one.
 abbrev pub FollowInOrder : Moment → List TurnEnd → Moment → Type 0
 FollowInOrder first [] last = FollowsInTurn first last
 FollowInOrder first (e ∷ later) last = FollowsInTurn first e.at × FollowInOrder e.at later last
@@ -67,8 +69,8 @@ LeavesBetween h from to P =
 abbrev pub HoldsEither : List Collection → List Collection → (ℕ → List ℕ) → Type 0
 HoldsEither before after image = Holds image before ⊎ Holds image after
 
--- From each turn's end to the next one's, a crash leaves the collections of the one or of the other, and from the last one's
--- to now those after it or these.
+-- From each turn's end to the next one's, a crash leaves the collections of the one or of the
+-- other, and from the last one's to now those after it or these.
 abbrev pub LeavesInOrder : History → ℕ → List Collection → List TurnEnd → List Collection → Type 0
 LeavesInOrder h from before [] now =
     (from ≤ h.clock) × LeavesBetween h from h.clock (HoldsEither before now)

@@ -1,6 +1,8 @@
--- The headline, said once. However a run is cut, what the crash left holds the collections after some first turns of the run, and opening
--- it finds these. Every turn that had answered at that moment is one of them, and at most one turn more.
-use Rattle.std.specs.Prelude.{◌≡◌, ◌⊎◌, ℕ, ◌+◌, ◌<◌, ◌≤◌, nat_le, List, [], ◌∷◌, ◌++◌, length, take, filter, Option, Some, None}
+-- The headline, said once. However a run is cut, what the crash left holds the collections after
+-- some first turns of the run, and opening it finds these. Every turn that had answered at that
+-- moment is one of them, and at most one turn more.
+use Rattle.std.specs.Prelude.{◌≡◌, ◌⊎◌, ℕ, ◌+◌, ◌<◌, ◌≤◌, nat_le, List, [], ◌∷◌, ◌++◌, length, take}
+use Rattle.std.specs.Prelude.{filter, Option, Some, None}
 use Rattle.page.specs.History.{History, KeepsWord, now, reads, LeftSince}
 use Rattle.roots.specs.declared.opening.OpenFault.{OpenFault}
 use Rattle.roots.specs.declared.opening.OpenFault.TheVariants as faults
@@ -22,7 +24,8 @@ use Rattle.server.specs.declared.drive.DriveFault.{DriveFault}
 use Rattle.server.specs.declared.drive.DriveFault.TheVariants as stops
 use Rattle.server.specs.declared.drive.DriveOut.{DriveOut}
 
--- the turn in which the device failed, where a run stopped at one: it handed out nothing, and what it changed may be durable
+-- the turn in which the device failed, where a run stopped at one: it handed out nothing, and what
+-- it changed may be durable
 abbrev pub cut_turn : Option (ℕ × DriveFault) → Instant → List TurnEnd
 cut_turn None last = []
 cut_turn (Some (i, stops.Turn turns.Stopped)) last = end_at last ∷ []
@@ -30,7 +33,8 @@ cut_turn (Some (i, stops.Turn turns.Memory)) last = []
 cut_turn (Some (i, stops.Feed fault)) last = []
 cut_turn (Some (i, stops.Gather)) last = []
 
--- the turns that a run accepted, in order: those that answered, and then the one that was cut, if one was
+-- the turns that a run accepted, in order: those that answered, and then the one that was cut, if
+-- one was
 abbrev pub accepted : List TurnEnd → Option (ℕ × DriveFault) → Instant → List TurnEnd
 accepted ends stopped last = ends ++ cut_turn stopped last
 
@@ -51,7 +55,8 @@ pub record Reaches (first : Instant) (all : List Step) (ends : List TurnEnd)
   pub happens : Happens first.moment first.state (take steps all) given ends state
   pub leaves : collections ≡ state.world.collections
 
--- Some first steps are such a history, and a turn that was cut stands behind them: its messages ran, and lead to these collections.
+-- Some first steps are such a history, and a turn that was cut stands behind them: its messages
+-- ran, and lead to these collections.
 pub record ReachesCut (first : Instant) (all : List Step) (ends : List TurnEnd) (last : Instant)
     (collections : List Collection) : Type 0 where
   pub steps : ℕ
@@ -62,8 +67,9 @@ pub record ReachesCut (first : Instant) (all : List Step) (ends : List TurnEnd) 
   pub cut : Cut (IsCaused (last_moment first.moment ends) last.moment) before last.state
   pub leaves : collections ≡ last.state.world.collections
 
--- This disk reads what a crash left of a run at this clock. The run is told by its first and last instant, its steps, the ends of the turns
--- that answered, and the step and the fault at which it stopped, if it did.
+-- This disk reads what a crash left of a run at this clock. The run is told by its first and last
+-- instant, its steps, the ends of the turns that answered, and the step and the fault at which it
+-- stopped, if it did.
 pub record FindsPrefix {D : Type 0} (history : D → History) (disk : D) (first : Instant)
     (all : List Step) (ends : List TurnEnd) (stopped : Option (ℕ × DriveFault)) (last : Instant)
     (clock : ℕ) : Type 0 where
@@ -80,15 +86,16 @@ pub record FindsPrefix {D : Type 0} (history : D → History) (disk : D) (first 
   -- these turns are what happened at the first steps of the run
   pub happened : count ≤ length ends → Reaches first all (take count ends) collections
   pub cut : length ends < count → ReachesCut first all ends last collections
-  -- the disk holds these collections, and whoever opens it finds them, or is refused for the device's fault or want of memory alone
+  -- the disk holds these collections, and whoever opens it finds them, or is refused for the
+  -- device's fault or want of memory alone
   pub holds : Holds (reads (now (history disk))) collections
   pub found : (core : Core D) → IsOpened history disk core
       → KeepsWord (disk_history history core) → collections_of core ≡ collections
   pub refused : (back : D) (fault : OpenFault) → IsRefused history disk back fault
       → KeepsWord (history back) → (fault ≡ faults.Device) ⊎ (fault ≡ faults.Memory)
 
--- For a run of a server that had not stopped, over a disk that keeps its word, any moment from the run's start on, and any disk that reads
--- an image which a crash may leave at that moment.
+-- For a run of a server that had not stopped, over a disk that keeps its word, any moment from the
+-- run's start on, and any disk that reads an image which a crash may leave at that moment.
 abbrev pub FindsAPrefix : {D E : Type 0} → (D → History) → (E → History) → Type 0
 FindsAPrefix {D = D} {E = E} history later =
     (first : Core D) (all : List Step) (out : DriveOut) (last : Core D) (disk : E)

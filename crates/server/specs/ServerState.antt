@@ -1,14 +1,16 @@
--- The connections, and what they and the engine hold: for each open connection its bytes that no message has taken yet, the
--- number of its last reply, and the fault that closed it. Bytes open a connection, and are passed over where a fault closed it;
--- an end makes all of it forgotten.
-use Rattle.std.specs.Prelude.{Bool, true, false, ◌&&◌, nat_lt, is_some, ℕ, List, [], ◌∷◌, ◌++◌, Option, Some, None, Result, Ok, Err, suc}
+-- The connections, and what they and the engine hold: for each open connection its bytes that no
+-- message has taken yet, the number of its last reply, and the fault that closed it. Bytes open a
+-- connection, and are passed over where a fault closed it; an end makes all of it forgotten.
+use Rattle.std.specs.Prelude.{Bool, true, false, ◌&&◌, nat_lt, is_some, ℕ, List, [], ◌∷◌, ◌++◌}
+use Rattle.std.specs.Prelude.{Option, Some, None, Result, Ok, Err, suc}
 use Rattle.std.specs.Ordering.{nat_cmp}
 use Rattle.database_model.specs.World.{World, forget}
 use Rattle.index.specs.State.{by_order}
 use Rattle.op_msg.specs.declared.fault.FrameFault.{FrameFault}
 use Rattle.server.specs.declared.connection.Connection.{Connection}
 
--- The connections stand in ascending order of their numbers (`are_ascending`, an invariant of the server).
+-- The connections stand in ascending order of their numbers (`are_ascending`, an invariant of the
+-- server).
 pub record ServerState : Type 0 where
   pub world : World
   pub connections : List Connection

@@ -28,6 +28,7 @@ pub record TurnWaits {D : Type 0} (history : D → History) (old : Core D)
       (IsCaused (moment_of history old) (moment_of history new)) (state old)
       turns.Memory (is_stopped old) (state new)
 
-abbrev pub IsAnswered : {D : Type 0} → (D → History) → Core D → List (ℕ × List ℕ) → List ℕ → Core D → Type 0
+abbrev pub IsAnswered : {D : Type 0} → (D → History) → Core D → List (ℕ × List ℕ) → List ℕ → Core D
+    → Type 0
 IsAnswered history old replies closed new =
     TurnGives history old replies closed new ⊎ TurnWaits history old replies closed new

@@ -1,5 +1,7 @@
--- The parts of a turn: what is made ready before a message is taken, what is taken from one connection, and how the messages run.
-use Rattle.std.specs.Prelude.{◌≡◌, ◌⊎◌, ◌≤◌, ◌+◌, ℕ, List, [], ◌∷◌, length, map, slice_get, All, Result, Ok, Err, Option, Some, None, ◌++◌, Bool, true}
+-- The parts of a turn: what is made ready before a message is taken, what is taken from one
+-- connection, and how the messages run.
+use Rattle.std.specs.Prelude.{◌≡◌, ◌⊎◌, ◌≤◌, ◌+◌, ℕ, List, [], ◌∷◌, length, map, slice_get, All}
+use Rattle.std.specs.Prelude.{Result, Ok, Err, Option, Some, None, ◌++◌, Bool, true}
 use Rattle.op_msg.specs.Frame.{Frame}
 use Rattle.op_msg.specs.Request.{IsRequest, respelled}
 use Rattle.op_msg.specs.declared.fault.FrameFault.{FrameFault}
@@ -14,7 +16,8 @@ use Rattle.database_model.specs.Refusals.{refusal_reply}
 use Rattle.database_model.specs.Step.{Answers}
 use Rattle.path.specs.declared.refusal.Refusal.{Refusal}
 use Rattle.path.specs.declared.refusal.Refusal.TheVariants as refusals
-use Rattle.server.specs.Turn.{Call, Runs, calls, call_at, frames_of, front_of, refused_calls, refused_frames, taken_at, next_number}
+use Rattle.server.specs.Turn.{Call, Runs, calls, call_at, frames_of, front_of, refused_calls}
+use Rattle.server.specs.Turn.{refused_frames, taken_at, next_number}
 use Rattle.server.specs.declared.connection.Connection.{Connection}
 use Rattle.server.specs.declared.connection.Taken.{Taken}
 use Rattle.server.specs.declared.connection.Taken.TheVariants as takes
@@ -74,7 +77,8 @@ IsTaken old (Ok (Some x)) (takes.Call number request) new =
     × (new ≡ taken_at old (Ok (Some x)))
 IsTaken old front other new = ⊥
 
--- The calls were answered, one reply each, and at ok each frame was put at the end. While the word is kept, they were answered so.
+-- The calls were answered, one reply each, and at ok each frame was put at the end. While the word
+-- is kept, they were answered so.
 pub record Serves (word : Type 0) (beside : World → Refusal → Type 0) (calls : List Call)
     (old new : World) (ok : Bool) (given now : List (ℕ × List ℕ)) : Type 0 where
   pub replies : List Pairs
@@ -88,10 +92,12 @@ IsAnswer beside old id request new reply =
     (read : Result Pairs BsonFault) → Gives bson_faults.Memory (λ d. d) request.body read
     → Answers beside old id read new reply
 
--- The messages of the connections ran. The turn kept what they changed and hands out these replies, or it took back what they changed
--- and hands out refusals: for want of room only by its cause. What they were answered, and the cause, is said while the word is kept.
+-- The messages of the connections ran. The turn kept what they changed and hands out these replies,
+-- or it took back what they changed and hands out refusals: for want of room only by its cause.
+-- What they were answered, and the cause, is said while the word is kept.
 pub record EndsTurn (word : Type 0) (beside : World → Refusal → Type 0) (no_room : Type 0)
-    (old : World) (connections : List Connection) (given : List (ℕ × List ℕ)) (new : World) : Type 0 where
+    (old : World) (connections : List Connection) (given : List (ℕ × List ℕ))
+    (new : World) : Type 0 where
   pub replies : List Pairs
   pub one_each : length replies ≡ length (calls connections)
   pub last : World
@@ -101,8 +107,10 @@ pub record EndsTurn (word : Type 0) (beside : World → Refusal → Type 0) (no_
       ⊎ ((given ≡ refused_frames refusals.Full connections) × (word → no_room)))
       × (new ≡ after_undo old.collections last))
 
--- The messages of the connections ran, and the device failed when what they changed was to be made durable.
-pub record BreaksTurn (beside : World → Refusal → Type 0) (old : World) (connections : List Connection)
+-- The messages of the connections ran, and the device failed when what they changed was to be made
+-- durable.
+pub record BreaksTurn (beside : World → Refusal → Type 0) (old : World)
+    (connections : List Connection)
     (new : World) : Type 0 where
   pub replies : List Pairs
   pub last : World

@@ -1,10 +1,13 @@
--- What a turn may do. It takes the first whole message of each open connection, in rising connection number, and runs them one
--- after the other. Done: the world is the last step's, and the replies are theirs. Undone, which only want of memory or of a greater
--- generation makes it: the state is the one before, every reply is the refusal that says of what, and cursors that were opened,
--- advanced or killed are closed. A fault at a connection's front closes it, done or undone. Cut, where the device failed in the commit: the
--- world is the last step's, no reply is handed out, and no connection is closed. A message with moreToCome gets no reply, and
--- replies that are handed out are numbered 1, 2, 3 and so on for each connection.
-use Rattle.std.specs.Prelude.{◌≡◌, ◌⊎◌, ℕ, ◌+◌, Bool, true, false, nat_lt, if◌then◌else◌, List, [], ◌∷◌, ◌++◌, length, Result, Ok, Err, Option, Some, None}
+-- What a turn may do. It takes the first whole message of each open connection, in rising
+-- connection number, and runs them one after the other. Done: the world is the last step's, and the
+-- replies are theirs. Undone, which only want of memory or of a greater generation makes it: the
+-- state is the one before, every reply is the refusal that says of what, and cursors that were
+-- opened, advanced or killed are closed. A fault at a connection's front closes it, done or undone.
+-- Cut, where the device failed in the commit: the world is the last step's, no reply is handed out,
+-- and no connection is closed. A message with moreToCome gets no reply, and replies that are handed
+-- out are numbered 1, 2, 3 and so on for each connection.
+use Rattle.std.specs.Prelude.{◌≡◌, ◌⊎◌, ℕ, ◌+◌, Bool, true, false, nat_lt, if◌then◌else◌, List, []}
+use Rattle.std.specs.Prelude.{◌∷◌, ◌++◌, length, Result, Ok, Err, Option, Some, None}
 use Rattle.bson.specs.Tree.{Pairs}
 use Rattle.op_msg.specs.Frame.{Frame, front}
 use Rattle.op_msg.specs.Request.{body_of, reply_bytes, is_waiting}
@@ -116,8 +119,9 @@ pub record Out : Type 0 where
   pub replies : List (ℕ × List ℕ)
   pub closed : List (ℕ × FrameFault)
 
--- What a turn hands out, whatever the replies say: one frame for each message that it takes, to the connection that sent it, with the
--- next number of its replies and the number of the message, unless none is wanted; a fault at a connection's front closes it.
+-- What a turn hands out, whatever the replies say: one frame for each message that it takes, to the
+-- connection that sent it, with the next number of its replies and the number of the message,
+-- unless none is wanted; a fault at a connection's front closes it.
 pub record HandsOut (state : ServerState) (out : Out) : Type 0 where
   pub replies : List Pairs
   pub one_each : length replies ≡ length (calls state.connections)
@@ -167,7 +171,8 @@ pub record Done (beside : World → Refusal → Type 0) (state : ServerState) (o
   }
 
 -- Undone: the state is the one before, and each reply is this refusal.
-pub record Undone (beside : World → Refusal → Type 0) (state : ServerState) (refusal : Refusal) (out : Out)
+pub record Undone (beside : World → Refusal → Type 0) (state : ServerState) (refusal : Refusal)
+    (out : Out)
     (new : ServerState) : Type 0 where
   pub replies : List Pairs
   pub last : World
@@ -196,9 +201,9 @@ pub record Cut (beside : World → Refusal → Type 0) (state new : ServerState)
   pub leaves : new
       ≡ record { world = after_commit last; connections = connections_taken state.connections }
 
--- A turn that answers no messages, by its fault and whether the server had stopped before. A server that had stopped changes
--- nothing. One that had not stops where the turn is cut, while the disk kept its word, and changes nothing where memory runs out
--- before a message is taken.
+-- A turn that answers no messages, by its fault and whether the server had stopped before. A server
+-- that had stopped changes nothing. One that had not stops where the turn is cut, while the disk
+-- kept its word, and changes nothing where memory runs out before a message is taken.
 abbrev pub TurnFails : Type 0 → (World → Refusal → Type 0) → ServerState → TurnFault → Bool
     → ServerState → Type 0
 TurnFails kept beside state turns.Stopped true new = new ≡ state

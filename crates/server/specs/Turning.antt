@@ -9,7 +9,8 @@ use Rattle.server.specs.Moment.{HoldsEither, FollowsInTurn}
 use Rattle.server.specs.Causes.{IsCaused, OfAnyCause}
 use Rattle.server.specs.History.{RoomRanOut}
 use Rattle.server.specs.View.{state, out_of}
-use Rattle.server.specs.Durable.{disk_history, is_stopped, IsRunning, file_of, IsSound, collections_of, moment_of}
+use Rattle.server.specs.Durable.{disk_history, is_stopped, IsRunning, file_of, IsSound}
+use Rattle.server.specs.Durable.{collections_of, moment_of}
 use Rattle.server.specs.declared.turn.Core.{Core}
 use Rattle.server.specs.declared.turn.TurnOut.{TurnOut}
 use Rattle.server.specs.declared.turn.TurnFault.{TurnFault}
@@ -22,7 +23,8 @@ pub record TakesTurn {D : Type 0} (history : D → History) (old : Core D)
   pub turns : IfOk result (λ out. KeepsWord (disk_history history new)
       → Turns (IsCaused (moment_of history old) (moment_of history new))
       (RoomRanOut (moment_of history old) (state old)) (state old) (out_of out) (state new))
-  -- on any disk: to whom its frames go, one for each message that is taken, and what it leaves of what came
+  -- on any disk: to whom its frames go, one for each message that is taken, and what it leaves of
+  -- what came
   pub hands_out : IfOk result (λ out. HandsOut (state old) (out_of out))
   pub leaves : OnOk result
       ((state new).connections ≡ connections_after (state old).connections)
@@ -31,14 +33,16 @@ pub record TakesTurn {D : Type 0} (history : D → History) (old : Core D)
       (IsCaused (moment_of history old) (moment_of history new)) (state old) fault
       (is_stopped old) (state new))
   pub on : GoesOn (disk_history history old) (disk_history history new)
-  -- a crash at any moment of the call leaves the collections as they were before the turn or as they are after it
+  -- a crash at any moment of the call leaves the collections as they were before the turn or as
+  -- they are after it
   pub any_moment : IsRunning old → LeavesOnly (disk_history history old) (disk_history history new)
       (HoldsEither (collections_of old) (collections_of new))
   -- at Ok it leaves them as they are after it, and nothing else
   pub acknowledged : IsRunning old
       → OnOk result
       (LeavesNow (disk_history history new) (λ image. Holds image (collections_of new)))
-  -- a server that had stopped answers so, and leaves the disk as it is; another stops only where the device failed
+  -- a server that had stopped answers so, and leaves the disk as it is; another stops only where
+  -- the device failed
   pub running : result ≢ Err turn_faults.Stopped → is_stopped new ≡ is_stopped old
   pub stops : result ≡ Err turn_faults.Stopped → is_stopped new ≡ true
   pub idle : is_stopped old ≡ true
@@ -46,13 +50,15 @@ pub record TakesTurn {D : Type 0} (history : D → History) (old : Core D)
   pub device : result ≡ Err turn_faults.Stopped → KeepsWord (disk_history history new)
       → (is_stopped old ≡ true)
       ⊎ ((disk_history history old).failures < (disk_history history new).failures)
-  -- what is counted has not fallen, and it has committed once at most: once, where it answers and changed the collections
+  -- what is counted has not fallen, and it has committed once at most: once, where it answers and
+  -- changed the collections
   pub moment : FollowsInTurn (moment_of history old) (moment_of history new)
   pub commits : OnOk result ((collections_of new ≡ collections_of old)
       ⊎ ((moment_of history new).generation ≡ (moment_of history old).generation + 1))
   -- where it takes no message, it makes no call of the disk
   pub void : calls (state old).connections ≡ []
       → disk_history history new ≡ disk_history history old
-  -- where its messages change nothing, it only reads the disk, and takes no page into its tree or out of it
+  -- where its messages change nothing, it only reads the disk, and takes no page into its tree or
+  -- out of it
   pub quiet : KeepsWord (disk_history history new) → ChangesNothing OfAnyCause (state old)
       → GoesFrom history (file_of old) (file_of new)

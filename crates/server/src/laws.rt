@@ -1,5 +1,6 @@
 //! Laws of runs: what a crash leaves of one, what the definitions say of chunks, and of the first frames.
 
+ghost use Rattle.server.specs.Batches.{BatchesCutTheList};
 ghost use Rattle.server.specs.Chunks.{ChunksJoin};
 ghost use Rattle.server.specs.InOrder.{CallsAscend};
 ghost use Rattle.server.specs.Prefix.{FindsAPrefix};
@@ -19,9 +20,16 @@ pub fn chunks_join()
     ensures { ChunksJoin }
 {}
 
-/// The messages that turns take from a connection are those of the stream of all its bytes, in order.
+/// The messages that the turns of a history take from a connection are those at the front of the stream of all its bytes, in order,
+/// until it ends, whatever other connections do.
 pub fn takes_the_stream()
     ensures { TakesTheStream }
+{}
+
+/// The batches of a cursor that the turns of a history hand out, one after the other, and what it has left are the documents that it
+/// had, whatever comes between.
+pub fn batches_cut_the_list()
+    ensures { BatchesCutTheList }
 {}
 
 /// A turn runs its messages in ascending connection number, since the connections of a server ascend.

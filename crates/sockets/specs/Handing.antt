@@ -13,7 +13,8 @@ Closes is_closed [] before after = after ≡ before
 Closes {O} is_closed (c ∷ cs) before after =
     (next : O) × is_closed before c next × Closes is_closed cs next after
 
--- A service that answered: what its turn gave, each reply to its connection, and each connection that it closed.
+-- A service that answered: what its turn gave, each reply to its connection, and each connection
+-- that it closed.
 pub record Answers {S O : Type 0} (is_answered : S → List (ℕ × List ℕ) → List ℕ → S → Type 0)
     (is_given : O → ℕ → List ℕ → O → Type 0) (is_closed : O → ℕ → O → Type 0)
     (old new : S) (before after : O) : Type 0 where

@@ -1,5 +1,6 @@
 -- What stands at the places of the connections' numbers.
-use Rattle.std.specs.Prelude.{◌≡◌, ◌≢◌, ◌++◌, ℕ, Bool, true, false, List, length, get_or, Option, Some, None}
+use Rattle.std.specs.Prelude.{◌≡◌, ◌≢◌, ◌++◌, ℕ, Bool, true, false, List, length, get_or, Option}
+use Rattle.std.specs.Prelude.{Some, None}
 use Rattle.sockets.specs.declared.client.Client.{Client}
 use Rattle.sockets.specs.Stream.{Sends}
 
@@ -8,8 +9,10 @@ abbrev pub is_over_in : {T : Type 0} → Option (Client T) → Bool
 is_over_in None = false
 is_over_in (Some client) = client.is_over
 
--- A reply to the connection at a place: of what waits for it and of the reply its stream took the first bytes, and the others wait.
-abbrev pub IsGivenAt : {T : Type 0} → (T → Option (List ℕ)) → Option (Client T) → List ℕ → Option (Client T) → Type 0
+-- A reply to the connection at a place: of what waits for it and of the reply its stream took the
+-- first bytes, and the others wait.
+abbrev pub IsGivenAt : {T : Type 0} → (T → Option (List ℕ)) → Option (Client T) → List ℕ
+    → Option (Client T) → Type 0
 IsGivenAt contents None frame after = after ≡ None
 IsGivenAt contents (Some client) frame None = ⊥
 IsGivenAt contents (Some client) frame (Some later) =

@@ -1,5 +1,7 @@
--- What one read and one write do to the bytes that a stream is known to give or to hold, and to those that wait.
-use Rattle.std.specs.Prelude.{ℕ, Bool, true, false, ◌<◌, ◌≤◌, ◌≡◌, List, Option, length, take, drop, ⊤}
+-- What one read and one write do to the bytes that a stream is known to give or to hold, and to
+-- those that wait.
+use Rattle.std.specs.Prelude.{ℕ, Bool, true, false, ◌<◌, ◌≤◌, ◌≡◌, List, Option, length, take, drop}
+use Rattle.std.specs.Prelude.{⊤}
 use Rattle.std.specs.Io.KnownBytes.{Appends, Consumes, Keeps}
 use Rattle.sockets.specs.declared.stream.Incoming.{Incoming}
 use Rattle.sockets.specs.declared.stream.Incoming.TheVariants as reads
@@ -22,7 +24,8 @@ IsWrittenBy writes.Full bytes old new = Keeps old new
 IsWrittenBy writes.Interrupted bytes old new = Keeps old new
 IsWrittenBy writes.Failed bytes old new = ⊤
 
--- of the bytes that had to go the stream took the first, and the others wait: none is lost, doubled or moved
+-- of the bytes that had to go the stream took the first, and the others wait: none is lost, doubled
+-- or moved
 abbrev pub IsSentBy : Outgoing → List ℕ → List ℕ → Option (List ℕ) → Option (List ℕ) → Type 0
 IsSentBy (writes.Bytes count) bytes waiting old new =
     (count ≤ length bytes) × (waiting ≡ drop count bytes) × Appends old new (take count bytes)
@@ -30,7 +33,8 @@ IsSentBy writes.Full bytes waiting old new = (waiting ≡ bytes) × Keeps old ne
 IsSentBy writes.Interrupted bytes waiting old new = (waiting ≡ bytes) × Keeps old new
 IsSentBy writes.Failed bytes waiting old new = ⊤
 
--- The same of any number of writes: of the bytes that had to go the first went, in order, and the others wait.
+-- The same of any number of writes: of the bytes that had to go the first went, in order, and the
+-- others wait.
 pub record Sends (bytes waiting : List ℕ) (old new : Option (List ℕ)) : Type 0 where
   pub count : ℕ
   pub within : count ≤ length bytes
@@ -43,7 +47,8 @@ has_failed writes.Full = false
 has_failed writes.Interrupted = false
 has_failed writes.Failed = true
 
--- The bytes that a stream gave are the ones that the service took, for this connection; where none came, it took none.
+-- The bytes that a stream gave are the ones that the service took, for this connection; where none
+-- came, it took none.
 abbrev pub IsFedBy : {S : Type 0} → (S → ℕ → List ℕ → S → Type 0) → ℕ → Incoming → List ℕ → S → S
     → Option (List ℕ) → Option (List ℕ) → Type 0
 IsFedBy is_fed connection (reads.Bytes count) buffer before after old new =

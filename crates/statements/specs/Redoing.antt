@@ -1,5 +1,6 @@
 -- Documents that a delete takes away.
-use Rattle.std.specs.Prelude.{ℕ, Bool, if◌then◌else◌, List, [], ◌∷◌, ◌++◌, slice_index_or, Option, Some, None}
+use Rattle.std.specs.Prelude.{ℕ, Bool, if◌then◌else◌, List, [], ◌∷◌, ◌++◌, slice_index_or, Option}
+use Rattle.std.specs.Prelude.{Some, None}
 use Rattle.std.specs.List.{filter, position}
 use Rattle.bson.specs.Tree.{Pairs, no_pairs}
 use Rattle.filter.specs.Matches.{matches}

@@ -1,5 +1,8 @@
--- What running the statements of an update does to documents in memory: clauses of private functions.
-use Rattle.std.specs.Prelude.{◌≡◌, ◌≢◌, ◌≤◌, ℕ, suc, Bool, true, false, if◌then◌else◌, List, [], ◌∷◌, ◌++◌, length, map, insert, slice_set, slice_index_or, codes, Option, Some, None, All, Result, Ok, Err}
+-- What running the statements of an update does to documents in memory: clauses of private
+-- functions.
+use Rattle.std.specs.Prelude.{◌≡◌, ◌≢◌, ◌≤◌, ℕ, suc, Bool, true, false, if◌then◌else◌, List, []}
+use Rattle.std.specs.Prelude.{◌∷◌, ◌++◌, length, map, insert, slice_set, slice_index_or, codes}
+use Rattle.std.specs.Prelude.{Option, Some, None, All, Result, Ok, Err}
 use Rattle.std.specs.List.{list_any}
 use Rattle.std.specs.Str.{bytes_eq}
 use Rattle.bson.specs.Tree.{Pairs, no_pairs, no_items}
@@ -21,7 +24,8 @@ use Rattle.database_model.specs.Documents.{key_of, place}
 use Rattle.database_model.specs.Lawful.{IsStored, IsWithin}
 use Rattle.database_model.specs.Merging.{Listed, none_changed, not_listed, put_each, run_each}
 use Rattle.database_model.specs.Update.{counted, spelled, modified_by, Changed, update_from}
-use Rattle.database_model.specs.Writes.{change_writes, changes_of, statement_writes, updated_by, writes_of}
+use Rattle.database_model.specs.Writes.{change_writes, changes_of, statement_writes, updated_by}
+use Rattle.database_model.specs.Writes.{writes_of}
 use Rattle.statements.specs.declared.statements.Ran.{Ran}
 use Rattle.statements.specs.declared.statements.Run.{Run}
 use Rattle.statements.specs.declared.statements.Tally.{Tally}
@@ -45,7 +49,8 @@ abbrev pub HaveOld : List Pairs → List Write → Type 0
 HaveOld ds [] = Unit {0}
 HaveOld ds (w ∷ ws) = (w.old ≡ replaced_in ds w) × HaveOld (put_document w.new ds) ws
 
--- What was written over these documents: it may be stored, and has what it replaces where that is kept.
+-- What was written over these documents: it may be stored, and has what it replaces where that is
+-- kept.
 pub record AreWritten (keeps_old : Bool) (from : List Pairs) (ws : List Write) : Type 0 where
   pub old : keeps_old ≡ true → HaveOld from ws
   pub storable : All IsStorable (news_of ws)

@@ -1,10 +1,12 @@
-//! The statements of an update, run over documents in memory, and what a document that is stored has to be.
+//! The statements of an update or a delete, run over documents in memory, and what a document that is stored has to be.
 #![tactic(auto)]
 
+mod deletions;
 mod documents;
 pub mod laws;
 mod statements;
 
+pub use deletions::{Left, after_deletions, is_deleted};
 pub use documents::{ID, check_key, compare_id, compare_ids, id_text, matches, read_id, stored};
 pub use statements::{
     Ran, Run, Tally, Write, run_on, unless_memory, update_reply, upsert_document,

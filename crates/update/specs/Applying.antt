@@ -1,4 +1,5 @@
--- What an update makes of a document: its edits in the order written, or the replacement; then the whole is judged.
+-- What an update makes of a document: its edits in the order written, or the replacement; then the
+-- whole is judged.
 use Rattle.std.specs.Prelude.{ℕ, Result, Ok, List, [], ◌∷◌}
 use Rattle.bson.specs.Tree.{Pairs}
 use Rattle.path.specs.declared.refusal.Refusal.{Refusal}

@@ -1,5 +1,5 @@
--- `$min` puts its operand where it is below what stands at a path, `$max` where it is above, and both where nothing
--- stands there. The order is that of values.
+-- `$min` puts its operand where it is below what stands at a path, `$max` where it is above, and
+-- both where nothing stands there. The order is that of values.
 use Rattle.std.specs.Prelude.{if◌then◌else◌, Bool, true, false, Option, Some, None, Result, Ok}
 use Rattle.std.specs.declared.cmp.Ordering.{Ordering}
 use Rattle.std.specs.declared.cmp.Ordering.TheVariants.{Less, Equal, Greater}

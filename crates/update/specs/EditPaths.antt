@@ -7,12 +7,15 @@ use Rattle.update.specs.Reading.{meets_itself}
 
 -- these paths are those that the edits change, as far as meeting goes
 abbrev pub HavePathsOf : List Path → List Edit → Type 0
-HavePathsOf paths es = (path : Path) → list_any (meets path) paths ≡ list_any (λ e. meets_any path (paths_of e)) es
+HavePathsOf paths es = (path : Path)
+    → list_any (meets path) paths ≡ list_any (λ e. meets_any path (paths_of e)) es
 
 -- what meets the new paths meets the edit or the old ones
 abbrev pub HaveOneMore : List Path → Edit → List Path → Type 0
-HaveOneMore old e new = (path : Path) → list_any (meets path) new ≡ (meets_any path (paths_of e) || list_any (meets path) old)
+HaveOneMore old e new = (path : Path)
+    → list_any (meets path) new ≡ (meets_any path (paths_of e) || list_any (meets path) old)
 
 -- the edit meets one of these paths, or the new path of a rename meets its old one
 abbrev pub conflicts_with : List Path → Edit → Bool
-conflicts_with paths e = list_any (λ path. list_any (meets path) paths) (paths_of e) || meets_itself e.path e.action
+conflicts_with paths e =
+    list_any (λ path. list_any (meets path) paths) (paths_of e) || meets_itself e.path e.action

@@ -1,5 +1,5 @@
--- `$set` puts a value at a path, and `$unset` takes away what stands there: a field goes, an element becomes null, and
--- where the path isn't there nothing changes.
+-- `$set` puts a value at a path, and `$unset` takes away what stands there: a field goes, an
+-- element becomes null, and where the path isn't there nothing changes.
 use Rattle.std.specs.Prelude.{Result, Ok}
 use Rattle.bson.specs.Tree.{Tree, Pairs}
 use Rattle.path.specs.declared.refusal.Refusal.{Refusal}

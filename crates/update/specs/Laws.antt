@@ -10,7 +10,8 @@ use Rattle.path.specs.PlaceLaws.{HasNames, Kept}
 use Rattle.path.specs.Reach.{reach}
 use Rattle.path.specs.declared.refusal.Refusal.{Refusal}
 use Rattle.path.specs.declared.refusal.Refusal.TheVariants as refusals
-use Rattle.update.specs.Update.{Path, Action, set, unset, pull, rename, Edit, Update, paths_of, meets_any}
+use Rattle.update.specs.Update.{Path, Action, set, unset, pull, rename, Edit, Update, paths_of}
+use Rattle.update.specs.Update.{meets_any}
 use Rattle.update.specs.Stored.{id_name, pairs_fault, no_array}
 use Rattle.update.specs.Reading.{read_update}
 use Rattle.update.specs.Applying.{apply_edit, apply_edits, apply}
@@ -18,7 +19,8 @@ use Rattle.update.specs.Applying.{apply_edit, apply_edits, apply}
 -- no update changes `_id`
 abbrev pub KeepsId : Type 0
 KeepsId =
-    (source : Pairs) (u : Update) (limit : ℕ) (ps qs : Pairs) (id : Tree) → read_update source ≡ Ok u → apply u limit ps ≡ Ok qs
+    (source : Pairs) (u : Update) (limit : ℕ) (ps qs : Pairs) (id : Tree)
+    → read_update source ≡ Ok u → apply u limit ps ≡ Ok qs
     → lookup ps id_name ≡ Some id → lookup qs id_name ≡ Some id
 
 -- ---- edits that meet nothing
@@ -26,7 +28,8 @@ KeepsId =
 abbrev pub MeetsNothing : Path → Action → Pairs → Type 0
 MeetsNothing path unset ps = value_at path (document ps) ≡ None
 MeetsNothing path (pull condition) ps = value_at path (document ps) ≡ None
-MeetsNothing path (rename new) ps = (value_at path (document ps) ≡ None) × (passes_array path (document ps) ≡ false)
+MeetsNothing path (rename new) ps =
+    (value_at path (document ps) ≡ None) × (passes_array path (document ps) ≡ false)
 MeetsNothing path other ps = ⊥
 
 abbrev pub AllMeetNothing : List Edit → Pairs → Type 0
@@ -50,13 +53,16 @@ ArePaths (path ∷ paths) = IsPath path × ArePaths paths
 -- what `$set` wrote stands at its path, and is among what the path reaches
 abbrev pub SetStands : Type 0
 SetStands =
-    (path : Path) (t : Tree) (ps qs : Pairs) → IsPath path → apply_edit (record { path = path; action = set t }) ps ≡ Ok qs
+    (path : Path) (t : Tree) (ps qs : Pairs) → IsPath path
+    → apply_edit (record { path = path; action = set t }) ps ≡ Ok qs
     → (value_at path (document qs) ≡ Some t) × Contains (reach path (document qs)) (Some t)
 
--- an edit leaves what stands at each path that meets none of its own; where nothing stood there, it makes nulls at most
+-- an edit leaves what stands at each path that meets none of its own; where nothing stood there, it
+-- makes nulls at most
 abbrev pub KeepsOthers : Type 0
 KeepsOthers =
-    (e : Edit) (other : Path) (ps qs : Pairs) → ArePaths (paths_of e) → IsPath other → meets_any other (paths_of e) ≡ false
+    (e : Edit) (other : Path) (ps qs : Pairs) → ArePaths (paths_of e) → IsPath other
+    → meets_any other (paths_of e) ≡ false
     → apply_edit e ps ≡ Ok qs → Kept (value_at other (document ps)) (value_at other (document qs))
 
 -- ---- what comes out
@@ -72,7 +78,8 @@ pub record IsStored (limit : ℕ) (qs : Pairs) : Type 0 where
   pub id_stands_first : qs ≡ pair id_name id rest
 
 abbrev pub GivesStored : Type 0
-GivesStored = (u : Update) (limit : ℕ) (ps qs : Pairs) → apply u limit ps ≡ Ok qs → IsStored limit qs
+GivesStored = (u : Update) (limit : ℕ) (ps qs : Pairs) → apply u limit ps ≡ Ok qs
+    → IsStored limit qs
 
 -- the refusals of an update that is applied
 abbrev pub IsOfApplying : Refusal → Type 0
@@ -87,4 +94,5 @@ IsOfApplying refusals.DottedFieldName = Unit {0}
 IsOfApplying other = ⊥
 
 abbrev pub RefusesByName : Type 0
-RefusesByName = (u : Update) (limit : ℕ) (ps : Pairs) (e : Refusal) → apply u limit ps ≡ Err e → IsOfApplying e
+RefusesByName = (u : Update) (limit : ℕ) (ps : Pairs) (e : Refusal) → apply u limit ps ≡ Err e
+    → IsOfApplying e

@@ -1,5 +1,6 @@
 -- `$inc` adds a number to one that stands at a path, or puts it there.
-use Rattle.std.specs.Prelude.{ℤ, pos, negsuc, ◌+ℤ◌, int_lt, ◌&&◌, not, Bool, if◌then◌else◌, Option, Some, None, Result, Ok, Err}
+use Rattle.std.specs.Prelude.{ℤ, pos, negsuc, ◌+ℤ◌, int_lt, ◌&&◌, not, Bool, if◌then◌else◌, Option}
+use Rattle.std.specs.Prelude.{Some, None, Result, Ok, Err}
 use Rattle.bson.specs.Tree.{Tree, scalar, int32 as int32_scalar, int64 as int64_scalar}
 use Rattle.path.specs.declared.refusal.Refusal.{Refusal}
 use Rattle.path.specs.declared.refusal.Refusal.TheVariants as refusals
@@ -27,7 +28,8 @@ fits_int64 z = is_between (negsuc 9223372036854775807) (pos 9223372036854775807)
 abbrev pub as_int64 : ℤ → Result Number Refusal
 as_int64 z = if fits_int64 z then Ok (int64 z) else Err refusals.BadValue
 
--- Two of int32 give an int32 where their sum fits, any other two an int64. A sum past int64 is refused.
+-- Two of int32 give an int32 where their sum fits, any other two an int64. A sum past int64 is
+-- refused.
 abbrev pub sum : Number → Number → Result Number Refusal
 sum (int32 a) (int32 b) = if fits_int32 (a +ℤ b) then Ok (int32 (a +ℤ b)) else Ok (int64 (a +ℤ b))
 sum (int32 a) (int64 b) = as_int64 (a +ℤ b)

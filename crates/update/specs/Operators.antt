@@ -1,4 +1,5 @@
--- The table of the operators: of each its name, how its operand is read, and what it does at a path.
+-- The table of the operators: of each its name, how its operand is read, and what it does at a
+-- path.
 use Rattle.std.specs.Prelude.{ℕ, if◌then◌else◌, Option, Some, None, Result, Ok, Err, List, codes}
 use Rattle.std.specs.Str.{bytes_eq}
 use Rattle.bson.specs.Tree.{Tree, scalar, text, Pairs}
@@ -8,7 +9,8 @@ use Rattle.path.specs.Edits.{if_ok, write_at}
 use Rattle.filter.specs.Elements.{read_element_condition}
 use Rattle.filter.specs.ProjectionReading.{begins_with_id}
 use Rattle.filter.specs.Reading.{path_in}
-use Rattle.update.specs.Update.{Path, Action, set, unset, increment, at_most, at_least, push, pull, rename}
+use Rattle.update.specs.Update.{Path, Action, set, unset, increment, at_most, at_least, push, pull}
+use Rattle.update.specs.Update.{rename}
 use Rattle.update.specs.Fields.{set_field, unset_field}
 use Rattle.update.specs.Numbers.{number_in, incremented}
 use Rattle.update.specs.Bounds.{lowered, raised}

@@ -1,6 +1,8 @@
--- The update that a document spells, or the first misuse from the left. At one path these are looked for in order: a
--- fault of the path, `_id`, the operand, an earlier path of the update that it meets.
-use Rattle.std.specs.Prelude.{ℕ, ◌++◌, ◌||◌, Bool, false, if◌then◌else◌, Option, Some, None, Result, Ok, Err, List, [], ◌∷◌}
+-- The update that a document spells, or the first misuse from the left. At one path these are
+-- looked for in order: a fault of the path, `_id`, the operand, an earlier path of the update that
+-- it meets.
+use Rattle.std.specs.Prelude.{ℕ, ◌++◌, ◌||◌, Bool, false, if◌then◌else◌, Option, Some, None, Result}
+use Rattle.std.specs.Prelude.{Ok, Err, List, [], ◌∷◌}
 use Rattle.std.specs.List.{list_any}
 use Rattle.bson.specs.Tree.{Tree, document, Pairs, no_pairs, pair}
 use Rattle.path.specs.declared.refusal.Refusal.{Refusal}
@@ -8,7 +10,8 @@ use Rattle.path.specs.declared.refusal.Refusal.TheVariants as refusals
 use Rattle.path.specs.Edits.{if_ok}
 use Rattle.path.specs.Parts.{meets}
 use Rattle.filter.specs.Reading.{has_operators}
-use Rattle.update.specs.Update.{Path, Action, rename, Edit, Update, replacement, edits, paths_of, meets_any}
+use Rattle.update.specs.Update.{Path, Action, rename, Edit, Update, replacement, edits, paths_of}
+use Rattle.update.specs.Update.{meets_any}
 use Rattle.update.specs.Operators.{operator_of, editable_path, read_action}
 use Rattle.update.specs.declared.operators.Operator.{Operator}
 

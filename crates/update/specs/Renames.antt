@@ -1,5 +1,5 @@
--- `$rename` moves what stands at one path to another, where it stands last in its document. Neither path may lead
--- through an array.
+-- `$rename` moves what stands at one path to another, where it stands last in its document. Neither
+-- path may lead through an array.
 use Rattle.std.specs.Prelude.{if◌then◌else◌, Option, Some, None, Result, Ok, Err}
 use Rattle.bson.specs.Tree.{Tree, document, Pairs}
 use Rattle.path.specs.declared.refusal.Refusal.{Refusal}
@@ -8,7 +8,8 @@ use Rattle.path.specs.Edits.{set_at, cut_at}
 use Rattle.path.specs.Place.{value_at, passes_array}
 use Rattle.update.specs.Update.{Path}
 
--- to the new path, once the old and the new field are gone; where nothing stood at the old one, nothing changes
+-- to the new path, once the old and the new field are gone; where nothing stood at the old one,
+-- nothing changes
 abbrev pub moved : Path → Path → Option Tree → Pairs → Result Pairs Refusal
 moved old new None ps = Ok ps
 moved old new (Some t) ps =

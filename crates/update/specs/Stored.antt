@@ -1,9 +1,12 @@
--- Documents that may be stored: their size, their levels, their names and their `_id`, which stands first.
-use Rattle.std.specs.Prelude.{ℕ, suc, Bool, ◌==◌, nat_lt, if◌then◌else◌, List, [], ◌∷◌, length, codes, Result, Option, Some, None, option_and_then}
+-- Documents that may be stored: their size, their levels, their names and their `_id`, which stands
+-- first.
+use Rattle.std.specs.Prelude.{ℕ, suc, Bool, ◌==◌, nat_lt, if◌then◌else◌, List, [], ◌∷◌, length}
+use Rattle.std.specs.Prelude.{codes, Result, Option, Some, None, option_and_then}
 use Rattle.outcome.specs.Outcome.{fault_or}
 use Rattle.std.specs.Str.{bytes_eq}
 use Rattle.std.specs.List.{list_any}
-use Rattle.bson.specs.Tree.{Tree, scalar, document, array, Pairs, no_pairs, pair, Items, no_items, item}
+use Rattle.bson.specs.Tree.{Tree, scalar, document, array, Pairs, no_pairs, pair, Items, no_items}
+use Rattle.bson.specs.Tree.{item}
 use Rattle.bson.specs.Lookup.{lookup}
 use Rattle.bson.specs.Lawful.{pairs_levels}
 use Rattle.bson.specs.Spelling.{frame_of, pairs_bytes}

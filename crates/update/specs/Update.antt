@@ -1,5 +1,5 @@
--- What an update is: a document that takes another's place, or a list of edits, each of which does something at a path
--- (MongoDB manual, "Update Operators").
+-- What an update is: a document that takes another's place, or a list of edits, each of which does
+-- something at a path (MongoDB manual, "Update Operators").
 use Rattle.std.specs.Prelude.{ℕ, ℤ, Bool, true, false, List, [], ◌∷◌}
 use Rattle.std.specs.List.{list_any}
 use Rattle.bson.specs.Tree.{Tree, Pairs, Items}

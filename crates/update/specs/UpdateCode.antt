@@ -6,7 +6,8 @@ use Rattle.bson.specs.Tree.{Tree, Pairs, Items}
 use Rattle.bson.specs.TreeCode.{coded_tree, coded_items, coded_pairs}
 use Rattle.filter.specs.Condition.{Condition, all, Conditions, no_conditions, condition}
 use Rattle.filter.specs.ConditionCode.{coded_conditions}
-use Rattle.update.specs.Update.{Path, Number, int32, int64, Action, set, unset, increment, at_most, at_least, push, pull, rename, Edit, Update, replacement, edits}
+use Rattle.update.specs.Update.{Path, Number, int32, int64, Action, set, unset, increment, at_most}
+use Rattle.update.specs.Update.{at_least, push, pull, rename, Edit, Update, replacement, edits}
 
 abbrev NumberSum : Type 0
 NumberSum = ℤ ⊎ ℤ
@@ -24,7 +25,8 @@ sum_number-number_sum (int32 z) = refl
 sum_number-number_sum (int64 z) = refl
 
 abbrev coded_number : Coded Number
-coded_number = code_by NumberSum (coded⊎ coded_ℤ coded_ℤ) number_sum sum_number sum_number-number_sum
+coded_number =
+    code_by NumberSum (coded⊎ coded_ℤ coded_ℤ) number_sum sum_number sum_number-number_sum
 
 abbrev coded_path : Coded Path
 coded_path = coded_list (coded_list coded_ℕ)
@@ -34,7 +36,8 @@ first_condition no_conditions = all no_conditions
 first_condition (condition c cs) = c
 
 abbrev coded_condition : Coded Condition
-coded_condition = code_by Conditions coded_conditions (λ c. condition c no_conditions) first_condition (λ _. refl)
+coded_condition =
+    code_by Conditions coded_conditions (λ c. condition c no_conditions) first_condition (λ _. refl)
 
 abbrev ActionSum : Type 0
 ActionSum = Tree ⊎ (ℕ ⊎ (Number ⊎ (Tree ⊎ (Tree ⊎ (Items ⊎ (Condition ⊎ Path))))))
@@ -97,4 +100,6 @@ sum_update-update_sum (replacement ps) = refl
 sum_update-update_sum (edits es) = refl
 
 abbrev pub coded_update : Coded Update
-coded_update = code_by UpdateSum (coded⊎ coded_pairs (coded_list coded_edit)) update_sum sum_update sum_update-update_sum
+coded_update =
+    code_by UpdateSum
+    (coded⊎ coded_pairs (coded_list coded_edit)) update_sum sum_update sum_update-update_sum

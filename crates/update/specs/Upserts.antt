@@ -1,11 +1,12 @@
--- The document that an upsert starts from: the equalities at the filter's top level, set in order. Below `_id` none is
--- set.
+-- The document that an upsert starts from: the equalities at the filter's top level, set in order.
+-- Below `_id` none is set.
 use Rattle.std.specs.Prelude.{if◌then◌else◌, Bool, false, Result, Ok, Err}
 use Rattle.bson.specs.Tree.{Pairs, no_pairs}
 use Rattle.path.specs.declared.refusal.Refusal.{Refusal}
 use Rattle.path.specs.declared.refusal.Refusal.TheVariants as refusals
 use Rattle.path.specs.Edits.{if_ok, set_at}
-use Rattle.filter.specs.Condition.{Predicate, equal, Condition, at, is, Conditions, no_conditions, condition}
+use Rattle.filter.specs.Condition.{Predicate, equal, Condition, at, is, Conditions, no_conditions}
+use Rattle.filter.specs.Condition.{condition}
 use Rattle.filter.specs.ProjectionReading.{begins_with_id, is_id}
 use Rattle.update.specs.Update.{Path}
 

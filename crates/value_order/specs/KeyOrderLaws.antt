@@ -4,8 +4,10 @@ use Rattle.std.specs.declared.cmp.Ordering.{Ordering}
 use Rattle.std.specs.declared.cmp.Ordering.TheVariants.{Less, Equal, Greater}
 use Rattle.std.specs.Ordering.{ordering_then, nat_cmp, on, then_cmp}
 use Rattle.std.specs.Cmp.{IsTotalOrder, on_total, then_total, nat_cmp_total}
-use Rattle.bson.specs.Tree.{Tree, scalar, text, binary, object_id, boolean, date, null, int32, timestamp, int64, min_key, max_key, document, array}
-use Rattle.value_order.specs.Order.{class, content_cmp, compare, Key, empty_array, value, key_class, key_cmp}
+use Rattle.bson.specs.Tree.{Tree, scalar, text, binary, object_id, boolean, date, null, int32}
+use Rattle.bson.specs.Tree.{timestamp, int64, min_key, max_key, document, array}
+use Rattle.value_order.specs.Order.{class, content_cmp, compare, Key, empty_array, value, key_class}
+use Rattle.value_order.specs.Order.{key_cmp}
 use Rattle.value_order.specs.TotalLaws.{compare_total}
 use Rattle.value_order.specs.View.{key_of}
 use Rattle.value_order.specs.declared.texts.KeyPart.{KeyPart}
@@ -26,7 +28,8 @@ then_again Equal d = refl
 then_again Greater d = refl
 
 -- no value is of the class of empty arrays
-below_all : (t : Tree) (d : Ordering) → ordering_then (nat_cmp 0x18 (class t)) d ≡ ordering_then (nat_cmp 0x18 (class t)) Equal
+below_all : (t : Tree) (d : Ordering)
+    → ordering_then (nat_cmp 0x18 (class t)) d ≡ ordering_then (nat_cmp 0x18 (class t)) Equal
 below_all (scalar (text s)) d = refl
 below_all (scalar (binary subtype bytes)) d = refl
 below_all (scalar (object_id bytes)) d = refl
@@ -41,7 +44,8 @@ below_all (scalar max_key) d = refl
 below_all (document ps) d = refl
 below_all (array ts) d = refl
 
-above_all : (t : Tree) (d : Ordering) → ordering_then (nat_cmp (class t) 0x18) d ≡ ordering_then (nat_cmp (class t) 0x18) Equal
+above_all : (t : Tree) (d : Ordering)
+    → ordering_then (nat_cmp (class t) 0x18) d ≡ ordering_then (nat_cmp (class t) 0x18) Equal
 above_all (scalar (text s)) d = refl
 above_all (scalar (binary subtype bytes)) d = refl
 above_all (scalar (object_id bytes)) d = refl
@@ -109,7 +113,8 @@ abbrev pub AreUnlike : KeyPart → KeyPart → Type 0
 AreUnlike (keys.Value v) (keys.Value w) = ⊥
 AreUnlike a b = Unit {0}
 
-pub unlike_keys : (a b : KeyPart) → AreUnlike a b → key_cmp (key_of a) (key_of b) ≡ nat_cmp (key_class (key_of a)) (key_class (key_of b))
+pub unlike_keys : (a b : KeyPart) → AreUnlike a b
+    → key_cmp (key_of a) (key_of b) ≡ nat_cmp (key_class (key_of a)) (key_class (key_of b))
 unlike_keys (keys.Value v) (keys.Value w) h = absurd h
 unlike_keys (keys.Value v) keys.Nothing h = null_behind (tree v.now)
 unlike_keys (keys.Value v) keys.EmptyArray h = then_nothing (nat_cmp (class (tree v.now)) 0x18)

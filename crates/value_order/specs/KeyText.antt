@@ -1,8 +1,12 @@
--- Key texts: bytes that order as the values do, equal exactly where the order says equal, and none of which begins
--- another. A text is the byte of the value's class and then what values of the class are compared by.
-use Rattle.std.specs.Prelude.{ℕ, zero, suc, ℤ, pos, negsuc, ◌+◌, ◌-◌, ◌^◌, List, [], ◌∷◌, ◌++◌, length, map, if◌then◌else◌}
+-- Key texts: bytes that order as the values do, equal exactly where the order says equal, and none
+-- of which begins another. A text is the byte of the value's class and then what values of the
+-- class are compared by.
+use Rattle.std.specs.Prelude.{ℕ, zero, suc, ℤ, pos, negsuc, ◌+◌, ◌-◌, ◌^◌, List, [], ◌∷◌, ◌++◌}
+use Rattle.std.specs.Prelude.{length, map, if◌then◌else◌}
 use Rattle.std.specs.Int.{w32, w64, to_be_bytes}
-use Rattle.bson.specs.Tree.{Scalar, text, binary, object_id, boolean, date, null, int32, timestamp, int64, min_key, max_key, Tree, scalar, document, array, Pairs, no_pairs, pair, Items, no_items, item}
+use Rattle.bson.specs.Tree.{Scalar, text, binary, object_id, boolean, date, null, int32, timestamp}
+use Rattle.bson.specs.Tree.{int64, min_key, max_key, Tree, scalar, document, array, Pairs, no_pairs}
+use Rattle.bson.specs.Tree.{pair, Items, no_items, item}
 use Rattle.std.specs.declared.cmp.Ordering.{Ordering}
 use Rattle.std.specs.Ordering.{ordering_reverse}
 use Rattle.value_order.specs.declared.texts.Direction.{Direction}

@@ -24,12 +24,16 @@ KeysCompareTotally = IsTotalOrder key_cmp
 
 -- texts of one direction order by bytes as the keys do in that direction
 abbrev pub TextsOrder : Type 0
-TextsOrder = (d : Direction) (a b : Key) → IsKey a → IsKey b → bytes_cmp (directed_text d a) (directed_text d b) ≡ directed_cmp d a b
+TextsOrder = (d : Direction) (a b : Key) → IsKey a → IsKey b
+    → bytes_cmp (directed_text d a) (directed_text d b) ≡ directed_cmp d a b
 
 -- texts are equal exactly where the order calls the keys equal
 abbrev pub TextsAgree : Type 0
-TextsAgree = (d : Direction) (a b : Key) → IsKey a → IsKey b → (directed_text d a ≡ directed_text d b) ↔ (key_cmp a b ≡ Equal)
+TextsAgree = (d : Direction) (a b : Key) → IsKey a → IsKey b
+    → (directed_text d a ≡ directed_text d b) ↔ (key_cmp a b ≡ Equal)
 
 -- no text begins another: two texts with something behind them are equal only where the texts are
 abbrev pub NoneBegins : Type 0
-NoneBegins = (d : Direction) (a b : Key) (x y : List ℕ) → IsKey a → IsKey b → directed_text d a ++ x ≡ directed_text d b ++ y → (directed_text d a ≡ directed_text d b) × (x ≡ y)
+NoneBegins = (d : Direction) (a b : Key) (x y : List ℕ) → IsKey a → IsKey b
+    → directed_text d a ++ x ≡ directed_text d b ++ y
+    → (directed_text d a ≡ directed_text d b) × (x ≡ y)

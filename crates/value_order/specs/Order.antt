@@ -1,13 +1,16 @@
--- The total order of values (MongoDB manual, "Comparison/Sort Order", less the types that are left out): by class,
--- then by content.
+-- The total order of values (MongoDB manual, "Comparison/Sort Order", less the types that are left
+-- out): by class, then by content.
 use Rattle.std.specs.Prelude.{ℕ, ℤ, pos, List, [], length, if◌then◌else◌}
 use Rattle.std.specs.declared.cmp.Ordering.{Ordering}
 use Rattle.std.specs.declared.cmp.Ordering.TheVariants.{Less, Equal, Greater}
 use Rattle.std.specs.Ordering.{ordering_then, nat_cmp, int_cmp}
 use Rattle.std.specs.Cmp.Lexicographic.{slice_cmp}
-use Rattle.bson.specs.Tree.{Scalar, text, binary, object_id, boolean, date, null, int32, timestamp, int64, min_key, max_key, Tree, scalar, document, array, Pairs, no_pairs, pair, Items, no_items, item}
+use Rattle.bson.specs.Tree.{Scalar, text, binary, object_id, boolean, date, null, int32, timestamp}
+use Rattle.bson.specs.Tree.{int64, min_key, max_key, Tree, scalar, document, array, Pairs, no_pairs}
+use Rattle.bson.specs.Tree.{pair, Items, no_items, item}
 
--- The class of a value. Classes rise as these bytes do, which are also the first of the values' key texts.
+-- The class of a value. Classes rise as these bytes do, which are also the first of the values' key
+-- texts.
 abbrev pub scalar_class : Scalar → ℕ
 scalar_class min_key = 0x10
 scalar_class null = 0x20
@@ -31,9 +34,10 @@ class (array ts) = 0x60
 abbrev pub bytes_cmp : List ℕ → List ℕ → Ordering
 bytes_cmp a b = slice_cmp nat_cmp a b
 
--- A value that holds no other is compared by these, in this order. A class uses some of them: numbers and dates the
--- signed one, timestamps and truth values (false is 0, true 1) the unsigned one, binary its length, subtype and bytes,
--- strings and ObjectIds their bytes. The others are alike for all values of the class.
+-- A value that holds no other is compared by these, in this order. A class uses some of them:
+-- numbers and dates the signed one, timestamps and truth values (false is 0, true 1) the unsigned
+-- one, binary its length, subtype and bytes, strings and ObjectIds their bytes. The others are
+-- alike for all values of the class.
 pub record Leaf : Type 0 where
   pub signed : ℤ
   pub unsigned : ℕ
@@ -68,8 +72,8 @@ leaf (scalar s) = scalar_leaf s
 leaf (document ps) = alike
 leaf (array ts) = alike
 
--- Documents pair by pair by the class of the value, the name and the value, arrays item by item. What has ended is
--- below what goes on.
+-- Documents pair by pair by the class of the value, the name and the value, arrays item by item.
+-- What has ended is below what goes on.
 abbrev mutual
   pub content_cmp : Tree → Tree → Ordering
   content_cmp (document ps) (document qs) = pairs_cmp ps qs

@@ -3,7 +3,8 @@ use Rattle.std.specs.Prelude.{◌≡◌, ◌<◌, ◌≤◌, ℕ, ◌+◌, ◌-�
 use Rattle.value_order.specs.declared.texts.KeyFault.{KeyFault}
 use Rattle.value_order.specs.declared.texts.KeyFault.TheVariants as faults
 
--- the text was put at the end, or it would pass the limit, which the greatest `usize` is none of, or memory ran out
+-- the text was put at the end, or it would pass the limit, which the greatest `usize` is none of,
+-- or memory ran out
 abbrev pub IsPut : ℕ → List ℕ → List ℕ → List ℕ → Result (Unit {0}) KeyFault → Type 0
 IsPut limit text old new (Ok _) = (new ≡ old ++ text) × (length new ≤ limit)
 IsPut limit text old new (Err faults.TooLong) =

@@ -1,7 +1,7 @@
 use Rattle.std.proofs.Common.{◌∙◌, Some, ap, sym, codes}
 use Rattle.bson.specs.View.{tree}
 use Rattle.bson.specs.declared.value.Value.{Value}
-use Rattle.drivers.proofs.LevelLemmas.{inner-levels, cut_is}
+use Rattle.driver_replies.specs.LevelLaws.{inner-levels, cut_is}
 use Rattle.drivers.proofs.answering.end.Goals as goal
 
 pub put_cursor-requires-clause-new : goal.put_cursor-requires-clause-new

@@ -1,4 +1,4 @@
-use Rattle.drivers.proofs.LevelLemmas.{flat-levels}
+use Rattle.driver_replies.specs.LevelLaws.{flat-levels}
 use Rattle.drivers.proofs.answering.put_cursor.Goals as goal
 
 pub put-requires-clause-flat : goal.put-requires-clause-flat

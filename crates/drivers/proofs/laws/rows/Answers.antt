@@ -40,5 +40,7 @@ returns-clause-steps c = record {
   no_hint = λ info. refl;
   hint = λ info. refl;
   unknown = λ info. refl;
+  explain = λ info. refl;
+  explain_hint = λ info. refl;
   get_more = λ info. refl;
 }

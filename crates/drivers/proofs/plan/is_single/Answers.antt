@@ -3,7 +3,7 @@ use Rattle.std.specs.Prelude.{if◌then◌else◌}
 use Rattle.std.specs.Str.{bytes_eq}
 use Rattle.bson.specs.Lookup.{lookup}
 use Rattle.drivers.specs.Starting.{name_of}
-use Rattle.drivers.specs.Answering.{is_true}
+use Rattle.driver_replies.specs.Writes.{is_true}
 use Rattle.drivers.proofs.plan.is_single.Goals as goal
 
 pub returns-then-eq : goal.returns-then-eq

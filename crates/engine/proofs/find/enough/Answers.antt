@@ -8,7 +8,7 @@ pub returns : goal.returns
 returns c =
     let opened : Query = record { filter = c.query.inside.filter; sort = c.query.inside.sort; skip = c.query.inside.skip; limit = c.query.inside.limit; projection = c.query.inside.projection } in
     subst (λ (q : Query). Suffices q c.saturating_add.result) c.query.view_is
-    (front_suffices opened c.saturating_add.result c.if-query-eq0.false (sym c.if-not-is_empty.ensures) c.saturating_add.ensures)
+    (front_suffices opened c.saturating_add.result c.if-query-eq0.false c.saturating_add.ensures)
 
 pub returns-then-query-eq0 : goal.returns-then-query-eq0
 returns-then-query-eq0 c = all_suffice c.args.query.now

@@ -1,6 +1,7 @@
-use Rattle.std.proofs.Common.{◌≡◌, List, Option, Vec, Global, ℕ, sym, ap, subst}
+use Rattle.std.proofs.Common.{◌≡◌, List, [], Option, Vec, Global, ℕ, sym, ap, subst}
 use Rattle.std.specs.Prelude.{IfSome}
 use Rattle.filter.specs.Matches.{matches}
+use Rattle.filter.specs.Sort.{SortField}
 use Rattle.index.specs.Definition.{Definition}
 use Rattle.index.specs.View.{texts_of}
 use Rattle.collections.specs.IndexTexts.{IsNumberedIndex}
@@ -19,9 +20,10 @@ returns g c =
     let home = c.args.home.now in
     let r = range_of c.in-Some.range in
     let index : Definition = c.in-Some-index.index.now in
-    let is : IsRangeOf rs home.indexes.items r =
-    subst (λ (ds : List Definition). IsRangeOf rs ds r) c.deref.ensures.value
-    (subst (λ (o : Option IndexRange). IfSome o (λ range. IsRangeOf rs c.deref.result.now (range_of range))) c.in-Some.is c.in_ok-range.ensures) in
+    let is : IsRangeOf rs [] home.indexes.items r =
+    subst (λ (s : List SortField). IsRangeOf rs s home.indexes.items r) c.new-none.ensures
+    (subst (λ (ds : List Definition). IsRangeOf rs c.new-none.result ds r) c.deref.ensures.value
+    (subst (λ (o : Option IndexRange). IfSome o (λ range. IsRangeOf rs c.new-none.result c.deref.result.now (range_of range))) c.in-Some.is c.in_ok-range.ensures)) in
     reads_as g.D.Disk.history (IsAsked home) (IsNumberedIndex home.number index.number)
     (λ now at (found : Option (Vec (Vec ℕ Global) Global)). at.definition ≡ index → IfSome found (λ ids. AreIdsInRange r at (texts_of ids.items)))
     (λ now of (found : Option (Vec (Vec ℕ Global) Global)). IfSome found (λ ids. AreIdsOf home.number (matches rs) (texts_of ids.items) now of))

@@ -1,5 +1,5 @@
-use Rattle.server.proofs.StreamsTaken.{takes}
+use Rattle.server.proofs.StreamsTaken.{takes_the_stream}
 use Rattle.server.proofs.laws.takes_the_stream.Goals as goal
 
 pub returns : goal.returns
-returns c = takes
+returns c = takes_the_stream

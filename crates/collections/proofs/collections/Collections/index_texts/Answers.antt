@@ -1,53 +1,28 @@
-use Rattle.std.proofs.Common.{◌≡◌, List, ℕ, Option, None, Some, Ok, Err, map, sym, subst, ◌∙◌, ap}
+use Rattle.std.proofs.Common.{◌≡◌, refl, ℕ, Bool, true, false, not, Option, None, Some, Ok, Err}
 use Rattle.std.specs.Prelude.{IfSome}
 use Rattle.std.specs.Global.{Vec}
-use Rattle.std.specs.Option.{option_map}
 use Rattle.std.proofs.lemmas.Result.{err_from_is_err_and}
-use Rattle.btree.specs.Keys.{Entry}
-use Rattle.btree.specs.Scan.{entry_in}
-use Rattle.btree.specs.declared.scanning.Range.{Range}
-use Rattle.index.specs.OtherKeys.{IsEndOf}
-use Rattle.index.specs.State.{Collection}
-use Rattle.index.specs.StateEntries.{key_under}
 use Rattle.index.specs.View.{texts_of}
-use Rattle.collections.specs.IndexTexts.{AreTextsBetween, Indexed, IsNumberedIndex, texts_behind}
-use Rattle.collections.specs.Reading.{IsBatchOf, IsInTree}
-use Rattle.collections.proofs.IndexTextLemmas.{texts_asked}
-use Rattle.collections.proofs.ReadingLemmas.{asks_on, asks_refused}
+use Rattle.collections.specs.IndexTexts.{AreFirstTexts, AreTextsBetween, IsNumberedIndex}
+use Rattle.collections.specs.declared.index_texts.FirstTexts.{FirstTexts}
+use Rattle.collections.proofs.IndexTextLemmas.{all_texts}
+use Rattle.collections.proofs.ReadingLemmas.{asked_on, asked_refused}
 use Rattle.collections.proofs.collections.Collections.index_texts.Goals as goal
 
-pub returns-in_err-batch : goal.returns-in_err-batch
-returns-in_err-batch g c =
-    let range : Range = record { from = c.deref-2.result; to = c.as_deref.result; limit = c.args.most } in
-    let p = err_from_is_err_and c.from_residual-in_err-batch.result c.from_residual-in_err-batch.ensures.1 in
-    rw (p.1, p.2) (asks_refused g.D.Disk.history (IsNumberedIndex c.args.number c.args.index) (λ now at (found : Option (Vec (Vec ℕ))). IfSome found (λ texts. AreTextsBetween c.args.first.now c.args.last.now at (texts_of texts.items))) c.args.self.now c.entries_in.new.self
-    (IsInTree (IsBatchOf range)) c.in_err-batch.field-0.0 c.in_err-batch.ensures)
+not_false : (b : Bool) → not b ≡ false → b ≡ true
+not_false true e = refl
+not_false false e = absurd cc
 
--- others would be left
-pub returns-then-is_some : goal.returns-then-is_some
-returns-then-is_some g c =
-    let range : Range = record { from = c.deref-2.result; to = c.as_deref.result; limit = c.args.most } in
-    asks_on g.D.Disk.history (IsNumberedIndex c.args.number c.args.index) (λ now at (found : Option (Vec (Vec ℕ))). IfSome found (λ texts. AreTextsBetween c.args.first.now c.args.last.now at (texts_of texts.items))) c.args.self.now c.entries_in.new.self
-    (IsInTree (IsBatchOf range)) c.in_ok-batch.batch (Ok None) c.in_ok-batch.ensures (λ now at place p. tt)
-
-pub returns-in_err-texts : goal.returns-in_err-texts
-returns-in_err-texts g c =
-    let range : Range = record { from = c.deref-2.result; to = c.as_deref.result; limit = c.args.most } in
-    let p = err_from_is_err_and c.from_residual-in_err-texts.result c.from_residual-in_err-texts.ensures.1 in
-    rw (p.1, p.2) (asks_on g.D.Disk.history (IsNumberedIndex c.args.number c.args.index) (λ now at (found : Option (Vec (Vec ℕ))). IfSome found (λ texts. AreTextsBetween c.args.first.now c.args.last.now at (texts_of texts.items))) c.args.self.now c.entries_in.new.self
-    (IsInTree (IsBatchOf range)) c.in_ok-batch.batch (Err c.in_err-texts.field-0.0) c.in_ok-batch.ensures (λ now at place q. c.in_err-texts.ensures))
+pub returns-in_err-found : goal.returns-in_err-found
+returns-in_err-found g c =
+    let p = err_from_is_err_and c.from_residual.result c.from_residual.ensures.1 in
+    rw (p.1, p.2) (asked_refused g.D.Disk.history (IsNumberedIndex c.args.number c.args.index) (λ now at (found : Option (Vec (Vec ℕ))). IfSome found (λ texts. AreTextsBetween c.args.first.now c.args.last.now at (texts_of texts.items))) c.args.self.now c.first_texts.new.self
+    (λ now at (found : FirstTexts). AreFirstTexts c.args.first.now c.args.last.now at found.are_all (texts_of found.texts.items)) c.in_err-found.field-0.0 c.in_err-found.ensures)
 
 pub returns : goal.returns
 returns g c =
-    let range : Range = record { from = c.deref-2.result; to = c.as_deref.result; limit = c.args.most } in
-    let batch = c.in_ok-batch.batch in
-    let first : List ℕ = c.args.first.now in
-    let last : List ℕ = c.args.last.now in
-    let ends : IsEndOf (key_under c.args.number c.args.index last) (option_map (λ b. b.now) range.to) =
-    subst (IsEndOf (key_under c.args.number c.args.index last)) (sym c.as_deref.ensures.value)
-    (subst (λ (k : List ℕ). IsEndOf k (option_map (λ v. v.items) c.in_ok-to.to)) (c.deref.ensures.value ∙ c.in_ok-until.ensures) c.in_ok-to.ensures) in
-    asks_on g.D.Disk.history (IsNumberedIndex c.args.number c.args.index) (λ now at (found : Option (Vec (Vec ℕ))). IfSome found (λ texts. AreTextsBetween c.args.first.now c.args.last.now at (texts_of texts.items))) c.args.self.now c.entries_in.new.self
-    (IsInTree (IsBatchOf range)) batch (Ok (Some c.in_ok-texts.texts)) c.in_ok-batch.ensures
-    (λ now at place p.
-    texts_asked now at c.args.number c.args.index first last range batch c.deref-3.result.now c.deref-4.result.now (texts_of c.in_ok-texts.texts.items) (sym c.if-is_some.ensures) p place
-    (c.deref-2.ensures.value ∙ c.in_ok-from.ensures) ends (c.deref-3.ensures.value ∙ c.in_ok-front.ensures) c.deref-4.ensures.value c.in_ok-texts.ensures)
+    let found = c.in_ok-found.found in
+    let whole : found.are_all ≡ true = not_false found.are_all c.if-not-found.false in
+    asked_on g.D.Disk.history (IsNumberedIndex c.args.number c.args.index) (λ now at (found : Option (Vec (Vec ℕ))). IfSome found (λ texts. AreTextsBetween c.args.first.now c.args.last.now at (texts_of texts.items))) c.args.self.now c.first_texts.new.self
+    (λ now at (found : FirstTexts). AreFirstTexts c.args.first.now c.args.last.now at found.are_all (texts_of found.texts.items)) found (Ok (Some found.texts)) c.in_ok-found.ensures
+    (λ now at place right. all_texts c.args.first.now c.args.last.now at found.are_all (texts_of found.texts.items) whole right)

@@ -2,8 +2,7 @@ use Rattle.std.proofs.Common.{◌≡◌, List, ap, sym, subst, ◌∙◌, arith}
 use Rattle.std.specs.Prelude.{All, Some}
 use Rattle.std.proofs.lemmas.Result.{err_from_is_err_and}
 use Rattle.bson.specs.Tree.{Pairs}
-use Rattle.commands.specs.Find.{Query}
-use Rattle.database_model.specs.Find.{given, query_result, run_find, Suffices}
+use Rattle.database_model.specs.Find.{given, query_result, run_find}
 use Rattle.database_model.specs.Lawful.{IsWithin}
 use Rattle.engine.specs.View.{world}
 use Rattle.database_model.specs.World.{documents_of}
@@ -17,19 +16,18 @@ pub returns-in_err-found-clause-performs : goal.returns-in_err-found-clause-perf
 returns-in_err-found-clause-performs g c =
     let old = c.args.self.now in
     let p = err_from_is_err_and c.from_residual.result c.from_residual.ensures.1 in
-    rw (p.1, p.2) (performs_refused g.D.Disk.history old c.matching.new.self (run_find (world old) c.args.connection (record { namespace = c.args.namespace.now; query = c.args.query.now; batch_size = Some c.args.most }))
+    rw (p.1, p.2) (performs_refused g.D.Disk.history old c.found.new.self (run_find (world old) c.args.connection (record { namespace = c.args.namespace.now; query = c.args.query.now; batch_size = Some c.args.most }))
     c.in_err-found.field-0.0 c.in_err-found.ensures.looks.reads c.in_err-found.ensures.looks.answers)
 
 pub returns-clause-performs : goal.returns-clause-performs
 returns-clause-performs g c =
     let old = c.args.self.now in
-    let mid = c.matching.new.self in
+    let mid = c.found.new.self in
     let q = c.args.query.now in
     let w = world old in
     let found = c.in_ok-found.found in
     let seen = c.deref.result.now in
     let documents = documents_of w.collections c.args.namespace.now in
-    let opened : Query = record { filter = c.query.inside.filter; sort = c.query.inside.sort; skip = c.query.inside.skip; limit = c.query.inside.limit; projection = c.query.inside.projection } in
     let within : All IsWithin seen = subst (λ (ds : List Pairs). All IsWithin ds) (sym c.deref.ensures.value) c.in_ok-found.ensures.within in
     gives_behind g.D.Disk.history old mid c.give_found.new.self c.in_ok-found.ensures.looks.reads c.give_found.ensures.file (ap (λ t. t.value) c.give_found.ensures.told) c.give_found.ensures.has_changes
     c.args.connection c.args.namespace.now (given q seen) c.args.most (run_find w c.args.connection (record { namespace = c.args.namespace.now; query = q; batch_size = Some c.args.most })) c.give_found.result
@@ -37,6 +35,5 @@ returns-clause-performs g c =
     (λ k.
     let same : given q seen ≡ query_result q documents =
     ap (given q) c.deref.ensures.value
-    ∙ subst (λ (q : Query). given q found.items ≡ query_result q documents) c.query.view_is
-    (given_enough opened c.enough.result documents found.items (subst (λ (q : Query). Suffices q c.enough.result) (sym c.query.view_is) c.enough.ensures) (c.in_ok-found.ensures.looks.answers k) (omega (arith, found.ok.0, found.ok.1, found.small))) in
+    ∙ given_enough q c.enough.result documents found.items c.enough.ensures (c.in_ok-found.ensures.looks.answers k) (omega (arith, found.ok.0, found.ok.1, found.small)) in
     run_find-is w c.args.connection c.args.namespace.now q c.args.most (given q seen) same)

@@ -11,32 +11,12 @@ use Rattle.database_model.specs.Aggregate.{run_aggregate}
 use Rattle.database_model.specs.Step.{run, ChangesNone}
 use Rattle.database_model.specs.Find.{run_find}
 use Rattle.commands.specs.View.{command_read, find_read, update_read, aggregate_read}
-use Rattle.replies.specs.View.{IsSendable}
 use Rattle.engine.specs.View.{world}
 use Rattle.commands.specs.declared.command.Command.{Command}
 use Rattle.path.specs.declared.refusal.Refusal.{Refusal}
 use Rattle.engine.proofs.Running.{run_find-default, run_aggregate-default}
-use Rattle.replies.proofs.SpelledSizes.{ping-sendable}
 use Rattle.engine.proofs.Sound.{performs_as, performs_told}
 use Rattle.engine.proofs.engine.Engine.perform.Goals as goal
-
-pub returns-in_ok-ping_reply-in-Ping-clause-sendable : goal.returns-in_ok-ping_reply-in-Ping-clause-sendable
-returns-in_ok-ping_reply-in-Ping-clause-sendable g c = subst IsSendable (sym c.in_ok-ping_reply-in-Ping.ensures) ping-sendable
-
-pub returns-in_err-ping_reply-in-Ping-clause-performs : goal.returns-in_err-ping_reply-in-Ping-clause-performs
-returns-in_err-ping_reply-in-Ping-clause-performs g c =
-    let old = c.args.self.now in
-    performs_told g.D.Disk.history old old c.args.connection (command_read c.args.command.now) _ c.requires.sound c.requires.bounded refl refl refl (search rules)
-
-pub returns-in_ok-ping_reply-in-Ping-clause-performs : goal.returns-in_ok-ping_reply-in-Ping-clause-performs
-returns-in_ok-ping_reply-in-Ping-clause-performs g c =
-    let old = c.args.self.now in
-    performs_told g.D.Disk.history old old c.args.connection (command_read c.args.command.now) _ c.requires.sound c.requires.bounded refl refl refl (search rules)
-
-pub returns-in-Hello-clause-performs : goal.returns-in-Hello-clause-performs
-returns-in-Hello-clause-performs g c =
-    let old = c.args.self.now in
-    performs_told g.D.Disk.history old old c.args.connection (command_read c.args.command.now) _ c.requires.sound c.requires.bounded refl refl refl (search rules)
 
 pub returns-in-GetMore-clause-performs : goal.returns-in-GetMore-clause-performs
 returns-in-GetMore-clause-performs g c =

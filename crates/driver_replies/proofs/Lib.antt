@@ -1,0 +1,5 @@
+mod FieldLemmas
+mod IdLemmas
+mod ListingLemmas
+mod BatchLemmas
+mod BatchLawLemmas

@@ -1,0 +1,11 @@
+pub mod Fields
+pub mod Tables
+pub mod Texts
+pub mod WriteErrors
+pub mod Tallies
+pub mod Writes
+pub mod BatchLaws
+pub mod Cursors
+pub mod Listing
+pub mod Dropping
+pub mod LevelLaws

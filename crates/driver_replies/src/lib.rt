@@ -1,0 +1,29 @@
+//! Replies as MongoDB drivers expect them, where one message of theirs takes several commands of the database.
+#![tactic(auto)]
+
+mod batch;
+mod dropping;
+mod fields;
+mod fresh_ids;
+mod kills;
+pub mod laws;
+mod listing;
+mod tables;
+mod tally;
+mod texts;
+mod upserts;
+mod write_errors;
+mod writes;
+
+pub use batch::{Batch, drop_first, is_alone, is_ordered_in};
+pub use dropping::{drop_command, dropped_reply, first_batch, is_gone, list_command};
+pub use fields::{Fact, add, document_of, put, set, text_value};
+pub use fresh_ids::FreshIds;
+pub use kills::{Kills, cursor_of, first_id, ids_of, kill_one};
+pub use listing::{name_in, retold};
+pub use tables::named;
+pub use tally::Tally;
+pub use texts::{collection_of, text_or_none};
+pub use upserts::is_true;
+pub use write_errors::refused_statement;
+pub use writes::{Write, write_of};

@@ -1,9 +1,0 @@
-use Rattle.std.proofs.Common.{◌≡◌, drop}
-use Rattle.std.specs.Option.{option_map}
-use Rattle.bson.specs.Tree.{append_items}
-use Rattle.bson.specs.View.{items_of}
-use Rattle.drivers.specs.Cursors.{wide_ids}
-use Rattle.drivers.proofs.kills.wide_ids.Given as goal
-
-abbrev pub invariant-ids : goal.invariant-ids
-invariant-ids l = option_map (append_items l.wide) (wide_ids (items_of (drop l.id-index l.ids))) ≡ wide_ids (items_of l.ids)

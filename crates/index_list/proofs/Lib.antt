@@ -1,0 +1,2 @@
+pub mod NewIndexLemmas
+pub mod DroppedIndexLemmas

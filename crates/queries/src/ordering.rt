@@ -1,0 +1,172 @@
+//! The first documents in an order. No more of them are kept than are asked for, and some that come too late.
+
+ghost use Rattle.std.specs.Prelude.{◌≡◌, ◌++◌, All, IfOk, List, take};
+ghost use Rattle.bson.specs.Tree.{Pairs};
+ghost use Rattle.collections.specs.Reading.{IsNumbered, ReadsOf};
+ghost use Rattle.commands.specs.View.{documents_at};
+ghost use Rattle.database_model.specs.Find.{matching};
+ghost use Rattle.database_model.specs.Lawful.{IsWithin};
+ghost use Rattle.filter.specs.Matches.{matches};
+ghost use Rattle.filter.specs.Sort.{order};
+ghost use Rattle.index.specs.View.{texts_of};
+ghost use Rattle.queries.specs.Asking.{IsAsked};
+ghost use Rattle.queries.specs.ById.{AreIdsOf};
+
+use crate::by_order::first_by_index;
+use crate::looking_up::{asked_ids, selected_by_ids, selected_in};
+use crate::scanning::{BATCH, select};
+use bson::NoMemory;
+use collections::Collections;
+use filter::{Filter, Sort};
+use index::Catalogued;
+use page::Disk;
+use path::Refusal;
+use replies::SharedDocument;
+use std::alloc::Global;
+
+/// So many documents more than are asked for are kept before those that come too late are let go.
+const ROOM: usize = 1024;
+
+/// The documents, with one owner more.
+pub fn share_all(
+    alloc: Global,
+    documents: &[&SharedDocument],
+) -> Result<Vec<SharedDocument>, NoMemory>
+    ensures { IfOk result (λ v. v.items ≡ documents_at documents.now) }
+{
+    let mut shared = Vec::with_capacity(alloc, documents.len())?;
+    'documents: for document in documents {
+        shared.push(document.share()?)?;
+    }
+    Ok(shared)
+}
+
+/// The first documents in the order of a sort, up to so many. Those that tie keep their order.
+fn first_ones(
+    alloc: Global,
+    sort: &Sort,
+    documents: &[SharedDocument],
+    most: usize,
+) -> Result<Vec<SharedDocument>, NoMemory>
+    ensures first { IfOk result (λ v. v.items ≡ take most (order sort.now documents.now)) }
+    ensures within { All IsWithin documents.now → IfOk result (λ v. All IsWithin v.items) }
+{
+    let lent = documents.iter().collect(alloc)?;
+    let ordered = sort.order_shared(lent)?;
+    share_all(alloc, &ordered[..most.min(ordered.len())])
+}
+
+/// How many documents are kept at most, where so many are asked for.
+fn room_for(most: usize) -> usize {
+    most.saturating_add(ROOM.max(most))
+}
+
+/// Documents without those that come too late, where they are too many.
+fn without_late(
+    alloc: Global,
+    sort: &Sort,
+    documents: Vec<SharedDocument>,
+    most: usize,
+) -> Result<Vec<SharedDocument>, NoMemory>
+    ensures first { (others : List Pairs) → IfOk result
+        (λ v. take most (order sort.now (v.items ++ others))
+        ≡ take most (order sort.now (documents.items ++ others))) }
+    ensures within { All IsWithin documents.items → IfOk result (λ v. All IsWithin v.items) }
+{
+    if documents.len() < room_for(most) {
+        return Ok(documents);
+    }
+    first_ones(alloc, sort, &documents, most)
+}
+
+/// The first documents in the order of a sort that match a filter, up to so many, by a walk through the collection of a number.
+fn scanned_in_order<D: Disk>(
+    alloc: Global,
+    file: &mut Collections<D>,
+    number: u32,
+    filter: &Filter,
+    sort: &Sort,
+    most: usize,
+) -> Result<Vec<SharedDocument>, Refusal>
+    ensures reads { ReadsOf D.history (λ now c. IsNumbered now c number)
+        (λ now c found. found.items ≡ take most (order sort.now (matching filter.now c.documents)))
+        result file.old file.new }
+    ensures within { IfOk result (λ found. All IsWithin found.items) }
+{
+    if file.is_stopped() {
+        return Err(Refusal::StorageFailed);
+    }
+    let mut walk = file.walk(number)?;
+    let mut found = Vec::new(alloc);
+    'walk: loop {
+        let documents = file.next_spelled(&mut walk, BATCH)?;
+        if documents.is_empty() {
+            return Ok(first_ones(alloc, sort, &found, most)?);
+        }
+        select(alloc, filter, usize::MAX, &mut found, documents)?;
+        found = without_late(alloc, sort, found, most)?;
+    }
+}
+
+/// The same, where the `_id`s of all that match are told by their ascending key texts.
+fn looked_up_in_order<D: Disk>(
+    alloc: Global,
+    file: &mut Collections<D>,
+    number: u32,
+    filter: &Filter,
+    ids: &[Vec<u8>],
+    sort: &Sort,
+    most: usize,
+) -> Result<Vec<SharedDocument>, Refusal>
+    ensures reads { ReadsOf D.history (AreIdsOf number (matches filter.now) (texts_of ids.now))
+        (λ now c found. found.items ≡ take most (order sort.now (matching filter.now c.documents)))
+        result file.old file.new }
+    ensures within { IfOk result (λ found. All IsWithin found.items) }
+{
+    let found = selected_by_ids(alloc, file, number, filter, ids, usize::MAX)?;
+    Ok(first_ones(alloc, sort, &found, most)?)
+}
+
+/// The documents of a collection in a file that match a filter, in the order of a sort: the first ones, up to so many. No more of
+/// them are kept, and some, unless an index leads to them.
+fn sorted_in<D: Disk>(
+    alloc: Global,
+    file: &mut Collections<D>,
+    home: &Catalogued,
+    filter: &Filter,
+    sort: &Sort,
+    most: usize,
+) -> Result<Vec<SharedDocument>, Refusal>
+    ensures reads { ReadsOf D.history (IsAsked home.now)
+        (λ now c found. found.items ≡ take most (order sort.now (matching filter.now c.documents)))
+        result file.old file.new }
+    ensures within { IfOk result (λ found. All IsWithin found.items) }
+{
+    match asked_ids(alloc, file, home, filter)? {
+        Some(ids) => looked_up_in_order(alloc, file, home.number, filter, &ids, sort, most),
+        None => scanned_in_order(alloc, file, home.number, filter, sort, most),
+    }
+}
+
+/// The same. Where an index is in the order of the sort, they are read in that order, as far as they are asked for.
+pub fn ordered_in<D: Disk>(
+    alloc: Global,
+    file: &mut Collections<D>,
+    home: &Catalogued,
+    filter: &Filter,
+    sort: &Sort,
+    most: usize,
+) -> Result<Vec<SharedDocument>, Refusal>
+    ensures reads { ReadsOf D.history (IsAsked home.now)
+        (λ now c found. found.items ≡ take most (order sort.now (matching filter.now c.documents)))
+        result file.old file.new }
+    ensures within { IfOk result (λ found. All IsWithin found.items) }
+{
+    if sort.is_empty() {
+        return selected_in(alloc, file, home, filter, most);
+    }
+    match first_by_index(alloc, file, home, filter, sort, most)? {
+        Some(found) => Ok(found),
+        None => sorted_in(alloc, file, home, filter, sort, most),
+    }
+}

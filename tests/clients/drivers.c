@@ -1,0 +1,83 @@
+/* A session of MongoDB's driver for C. Use: drivers PORT     It ends with 0 only if all answers are as expected. */
+#include <mongoc/mongoc.h>
+#include <stdio.h>
+#include <stdlib.h>
+
+static void expect(bool holds, const char *what)
+{
+    if (!holds) {
+        fprintf(stderr, "%s\n", what);
+        exit(1);
+    }
+}
+
+/* The number at a path of a reply. */
+static int64_t number_at(const bson_t *reply, const char *path)
+{
+    bson_iter_t start, found;
+    expect(bson_iter_init(&start, reply) && bson_iter_find_descendant(&start, path, &found), path);
+    return bson_iter_as_int64(&found);
+}
+
+/* How many documents a filter gives, in batches of this size. */
+static int count(mongoc_collection_t *people, const bson_t *filter, int batch)
+{
+    bson_t *options = BCON_NEW("batchSize", BCON_INT32(batch), "sort", "{", "_id", BCON_INT32(-1), "}");
+    mongoc_cursor_t *cursor = mongoc_collection_find_with_opts(people, filter, options, NULL);
+    const bson_t *document;
+    bson_error_t error;
+    int count = 0;
+    while (mongoc_cursor_next(cursor, &document))
+        count++;
+    expect(!mongoc_cursor_error(cursor, &error), "a find failed");
+    mongoc_cursor_destroy(cursor);
+    bson_destroy(options);
+    return count;
+}
+
+int main(int argc, char **argv)
+{
+    char address[64];
+    bson_error_t error;
+    bson_t reply;
+    expect(argc == 2, "drivers PORT");
+    mongoc_init();
+    snprintf(address, sizeof address, "mongodb://127.0.0.1:%s", argv[1]);
+    mongoc_client_t *client = mongoc_client_new(address);
+    mongoc_collection_t *people = mongoc_client_get_collection(client, "c", "people");
+
+    bson_t *ada = BCON_NEW("_id", BCON_INT32(1), "name", BCON_UTF8("Ada"));
+    expect(mongoc_collection_insert_one(people, ada, NULL, NULL, &error), error.message);
+    expect(!mongoc_collection_insert_one(people, ada, NULL, NULL, &error) && error.code == 11000, "a duplicate was taken");
+
+    bson_t *unordered = BCON_NEW("ordered", BCON_BOOL(false));
+    mongoc_bulk_operation_t *bulk = mongoc_collection_create_bulk_operation_with_opts(people, unordered);
+    for (int n = 1; n <= 300; n++) {
+        bson_t *document = BCON_NEW("_id", BCON_INT32(n), "half", BCON_INT32(n / 2));
+        mongoc_bulk_operation_insert(bulk, document);
+        bson_destroy(document);
+    }
+    expect(!mongoc_bulk_operation_execute(bulk, &reply, &error), "a duplicate was taken in a batch");
+    expect(number_at(&reply, "nInserted") == 299, "the others of the batch are not there");
+    expect(number_at(&reply, "writeErrors.0.index") == 0 && number_at(&reply, "writeErrors.0.code") == 11000, "another refusal");
+    bson_destroy(&reply);
+    mongoc_bulk_operation_destroy(bulk);
+
+    bson_t *all = bson_new(), *late = BCON_NEW("half", "{", "$gte", BCON_INT32(149), "}");
+    expect(count(people, all, 7) == 300 && count(people, late, 2) == 3, "a find gives others");
+
+    bson_t *grace = BCON_NEW("name", BCON_UTF8("Grace")), *born = BCON_NEW("$set", "{", "born", BCON_INT32(1906), "}");
+    bson_t *upsert = BCON_NEW("upsert", BCON_BOOL(true));
+    expect(mongoc_collection_update_one(people, grace, born, upsert, &reply, &error), error.message);
+    expect(number_at(&reply, "upsertedCount") == 1, "no document was made");
+    bson_destroy(&reply);
+    expect(mongoc_collection_count_documents(people, grace, NULL, NULL, NULL, &error) == 1, "it isn't there");
+    expect(mongoc_collection_delete_many(people, late, NULL, &reply, &error), error.message);
+    expect(number_at(&reply, "deletedCount") == 3, "others were deleted");
+    bson_destroy(&reply);
+
+    mongoc_database_t *database = mongoc_client_get_database(client, "c");
+    char **names = mongoc_database_get_collection_names_with_opts(database, NULL, &error);
+    expect(names && names[0] && !strcmp(names[0], "people") && !names[1], "other collections");
+    return 0;
+}

@@ -1,0 +1,32 @@
+# A session of MongoDB's driver for Ruby. Use: ruby drivers.rb PORT     It ends with 0 only if all answers are as expected.
+require "mongo"
+Mongo::Logger.logger.level = ::Logger::FATAL
+
+def expect(answer, wanted)
+  raise "#{answer.inspect}, and not #{wanted.inspect}" unless answer == wanted
+end
+
+client = Mongo::Client.new(["127.0.0.1:#{ARGV[0]}"], database: "ruby", server_selection_timeout: 5)
+people = client[:people]
+expect(people.insert_one(_id: 1, name: "Ada").n, 1)
+people.insert_many((2..300).map { |n| { _id: n, half: n / 2 } })
+expect(people.find(half: { "$gte" => 149 }).sort(_id: -1).map { |d| d["_id"] }, [300, 299, 298])
+expect(people.find.batch_size(7).map { |d| d["_id"] }, (1..300).to_a)
+early = people.find.batch_size(2).to_enum
+early.next
+begin
+  people.insert_many([{ _id: 301 }, { _id: 1 }, { _id: 302 }], ordered: false)
+  raise "a duplicate was taken"
+rescue Mongo::Error::BulkWriteError => fault
+  expect(fault.result["writeErrors"].map { |error| [error["index"], error["code"]] }, [[1, 11000]])
+  expect(fault.result["n_inserted"], 2)
+end
+expect(people.update_one({ name: "Ada" }, { "$set" => { born: 1815 } }).modified_count, 1)
+made = people.update_one({ name: "Grace" }, { "$set" => { born: 1906 } }, upsert: true).upserted_id
+expect(made.class, BSON::ObjectId)
+expect(people.find(name: "Grace").first["_id"], made)
+people.indexes.create_one({ half: 1 })
+expect(people.indexes.map { |index| index["name"] }, %w[_id_ half_1])
+expect(people.aggregate([{ "$group" => { _id: nil, most: { "$max" => "$half" } } }]).first["most"], 150)
+expect(people.delete_many(half: { "$lt" => 100 }).deleted_count, 198)
+client.close
